@@ -1,0 +1,9 @@
+pub mod Pieces
+pub mod Made
+pub mod Refusals
+pub mod Walk
+pub mod Goes
+pub mod Many
+pub mod Turning
+pub mod Laws
+pub mod Journal

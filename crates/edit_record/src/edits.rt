@@ -1,0 +1,132 @@
+ghost use Rattle.std.specs.Prelude.{◌≡◌, ℕ, ◌+◌, ◌≤◌, length};
+
+use crate::pass::turned_text;
+use crate::{BadEdits, Change, Edit, Refused};
+use std::alloc::Global;
+use std::marker::Model;
+
+/// The most bytes of a text.
+const LIMIT: usize = 16_777_216;
+
+/// A list of edits of texts of one length, in order and apart. Edits may touch.
+#[derive(Debug, Drop)]
+pub struct Edits {
+    old_len: usize,
+    new_len: usize,
+    edits: Vec<Edit>,
+}
+
+impl Model for Edits {
+    ghost use Rattle.edit_record.specs.Pieces.{EditList, entries};
+    ghost use Rattle.edit_record.specs.Made.{AreEdits};
+
+    ghost Value = { EditList };
+
+    ghost view = { λ e. record { old_len = e.old_len; entries = entries e.edits.items } };
+
+    ghost invariant = { λ e. AreEdits e.old_len e.new_len (entries e.edits.items) };
+}
+
+impl Edits {
+    ghost use Rattle.edit_record.specs.Pieces.{entries, removed_len, added_len};
+    ghost use Rattle.edit_record.specs.Made.{made, AreEdits, new_len};
+
+    /// The edits as a list for texts of `old_len` bytes. A text has at most 16,777,216 bytes.
+    ///
+    /// Refused are, in this order: an old length over that; the first edit that is empty, begins before the end of
+    /// the one before, or ends past the text; and a new length over the limit.
+    pub fn make(old_len: usize, edits: Vec<Edit>) -> Result<Self, BadEdits>
+        ensures { result ≡ made old_len (entries edits.items) }
+    {
+        if old_len > LIMIT {
+            return Err(BadEdits::TooLong);
+        }
+        let mut from = 0;
+        let mut removed = 0;
+        let mut added = 0usize;
+        for (i, edit) in edits.iter().enumerate() {
+            if edit.removed.is_empty() && edit.added.is_empty() {
+                return Err(BadEdits::EmptyEdit(i));
+            }
+            if edit.at < from {
+                return Err(BadEdits::OutOfOrder(i));
+            }
+            if edit.at > old_len || edit.removed.len() > old_len - edit.at {
+                return Err(BadEdits::PastEnd(i));
+            }
+            from = edit.at + edit.removed.len();
+            removed += edit.removed.len();
+            added = added.saturating_add(edit.added.len());
+        }
+        if added > LIMIT - (old_len - removed) {
+            return Err(BadEdits::TooLong);
+        }
+        let new_len = old_len - removed + added;
+        Ok(Edits {
+            old_len,
+            new_len,
+            edits,
+        })
+    }
+
+    /// The edits as a list, where it is known that they are one: nothing is tested again.
+    pub fn of_placed(old_len: usize, new_len: usize, edits: Vec<Edit>) -> Self
+        requires { AreEdits old_len new_len (entries edits.items) }
+        ensures { result ≡ record { old_len = old_len; entries = entries edits.items } }
+    {
+        Edits {
+            old_len,
+            new_len,
+            edits,
+        }
+    }
+
+    /// The length of the texts that these edits apply to.
+    pub fn old_len(&self) -> usize
+        ensures { result ≡ self.now.old_len }
+    {
+        self.old_len
+    }
+
+    /// The length of the texts that they make: the old one, less what is removed, and what is added.
+    pub fn new_len(&self) -> usize
+        ensures { result + removed_len self.now.entries ≡ self.now.old_len + added_len self.now.entries }
+    {
+        self.new_len
+    }
+
+    /// The edits, in order.
+    pub fn edits(&self) -> &[Edit]
+        ensures same { entries result.now ≡ self.now.entries }
+        ensures placed { AreEdits self.now.old_len (new_len self.now) (entries result.now) }
+    {
+        self.edits.as_slice()
+    }
+}
+
+impl Change for Edits {
+    ghost use Rattle.std.specs.Prelude.{true, false};
+    ghost use Rattle.edit_record.specs.Pieces.{Turns};
+    ghost use Rattle.edit_record.specs.Walk.{answer};
+    ghost use Rattle.edit_record.specs.Laws.{forward_exact, backward_exact, answer_never_memory};
+
+    ghost turns = { Turns };
+
+    ghost forward = { answer false };
+
+    ghost backward = { answer true };
+
+    ghost applies = { forward_exact };
+
+    ghost undoes = { backward_exact };
+
+    ghost never_memory = { λ e t. (answer_never_memory false e t, answer_never_memory true e t) };
+
+    fn apply(&self, alloc: Global, text: &[u8]) -> Result<Vec<u8>, Refused> {
+        turned_text(alloc, false, self.old_len, self.new_len, &self.edits, text)
+    }
+
+    fn undo(&self, alloc: Global, text: &[u8]) -> Result<Vec<u8>, Refused> {
+        turned_text(alloc, true, self.old_len, self.new_len, &self.edits, text)
+    }
+}

@@ -1,0 +1,76 @@
+ghost use Rattle.std.specs.Prelude.{◌≡◌};
+
+use crate::{Change, Edits, Refused};
+use std::alloc::Global;
+use std::marker::Model;
+
+/// The command that made a record.
+#[derive(Clone, Copy, Debug, PartialEq, Eq)]
+pub enum Word {
+    Fmt,
+    Fix,
+}
+
+/// What one command did to the text. Its edits are its only step, which has the number 0.
+#[derive(Debug, Drop)]
+pub struct Record {
+    word: Word,
+    edits: Edits,
+}
+
+impl Model for Record {
+    ghost use Rattle.edit_record.specs.Journal.{Entered};
+
+    ghost Value = { Entered };
+
+    ghost view = { λ r. record { word = r.word; edits = r.edits } };
+}
+
+impl Record {
+    ghost use Rattle.edit_record.specs.Journal.{Entered};
+
+    /// The record of a command that made these edits.
+    pub fn make(word: Word, edits: Edits) -> Self
+        ensures { result ≡ record { word = word; edits = edits } }
+    {
+        Record { word, edits }
+    }
+
+    /// The command.
+    pub fn word(&self) -> Word
+        ensures { result ≡ self.now.word }
+    {
+        self.word
+    }
+
+    /// Its edits.
+    pub fn edits(&self) -> &Edits
+        ensures { result.now ≡ self.now.edits }
+    {
+        &self.edits
+    }
+}
+
+impl Change for Record {
+    ghost use Rattle.edit_record.specs.Journal.{record_turns, record_forward, record_backward, record_applies, record_undoes, record_never_memory};
+
+    ghost turns = { record_turns };
+
+    ghost forward = { record_forward };
+
+    ghost backward = { record_backward };
+
+    ghost applies = { record_applies };
+
+    ghost undoes = { record_undoes };
+
+    ghost never_memory = { record_never_memory };
+
+    fn apply(&self, alloc: Global, text: &[u8]) -> Result<Vec<u8>, Refused> {
+        self.edits.apply(alloc, text)
+    }
+
+    fn undo(&self, alloc: Global, text: &[u8]) -> Result<Vec<u8>, Refused> {
+        self.edits.undo(alloc, text)
+    }
+}

@@ -1,0 +1,8 @@
+pub mod JoinLemmas
+pub mod ClusterLemmas
+pub mod ItemLemmas
+pub mod LineLemmas
+pub mod MilestoneLemmas
+pub mod PlaceLemmas
+pub mod StretchLemmas
+pub mod TokensLemmas

@@ -1,0 +1,52 @@
+-- A text with its tokens, as callers see it.
+use Rattle.std.specs.Prelude.{ℕ, Bool, List, [], ◌∷◌, ◌++◌, length, take, drop, slice_get, Option, IsUtf8}
+use Rattle.std.specs.Option.{option_map, option_and_then}
+use Rattle.hcl_token.specs.declared.item.Item.{Item}
+use Rattle.hcl_token.specs.declared.kind.Kind.{Kind}
+use Rattle.hcl_token.specs.Tokens.{Pair, joining}
+use Rattle.hcl_token.specs.Items.{pairs_of}
+use Rattle.hcl_token.specs.Joins.{joins_with}
+use Rattle.hcl_token.specs.Place.{clusters}
+
+-- a text, its tokens with the gaps before them, and the gap behind the last token
+pub record CutText : Type 0 where
+  pub text : List ℕ
+  pub pairs : List Pair
+  pub last : List ℕ
+
+abbrev pub cut_text : List ℕ → List Item → ℕ → CutText
+cut_text text items last_at = record { text = text; pairs = pairs_of text items; last = drop last_at text }
+
+-- each gap and each spelling is UTF-8
+abbrev pub AreUtf8 : List Pair → Type 0
+AreUtf8 [] = Unit {0}
+AreUtf8 (p ∷ ps) = IsUtf8 p.gap × IsUtf8 p.spelling × AreUtf8 ps
+
+abbrev pub kind_of : List Pair → ℕ → Option Kind
+kind_of pairs i = option_map (λ (p : Pair). p.kind) (slice_get pairs i)
+
+abbrev pub spelling_of : List Pair → ℕ → Option (List ℕ)
+spelling_of pairs i = option_map (λ (p : Pair). p.spelling) (slice_get pairs i)
+
+abbrev pub gap_of : List Pair → ℕ → Option (List ℕ)
+gap_of pairs i = option_map (λ (p : Pair). p.gap) (slice_get pairs i)
+
+abbrev pub clusters_of : List Pair → ℕ → Option ℕ
+clusters_of pairs i = option_map (λ (p : Pair). clusters p.spelling) (slice_get pairs i)
+
+-- where a pair stands behind others: each place is the length of what stands before it
+abbrev pub item_behind : List Pair → Pair → Item
+item_behind before p = record {
+  gap_at = length (joining before []);
+  start = length (joining before p.gap);
+  stop = length (joining before (p.gap ++ p.spelling));
+  kind = p.kind;
+}
+
+abbrev pub item_of : List Pair → ℕ → Option Item
+item_of pairs i = option_map (λ (p : Pair). item_behind (take i pairs) p) (slice_get pairs i)
+
+-- token i, with token j right behind it, joins
+abbrev pub joins_of : List Pair → ℕ → ℕ → Option Bool
+joins_of pairs i j =
+    option_and_then (λ (p : Pair). option_map (λ (q : Pair). joins_with p.kind p.spelling q.kind q.spelling) (slice_get pairs j)) (slice_get pairs i)

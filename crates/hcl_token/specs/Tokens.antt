@@ -1,0 +1,14 @@
+-- A text as a list of tokens, each with the gap before it.
+use Rattle.std.specs.Prelude.{ℕ, List, [], ◌∷◌, ◌++◌}
+use Rattle.hcl_token.specs.declared.kind.Kind.{Kind}
+
+-- a gap and the token behind it
+pub record Pair : Type 0 where
+  pub gap : List ℕ
+  pub kind : Kind
+  pub spelling : List ℕ
+
+-- the text that the pairs and a last gap make, one behind the other
+abbrev pub joining : List Pair → List ℕ → List ℕ
+joining [] last = last
+joining (p ∷ ps) last = p.gap ++ (p.spelling ++ joining ps last)

@@ -1,0 +1,96 @@
+//! The kinds of tokens.
+
+/// What a token is. Each operator has a kind of its own.
+///
+/// HCL native syntax specification, Lexical Elements and Templates.
+#[derive(Clone, Copy, Debug, PartialEq, Eq)]
+pub enum Kind {
+    /// The byte order mark, U+FEFF, at the very front of a text.
+    Mark,
+    /// LF, or CR LF.
+    LineEnd,
+    /// `#` or `//` and all up to the end of the line.
+    LineComment,
+    /// `/*` and all up to the first `*/` behind it.
+    InlineComment,
+    /// A name.
+    Identifier,
+    /// A number without a sign.
+    Number,
+    /// `.` with digits behind it: the legacy index.
+    DotIndex,
+    /// `+`
+    Plus,
+    /// `-`
+    Minus,
+    /// `*`
+    Star,
+    /// `/`
+    Slash,
+    /// `%`
+    Percent,
+    /// `&&`
+    And,
+    /// `||`
+    Or,
+    /// `!`
+    Bang,
+    /// `==`
+    DoubleEqual,
+    /// `!=`
+    NotEqual,
+    /// `<`
+    Less,
+    /// `>`
+    Greater,
+    /// `<=`
+    LessEqual,
+    /// `>=`
+    GreaterEqual,
+    /// `?`
+    Question,
+    /// `:`
+    Colon,
+    /// `::`
+    DoubleColon,
+    /// `=`
+    Equal,
+    /// `=>`
+    FatArrow,
+    /// `{`
+    OpenBrace,
+    /// `}` that closes a `{`, or nothing
+    CloseBrace,
+    /// `[`
+    OpenBracket,
+    /// `]`
+    CloseBracket,
+    /// `(`
+    OpenParen,
+    /// `)`
+    CloseParen,
+    /// `,`
+    Comma,
+    /// `.`
+    Dot,
+    /// `...`
+    Ellipsis,
+    /// `"` before quoted text.
+    QuoteOpen,
+    /// `<<` or `<<-`, the marker, and the end of the line.
+    HereOpen,
+    /// `}` or `~}` that closes a template sequence.
+    SeqClose,
+    /// `"` behind quoted text.
+    QuoteClose,
+    /// `${` or `${~`: an interpolation begins.
+    InterpOpen,
+    /// `%{` or `%{~`: a template directive begins.
+    DirectiveOpen,
+    /// Literal text in quotes.
+    QuoteLit,
+    /// The line that closes a heredoc, without its line end.
+    HereClose,
+    /// Literal text of a heredoc.
+    HereLit,
+}

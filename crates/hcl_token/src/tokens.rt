@@ -1,0 +1,162 @@
+//! A text with its tokens.
+
+ghost use Rattle.std.specs.Prelude.{◌≡◌, ◌<◌, ◌≤◌, ◌↔◌, [], length, drop, IsTrue, IsUtf8, Some, IfOk};
+ghost use Rattle.hcl_token.specs.CutText.{CutText, AreUtf8, cut_text, kind_of, spelling_of, gap_of, clusters_of, item_of, joins_of};
+ghost use Rattle.hcl_token.specs.Items.{InOrder, pairs_of};
+ghost use Rattle.hcl_token.specs.Milestones.{IsKept};
+ghost use Rattle.hcl_token.specs.Place.{place_of};
+ghost use Rattle.hcl_token.specs.Tokens.{joining};
+
+use crate::clusters::clusters;
+use crate::item::Item;
+use crate::joins::joins;
+use crate::kind::Kind;
+use crate::milestone::{Milestone, milestones, part, place_at};
+use crate::place::Place;
+use std::alloc::{AllocError, Global};
+use std::marker::Model;
+
+/// A text with its tokens, each with the gap before it, and the gap behind the last.
+///
+/// Tokens are numbered from 0. Nothing but `new` takes memory.
+#[derive(Drop)]
+pub struct Tokens<'t> {
+    text: &'t [u8],
+    items: Vec<Item>,
+    last_at: u32,
+    stones: Vec<Milestone>,
+}
+
+impl<'t> Model for Tokens<'t> {
+    ghost Value = { CutText };
+
+    ghost view = { λ t. cut_text t.text.now t.items.items t.last_at };
+
+    ghost invariant = { λ t. IsKept t.text.now t.items.items t.last_at t.stones.items };
+}
+
+impl<'t> Tokens<'t> {
+    /// The tokens of a text, which stand one behind the other from its front, and the offset in bytes of the gap behind
+    /// the last of them. The text is read once.
+    pub fn new(
+        alloc: Global,
+        text: &'t [u8],
+        items: Vec<Item>,
+        last_at: usize,
+    ) -> Result<Tokens<'t>, AllocError>
+        requires order { InOrder 0 items.items last_at }
+        requires within { last_at ≤ length text.now }
+        requires short { length text.now ≤ 16777216 }
+        requires utf8 { AreUtf8 (pairs_of text.now items.items) }
+        ensures text { IfOk result (λ t. t.text ≡ text.now) }
+        ensures pairs { IfOk result (λ t. t.pairs ≡ pairs_of text.now items.items) }
+        ensures last { IfOk result (λ t. t.last ≡ drop last_at text.now) }
+    {
+        let last_at = last_at as u32;
+        let stones = milestones(alloc, text, &items, last_at)?;
+        Ok(Tokens {
+            text,
+            items,
+            last_at,
+            stones,
+        })
+    }
+
+    /// The text: the gaps and the tokens, one behind the other.
+    pub fn text(&self) -> &'t [u8]
+        ensures text { result.now ≡ self.now.text }
+        ensures joined { self.now.text ≡ joining self.now.pairs self.now.last }
+        ensures short { length self.now.text ≤ 16777216 }
+        ensures utf8 { AreUtf8 self.now.pairs }
+    {
+        self.text
+    }
+
+    /// The number of tokens.
+    pub fn len(&self) -> usize
+        ensures { result ≡ length self.now.pairs }
+    {
+        self.items.len()
+    }
+
+    /// Whether there is no token.
+    pub fn is_empty(&self) -> bool
+        ensures { IsTrue result ↔ (self.now.pairs ≡ []) }
+    {
+        self.items.is_empty()
+    }
+
+    /// Where token `i` and the gap before it stand, in bytes from 0, and the kind of the token.
+    pub fn item(&self, i: usize) -> Item
+        requires { i < length self.now.pairs }
+        ensures { Some result ≡ item_of self.now.pairs i }
+    {
+        self.items[i]
+    }
+
+    /// The kind of token `i`.
+    pub fn kind(&self, i: usize) -> Kind
+        requires { i < length self.now.pairs }
+        ensures { Some result ≡ kind_of self.now.pairs i }
+    {
+        let item = self.items[i];
+        item.kind
+    }
+
+    /// The text of token `i`.
+    pub fn spelling(&self, i: usize) -> &'t [u8]
+        requires { i < length self.now.pairs }
+        ensures value { Some result.now ≡ spelling_of self.now.pairs i }
+        ensures utf8 { IsUtf8 result.now }
+    {
+        let item = self.items[i];
+        part(self.text, item.start, item.stop)
+    }
+
+    /// The gap before token `i`.
+    pub fn gap(&self, i: usize) -> &'t [u8]
+        requires { i < length self.now.pairs }
+        ensures value { Some result.now ≡ gap_of self.now.pairs i }
+        ensures utf8 { IsUtf8 result.now }
+    {
+        let item = self.items[i];
+        part(self.text, item.gap_at, item.start)
+    }
+
+    /// The gap behind the last token.
+    pub fn last_gap(&self) -> &'t [u8]
+        ensures { result.now ≡ self.now.last }
+    {
+        &self.text[self.last_at as usize..]
+    }
+
+    /// Whether token `i` joins with token `j`, if that stands right behind it with an empty gap (`joins`).
+    pub fn joins(&self, i: usize, j: usize) -> bool
+        requires first { i < length self.now.pairs }
+        requires second { j < length self.now.pairs }
+        ensures { Some result ≡ joins_of self.now.pairs i j }
+    {
+        joins(
+            self.kind(i),
+            self.spelling(i),
+            self.kind(j),
+            self.spelling(j),
+        )
+    }
+
+    /// How many extended grapheme clusters token `i` has.
+    pub fn clusters(&self, i: usize) -> usize
+        requires { i < length self.now.pairs }
+        ensures { Some result ≡ clusters_of self.now.pairs i }
+    {
+        clusters(self.spelling(i))
+    }
+
+    /// The line and the column of token `i`, from 1: found from a milestone at most 16 tokens before it.
+    pub fn place_of(&self, i: usize) -> Place
+        requires { i < length self.now.pairs }
+        ensures { result ≡ place_of self.now.pairs i }
+    {
+        place_at(self.text, &self.items, self.last_at, &self.stones, i)
+    }
+}
