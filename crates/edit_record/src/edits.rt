@@ -28,7 +28,7 @@ impl Model for Edits {
 }
 
 impl Edits {
-    ghost use Rattle.edit_record.specs.Pieces.{entries, removed_len, added_len};
+    ghost use Rattle.edit_record.specs.Pieces.{as_list, entries, removed_len, added_len};
     ghost use Rattle.edit_record.specs.Made.{made, AreEdits, new_len};
 
     /// The edits as a list for texts of `old_len` bytes. A text has at most 16,777,216 bytes.
@@ -72,7 +72,7 @@ impl Edits {
     /// The edits as a list, where it is known that they are one: nothing is tested again.
     pub fn of_placed(old_len: usize, new_len: usize, edits: Vec<Edit>) -> Self
         requires { AreEdits old_len new_len (entries edits.items) }
-        ensures { result ≡ record { old_len = old_len; entries = entries edits.items } }
+        ensures { result ≡ as_list old_len (entries edits.items) }
     {
         Edits {
             old_len,

@@ -1,6 +1,6 @@
 //! One pass over a text and the edits, in either direction.
 ghost use Rattle.std.specs.Prelude.{◌≡◌, ℕ, ◌+◌, ◌≤◌, length};
-ghost use Rattle.edit_record.specs.Pieces.{entry, entries, removed_len, added_len};
+ghost use Rattle.edit_record.specs.Pieces.{as_list, entry, entries};
 ghost use Rattle.edit_record.specs.Made.{AreEdits};
 ghost use Rattle.edit_record.specs.Walk.{taken, given, answer, Gives};
 
@@ -34,7 +34,7 @@ pub(crate) fn turned_text(
     text: &[u8],
 ) -> Result<Vec<u8>, Refused>
     requires { AreEdits old_len new_len (entries edits.now) }
-    ensures { Gives result (answer back (record { old_len = old_len; entries = entries edits.now }) text.now) }
+    ensures { Gives result (answer back (as_list old_len (entries edits.now)) text.now) }
 {
     let (expected, len) = if back {
         (new_len, old_len)

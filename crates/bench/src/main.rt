@@ -1,0 +1,26 @@
+//! How long scanning and editing take: to be read by people, compared with nothing.
+//!
+//! `bench scan FILE` scans a file several times; `bench edits` applies, undoes and squashes many edits of a long text.
+#![tactic(auto)]
+
+mod editing;
+mod scanning;
+
+use anyhow::Result;
+use std::env;
+
+const USAGE: &str = "usage: bench scan FILE | bench edits";
+
+fn main(rt: HostRuntime) -> Result<()> {
+    let words: Vec<String> = env::args(&rt)?.collect(rt.alloc())?;
+    let command = words.get(1).map(|word| word.as_str());
+    let name = words.get(2).map(|word| word.as_str());
+    match (command, name) {
+        (Some("scan"), Some(name)) => scanning::run(&rt, name),
+        (Some("edits"), None) => editing::run(&rt),
+        _ => {
+            println!(rt; "{USAGE}")?;
+            Ok(())
+        }
+    }
+}

@@ -1,0 +1,7 @@
+mod Means
+mod Soundness
+mod Readying
+mod Shaping
+mod Merged
+mod Groupings
+mod Determined

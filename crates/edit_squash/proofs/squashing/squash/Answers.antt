@@ -1,0 +1,10 @@
+use Rattle.std.proofs.Common.{◌≡◌, ℕ, List, Ok}
+use Rattle.edit_record.specs.Pieces.{Entry, EditList, as_list, entries}
+use Rattle.edit_squash.specs.Squash.{IsSquash, Squashes}
+use Rattle.edit_squash.proofs.squashing.squash.Goals as goal
+
+answered : (a b c : EditList) (old_len : ℕ) (es : List Entry) → c ≡ as_list old_len es → old_len ≡ a.old_len → IsSquash a b (as_list a.old_len es) → Squashes a b (Ok c)
+answered a b c old_len es c_is old_is h = rw (c_is, old_is) h
+
+pub returns : goal.returns
+returns c = answered c.args.first.now c.args.second.now c.of_placed.result c.old_len-2.result (entries c.in_ok-edits.edits.items) c.of_placed.ensures c.old_len-2.ensures c.in_ok-edits.ensures.1

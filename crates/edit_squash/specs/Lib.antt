@@ -1,0 +1,5 @@
+pub mod Merge
+pub mod MergeState
+pub mod Shape
+pub mod Squash
+pub mod Grouping

@@ -1,0 +1,77 @@
+ghost use Rattle.std.specs.Prelude.{◌≡◌, ◌↔◌, ◌+◌, ◌<◌, length, IsTrue};
+ghost use Rattle.edit_record.specs.Made.{new_len};
+ghost use Rattle.edit_squash.specs.Squash.{Merges, Squashes};
+ghost use Rattle.edit_squash.specs.declared.squashing.Unmet.TheVariants.{Memory};
+
+use crate::merge::Merge;
+use edit_record::{Edit, Edits};
+use std::alloc::{AllocError, Global};
+use thiserror::Error;
+
+/// Why two lists of edits do not become one.
+#[derive(Clone, Copy, Debug, PartialEq, Eq, Error)]
+pub enum Unmet {
+    /// The texts that the first list makes have another length than those that the second applies to.
+    #[error("the lengths of the two lists of edits do not follow")]
+    LengthsDiffer,
+    /// This edit of the second list, counted from 0, removes bytes that the first did not add there. It is the
+    /// lowest such edit.
+    #[error("edit {edit} of the second list contradicts the first")]
+    Contradicts { edit: usize },
+    /// There was no memory for the edits.
+    #[error("out of memory")]
+    Memory,
+}
+
+impl From<AllocError> for Unmet {
+    ghost from_gives = { λ _ e. e ≡ Memory };
+
+    fn from(_e: AllocError) -> Unmet {
+        Unmet::Memory
+    }
+}
+
+/// One list of edits that does what `first` and then `second` do.
+///
+/// Edits of the one list and of the other that overlap or touch in the text between become one edit; the others stay,
+/// with places in the first text. An edit that is left with nothing to remove and nothing to add is dropped, and one
+/// that puts back what it removes is kept, since it says what bytes stand there. The result is never too long.
+///
+/// It takes one pass over both lists, and builds no text.
+pub fn squash(alloc: Global, first: &Edits, second: &Edits) -> Result<Edits, Unmet>
+    ensures { Squashes first.now second.now result }
+{
+    if first.new_len() != second.old_len() {
+        return Err(Unmet::LengthsDiffer);
+    }
+    let edits = merged(alloc, first, second)?;
+    Ok(Edits::of_placed(first.old_len(), second.new_len(), edits))
+}
+
+/// The edits in the place of both lists.
+fn merged<'a>(alloc: Global, first: &'a Edits, second: &'a Edits) -> Result<Vec<Edit>, Unmet>
+    requires { new_len first.now ≡ second.now.old_len }
+    ensures { Merges first.now second.now result }
+{
+    let mut merge = Merge::new(alloc);
+    let seconds = second.edits();
+    let mut xs = first.edits();
+    let mut ys = seconds;
+    'edits: while more(xs, ys) {
+        let is_first = merge.ready(alloc, xs, ys)?;
+        (xs, ys) = merge.take(xs, ys, is_first)?;
+        if !merge.meet() {
+            return Err(Unmet::Contradicts {
+                edit: seconds.len() - ys.len() - 1,
+            });
+        }
+    }
+    merge.close(alloc)?;
+    Ok(merge.into_edits())
+}
+
+fn more(xs: &[Edit], ys: &[Edit]) -> bool
+    ensures { IsTrue result ↔ (0 < length xs.now + length ys.now) }
+{
+    !xs.is_empty() || !ys.is_empty()
+}

@@ -1,0 +1,74 @@
+-- The byte order mark at the front of a text, and what stands behind it.
+use Rattle.std.proofs.Common.{◌≡◌, ℕ, ◌≤◌, Bool, true, false, List, [], ◌∷◌, ◌++◌, length, drop, slice_range, IsUtf8, if◌then◌else◌, refl, sym, ap, ap₂, subst, ◌∙◌, arith, length-append}
+use Rattle.std.proofs.lemmas.Str.{IsUtf8-past_char}
+use lib.Utf8.{encode}
+use Rattle.hcl_token.specs.declared.kind.Kind.TheVariants.{Mark}
+use Rattle.hcl_token.specs.declared.item.Item.{Item}
+use Rattle.hcl_token.specs.Tokens.{Pair, joining}
+use Rattle.hcl_token.specs.Items.{pairs_of, InOrder}
+use Rattle.hcl_scan.specs.Characters.{begins}
+use Rattle.hcl_scan.specs.Modes.{Mode}
+use Rattle.hcl_scan.specs.Cut.{byte_order_mark, front_of, Cuts}
+use Rattle.hcl_scan.specs.Fault.{places_behind}
+use Rattle.hcl_scan.specs.Progress.{front_items, front_length, IsCutTo}
+use Rattle.hcl_scan.proofs.HereLemmas.{marker_at}
+
+abbrev mark : Pair
+mark = record { gap = []; kind = Mark; spelling = byte_order_mark }
+
+behind : (b : Bool) (text : List ℕ) (body : List Pair) (rest : List ℕ)
+    → text ≡ joining ((if b then record { gap = []; kind = Mark; spelling = byte_order_mark } ∷ [] else []) ++ body) rest → joining body rest ≡ drop (if b then 3 else 0) text
+behind true text body rest e = sym (ap (drop 3) e)
+behind false text body rest e = sym e
+
+-- behind the mark the other pairs stand
+pub behind_front : (text : List ℕ) (pairs : List Pair) (rest : List ℕ) (left : List Mode) (c : Cuts text pairs rest left) → joining c.body rest ≡ drop (front_length text) text
+behind_front text pairs rest left c = behind (begins byte_order_mark text) text c.body rest (c.joined ∙ ap (λ (x : List Pair). joining x rest) c.front)
+
+pub front_bytes : (text : List ℕ) → (begins byte_order_mark text ≡ true) → text ≡ 239 ∷ 187 ∷ 191 ∷ drop 3 text
+front_bytes text h = marker_at byte_order_mark text h
+
+mark_bytes : encode 65279 ≡ byte_order_mark
+unfolding encode
+mark_bytes = refl
+
+pub front_utf8 : (text : List ℕ) → IsUtf8 text → IsUtf8 (drop (front_length text) text)
+front_utf8 text u =
+    elim (begins byte_order_mark text) as (λ b. begins byte_order_mark text ≡ b → IsUtf8 (drop (front_length text) text)) [
+      | true ↦ λ h. rw h (IsUtf8-past_char text (drop 3 text) 65279 u (front_bytes text h ∙ ap (λ (x : List ℕ). x ++ drop 3 text) (sym mark_bytes)))
+      | false ↦ λ h. rw h u
+    ] refl
+
+-- the start of the cut
+pub started : (text : List ℕ) → IsUtf8 text → IsCutTo text (front_items text) (front_length text) [] []
+started text u =
+    elim (begins byte_order_mark text) as (λ b. begins byte_order_mark text ≡ b → IsCutTo text (front_items text) (front_length text) [] []) [
+      | true ↦ λ h.
+          let whole : text ≡ 239 ∷ 187 ∷ 191 ∷ drop 3 text = front_bytes text h in
+          let items : List Item = record { gap_at = 0; start = 0; stop = 3; kind = Mark } ∷ [] in
+          let spelling : slice_range text 0 3 ≡ byte_order_mark = ap (λ (x : List ℕ). slice_range x 0 3) whole in
+          let pairs : pairs_of text items ≡ mark ∷ [] = ap (λ (x : List ℕ). record { gap = []; kind = Mark; spelling = x } ∷ []) spelling in
+          let utf8 : IsUtf8 (drop 3 text) = rw h at (front_utf8 text u) in
+          let front : front_of text ≡ mark ∷ [] = rw h refl in
+          rw h (record {
+            within = omega (arith, ap length whole);
+            utf8 = utf8;
+            cuts = record {
+              joined = whole ∙ ap (λ (x : List Pair). joining x (drop 3 text)) (sym pairs);
+              body = [];
+              front = pairs ∙ sym (ap (λ (x : List Pair). x ++ []) front);
+              cuts = refl;
+            };
+            places = ap (places_behind 0 [] []) (sym pairs);
+            order = (refl, omega arith, omega arith, refl);
+          })
+      | false ↦ λ h.
+          let front : front_of text ≡ [] = rw h refl in
+          rw h (record {
+            within = omega arith;
+            utf8 = u;
+            cuts = record { joined = refl; body = []; front = sym (ap (λ (x : List Pair). x ++ []) front); cuts = refl };
+            places = refl;
+            order = refl;
+          })
+    ] refl

@@ -1,0 +1,58 @@
+-- A character at a place, and what follows it.
+use Rattle.std.proofs.Common.{◌≡◌, true, Some, None, Bool, nat_le, ◌||◌, ◌==◌, ℕ, ◌+◌, ◌-◌, ◌<◌, ◌≤◌, List, [], ◌∷◌, ◌++◌, slice_index, if◌then◌else◌, length, drop, IsUtf8, encode_utf8, sym, ap, ◌∙◌, arith, length-append, length-drop}
+use Rattle.std.proofs.lemmas.Str.{chars_past_char, drop_past_char, IsUtf8-past_char, length-encode, encode_ascii, chars-nil, len_utf8_ascii}
+use Rattle.std.proofs.lemmas.List.{drop_more, drop_all}
+use Rattle.std.specs.Char.{len_utf8}
+use Rattle.std.specs.Str.{chars}
+use Rattle.std.proofs.lemmas.Bool.Decides.{nat_tests}
+use Rattle.unicode_ident.proofs.IdentLemmas.{is_xid_start-ascii}
+use Rattle.hcl_token.specs.declared.kind.Kind.TheVariants.{Identifier}
+use Rattle.hcl_scan.specs.Characters.{starts, continues}
+use Rattle.hcl_scan.specs.Next.{Found, continue_length, identifier_of, identifier, begins_word}
+
+module _ (text rest : List ℕ) (at c : ℕ) (bytes : drop at text ≡ encode_utf8 c ++ rest) where
+  pub chars_at : IsUtf8 (drop at text) → chars (drop at text) ≡ c ∷ chars (drop (at + len_utf8 c) text)
+  chars_at u = rw (drop_past_char text rest at c bytes) (chars_past_char (drop at text) rest c u bytes)
+
+  pub rest_at : IsUtf8 (drop at text) → IsUtf8 (drop (at + len_utf8 c) text)
+  rest_at u = rw (drop_past_char text rest at c bytes) (IsUtf8-past_char (drop at text) rest c u bytes)
+
+  pub within_at : at < length text → at + len_utf8 c ≤ length text
+  within_at h =
+      let total : length text - at ≡ len_utf8 c + length rest =
+      sym (length-drop at text) ∙ ap length bytes ∙ length-append (encode_utf8 c) rest ∙ ap (λ n. n + length rest) (length-encode c) in
+      omega arith
+
+-- an ASCII character at a place
+pub chars_ascii : (text : List ℕ) (at : ℕ) → IsUtf8 (drop at text) → at < length text → slice_index text at < 128
+    → (chars (drop at text) ≡ slice_index text at ∷ chars (drop (at + 1) text)) × IsUtf8 (drop (at + 1) text)
+chars_ascii text at u h ascii =
+    let b = slice_index text at in
+    let bytes : drop at text ≡ encode_utf8 b ++ drop (at + 1) text =
+    drop_more text at 0 h ∙ ap (λ (bs : List ℕ). bs ++ drop (at + 1) text) (sym (encode_ascii b ascii)) in
+    (chars_past_char (drop at text) _ b u bytes, IsUtf8-past_char (drop at text) _ b u bytes)
+
+-- past the end there is no character
+pub chars_end : (text : List ℕ) (at : ℕ) → length text ≤ at → chars (drop at text) ≡ []
+chars_end text at h = ap chars (drop_all at text h) ∙ chars-nil
+
+-- how a run of characters goes on at an ASCII character
+pub continue_length_ascii : (text : List ℕ) (at : ℕ) → IsUtf8 (drop at text) → at < length text → slice_index text at < 128
+    → (continue_length (chars (drop at text)) ≡ (if continues (slice_index text at) then 1 + continue_length (chars (drop (at + 1) text)) else 0)) × IsUtf8 (drop (at + 1) text)
+continue_length_ascii text at u h ascii =
+    let e = chars_ascii text at u h ascii in
+    let rest = continue_length (chars (drop (at + 1) text)) in
+    (ap continue_length e.0 ∙ ap (λ n. if continues (slice_index text at) then n + rest else 0) (len_utf8_ascii (slice_index text at) ascii), e.1)
+
+-- an ASCII letter or `_` starts an identifier
+word_starts : (b : ℕ) → b < 128 → begins_word b ≡ true → starts b ≡ true
+word_starts b ascii word = rw (is_xid_start-ascii b ascii) (grind (arith, nat_tests))
+
+pub identifier_ascii : (text : List ℕ) (at : ℕ) → IsUtf8 (drop at text) → at < length text → slice_index text at < 128 → begins_word (slice_index text at) ≡ true
+    → identifier (drop at text) ≡ Some (Identifier, 1 + continue_length (chars (drop (at + 1) text)))
+identifier_ascii text at u h ascii word =
+    let more : List ℕ = chars (drop (at + 1) text) in
+    let starts_here : starts (slice_index text at) ≡ true = word_starts (slice_index text at) ascii word in
+    ap identifier_of (chars_ascii text at u h ascii).0
+    ∙ ap (λ (x : Bool). if x then Some (Identifier, len_utf8 (slice_index text at) + continue_length more) else None) starts_here
+    ∙ ap (λ n. Some (Identifier, n + continue_length more)) (len_utf8_ascii (slice_index text at) ascii)

@@ -1,0 +1,30 @@
+-- What one opening more does to the modes and the places, and whether a line begins behind a text.
+use Rattle.std.proofs.Common.{◌≡◌, ℕ, suc, ◌-◌, ◌<◌, ◌==◌, Bool, List, [], ◌∷◌, ◌++◌, length, map, reverse, slice_index, refl, sym, ap, ◌∙◌, arith, take_all}
+use Rattle.std.proofs.lemmas.List.{reverse-append, length-reverse, length-map}
+use Rattle.hcl_scan.specs.Runs.{line_behind}
+use Rattle.hcl_scan.specs.declared.mode.Opening.{Opening}
+use Rattle.hcl_scan.specs.Openings.{mode_view, modes_of, places_of}
+use Rattle.hcl_scan.proofs.RunLemmas.{line_behind-last}
+
+pub modes_of-push : (openings : List Opening) (o : Opening) → modes_of (openings ++ o ∷ []) ≡ mode_view o.mode ∷ modes_of openings
+modes_of-push openings o = ap (λ (x : List Opening). map (λ (p : Opening). mode_view p.mode) x) (reverse-append openings (o ∷ []))
+
+pub places_of-push : (openings : List Opening) (o : Opening) → places_of (openings ++ o ∷ []) ≡ o.at ∷ places_of openings
+places_of-push openings o = ap (λ (x : List Opening). map (λ (p : Opening). p.at) x) (reverse-append openings (o ∷ []))
+
+pub ruleset opening_lemmas = (modes_of-push, places_of-push)
+
+-- the last byte tells
+pub line_behind-end : (fresh : Bool) (t : List ℕ) → 0 < length t → line_behind fresh t ≡ (slice_index t (length t - 1) == 10)
+line_behind-end fresh t some =
+    let n : ℕ = length t - 1 in
+    ap (line_behind fresh) (sym (take_all (suc n) t (omega arith))) ∙ line_behind-last fresh t n (omega arith)
+
+pub none_open : (openings : List Opening) → modes_of openings ≡ [] → openings ≡ []
+none_open openings e =
+    let size : length openings ≡ 0 = sym (length-reverse openings) ∙ sym (length-map (reverse openings) (λ (o : Opening). mode_view o.mode)) ∙ ap length e in
+    empty openings size
+  where
+    empty : (xs : List Opening) → length xs ≡ 0 → xs ≡ []
+    empty [] h = refl
+    empty (x ∷ xs) h = absurd (omega arith)

@@ -1,0 +1,90 @@
+use Rattle.std.proofs.Common.{◌≡◌, ◌+◌, ℕ, List, [], ◌∷◌, ◌++◌, length, sym, ap, ap₂, subst, subst₂, ◌∙◌, inr, slice_range}
+use Rattle.std.proofs.lemmas.Bool.{iff_false}
+use Rattle.hcl_token.specs.declared.item.Item.{Item}
+use Rattle.hcl_scan.specs.declared.mode.Opening.{Opening}
+use Rattle.hcl_scan.specs.Modes.{Mode, mode_of, after}
+use Rattle.hcl_scan.specs.Modes.Mode.{Expression}
+use Rattle.hcl_scan.specs.Fault.{Stops, innermost, places_after}
+use Rattle.hcl_scan.specs.Markers.{HasMarker}
+use Rattle.hcl_scan.specs.Openings.{mode_view, modes_of, places_of}
+use Rattle.hcl_scan.specs.Progress.{IsCutTo, front_items, front_length}
+use Rattle.hcl_scan.proofs.FrontLemmas.{started}
+use Rattle.hcl_scan.proofs.OpeningLemmas.{none_open}
+use Rattle.hcl_scan.proofs.Steps.{marker_cut, gap_at, one_more, finished, stopped}
+use Rattle.hcl_scan.proofs.cut.cut.Goals as goal
+
+pub tokens-init : goal.tokens-init
+tokens-init c =
+    let text = c.as_bytes-bytes.result.now in
+    let items = c.in_ok-at.ensures.items ∙ ap (λ (x : List Item). x ++ front_items text) c.in_ok-items.ensures.items in
+    let none = c.new-openings.ensures.items in
+    let begun = subst₂ (λ (x : List Item) n. IsCutTo text x n [] []) (sym items) (sym c.in_ok-at.ensures.length) (started text c.as_bytes-bytes.ensures.utf8) in
+    subst (λ (o : List Opening). IsCutTo text c.push_mark.new.items.items c.in_ok-at.at (modes_of o) (places_of o)) (sym none) begun
+
+pub returns-then-is_done-clause-cut : goal.returns-then-is_done-clause-cut
+returns-then-is_done-clause-cut c =
+    let same = c.as_bytes-bytes.ensures.value in
+    let done = c.is_done.ensures.0 c.if-is_done.true in
+    let none = sym c.deref-in-tokens.ensures.value ∙ done.1 in
+    let places = places_of c.tokens.openings.items in
+    let state = subst (λ (m : List Mode). IsCutTo c.args.text.now c.tokens.items.items c.tokens.at m places) (ap modes_of none) (rw same at c.tokens.invariant) in
+    let mode : mode_view c.mode_of-mode.result ≡ Expression =
+    c.mode_of-mode.ensures ∙ ap (λ x. mode_of (modes_of x)) c.deref.ensures.value ∙ ap (λ x. mode_of (modes_of x)) none in
+    let start = rw (same, mode) at c.gap_end-start.ensures.value in
+    finished c.args.text.now c.tokens.items.items c.tokens.at c.gap_end-start.result places c.requires c.utf8.text state start (rw same at done.0)
+
+pub token_at-requires-clause-utf8 : goal.token_at-requires-clause-utf8
+token_at-requires-clause-utf8 c =
+    let same = c.as_bytes-bytes.ensures.value in
+    let state = rw same at c.tokens.invariant in
+    let start = rw same at c.gap_end-start.ensures.value in
+    (gap_at c.args.text.now (mode_view c.mode_of-mode.result) c.tokens.at c.gap_end-start.result state.within state.utf8 start).utf8
+
+pub token_at-requires-clause-marker : goal.token_at-requires-clause-marker
+token_at-requires-clause-marker c =
+    let modes = modes_of c.tokens.openings.items in
+    let mode = c.mode_of-mode.ensures ∙ ap (λ x. mode_of (modes_of x)) c.deref.ensures.value in
+    let marked = marker_cut c.as_bytes-bytes.result.now c.tokens.items.items c.tokens.at modes (places_of c.tokens.openings.items) c.tokens.invariant in
+    subst HasMarker (sym mode) marked
+
+pub returns-in-None-clause-fault : goal.returns-in-None-clause-fault
+returns-in-None-clause-fault c =
+    let text = c.args.text.now in
+    let at = c.tokens.at in
+    let start = c.gap_end-start.result in
+    let same = c.as_bytes-bytes.ensures.value in
+    let modes = modes_of c.tokens.openings.items in
+    let places = places_of c.tokens.openings.items in
+    let state = rw same at c.tokens.invariant in
+    let mode = c.mode_of-mode.ensures ∙ ap (λ x. mode_of (modes_of x)) c.deref.ensures.value in
+    let start_is = rw (same, mode) at c.gap_end-start.ensures.value in
+    let none = rw mode at (sym c.in-None.ensures.value) in
+    let opened = c.opened_at-opened.ensures ∙ ap (λ x. innermost (modes_of x) (places_of x)) c.deref-in-None.ensures.value in
+    let fault = rw (same, mode, opened) at c.fault_at.ensures in
+    let unfinished = λ (e : modes ≡ []) (z : start ≡ length text).
+    iff_false c.is_done.ensures c.if-is_done.false (z ∙ ap length (sym same), c.deref-in-tokens.ensures.value ∙ none_open c.tokens.openings.items e) in
+    inr (subst (Stops text) (sym fault) (stopped text c.tokens.items.items at start modes places state start_is none unfinished))
+
+pub tokens-preserved : goal.tokens-preserved
+tokens-preserved c =
+    let text = c.args.text.now in
+    let at = c.tokens.at in
+    let start = c.gap_end-start.result in
+    let kind = c.in-Some.kind in
+    let stop = start + c.in-Some.len in
+    let same = c.as_bytes-bytes.ensures.value in
+    let modes = modes_of c.tokens.openings.items in
+    let places = places_of c.tokens.openings.items in
+    let state = rw same at c.tokens.invariant in
+    let mode = c.mode_of-mode.ensures ∙ ap (λ x. mode_of (modes_of x)) c.deref.ensures.value in
+    let start_is = rw (same, mode) at c.gap_end-start.ensures.value in
+    let found = rw mode at (sym c.in-Some.ensures.value) in
+    let more = one_more text c.tokens.items.items at modes places start kind c.in-Some.len state start_is found in
+    let pushed = c.in_ok-push-in-Some.ensures.items in
+    let spelling = rw same at c.part.ensures in
+    let shifted = c.in_ok-shift-in-Some.ensures.modes ∙ ap (λ (s : List ℕ). after kind s modes) spelling in
+    let placed = c.in_ok-shift-in-Some.ensures.places in
+    let item : Item = record { gap_at = at; start = start; stop = stop; kind = kind } in
+    let items = c.tokens.items.items ++ item ∷ [] in
+    let next = subst₂ (λ (m : List Mode) (o : List ℕ). IsCutTo text items stop m o) (sym shifted) (sym placed) more.1 in
+    subst₂ (λ (x : List ℕ) (xs : List Item). IsCutTo x xs stop (modes_of c.shift.new.openings.items) (places_of c.shift.new.openings.items)) (sym same) (sym pushed) next

@@ -1,0 +1,12 @@
+use Rattle.std.proofs.Common.{arith, drop, sym, ◌∙◌}
+use Rattle.hcl_scan.proofs.RunLemmas.{run_length-none, run_length-on}
+use Rattle.hcl_scan.proofs.runs.run_end.Goals as goal
+
+pub returns-then-len-eq0-clause-value : goal.returns-then-len-eq0-clause-value
+returns-then-len-eq0-clause-value g c =
+    omega (arith, run_length-none (g.U.Unit.len c.args.unit.now) c.loop-at.begins (drop c.loop-at.at c.args.text.now) (sym c.len_at-len.ensures.value ∙ c.if-len-eq0.true))
+
+pub loop-at-preserved : goal.loop-at-preserved
+loop-at-preserved g c =
+    let on = run_length-on (g.U.Unit.len c.args.unit.now) c.loop-at.begins c.args.text.now c.loop-at.at c.len_at-len.result (sym c.len_at-len.ensures.value) (omega arith) c.len_at-len.ensures.within in
+    (omega (arith, on), c.len_at-len.ensures.within)

@@ -1,0 +1,36 @@
+-- Characters and short pieces of text that lexemes are made of.
+-- HCL native syntax specification, Lexical Elements, Identifiers and Templates.
+use Rattle.std.specs.Prelude.{ℕ, Bool, true, false, ◌&&◌, ◌||◌, if◌then◌else◌, ◌==◌, List, [], ◌∷◌, slice_index}
+use Rattle.unicode_ident.specs.Ident.{is_xid_start, is_xid_continue}
+
+-- a space or a tab
+abbrev pub is_blank : ℕ → Bool
+is_blank b = b == 32 || b == 9
+
+-- LF, or CR LF
+abbrev pub begins_line_end : List ℕ → Bool
+begins_line_end t = slice_index t 0 == 10 || (slice_index t 0 == 13 && slice_index t 1 == 10)
+
+-- XID_Start (Unicode Standard Annex 31), or `_`
+abbrev pub starts : ℕ → Bool
+starts c = is_xid_start c || c == 95
+
+-- XID_Continue, or `-`
+abbrev pub continues : ℕ → Bool
+continues c = is_xid_continue c || c == 45
+
+-- `$` or `%`
+abbrev pub is_sigil : ℕ → Bool
+is_sigil b = b == 36 || b == 37
+
+-- A `$` begins `$${` if that stands there, else an opening if `${` stands there, else it is itself; the same for `%`.
+abbrev pub sigil_length : ℕ → List ℕ → ℕ
+sigil_length sigil rest =
+    if slice_index rest 0 == sigil && slice_index rest 1 == 123 then 3
+    else (if slice_index rest 0 == 123 then 0 else 1)
+
+-- the first text stands at the front of the second
+abbrev pub begins : List ℕ → List ℕ → Bool
+begins [] t = true
+begins (m ∷ ms) [] = false
+begins (m ∷ ms) (b ∷ t) = m == b && begins ms t

@@ -1,0 +1,48 @@
+-- The cut of a text into gaps and tokens. HCL native syntax specification, Lexical Elements.
+use Rattle.std.specs.Prelude.{◌≡◌, ℕ, ◌≤◌, true, List, [], ◌∷◌, ◌++◌, length, IsUtf8, if◌then◌else◌}
+use Rattle.std.specs.List.{list_all}
+use Rattle.hcl_token.specs.declared.kind.Kind.TheVariants.{Mark}
+use Rattle.hcl_token.specs.Tokens.{Pair, joining}
+use Rattle.hcl_scan.specs.Characters.{is_blank, begins}
+use Rattle.hcl_scan.specs.Modes.{Mode, mode_of, is_literal, after}
+use Rattle.hcl_scan.specs.Lexeme.{IsLongest}
+
+-- the greatest number of bytes of a text
+abbrev pub MAX_TEXT : ℕ
+MAX_TEXT = 16777216
+
+-- U+FEFF
+abbrev pub byte_order_mark : List ℕ
+byte_order_mark = 239 ∷ 187 ∷ 191 ∷ []
+
+-- the byte order mark at the front of a text is a token; nothing where there is none
+abbrev pub front_of : List ℕ → List Pair
+front_of text = if begins byte_order_mark text then record { gap = []; kind = Mark; spelling = byte_order_mark } ∷ [] else []
+
+-- blanks; in literal text there are no gaps
+abbrev pub IsGap : Mode → List ℕ → Type 0
+IsGap mode gap = (list_all is_blank gap ≡ true) × (is_literal mode ≡ true → gap ≡ [])
+
+-- The pairs are cut one by one, from these modes on: each token is the longest lexeme of its mode, with all that is behind it.
+-- Behind the pairs stands rest, in the modes that are left.
+abbrev pub CutsFrom : List Mode → List Pair → List ℕ → List Mode → Type 0
+CutsFrom modes [] rest left = modes ≡ left
+CutsFrom modes (p ∷ ps) rest left =
+    IsGap (mode_of modes) p.gap
+    × IsLongest (mode_of modes) p.kind p.spelling (joining ps rest)
+    × CutsFrom (after p.kind p.spelling modes) ps rest left
+
+-- the pairs are cut from the front of a text, and rest is left, in these modes
+pub record Cuts (text : List ℕ) (pairs : List Pair) (rest : List ℕ) (left : List Mode) : Type 0 where
+  pub joined : text ≡ joining pairs rest
+  pub body : List Pair
+  pub front : pairs ≡ front_of text ++ body
+  pub cuts : CutsFrom [] body rest left
+
+-- the pairs and the last gap are the cut of the text
+pub record IsCut (text : List ℕ) (pairs : List Pair) (last : List ℕ) : Type 0 where
+  pub short : length text ≤ MAX_TEXT
+  pub utf8 : IsUtf8 text
+  -- every opening is closed at the end
+  pub cuts : Cuts text pairs last []
+  pub blank : list_all is_blank last ≡ true

@@ -1,0 +1,172 @@
+-- The lexemes: for each mode and kind the spellings, given what stands behind.
+-- HCL native syntax specification, Lexical Elements and Templates.
+use Rattle.std.specs.Prelude.{◌≡◌, ◌≢◌, ℕ, suc, ◌≤◌, Bool, true, false, not, ◌&&◌, ◌||◌, if◌then◌else◌, ◌==◌, List, [], ◌∷◌, ◌++◌, length, drop, slice_index, ◌⊎◌, IsTrue, IsUtf8, Option, Some, None, codes}
+use Rattle.std.specs.Char.{is_ascii_digit, is_ascii_hexdigit}
+use Rattle.std.specs.List.{list_all}
+use Rattle.std.specs.Str.{chars}
+use Rattle.hcl_token.specs.declared.kind.Kind.{Kind}
+use Rattle.hcl_token.specs.declared.kind.Kind.TheVariants.{Mark, LineEnd, LineComment, InlineComment, Identifier, Number, DotIndex, Plus, Minus, Star, Slash, Percent, And, Or, Bang, DoubleEqual, NotEqual, Less, Greater, LessEqual, GreaterEqual, Question, Colon, DoubleColon, Equal, FatArrow, OpenBrace, CloseBrace, OpenBracket, CloseBracket, OpenParen, CloseParen, Comma, Dot, Ellipsis, QuoteOpen, HereOpen, SeqClose, QuoteClose, InterpOpen, DirectiveOpen, QuoteLit, HereClose, HereLit}
+use Rattle.hcl_scan.specs.Runs.{UnitLength, IsRun, byte_unit}
+use Rattle.hcl_scan.specs.Modes.{Mode, is_literal, closes_sequence, begins_line, marker}
+use Rattle.hcl_scan.specs.Modes.Mode.{Quoted, Heredoc}
+use Rattle.hcl_scan.specs.Closing.{IsClosingLine, here_unit}
+use Rattle.hcl_scan.specs.Characters.{begins_line_end, starts, continues, is_sigil, sigil_length}
+
+abbrev pub is_quoted : Mode → Bool
+is_quoted Quoted = true
+is_quoted _ = false
+
+abbrev pub is_heredoc : Mode → Bool
+is_heredoc (Heredoc name fresh) = true
+is_heredoc _ = false
+
+-- whether tokens of the kind can stand in the mode; the byte order mark stands in none, but at the front of a text
+abbrev pub stands_in : Mode → Kind → Bool
+stands_in mode Mark = false
+stands_in mode QuoteClose = is_quoted mode
+stands_in mode QuoteLit = is_quoted mode
+-- a heredoc closes only where a line of it begins
+stands_in mode HereClose = is_heredoc mode && begins_line mode
+stands_in mode HereLit = is_heredoc mode
+stands_in mode InterpOpen = is_literal mode
+stands_in mode DirectiveOpen = is_literal mode
+stands_in mode SeqClose = closes_sequence mode
+stands_in mode CloseBrace = not (closes_sequence mode) && not (is_literal mode)
+stands_in mode _ = not (is_literal mode)
+
+-- ---- units
+
+-- a byte at which no line end begins
+abbrev pub comment_unit : UnitLength
+comment_unit = byte_unit (λ b rest. not (begins_line_end (b ∷ rest)))
+
+-- a byte at which no `*/` begins
+abbrev pub inline_unit : UnitLength
+inline_unit = byte_unit (λ b rest. not (b == 42 && slice_index rest 0 == 47))
+
+-- n, r, t, `"` and `\`
+abbrev pub is_simple_escape : ℕ → Bool
+is_simple_escape e = e == 110 || e == 114 || e == 116 || e == 34 || e == 92
+
+abbrev pub has_four_hex : List ℕ → Bool
+has_four_hex t = is_ascii_hexdigit (slice_index t 0) && is_ascii_hexdigit (slice_index t 1) && is_ascii_hexdigit (slice_index t 2) && is_ascii_hexdigit (slice_index t 3)
+
+-- the number of bytes of the escape behind a `\`, 0 where there is none: one of those letters, `u` with four
+-- hexadecimal digits, or `U` with eight
+abbrev pub escape_length : List ℕ → ℕ
+escape_length t =
+    if is_simple_escape (slice_index t 0) then 1
+    else (if slice_index t 0 == 117 && has_four_hex (drop 1 t) then 5
+    else (if slice_index t 0 == 85 && (has_four_hex (drop 1 t) && has_four_hex (drop 5 t)) then 9 else 0))
+
+-- a unit of quoted text: an escape, `$${`, `%%{`, or any character but `"`, `\` and a line end, at which no `${` or `%{` begins
+abbrev pub quote_unit : UnitLength
+quote_unit fresh [] = 0
+quote_unit fresh (b ∷ rest) =
+    if b == 92 then (if escape_length rest == 0 then 0 else suc (escape_length rest))
+    else (if is_sigil b then sigil_length b rest
+    else (if b == 34 then 0
+    else (if begins_line_end (b ∷ rest) then 0 else 1)))
+
+-- ---- spellings
+
+-- a start character, then continue characters or `-`
+abbrev pub is_identifier : List ℕ → Bool
+is_identifier [] = false
+is_identifier (c ∷ cs) = starts c && list_all continues cs
+
+abbrev pub is_decimal : List ℕ → Bool
+is_decimal [] = false
+is_decimal (d ∷ ds) = list_all is_ascii_digit (d ∷ ds)
+
+abbrev pub IsIdentifier : List ℕ → Type 0
+IsIdentifier s = IsUtf8 s × IsTrue (is_identifier (chars s))
+
+-- nothing, or `.` and digits
+abbrev pub IsFraction : List ℕ → Type 0
+IsFraction s = (s ≡ []) ⊎ ((digits : List ℕ) × (s ≡ codes "." ++ digits) × IsTrue (is_decimal digits))
+
+abbrev pub IsSign : List ℕ → Type 0
+IsSign s = (s ≡ []) ⊎ ((s ≡ codes "+") ⊎ (s ≡ codes "-"))
+
+-- nothing, or `e` or `E`, perhaps a sign, and digits
+abbrev pub IsExponent : List ℕ → Type 0
+IsExponent s =
+    (s ≡ [])
+    ⊎ ((letter : ℕ) × (sign : List ℕ) × (digits : List ℕ) × (s ≡ letter ∷ (sign ++ digits))
+    × ((letter == 101 || letter == 69) ≡ true) × IsSign sign × IsTrue (is_decimal digits))
+
+abbrev pub IsLineEnd : List ℕ → Type 0
+IsLineEnd s = (s ≡ codes "\n") ⊎ (s ≡ codes "\r\n")
+
+-- the spelling of a kind that has only one
+abbrev pub fixed : Kind → Option (List ℕ)
+fixed Plus = Some (codes "+")
+fixed Minus = Some (codes "-")
+fixed Star = Some (codes "*")
+fixed Slash = Some (codes "/")
+fixed Percent = Some (codes "%")
+fixed And = Some (codes "&&")
+fixed Or = Some (codes "||")
+fixed Bang = Some (codes "!")
+fixed DoubleEqual = Some (codes "==")
+fixed NotEqual = Some (codes "!=")
+fixed Less = Some (codes "<")
+fixed Greater = Some (codes ">")
+fixed LessEqual = Some (codes "<=")
+fixed GreaterEqual = Some (codes ">=")
+fixed Question = Some (codes "?")
+fixed Colon = Some (codes ":")
+fixed DoubleColon = Some (codes "::")
+fixed Equal = Some (codes "=")
+fixed FatArrow = Some (codes "=>")
+fixed OpenBrace = Some (codes "{")
+fixed CloseBrace = Some (codes "}")
+fixed OpenBracket = Some (codes "[")
+fixed CloseBracket = Some (codes "]")
+fixed OpenParen = Some (codes "(")
+fixed CloseParen = Some (codes ")")
+fixed Comma = Some (codes ",")
+fixed Dot = Some (codes ".")
+fixed Ellipsis = Some (codes "...")
+fixed QuoteOpen = Some (codes "\"")
+fixed QuoteClose = Some (codes "\"")
+fixed _ = None
+
+-- the text is a spelling of the kind in the mode, with rest behind it
+abbrev pub Spells : Mode → Kind → List ℕ → List ℕ → Type 0
+Spells mode LineEnd s rest = IsLineEnd s
+-- `#` or `//` and all up to the line end
+Spells mode LineComment s rest =
+    ((body : List ℕ) × (s ≡ codes "#" ++ body) × IsRun comment_unit false body rest)
+    ⊎ ((body : List ℕ) × (s ≡ codes "//" ++ body) × IsRun comment_unit false body rest)
+-- `/*` up to the first `*/`
+Spells mode InlineComment s rest =
+    (body : List ℕ) × (s ≡ codes "/*" ++ (body ++ codes "*/")) × IsRun inline_unit false body (codes "*/" ++ rest)
+Spells mode Identifier s rest = IsIdentifier s
+Spells mode Number s rest =
+    (whole : List ℕ) × (fraction : List ℕ) × (exponent : List ℕ) × (s ≡ whole ++ (fraction ++ exponent))
+    × IsTrue (is_decimal whole) × IsFraction fraction × IsExponent exponent
+Spells mode DotIndex s rest = (digits : List ℕ) × (s ≡ codes "." ++ digits) × IsTrue (is_decimal digits)
+-- no operator directly before `*` or `/`
+Spells mode Slash s rest = (fixed Slash ≡ Some s) × ((slice_index rest 0 == 42 || slice_index rest 0 == 47) ≡ false)
+-- `<<` or `<<-`, the marker, and the end of the line
+Spells mode HereOpen s rest =
+    (dash : List ℕ) × (name : List ℕ) × (end : List ℕ) × (s ≡ codes "<<" ++ (dash ++ (name ++ end)))
+    × ((dash ≡ []) ⊎ (dash ≡ codes "-")) × IsIdentifier name × IsLineEnd end
+Spells mode SeqClose s rest = (s ≡ codes "}") ⊎ (s ≡ codes "~}")
+Spells mode InterpOpen s rest = (s ≡ codes "${") ⊎ (s ≡ codes "${~")
+Spells mode DirectiveOpen s rest = (s ≡ codes "%{") ⊎ (s ≡ codes "%{~")
+Spells mode QuoteLit s rest = (s ≢ []) × IsRun quote_unit false s rest
+Spells mode HereClose s rest = IsClosingLine (marker mode) s rest
+Spells mode HereLit s rest = (s ≢ []) × IsRun (here_unit (marker mode)) (begins_line mode) s rest
+Spells mode kind s rest = fixed kind ≡ Some s
+
+abbrev pub IsLexeme : Mode → Kind → List ℕ → List ℕ → Type 0
+IsLexeme mode kind s rest = (stands_in mode kind ≡ true) × Spells mode kind s rest
+
+-- no lexeme of the mode at this place is longer
+abbrev pub IsLongest : Mode → Kind → List ℕ → List ℕ → Type 0
+IsLongest mode kind s rest =
+    IsLexeme mode kind s rest
+    × ((other : Kind) (s' rest' : List ℕ) → IsLexeme mode other s' rest' → s' ++ rest' ≡ s ++ rest → length s' ≤ length s)

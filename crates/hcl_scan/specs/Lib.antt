@@ -1,0 +1,14 @@
+pub mod Characters
+pub mod Closing
+pub mod Cut
+pub mod Fault
+pub mod Front
+pub mod HereNext
+pub mod Lexeme
+pub mod Markers
+pub mod Modes
+pub mod Next
+pub mod Openings
+pub mod Progress
+pub mod RunLength
+pub mod Runs

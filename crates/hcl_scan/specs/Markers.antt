@@ -1,0 +1,13 @@
+-- For proofs: the markers of the heredocs that are open are identifiers, since each was read as one.
+use Rattle.std.specs.Prelude.{List, [], ◌∷◌}
+use Rattle.hcl_scan.specs.Modes.{Mode}
+use Rattle.hcl_scan.specs.Modes.Mode.{Heredoc}
+use Rattle.hcl_scan.specs.Lexeme.{IsIdentifier}
+
+abbrev pub HasMarker : Mode → Type 0
+HasMarker (Heredoc name fresh) = IsIdentifier name
+HasMarker _ = Unit {0}
+
+abbrev pub HaveMarkers : List Mode → Type 0
+HaveMarkers [] = Unit {0}
+HaveMarkers (mode ∷ modes) = HasMarker mode × HaveMarkers modes

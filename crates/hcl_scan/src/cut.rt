@@ -1,0 +1,163 @@
+//! Where the tokens of a whole text stand.
+
+ghost use Rattle.std.specs.Prelude.{◌≡◌, ◌+◌, ◌<◌, ◌≤◌, ◌++◌, length, drop, IsUtf8, IfOk, IfErr, IfSome, OnOk, IsTrue, ◌↔◌, [], ◌⊎◌};
+ghost use Rattle.hcl_token.specs.Items.{pairs_of, InOrder};
+ghost use Rattle.hcl_scan.specs.Markers.{HasMarker};
+ghost use Rattle.hcl_scan.specs.Characters.{begins};
+ghost use Rattle.hcl_scan.specs.Cut.{IsCut, MAX_TEXT, byte_order_mark};
+ghost use Rattle.hcl_scan.specs.declared.error.ScanFault.TheVariants.{Memory};
+ghost use Rattle.hcl_scan.specs.Fault.{Stops, IsFault, token_fault, fault_at};
+ghost use Rattle.hcl_scan.specs.Next.{token};
+ghost use Rattle.hcl_scan.specs.Openings.{mode_view, modes_of};
+ghost use Rattle.hcl_scan.specs.Progress.{front_items, front_length};
+
+use crate::bytes::{byte, part};
+use crate::error::ScanFault;
+use crate::mode::{Mode, Opening, mode_of, opened_at, shift};
+use crate::token::{gap_end, token};
+use hcl_token::item::Item;
+use hcl_token::kind::Kind;
+use std::alloc::{AllocError, Global};
+
+/// The greatest number of bytes of a text.
+pub const MAX_TEXT: usize = 16_777_216;
+
+/// The fault outside of literal text, at a place where no token can be cut.
+fn token_fault(text: &[u8], at: usize) -> ScanFault
+    requires { at ≤ length text.now }
+    ensures { result ≡ token_fault at (drop at text.now) }
+{
+    if byte(text, at) == b'/' && byte(text, at + 1) == b'*' {
+        ScanFault::OpenComment { at }
+    } else {
+        ScanFault::BadCharacter { at }
+    }
+}
+
+/// The fault at a place where no token can be cut, in a template that begins at `opened`.
+fn fault_at(text: &[u8], mode: Mode<'_>, opened: usize, at: usize) -> ScanFault
+    requires { at ≤ length text.now }
+    ensures { result ≡ fault_at (mode_view mode.entry) opened at (drop at text.now) }
+{
+    match mode {
+        Mode::Quoted => {
+            if byte(text, at) == b'\\' {
+                ScanFault::BadEscape { at }
+            } else {
+                ScanFault::OpenString { at: opened }
+            }
+        }
+        Mode::Heredoc {
+            marker: _,
+            fresh: _,
+        } => ScanFault::OpenHeredoc { at: opened },
+        Mode::Expression => token_fault(text, at),
+        _ => {
+            if at == text.len() {
+                ScanFault::OpenTemplate { at: opened }
+            } else {
+                token_fault(text, at)
+            }
+        }
+    }
+}
+
+/// Whether the text is cut to its end.
+fn is_done(openings: &[Opening<'_>], start: usize, len: usize) -> bool
+    ensures { IsTrue result ↔ ((start ≡ len) × (openings.now ≡ [])) }
+{
+    start == len && openings.is_empty()
+}
+
+/// Whether a byte order mark stands at the front.
+fn begins_mark(text: &[u8]) -> bool
+    ensures { result ≡ begins byte_order_mark text.now }
+{
+    byte(text, 0) == 0xef && byte(text, 1) == 0xbb && byte(text, 2) == 0xbf
+}
+
+/// The byte order mark at the front of a text, if one stands there, becomes the first item; the answer is its length.
+fn push_mark(items: &mut Vec<Item>, text: &[u8]) -> Result<usize, AllocError>
+    ensures items { OnOk result (items.new.items ≡ items.old.items ++ front_items text.now) }
+    ensures length { IfOk result (λ at. at ≡ front_length text.now) }
+{
+    if !begins_mark(text) {
+        return Ok(0);
+    }
+    items.push(Item {
+        gap_at: 0,
+        start: 0,
+        stop: 3,
+        kind: Kind::Mark,
+    })?;
+    Ok(3)
+}
+
+/// The token at a place; none at the end.
+fn token_at(text: &str, at: usize, mode: Mode<'_>) -> Option<(Kind, usize)>
+    requires within { at ≤ length text.now }
+    requires utf8 { IsUtf8 (drop at text.now) }
+    requires marker { HasMarker (mode_view mode) }
+    ensures value { result ≡ token (mode_view mode.entry) (drop at text.now) }
+    ensures within { IfSome result (λ found. (0 < found.1) × (at + found.1 ≤ length text.now)) }
+{
+    if at == text.len() {
+        None
+    } else {
+        token(text, at, mode)
+    }
+}
+
+/// The items of a text, and where its last gap begins.
+fn cut(alloc: Global, text: &str) -> Result<(Vec<Item>, usize), ScanFault>
+    requires { length text.now ≤ MAX_TEXT }
+    ensures cut { IfOk result (λ r. IsCut text.now (pairs_of text.now r.0.items) (drop r.1 text.now)) }
+    ensures order { IfOk result (λ r. InOrder 0 r.0.items r.1 × (r.1 ≤ length text.now)) }
+    ensures fault { IfErr result (λ e. (e ≡ Memory) ⊎ Stops text.now e) }
+{
+    let bytes = text.as_bytes();
+    let mut items = Vec::with_capacity(alloc, text.len() / 8)?;
+    let mut openings: Vec<Opening<'_>> = Vec::new(alloc);
+    let mut at = push_mark(&mut items, bytes)?;
+    'tokens: loop {
+        let mode = mode_of(&openings);
+        let start = gap_end(bytes, at, mode);
+        if is_done(&openings, start, bytes.len()) {
+            return Ok((items, at));
+        }
+        match token_at(text, start, mode) {
+            None => {
+                let opened = opened_at(&openings);
+                return Err(fault_at(bytes, mode, opened, start));
+            }
+            Some((kind, len)) => {
+                let stop = start + len;
+                items.push(Item {
+                    gap_at: at as u32,
+                    start: start as u32,
+                    stop: stop as u32,
+                    kind,
+                })?;
+                shift(&mut openings, kind, part(bytes, start, stop), start)?;
+                at = stop;
+            }
+        }
+    }
+}
+
+/// The items of a text, and where its last gap begins; or its fault. A text that is too long or not UTF-8 takes no memory.
+pub fn cut_of(alloc: Global, text: &[u8]) -> Result<(Vec<Item>, usize), ScanFault>
+    ensures cut { IfOk result (λ r. IsCut text.now (pairs_of text.now r.0.items) (drop r.1 text.now)) }
+    ensures order { IfOk result (λ r. InOrder 0 r.0.items r.1 × (r.1 ≤ length text.now)) }
+    ensures fault { IfErr result (λ e. (e ≡ Memory) ⊎ IsFault text.now e) }
+{
+    if text.len() > MAX_TEXT {
+        return Err(ScanFault::TooLong);
+    }
+    match simdutf8::compat::from_utf8(text) {
+        Err(e) => Err(ScanFault::NotUtf8 {
+            at: e.valid_up_to(),
+        }),
+        Ok(text) => cut(alloc, text),
+    }
+}

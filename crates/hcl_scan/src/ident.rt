@@ -1,0 +1,93 @@
+//! Identifiers.
+
+ghost use Rattle.std.specs.Prelude.{◌≡◌, ◌∷◌, ◌+◌, ◌<◌, ◌≤◌, length, drop, true, ◌==◌, ◌||◌, IsUtf8, slice_index};
+ghost use Rattle.std.specs.Char.{len_utf8};
+ghost use Rattle.std.specs.Str.{chars};
+ghost use Rattle.hcl_scan.specs.Characters.{starts, continues};
+ghost use Rattle.hcl_scan.specs.Front.{begins_word, continue_length, identifier};
+
+use hcl_token::kind::Kind;
+use unicode_ident::{is_xid_continue, is_xid_start};
+
+/// The character at a place.
+fn char_at(text: &str, at: usize) -> char
+    requires within { at < length text.now }
+    requires utf8 { IsUtf8 (drop at text.now) }
+    ensures chars { chars (drop at text.now) ≡ result ∷ chars (drop (at + len_utf8 result) text.now) }
+    ensures rest { IsUtf8 (drop (at + len_utf8 result) text.now) }
+    ensures within { at + len_utf8 result ≤ length text.now }
+{
+    let rest = &text[at..];
+    rest.chars().next().unwrap()
+}
+
+fn starts(c: char) -> bool
+    ensures { result ≡ starts c }
+{
+    is_xid_start(c) | (c == '_')
+}
+
+fn continues(c: char) -> bool
+    ensures { result ≡ continues c }
+{
+    is_xid_continue(c) | (c == '-')
+}
+
+fn continues_ascii(b: u8) -> bool
+    requires { b < 128 }
+    ensures { result ≡ continues b }
+{
+    b.is_ascii_alphanumeric() | (b == b'_') | (b == b'-')
+}
+
+/// A letter, `_`, or the first byte of a character that is not ASCII.
+pub fn begins_word(b: u8) -> bool
+    ensures { result ≡ begins_word b }
+{
+    b.is_ascii_alphabetic() | (b == b'_') | (128 <= b)
+}
+
+/// The end of the characters from a place on that continue an identifier.
+pub fn continue_end(text: &str, from: usize) -> usize
+    requires within { from ≤ length text.now }
+    requires utf8 { IsUtf8 (drop from text.now) }
+    ensures value { result ≡ from + continue_length (chars (drop from text.now)) }
+    ensures within { result ≤ length text.now }
+    ensures rest { IsUtf8 (drop result text.now) }
+{
+    let bytes = text.as_bytes();
+    let mut at = from;
+    while at < bytes.len() {
+        let b = bytes[at];
+        if b < 128 {
+            if !continues_ascii(b) {
+                return at;
+            }
+            at += 1;
+        } else {
+            let c = char_at(text, at);
+            if !continues(c) {
+                return at;
+            }
+            at += c.len_utf8();
+        }
+    }
+    at
+}
+
+/// The identifier at a place where a word begins, as its kind and its length.
+pub fn identifier(text: &str, at: usize) -> Option<(Kind, usize)>
+    requires within { at < length text.now }
+    requires utf8 { IsUtf8 (drop at text.now) }
+    requires word { begins_word (slice_index text.now at) ≡ true }
+    ensures { result ≡ identifier (drop at text.now) }
+{
+    if text.as_bytes()[at] < 128 {
+        return Some((Kind::Identifier, continue_end(text, at + 1) - at));
+    }
+    let c = char_at(text, at);
+    if !starts(c) {
+        return None;
+    }
+    Some((Kind::Identifier, continue_end(text, at + c.len_utf8()) - at))
+}

@@ -1,0 +1,220 @@
+//! The openings that are not closed, and what a token does to them.
+
+ghost use Rattle.std.specs.Prelude.{◌≡◌, ◌+◌, ◌≤◌, ◌∷◌, OnOk, drop, length};
+ghost use Rattle.std.specs.List.{prefix_len};
+ghost use Rattle.hcl_scan.specs.Modes.{mode_of, is_literal, is_braces, in_sequence, begins_line, marker_of, after};
+ghost use Rattle.hcl_scan.specs.Runs.{line_behind};
+ghost use Rattle.hcl_scan.specs.Fault.{places_after, innermost};
+ghost use Rattle.hcl_scan.specs.Openings.{mode_view, modes_of, places_of, with_line, with_line_in, is_in_line};
+
+use crate::bytes::{byte, part};
+use hcl_token::kind::Kind;
+use std::alloc::AllocError;
+
+/// How the text at a place is read.
+#[derive(Clone, Copy)]
+pub enum Mode<'t> {
+    /// Outside of every template.
+    Expression,
+    /// In a template sequence.
+    Sequence,
+    /// Behind a `{` in a template sequence.
+    Braces,
+    /// In quoted text.
+    Quoted,
+    /// In the text of a heredoc with this marker; whether a line of it begins here.
+    Heredoc { marker: &'t [u8], fresh: bool },
+}
+
+/// An opening that is not closed: where its token begins, in bytes from 0, and how the text behind it is read.
+#[derive(Clone, Copy)]
+pub struct Opening<'t> {
+    pub at: usize,
+    pub mode: Mode<'t>,
+}
+
+/// How the text behind the last of the openings is read.
+pub fn mode_of<'t>(openings: &[Opening<'t>]) -> Mode<'t>
+    ensures { mode_view result ≡ mode_of (modes_of openings.now) }
+{
+    match openings.last() {
+        Some(opening) => opening.mode,
+        None => Mode::Expression,
+    }
+}
+
+/// Directly in a template sequence, or in braces of it.
+fn in_sequence(mode: Mode<'_>) -> bool
+    ensures { result ≡ in_sequence (mode_view mode.entry) }
+{
+    match mode {
+        Mode::Sequence | Mode::Braces => true,
+        _ => false,
+    }
+}
+
+/// Behind a `{` in a template sequence.
+fn is_braces(mode: Mode<'_>) -> bool
+    ensures { result ≡ is_braces (mode_view mode.entry) }
+{
+    match mode {
+        Mode::Braces => true,
+        _ => false,
+    }
+}
+
+/// Whether a line of the heredoc begins here.
+fn begins_line(mode: Mode<'_>) -> bool
+    ensures { result ≡ begins_line (mode_view mode.entry) }
+{
+    match mode {
+        Mode::Heredoc { marker: _, fresh } => fresh,
+        _ => false,
+    }
+}
+
+/// The heredoc, at a place where a line of it begins or not.
+fn with_line<'t>(mode: Mode<'t>, fresh: bool) -> Mode<'t>
+    ensures { mode_view result ≡ with_line fresh (mode_view mode.entry) }
+{
+    match mode {
+        Mode::Heredoc { marker, fresh: _ } => Mode::Heredoc { marker, fresh },
+        other => other,
+    }
+}
+
+/// Whether a line begins behind a text, where one begins before it or not.
+fn line_behind(fresh: bool, text: &[u8]) -> bool
+    ensures { result ≡ line_behind fresh text.now }
+{
+    if text.is_empty() {
+        fresh
+    } else {
+        text[text.len() - 1] == b'\n'
+    }
+}
+
+/// The marker that the opening of a heredoc names.
+fn marker_of(spelling: &[u8]) -> &[u8]
+    ensures { result.now ≡ marker_of spelling.now }
+{
+    let from = if byte(spelling, 2) == b'-' { 3 } else { 2 };
+    if from < spelling.len() {
+        part(spelling, from, marker_end(spelling, from))
+    } else {
+        &[]
+    }
+}
+
+/// Neither LF nor CR.
+fn is_in_line(b: u8) -> bool
+    ensures { result ≡ is_in_line b }
+{
+    !((b == b'\n') | (b == b'\r'))
+}
+
+/// The first LF or CR from a place on.
+fn marker_end(text: &[u8], from: usize) -> usize
+    requires { from ≤ length text.now }
+    ensures value { result ≡ from + prefix_len is_in_line (drop from text.now) }
+    ensures within { result ≤ length text.now }
+{
+    let mut at = from;
+    while at < text.len() && is_in_line(text[at]) {
+        at += 1;
+    }
+    at
+}
+
+/// One opening more.
+#[tactic(auto, using(crate::proofs::OpeningLemmas::opening_lemmas))]
+fn push<'t>(openings: &mut Vec<Opening<'t>>, at: usize, mode: Mode<'t>) -> Result<(), AllocError>
+    ensures modes { OnOk result (modes_of openings.new.items ≡ mode_view mode.entry ∷ modes_of openings.old.items) }
+    ensures places { OnOk result (places_of openings.new.items ≡ at ∷ places_of openings.old.items) }
+{
+    openings.push(Opening { at, mode })?;
+    Ok(())
+}
+
+/// The innermost opening is closed.
+#[tactic(auto, using(crate::proofs::OpeningLemmas::opening_lemmas))]
+fn pop<'t>(openings: &mut Vec<Opening<'t>>)
+    ensures modes { modes_of openings.new.items ≡ drop 1 (modes_of openings.old.items) }
+    ensures places { places_of openings.new.items ≡ drop 1 (places_of openings.old.items) }
+{
+    let _ = openings.pop();
+}
+
+/// The innermost opening, if it is a heredoc, goes on where a line of it begins or not.
+#[tactic(auto, using(crate::proofs::OpeningLemmas::opening_lemmas))]
+fn read_on<'t>(openings: &mut Vec<Opening<'t>>, fresh: bool) -> Result<(), AllocError>
+    ensures modes { OnOk result (modes_of openings.new.items ≡ with_line_in fresh (modes_of openings.old.items)) }
+    ensures places { OnOk result (places_of openings.new.items ≡ places_of openings.old.items) }
+{
+    match openings.pop() {
+        Some(opening) => push(openings, opening.at, with_line(opening.mode, fresh)),
+        None => Ok(()),
+    }
+}
+
+/// What a token of this kind and spelling, which begins at a place, does to the openings.
+pub fn shift<'t>(
+    openings: &mut Vec<Opening<'t>>,
+    kind: Kind,
+    spelling: &'t [u8],
+    at: usize,
+) -> Result<(), AllocError>
+    ensures modes { OnOk result (modes_of openings.new.items ≡ after kind spelling.now (modes_of openings.old.items)) }
+    ensures places { OnOk result (places_of openings.new.items ≡ places_after kind at (modes_of openings.old.items) (places_of openings.old.items)) }
+{
+    match kind {
+        Kind::QuoteOpen => push(openings, at, Mode::Quoted)?,
+        Kind::HereOpen => {
+            let marker = marker_of(spelling);
+            push(
+                openings,
+                at,
+                Mode::Heredoc {
+                    marker,
+                    fresh: true,
+                },
+            )?;
+        }
+        Kind::InterpOpen | Kind::DirectiveOpen => {
+            read_on(openings, false)?;
+            push(openings, at, Mode::Sequence)?;
+        }
+        Kind::QuoteClose | Kind::HereClose | Kind::SeqClose => pop(openings),
+        Kind::OpenBrace => {
+            if in_sequence(mode_of(openings)) {
+                push(openings, at, Mode::Braces)?;
+            }
+        }
+        Kind::CloseBrace => {
+            if is_braces(mode_of(openings)) {
+                pop(openings);
+            }
+        }
+        Kind::HereLit => {
+            let fresh = line_behind(begins_line(mode_of(openings)), spelling);
+            read_on(openings, fresh)?;
+        }
+        _ => {}
+    }
+    Ok(())
+}
+
+/// Where the innermost template, or template sequence, begins.
+pub fn opened_at(openings: &[Opening<'_>]) -> usize
+    ensures { result ≡ innermost (modes_of openings.now) (places_of openings.now) }
+{
+    let mut i = openings.len();
+    while i > 0 {
+        i -= 1;
+        let opening = openings[i];
+        if !is_braces(opening.mode) {
+            return opening.at;
+        }
+    }
+    0
+}

@@ -1,0 +1,61 @@
+//! Numbers.
+
+ghost use Rattle.std.specs.Prelude.{◌≡◌, ◌+◌, ◌≤◌, length, drop};
+ghost use Rattle.hcl_scan.specs.Next.{is_sign, is_exponent_letter, fraction_length, exponent_length, number_length};
+
+use crate::bytes::{byte, digits_end};
+
+/// How many bytes the `.` and the digits at a place have, 0 where none stand.
+fn fraction_len(text: &[u8], at: usize) -> usize
+    requires { at ≤ length text.now }
+    ensures value { result ≡ fraction_length (drop at text.now) }
+    ensures within { at + result ≤ length text.now }
+{
+    if byte(text, at) == b'.' && byte(text, at + 1).is_ascii_digit() {
+        digits_end(text, at + 1) - at
+    } else {
+        0
+    }
+}
+
+fn is_sign(b: u8) -> bool
+    ensures { result ≡ is_sign b }
+{
+    (b == b'+') | (b == b'-')
+}
+
+fn is_exponent_letter(b: u8) -> bool
+    ensures { result ≡ is_exponent_letter b }
+{
+    (b == b'e') | (b == b'E')
+}
+
+/// How many bytes the exponent at a place has, 0 where none stands.
+fn exponent_len(text: &[u8], at: usize) -> usize
+    requires { at ≤ length text.now }
+    ensures value { result ≡ exponent_length (drop at text.now) }
+    ensures within { at + result ≤ length text.now }
+{
+    if !is_exponent_letter(byte(text, at)) {
+        return 0;
+    }
+    let second = byte(text, at + 1);
+    if second.is_ascii_digit() {
+        digits_end(text, at + 1) - at
+    } else if is_sign(second) && byte(text, at + 2).is_ascii_digit() {
+        digits_end(text, at + 2) - at
+    } else {
+        0
+    }
+}
+
+/// How many bytes the number at a place has, 0 where none stands.
+pub fn number_len(text: &[u8], at: usize) -> usize
+    requires { at ≤ length text.now }
+    ensures value { result ≡ number_length (drop at text.now) }
+    ensures within { at + result ≤ length text.now }
+{
+    let point = digits_end(text, at);
+    let letter = point + fraction_len(text, point);
+    letter + exponent_len(text, letter) - at
+}

@@ -1,0 +1,79 @@
+//! The operators.
+
+ghost use Rattle.std.specs.Prelude.{◌≡◌, Some, if◌then◌else◌};
+ghost use Rattle.hcl_scan.specs.Next.{single, compound, operator};
+
+use hcl_token::kind::Kind;
+
+/// The longest operator that begins with these bytes, and its length. Past the end of a text stands a 0.
+///
+/// HCL native syntax specification, Operators and Delimiters.
+pub fn operator(first: u8, second: u8, third: u8) -> Option<(Kind, usize)>
+    ensures { result ≡ operator first second third }
+{
+    match first {
+        b'=' | b'.' | b':' | b'!' | b'<' | b'>' | b'&' | b'|' | b'/' => {
+            compound(first, second, third)
+        }
+        _ => single(first),
+    }
+}
+
+/// An operator of one byte, of which no other begins with that byte.
+fn single(first: u8) -> Option<(Kind, usize)>
+    ensures { result ≡ single first }
+{
+    match first {
+        b'{' => Some((Kind::OpenBrace, 1)),
+        b'[' => Some((Kind::OpenBracket, 1)),
+        b']' => Some((Kind::CloseBracket, 1)),
+        b'(' => Some((Kind::OpenParen, 1)),
+        b')' => Some((Kind::CloseParen, 1)),
+        b',' => Some((Kind::Comma, 1)),
+        b'?' => Some((Kind::Question, 1)),
+        b'+' => Some((Kind::Plus, 1)),
+        b'-' => Some((Kind::Minus, 1)),
+        b'*' => Some((Kind::Star, 1)),
+        b'%' => Some((Kind::Percent, 1)),
+        _ => None,
+    }
+}
+
+/// One of the operators of which several begin with the same byte.
+fn compound(first: u8, second: u8, third: u8) -> Option<(Kind, usize)>
+    ensures { result ≡ compound first second third }
+{
+    match first {
+        b'=' => match second {
+            b'=' => Some((Kind::DoubleEqual, 2)),
+            b'>' => Some((Kind::FatArrow, 2)),
+            _ => Some((Kind::Equal, 1)),
+        },
+        b'.' => {
+            if second == b'.' && third == b'.' {
+                Some((Kind::Ellipsis, 3))
+            } else {
+                Some((Kind::Dot, 1))
+            }
+        }
+        b':' => either(second == b':', Kind::DoubleColon, Kind::Colon),
+        b'!' => either(second == b'=', Kind::NotEqual, Kind::Bang),
+        b'<' => either(second == b'=', Kind::LessEqual, Kind::Less),
+        b'>' => either(second == b'=', Kind::GreaterEqual, Kind::Greater),
+        b'&' if second == b'&' => Some((Kind::And, 2)),
+        b'|' if second == b'|' => Some((Kind::Or, 2)),
+        b'/' if second != b'*' && second != b'/' => Some((Kind::Slash, 1)),
+        _ => None,
+    }
+}
+
+/// The operator of two bytes, or else that of the first byte alone.
+fn either(two: bool, long: Kind, short: Kind) -> Option<(Kind, usize)>
+    ensures { result ≡ (if two then Some (long, 2) else Some (short, 1)) }
+{
+    if two {
+        Some((long, 2))
+    } else {
+        Some((short, 1))
+    }
+}

@@ -1,0 +1,159 @@
+//! Runs of units.
+
+ghost use Rattle.std.specs.Prelude.{◌≡◌, ◌+◌, ◌<◌, ◌≤◌, length, drop, true, not, ◌==◌, ◌&&◌, ◌||◌, slice_index};
+ghost use Rattle.std.specs.Char.{is_ascii_hexdigit};
+ghost use Rattle.hcl_scan.specs.Characters.{begins_line_end, is_sigil, sigil_length};
+ghost use Rattle.hcl_scan.specs.Lexeme.{comment_unit, inline_unit, quote_unit, is_simple_escape, has_four_hex, escape_length};
+ghost use Rattle.hcl_scan.specs.Runs.{UnitLength};
+ghost use Rattle.hcl_scan.specs.RunLength.{run_length};
+
+use crate::bytes::{begins_line_end, byte};
+
+/// A unit, told by its length.
+pub trait Unit {
+    ghost len: { Self → UnitLength };
+
+    /// How many bytes the unit at the place has, 0 where there is none; `fresh` says whether a line begins there.
+    fn len_at(&self, text: &[u8], at: usize, fresh: bool) -> usize
+        requires { at < length text.now }
+        ensures value { result ≡ len self.now fresh (drop at text.now) }
+        ensures within { at + result ≤ length text.now };
+}
+
+/// The end of the longest run of units from a place on; `fresh` says whether a line begins there.
+pub fn run_end<U: Unit>(unit: &U, text: &[u8], from: usize, fresh: bool) -> usize
+    requires { from ≤ length text.now }
+    ensures value { result ≡ from + run_length (U.len unit.now) fresh (drop from text.now) }
+    ensures within { result ≤ length text.now }
+{
+    let mut at = from;
+    let mut begins = fresh;
+    while at < text.len() {
+        let len = unit.len_at(text, at, begins);
+        if len == 0 {
+            return at;
+        }
+        at += len;
+        begins = text[at - 1] == b'\n';
+    }
+    at
+}
+
+/// Text of a comment that ends with its line.
+pub struct CommentUnit;
+
+impl Unit for CommentUnit {
+    ghost len = { λ _. comment_unit };
+
+    fn len_at(&self, text: &[u8], at: usize, _fresh: bool) -> usize {
+        if begins_line_end(text, at) { 0 } else { 1 }
+    }
+}
+
+/// Text of a comment that ends at `*/`.
+pub struct InlineUnit;
+
+impl Unit for InlineUnit {
+    ghost len = { λ _. inline_unit };
+
+    fn len_at(&self, text: &[u8], at: usize, _fresh: bool) -> usize {
+        if text[at] == b'*' && byte(text, at + 1) == b'/' {
+            0
+        } else {
+            1
+        }
+    }
+}
+
+fn is_hex(text: &[u8], at: usize) -> bool
+    ensures { result ≡ is_ascii_hexdigit (slice_index text.now at) }
+{
+    byte(text, at).is_ascii_hexdigit()
+}
+
+fn is_simple_escape(b: u8) -> bool
+    ensures { result ≡ is_simple_escape b }
+{
+    (b == b'n') | (b == b'r') | (b == b't') | (b == b'"') | (b == b'\\')
+}
+
+fn has_four_hex(text: &[u8], at: usize) -> bool
+    requires { at ≤ length text.now }
+    ensures value { result ≡ has_four_hex (drop at text.now) }
+    ensures within { result ≡ true → at + 4 ≤ length text.now }
+{
+    is_hex(text, at) && is_hex(text, at + 1) && is_hex(text, at + 2) && is_hex(text, at + 3)
+}
+
+fn has_eight_hex(text: &[u8], at: usize) -> bool
+    requires { at ≤ length text.now }
+    ensures value { result ≡ (has_four_hex (drop at text.now) && has_four_hex (drop (at + 4) text.now)) }
+    ensures within { result ≡ true → at + 8 ≤ length text.now }
+{
+    has_four_hex(text, at) && has_four_hex(text, at + 4)
+}
+
+/// How many bytes the escape behind a `\` has, 0 where there is none.
+fn escape_len(text: &[u8], at: usize) -> usize
+    requires { at ≤ length text.now }
+    ensures value { result ≡ escape_length (drop at text.now) }
+    ensures within { at + result ≤ length text.now }
+{
+    let b = byte(text, at);
+    if is_simple_escape(b) {
+        1
+    } else if b == b'u' {
+        if has_four_hex(text, at + 1) { 5 } else { 0 }
+    } else if b == b'U' {
+        if has_eight_hex(text, at + 1) { 9 } else { 0 }
+    } else {
+        0
+    }
+}
+
+/// How many bytes the unit has that begins with a `$` or a `%` before the place, 0 where an opening begins there.
+pub fn sigil_len(text: &[u8], at: usize, sigil: u8) -> usize
+    requires within { at ≤ length text.now }
+    requires sigil { 0 < sigil }
+    ensures value { result ≡ sigil_length sigil (drop at text.now) }
+    ensures within { at + result ≤ length text.now + 1 }
+{
+    let next = byte(text, at);
+    if next == sigil && byte(text, at + 1) == b'{' {
+        3
+    } else if next == b'{' {
+        0
+    } else {
+        1
+    }
+}
+
+pub fn is_sigil(b: u8) -> bool
+    ensures { result ≡ is_sigil b }
+{
+    (b == b'$') | (b == b'%')
+}
+
+/// Text in quotes.
+pub struct QuoteUnit;
+
+impl Unit for QuoteUnit {
+    ghost len = { λ _. quote_unit };
+
+    #[tactic(auto, using(crate::proofs::UnitLemmas::quote_unit_at))]
+    fn len_at(&self, text: &[u8], at: usize, _fresh: bool) -> usize {
+        let b = text[at];
+        if b == b'\\' {
+            let len = escape_len(text, at + 1);
+            if len == 0 { 0 } else { len + 1 }
+        } else if is_sigil(b) {
+            sigil_len(text, at + 1, b)
+        } else if b == b'"' {
+            0
+        } else if begins_line_end(text, at) {
+            0
+        } else {
+            1
+        }
+    }
+}

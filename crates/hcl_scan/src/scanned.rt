@@ -1,0 +1,142 @@
+//! A text with its cut.
+
+ghost use Rattle.std.specs.Prelude.{◌≡◌, ◌<◌, ◌≤◌, ◌↔◌, [], Some, IsTrue, IsUtf8, length, IfOk, IfErr, ◌⊎◌};
+ghost use Rattle.hcl_token.specs.Tokens.{joining};
+ghost use Rattle.hcl_token.specs.CutText.{CutText, AreUtf8, kind_of, spelling_of, gap_of, clusters_of, item_of, joins_of};
+ghost use Rattle.hcl_token.specs.Place.{place_of};
+ghost use Rattle.hcl_scan.specs.Cut.{IsCut};
+ghost use Rattle.hcl_scan.specs.Fault.{IsFault};
+ghost use Rattle.hcl_scan.specs.declared.error.ScanFault.TheVariants.{Memory};
+
+use crate::cut::cut_of;
+use crate::error::ScanFault;
+use hcl_token::item::Item;
+use hcl_token::kind::Kind;
+use hcl_token::place::Place;
+use hcl_token::tokens::Tokens;
+use std::alloc::Global;
+use std::marker::Model;
+
+/// A text with its cut: its tokens, each with the gap before it, and the gap behind the last.
+///
+/// Tokens are numbered from 0. No call takes memory.
+#[derive(Drop)]
+pub struct Scanned<'t> {
+    tokens: Tokens<'t>,
+}
+
+impl<'t> Model for Scanned<'t> {
+    ghost Value = { CutText };
+
+    ghost view = { λ s. s.tokens };
+
+    ghost invariant = { λ s. IsCut s.tokens.text s.tokens.pairs s.tokens.last };
+}
+
+/// The cut of a text, or its fault.
+///
+/// A text has at most 16,777,216 bytes and is UTF-8; one that is not is refused before any memory is taken.
+///
+/// HCL native syntax specification, Lexical Elements and Templates.
+pub fn scan<'t>(alloc: Global, text: &'t [u8]) -> Result<Scanned<'t>, ScanFault>
+    ensures text { IfOk result (λ s. s.text ≡ text.now) }
+    ensures cut { IfOk result (λ s. IsCut text.now s.pairs s.last) }
+    ensures fault { IfErr result (λ e. (e ≡ Memory) ⊎ IsFault text.now e) }
+{
+    let (items, last_at) = cut_of(alloc, text)?;
+    let tokens = Tokens::new(alloc, text, items, last_at)?;
+    Ok(Scanned { tokens })
+}
+
+impl<'t> Scanned<'t> {
+    /// The text: the gaps and the tokens, one behind the other.
+    pub fn text(&self) -> &'t [u8]
+        ensures text { result.now ≡ self.now.text }
+        ensures cut { IsCut self.now.text self.now.pairs self.now.last }
+        ensures utf8 { AreUtf8 self.now.pairs }
+    {
+        self.tokens.text()
+    }
+
+    /// The number of tokens.
+    pub fn len(&self) -> usize
+        ensures value { result ≡ length self.now.pairs }
+        ensures cut { IsCut self.now.text self.now.pairs self.now.last }
+    {
+        self.tokens.len()
+    }
+
+    /// Whether there is no token.
+    pub fn is_empty(&self) -> bool
+        ensures { IsTrue result ↔ (self.now.pairs ≡ []) }
+    {
+        self.tokens.is_empty()
+    }
+
+    /// Where token `i` and the gap before it stand, in bytes from 0, and the kind of the token.
+    pub fn item(&self, i: usize) -> Item
+        requires { i < length self.now.pairs }
+        ensures { Some result ≡ item_of self.now.pairs i }
+    {
+        self.tokens.item(i)
+    }
+
+    /// The kind of token `i`.
+    pub fn kind(&self, i: usize) -> Kind
+        requires { i < length self.now.pairs }
+        ensures { Some result ≡ kind_of self.now.pairs i }
+    {
+        self.tokens.kind(i)
+    }
+
+    /// The text of token `i`.
+    pub fn spelling(&self, i: usize) -> &'t [u8]
+        requires { i < length self.now.pairs }
+        ensures value { Some result.now ≡ spelling_of self.now.pairs i }
+        ensures utf8 { IsUtf8 result.now }
+    {
+        self.tokens.spelling(i)
+    }
+
+    /// The gap before token `i`.
+    pub fn gap(&self, i: usize) -> &'t [u8]
+        requires { i < length self.now.pairs }
+        ensures value { Some result.now ≡ gap_of self.now.pairs i }
+        ensures utf8 { IsUtf8 result.now }
+    {
+        self.tokens.gap(i)
+    }
+
+    /// The gap behind the last token.
+    pub fn last_gap(&self) -> &'t [u8]
+        ensures { result.now ≡ self.now.last }
+    {
+        self.tokens.last_gap()
+    }
+
+    /// Whether token `i` joins with token `j`, if that stands right behind it with an empty gap: the two, and what
+    /// follows, could then be cut otherwise.
+    pub fn joins(&self, i: usize, j: usize) -> bool
+        requires first { i < length self.now.pairs }
+        requires second { j < length self.now.pairs }
+        ensures { Some result ≡ joins_of self.now.pairs i j }
+    {
+        self.tokens.joins(i, j)
+    }
+
+    /// How many extended grapheme clusters token `i` has.
+    pub fn clusters(&self, i: usize) -> usize
+        requires { i < length self.now.pairs }
+        ensures { Some result ≡ clusters_of self.now.pairs i }
+    {
+        self.tokens.clusters(i)
+    }
+
+    /// The line and the column of token `i`, from 1.
+    pub fn place_of(&self, i: usize) -> Place
+        requires { i < length self.now.pairs }
+        ensures { result ≡ place_of self.now.pairs i }
+    {
+        self.tokens.place_of(i)
+    }
+}

@@ -1,0 +1,152 @@
+//! The token at a place.
+
+ghost use Rattle.std.specs.Prelude.{◌≡◌, ◌+◌, ◌<◌, ◌≤◌, length, drop, ◌==◌, ◌||◌, IsUtf8};
+ghost use Rattle.hcl_scan.specs.Next.{inline_comment, punctuation, here_or_less, expression_token, quoted_token, gap_length, token};
+ghost use Rattle.hcl_scan.specs.Openings.{mode_view};
+
+use crate::bytes::{blanks_end, byte, digits_end};
+use crate::here::{begins_intro, begins_opening, here_open, here_token, opening};
+use crate::ident::{begins_word, identifier};
+use crate::mode::Mode;
+use crate::number::number_len;
+use crate::operator::operator;
+use crate::runs::{CommentUnit, InlineUnit, QuoteUnit, run_end};
+use hcl_token::kind::Kind;
+
+/// The comment whose `/*` stands before the place.
+fn inline_comment(text: &[u8], body: usize) -> Option<(Kind, usize)>
+    requires { body ≤ length text.now }
+    ensures { result ≡ inline_comment (drop body text.now) }
+{
+    let end = run_end(&InlineUnit, text, body, false);
+    if end < text.len() {
+        Some((Kind::InlineComment, end - body + 4))
+    } else {
+        None
+    }
+}
+
+/// The token that begins with neither a letter nor a digit. A `}` closes a template sequence where `closes` says so.
+fn punctuation(text: &[u8], at: usize, closes: bool) -> Option<(Kind, usize)>
+    requires { at < length text.now }
+    ensures { result ≡ punctuation closes (drop at text.now) }
+{
+    let first = text[at];
+    let second = byte(text, at + 1);
+    match first {
+        b'\n' => Some((Kind::LineEnd, 1)),
+        b'\r' => {
+            if second == b'\n' {
+                Some((Kind::LineEnd, 2))
+            } else {
+                None
+            }
+        }
+        b'"' => Some((Kind::QuoteOpen, 1)),
+        b'#' => Some((
+            Kind::LineComment,
+            run_end(&CommentUnit, text, at + 1, false) - at,
+        )),
+        b'/' if second == b'/' => {
+            Some((
+                Kind::LineComment,
+                run_end(&CommentUnit, text, at + 2, false) - at,
+            ))
+        }
+        b'/' if second == b'*' => inline_comment(text, at + 2),
+        b'.' if second.is_ascii_digit() => Some((Kind::DotIndex, digits_end(text, at + 1) - at)),
+        b'}' => {
+            if closes {
+                Some((Kind::SeqClose, 1))
+            } else {
+                Some((Kind::CloseBrace, 1))
+            }
+        }
+        b'~' => {
+            if second == b'}' && closes {
+                Some((Kind::SeqClose, 2))
+            } else {
+                None
+            }
+        }
+        _ => operator(first, second, byte(text, at + 2)),
+    }
+}
+
+/// The token outside of literal text. A `}` closes a template sequence where `closes` says so.
+fn expression_token(text: &str, at: usize, closes: bool) -> Option<(Kind, usize)>
+    requires within { at < length text.now }
+    requires utf8 { IsUtf8 (drop at text.now) }
+    ensures { result ≡ expression_token closes (drop at text.now) }
+{
+    let bytes = text.as_bytes();
+    let first = bytes[at];
+    if begins_word(first) {
+        identifier(text, at)
+    } else if first.is_ascii_digit() {
+        Some((Kind::Number, number_len(bytes, at)))
+    } else if begins_intro(bytes, at) {
+        here_or_less(here_open(text, at))
+    } else {
+        punctuation(bytes, at, closes)
+    }
+}
+
+/// Where `<<` opens no heredoc, its first byte is an operator.
+fn here_or_less(found: Option<(Kind, usize)>) -> Option<(Kind, usize)>
+    ensures { result ≡ here_or_less found }
+{
+    match found {
+        Some(opening) => Some(opening),
+        None => Some((Kind::Less, 1)),
+    }
+}
+
+/// The token in quoted text.
+fn quoted_token(text: &[u8], at: usize) -> Option<(Kind, usize)>
+    requires { at < length text.now }
+    ensures { result ≡ quoted_token (drop at text.now) }
+{
+    if text[at] == b'"' {
+        return Some((Kind::QuoteClose, 1));
+    }
+    if begins_opening(text, at) {
+        return Some(opening(text, at));
+    }
+    let end = run_end(&QuoteUnit, text, at, false);
+    if end == at {
+        None
+    } else {
+        Some((Kind::QuoteLit, end - at))
+    }
+}
+
+/// The end of the gap from a place on.
+pub fn gap_end(text: &[u8], at: usize, mode: Mode<'_>) -> usize
+    requires { at ≤ length text.now }
+    ensures value { result ≡ at + gap_length (mode_view mode.entry) (drop at text.now) }
+    ensures within { result ≤ length text.now }
+{
+    match mode {
+        Mode::Quoted => at,
+        Mode::Heredoc {
+            marker: _,
+            fresh: _,
+        } => at,
+        _ => blanks_end(text, at),
+    }
+}
+
+/// The token at a place, as its kind and its length.
+pub fn token(text: &str, at: usize, mode: Mode<'_>) -> Option<(Kind, usize)>
+    requires within { at < length text.now }
+    requires utf8 { IsUtf8 (drop at text.now) }
+    ensures { result ≡ token (mode_view mode.entry) (drop at text.now) }
+{
+    match mode {
+        Mode::Quoted => quoted_token(text.as_bytes(), at),
+        Mode::Heredoc { marker, fresh } => here_token(text.as_bytes(), at, marker, fresh),
+        Mode::Sequence => expression_token(text, at, true),
+        _ => expression_token(text, at, false),
+    }
+}

@@ -1,0 +1,4 @@
+pub mod CommentFixing
+pub mod FixLemmas
+pub mod PieceLemmas
+pub mod PositionLemmas

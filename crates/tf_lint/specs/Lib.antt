@@ -1,0 +1,8 @@
+pub mod CommentSyntax
+pub mod Fixes
+pub mod Issues
+pub mod Positions
+pub mod Reports
+pub mod RuleSets
+pub mod Rules
+pub mod Taken

@@ -1,0 +1,40 @@
+//! Issues and how they are reported.
+
+ghost use Rattle.std.specs.Prelude.{◌≡◌, IfOk, string_bytes};
+ghost use Rattle.tf_lint.specs.Reports.{line_of, report};
+
+use crate::rule::Rule;
+use hcl_token::place::Place;
+use std::alloc::{AllocError, Global};
+
+/// What a rule has found at some tokens of a text.
+#[derive(Debug, Drop)]
+pub struct Issue {
+    pub rule: Rule,
+    /// The number of its first token, from 0.
+    pub first: usize,
+    /// One more than the number of its last token.
+    pub past: usize,
+    /// The line and the column of its first token, from 1.
+    pub place: Place,
+    /// What is wrong, and what to write.
+    pub text: String,
+    /// Whether `fix` can mend it.
+    pub fixable: bool,
+}
+
+impl Issue {
+    /// The issue as a line of a report on the file of this name, without a line end:
+    /// `NAME:LINE:COLUMN: SEVERITY - TEXT (RULE)`.
+    pub fn line(&self, alloc: Global, name: &str) -> Result<String, AllocError>
+        ensures { IfOk result (λ line. string_bytes line ≡ line_of name.now (report self.now)) }
+    {
+        let place = self.place;
+        let severity = self.rule.severity().label();
+        let rule = self.rule.name();
+        let text = self.text.as_str();
+        let line = place.line;
+        let column = place.column;
+        format!(in alloc; "{name}:{line}:{column}: {severity} - {text} ({rule})")
+    }
+}

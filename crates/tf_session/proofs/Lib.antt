@@ -1,0 +1,6 @@
+pub mod Lists
+pub mod Stacks
+pub mod LineLists
+pub mod RunLaws
+pub mod Sending
+pub mod FixSteps

@@ -1,0 +1,12 @@
+pub mod Told
+pub mod Streams
+pub mod Faults
+pub mod Lines
+pub mod Fixing
+pub mod Makes
+pub mod Machine
+pub mod Records
+pub mod RunLaws
+pub mod Session
+pub mod Fixed
+pub mod Streaming

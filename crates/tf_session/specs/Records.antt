@@ -1,0 +1,73 @@
+-- What the journal of a session says, in terms of the stack of whole texts.
+use Rattle.std.specs.Prelude.{◌≡◌, ◌≢◌, ℕ, Bool, true, false, List, [], ◌∷◌, ◌++◌, Result, Ok, Err}
+use Rattle.edit_record.specs.declared.record.Word.{Word}
+use Rattle.edit_record.specs.Pieces.{EditList}
+use Rattle.edit_record.specs.Journal.{Entered, record_turns, record_backward}
+use Rattle.tf_session.specs.declared.command.Command.{Command}
+use Rattle.tf_session.specs.declared.command.Command.TheVariants.{Fix, Revert}
+use Rattle.tf_session.specs.declared.command.Done.{Done}
+use Rattle.tf_session.specs.declared.command.Fault.{Fault}
+use Rattle.tf_session.specs.declared.command.Fault.TheVariants.{Scan, FixBroken, TooLong, NoRecord, Refused, Memory}
+use Rattle.tf_session.specs.Fixing.{Made, differ}
+use Rattle.tf_session.specs.Makes.{Makes, RefusesText}
+use Rattle.tf_session.specs.Machine.{Under, done}
+
+-- the word that the record of a command has; a revert has no record
+abbrev pub HasWord : Command → Word → Type 0
+HasWord (Fix rules) word = word ≡ Word.Fix
+HasWord Revert word = ⊥
+
+-- the record of a command that put the upper text on the lower: its word, the stated edits, and it turns the one into the other
+pub record IsRecordOf (command : Command) (lower upper : List ℕ) (r : Entered) : Type 0 where
+  pub made : Made
+  pub makes : Makes command lower (Ok made)
+  pub text : upper ≡ made.text
+  pub edits : r.edits ≡ made.edits
+  pub word : HasWord command r.word
+  pub turns : record_turns r lower upper
+
+-- There is one record for each two neighbours, the oldest first, and neighbours differ.
+abbrev pub Stands : List Entered → List ℕ → List Under → Type 0
+Stands records top [] = records ≡ []
+Stands records top (under ∷ rest) =
+    (earlier : List Entered) × (r : Entered) × (records ≡ earlier ++ r ∷ []) × IsRecordOf under.command under.text top r
+    × (differ under.text top ≡ true) × Stands earlier under.text rest
+
+-- ---- One command over any session, its journal from outside too: the text t and the records js before, u and ks after.
+
+-- the record with this word and these edits is added, or nothing
+abbrev pub AddsRecord : Bool → Word → EditList → List Entered → List Entered → Type 0
+AddsRecord true word edits js ks = ks ≡ js ++ (record { word = word; edits = edits }) ∷ []
+AddsRecord false word edits js ks = ks ≡ js
+
+-- a text that differs is put on with one record more, and one that doesn't with none
+abbrev pub Adds : Bool → Command → List ℕ → Made → List Entered → List Entered → Type 0
+Adds true command t made js ks = (r : Entered) × (ks ≡ js ++ r ∷ []) × IsRecordOf command t made.text r
+Adds false command t made js ks = ks ≡ js
+
+abbrev pub PutsMade : Command → Made → List ℕ → List Entered → Done → List ℕ → List Entered → Type 0
+PutsMade command made t js d u ks =
+    (u ≡ made.text) × (d ≡ done (differ t made.text) made.fixed made.left) × Adds (differ t made.text) command t made js ks
+
+-- the last record is undone and taken off
+abbrev pub TakesLast : List ℕ → List Entered → Done → List ℕ → List Entered → Type 0
+TakesLast t js d u ks = (r : Entered) × (js ≡ ks ++ r ∷ []) × record_turns r u t × (d ≡ done (differ u t) 0 0)
+
+-- what a command that succeeds does
+abbrev pub DoesStep : Command → List ℕ → List Entered → Done → List ℕ → List Entered → Type 0
+DoesStep (Fix rules) t js d u ks = (made : Made) × Makes (Fix rules) t (Ok made) × PutsMade (Fix rules) made t js d u ks
+DoesStep Revert t js d u ks = TakesLast t js d u ks
+
+-- why a revert is refused: there is no record, or the last one does not stand in the text
+abbrev pub RefusesTake : List ℕ → List Entered → Fault → Type 0
+RefusesTake t js (Scan fault) = ⊥
+RefusesTake t js (FixBroken rule) = ⊥
+RefusesTake t js TooLong = ⊥
+RefusesTake t js NoRecord = js ≡ []
+RefusesTake t js (Refused refused) = (earlier : List Entered) × (r : Entered) × (js ≡ earlier ++ r ∷ []) × (record_backward r t ≡ Err refused)
+RefusesTake t js Memory = js ≢ []
+
+-- why a command is refused
+abbrev pub RefusesStep : Command → List ℕ → List Entered → Fault → Type 0
+RefusesStep (Fix rules) t js fault = RefusesText (Fix rules) t fault
+RefusesStep Revert t js fault = RefusesTake t js fault

@@ -1,0 +1,80 @@
+ghost use Rattle.std.specs.Prelude.{◌≡◌};
+
+use edit_record::Refused;
+use hcl_scan::error::ScanFault;
+use tf_lint::fault::LintFault;
+use tf_lint::rule::Rule;
+use tf_lint::rule_set::RuleSet;
+use thiserror::Error;
+
+/// What a session is asked to do.
+#[derive(Clone, Copy, Debug, PartialEq, Eq)]
+pub enum Command {
+    /// Fixes what the rules of the set find, as far as it can be fixed.
+    Fix(RuleSet),
+    /// Takes back the last command that changed the text.
+    Revert,
+}
+
+/// What a command did.
+#[derive(Clone, Copy, Debug, PartialEq, Eq)]
+pub struct Done {
+    /// Whether the text changed.
+    pub changed: bool,
+    /// How many issues were fixed.
+    pub fixed: usize,
+    /// How many issues of the chosen rules the new text has.
+    pub left: usize,
+}
+
+/// Why a command was refused.
+#[derive(Clone, Copy, Debug, PartialEq, Eq, Error)]
+pub enum Fault {
+    /// The text can't be cut into tokens.
+    #[error(transparent)]
+    Scan(ScanFault),
+    /// What the fix of the rule makes of the text can't be read any more.
+    #[error("fix of {} does not parse", .rule.name())]
+    FixBroken { rule: Rule },
+    /// The new text would have more than 16,777,216 bytes.
+    #[error("the text has more than 16777216 bytes")]
+    TooLong,
+    /// There is no command to take back.
+    #[error("nothing to revert")]
+    NoRecord,
+    /// The last record does not stand in the text.
+    #[error(transparent)]
+    Refused(Refused),
+    /// A growth was refused.
+    #[error("out of memory")]
+    Memory,
+}
+
+impl From<ScanFault> for Fault {
+    ghost use Rattle.tf_session.specs.Faults.{fault_of};
+
+    ghost from_gives = { λ fault given. given ≡ fault_of fault };
+
+    fn from(fault: ScanFault) -> Self {
+        match fault {
+            ScanFault::Memory => Fault::Memory,
+            fault => Fault::Scan(fault),
+        }
+    }
+}
+
+impl From<LintFault> for Fault {
+    ghost use Rattle.tf_session.specs.Faults.{fault_of_lint};
+
+    ghost from_gives = { λ fault given. given ≡ fault_of_lint fault };
+
+    fn from(fault: LintFault) -> Self {
+        match fault {
+            LintFault::TooLong => Fault::TooLong,
+            LintFault::Memory => Fault::Memory,
+        }
+    }
+}
+
+/// The answer to one command.
+pub type Reply = Result<Done, Fault>;

@@ -1,0 +1,99 @@
+ghost use Rattle.std.specs.Prelude.{◌≡◌};
+
+use crate::command::Fault;
+use edit_record::Refused;
+use hcl_scan::error::ScanFault;
+use std::alloc::{AllocError, AllocFailed};
+use tf_lint::rule::Rule;
+use thiserror::Error;
+
+/// What a writer was given.
+#[derive(Clone, Copy, Debug, PartialEq, Eq)]
+pub enum Part {
+    /// The text of a journal.
+    Journal,
+    /// A configuration text, or the lines of its issues.
+    Text,
+}
+
+/// Why a call over readers and writers was refused.
+#[derive(Clone, Copy, Debug, PartialEq, Eq, Error)]
+pub enum RunFault {
+    /// The text can't be cut into tokens.
+    #[error(transparent)]
+    Scan(ScanFault),
+    /// What the fix of the rule makes of the text can't be read any more.
+    #[error("fix of {} does not parse", .rule.name())]
+    FixBroken { rule: Rule },
+    /// The new text would have more than 16,777,216 bytes.
+    #[error("the text has more than 16777216 bytes")]
+    TooLong,
+    /// There is no command to take back.
+    #[error("nothing to revert")]
+    NoRecord,
+    /// The last record does not stand in the text.
+    #[error(transparent)]
+    Refused(Refused),
+    /// A growth was refused.
+    #[error("out of memory")]
+    Memory,
+    /// A read failed, whatever its error.
+    #[error("cannot read")]
+    Read,
+    /// A write or a flush failed, or a write took nothing, after `sent` bytes of the part went out.
+    #[error("cannot write, {sent} bytes sent")]
+    Write { part: Part, sent: usize },
+    /// The reader has more bytes than the limit allows.
+    #[error("text or journal is too long")]
+    Endless,
+}
+
+impl From<AllocError> for RunFault {
+    ghost use Rattle.tf_session.specs.declared.fault.RunFault.TheVariants.{Memory};
+
+    ghost from_gives = { λ _ e. e ≡ Memory };
+
+    fn from(_: AllocError) -> Self {
+        RunFault::Memory
+    }
+}
+
+impl<T: Drop> From<AllocFailed<T>> for RunFault {
+    ghost use Rattle.tf_session.specs.declared.fault.RunFault.TheVariants.{Memory};
+
+    ghost from_gives = { λ _ e. e ≡ Memory };
+
+    fn from(_: AllocFailed<T>) -> Self {
+        RunFault::Memory
+    }
+}
+
+impl From<ScanFault> for RunFault {
+    ghost use Rattle.tf_session.specs.Faults.{run_fault_of};
+
+    ghost from_gives = { λ fault given. given ≡ run_fault_of fault };
+
+    fn from(fault: ScanFault) -> Self {
+        match fault {
+            ScanFault::Memory => RunFault::Memory,
+            fault => RunFault::Scan(fault),
+        }
+    }
+}
+
+impl From<Fault> for RunFault {
+    ghost use Rattle.tf_session.specs.Faults.{run_fault_of_step};
+
+    ghost from_gives = { λ fault given. given ≡ run_fault_of_step fault };
+
+    fn from(fault: Fault) -> Self {
+        match fault {
+            Fault::Scan(fault) => RunFault::Scan(fault),
+            Fault::FixBroken { rule } => RunFault::FixBroken { rule },
+            Fault::TooLong => RunFault::TooLong,
+            Fault::NoRecord => RunFault::NoRecord,
+            Fault::Refused(refused) => RunFault::Refused(refused),
+            Fault::Memory => RunFault::Memory,
+        }
+    }
+}

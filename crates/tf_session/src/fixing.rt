@@ -1,0 +1,123 @@
+//! What a fix makes of a text.
+
+ghost use Rattle.std.specs.Prelude.{◌≡◌, ◌≤◌, ◌⊎◌, true, Ok, length, IfOk, IfErr, IfSome};
+ghost use Rattle.hcl_token.specs.CutText.{CutText};
+ghost use Rattle.hcl_scan.specs.Cut.{IsCut};
+ghost use Rattle.edit_record.specs.Pieces.{Turns};
+ghost use Rattle.tf_lint.specs.Fixes.{fix_edits, fixed_text};
+ghost use Rattle.tf_lint.specs.Issues.{issues_of};
+ghost use Rattle.tf_session.specs.Fixing.{differ, IsUnread, StepBreaks};
+ghost use Rattle.tf_session.specs.Makes.{Makes, RefusesText};
+ghost use Rattle.tf_session.specs.Fixed.{made_of};
+ghost use Rattle.tf_session.specs.declared.command.Command.{Command};
+ghost use Rattle.tf_session.specs.declared.command.Command.TheVariants.{Fix};
+
+use crate::command::Fault;
+use edit_record::{Change as _, Edits};
+use hcl_scan::error::ScanFault;
+use hcl_scan::scanned::{Scanned, scan};
+use std::alloc::Global;
+use tf_lint::fixing::{fix_step, taken};
+use tf_lint::issues::issues;
+use tf_lint::rule::Rule;
+use tf_lint::rule_set::RuleSet;
+
+/// A new text, and the edits that lead to it.
+#[derive(Drop)]
+pub struct Change {
+    pub text: Vec<u8>,
+    pub edits: Edits,
+}
+
+/// What a fix made of a text.
+#[derive(Drop)]
+pub struct Fixed {
+    /// None where the new text is the old one.
+    pub change: Option<Change>,
+    /// How many issues were fixed.
+    pub fixed: usize,
+    /// How many issues of the chosen rules the new text has.
+    pub left: usize,
+}
+
+/// The text fixed by the rules of the set.
+pub fn fix_text(alloc: Global, text: &[u8], rules: RuleSet) -> Result<Fixed, Fault>
+    ensures made { IfOk result (λ fixed. Makes (Fix rules) text.now (Ok (made_of text.now fixed))) }
+    ensures change { IfOk result (λ fixed. IfSome fixed.change (λ change. (differ text.now change.text.items ≡ true) × Turns change.edits text.now change.text.items)) }
+    ensures fault { IfErr result (λ fault. RefusesText (Fix rules) text.now fault) }
+{
+    let scanned = scan(alloc, text)?;
+    if !rules.has(Rule::CommentSyntax) {
+        let left = count_issues(alloc, &scanned, rules)?;
+        return Ok(Fixed {
+            change: None,
+            fixed: 0,
+            left,
+        });
+    }
+    let fixed = taken(&scanned, Rule::CommentSyntax);
+    let change = step_change(alloc, &scanned, Rule::CommentSyntax)?;
+    if change.text.as_slice() == text {
+        let left = count_issues(alloc, &scanned, rules)?;
+        return Ok(Fixed {
+            change: None,
+            fixed,
+            left,
+        });
+    }
+    match issues_left(alloc, change.text.as_slice(), Rule::CommentSyntax, rules) {
+        Ok(left) => Ok(Fixed {
+            change: Some(change),
+            fixed,
+            left,
+        }),
+        Err(fault) => Err(fault),
+    }
+}
+
+// The step of one rule.
+fn step_change(alloc: Global, scanned: &Scanned<'_>, rule: Rule) -> Result<Change, Fault>
+    ensures text { IfOk result (λ change. change.text.items ≡ fixed_text rule scanned.now) }
+    ensures edits { IfOk result (λ change. change.edits ≡ fix_edits rule scanned.now) }
+    ensures turns { IfOk result (λ change. Turns change.edits scanned.now.text change.text.items) }
+    ensures short { IfOk result (λ change. length (fixed_text rule scanned.now) ≤ 16777216) }
+    ensures fault { IfErr result (λ fault. (fault ≡ Fault.Memory) ⊎ ((fault ≡ Fault.TooLong) × StepBreaks rule scanned.now fault)) }
+{
+    let edits = fix_step(alloc, scanned, rule)?;
+    match edits.apply(alloc, scanned.text()) {
+        Ok(text) => Ok(Change { text, edits }),
+        Err(_) => Err(Fault::Memory),
+    }
+}
+
+// The number of issues that the text of the step of this rule has.
+fn issues_left(alloc: Global, text: &[u8], rule: Rule, rules: RuleSet) -> Result<usize, Fault>
+    ensures counted { IfOk result (λ count. (cut : CutText) × (cut.text ≡ text.now) × IsCut text.now cut.pairs cut.last × (count ≡ length (issues_of rules cut.pairs))) }
+    ensures fault { IfErr result (λ fault. (fault ≡ Fault.Memory) ⊎ ((fault ≡ Fault.FixBroken rule) × IsUnread text.now)) }
+{
+    match scan(alloc, text) {
+        Ok(scanned) => count_issues(alloc, &scanned, rules),
+        Err(fault) => Err(broken(fault, rule)),
+    }
+}
+
+// A text that a fix made and that can't be read.
+fn broken(fault: ScanFault, rule: Rule) -> Fault
+    ensures memory { fault ≡ ScanFault.Memory → result ≡ Fault.Memory }
+    ensures other { (result ≡ Fault.Memory) ⊎ (result ≡ Fault.FixBroken rule) }
+{
+    match fault {
+        ScanFault::Memory => Fault::Memory,
+        _ => Fault::FixBroken { rule },
+    }
+}
+
+fn count_issues(alloc: Global, scanned: &Scanned<'_>, rules: RuleSet) -> Result<usize, Fault>
+    ensures counted { IfOk result (λ count. count ≡ length (issues_of rules scanned.now.pairs)) }
+    ensures fault { IfErr result (λ fault. fault ≡ Fault.Memory) }
+{
+    match issues(alloc, scanned, rules) {
+        Ok(found) => Ok(found.len()),
+        Err(_) => Err(Fault::Memory),
+    }
+}

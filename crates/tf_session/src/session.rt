@@ -1,0 +1,114 @@
+ghost use Rattle.std.specs.Prelude.{◌≡◌, true, IfOk, IfErr, IfSome, OnErr};
+ghost use Rattle.tf_session.specs.Fixing.{differ};
+ghost use Rattle.tf_session.specs.Machine.{done};
+ghost use Rattle.tf_session.specs.Fixed.{text_after, edits_after};
+ghost use Rattle.tf_session.specs.Session.{text_of, records_of};
+ghost use Rattle.tf_session.specs.Records.{DoesStep, RefusesStep, AddsRecord, TakesLast, RefusesTake};
+
+use crate::command::{Command, Done, Fault, Reply};
+use crate::fixing::{Change, Fixed, fix_text};
+use edit_record::{Change as _, Journal, Record, Refused, Word};
+use std::alloc::Global;
+
+/// A text, and the journal of the commands that changed it.
+#[derive(Drop)]
+pub struct Session {
+    text: Vec<u8>,
+    journal: Journal,
+}
+
+impl Session {
+    /// A session over this text. The journal may come from outside: nothing is tested.
+    pub fn start(text: Vec<u8>, journal: Journal) -> Session
+        ensures text { text_of result ≡ text.items }
+        ensures journal { records_of result ≡ journal }
+    {
+        Session { text, journal }
+    }
+
+    /// The text.
+    pub fn text(&self) -> &[u8]
+        ensures { result.now ≡ text_of self.now }
+    {
+        self.text.as_slice()
+    }
+
+    /// The journal, the oldest record first.
+    pub fn journal(&self) -> &Journal
+        ensures { result.now ≡ records_of self.now }
+    {
+        &self.journal
+    }
+
+    /// One command. A refused one changes nothing.
+    pub fn step(&mut self, alloc: Global, command: Command) -> Reply
+        ensures done { IfOk result (λ d. DoesStep command (text_of self.old) (records_of self.old) d (text_of self.new) (records_of self.new)) }
+        ensures refused { IfErr result (λ fault. RefusesStep command (text_of self.old) (records_of self.old) fault) }
+        ensures text { OnErr result (text_of self.new ≡ text_of self.old) }
+        ensures journal { OnErr result (records_of self.new ≡ records_of self.old) }
+    {
+        match command {
+            Command::Fix(rules) => {
+                let fixed = fix_text(alloc, self.text.as_slice(), rules)?;
+                self.put_on(Word::Fix, fixed)
+            }
+            Command::Revert => self.take_off(alloc),
+        }
+    }
+
+    // Puts the new text in the place of the old, with a record, if it changed.
+    fn put_on(&mut self, word: Word, new: Fixed) -> Reply
+        requires { IfSome new.change (λ change. differ (text_of self.old) change.text.items ≡ true) }
+        ensures replied { IfOk result (λ d. d ≡ done (differ (text_of self.old) (text_after (text_of self.old) new.change)) new.fixed new.left) }
+        ensures put { IfOk result (λ d. text_of self.new ≡ text_after (text_of self.old) new.change) }
+        ensures added { IfOk result (λ d. AddsRecord (differ (text_of self.old) (text_after (text_of self.old) new.change)) word (edits_after (text_of self.old) new.change) (records_of self.old) (records_of self.new)) }
+        ensures refused { IfErr result (λ fault. fault ≡ Fault.Memory) }
+        ensures text { OnErr result (text_of self.new ≡ text_of self.old) }
+        ensures journal { OnErr result (records_of self.new ≡ records_of self.old) }
+    {
+        let Fixed {
+            change,
+            fixed,
+            left,
+        } = new;
+        let changed = change.is_some();
+        if let Some(change) = change {
+            let Change { text, edits } = change;
+            if self.journal.push(Record::make(word, edits)).is_err() {
+                return Err(Fault::Memory);
+            }
+            self.text = text;
+        }
+        Ok(Done {
+            changed,
+            fixed,
+            left,
+        })
+    }
+
+    // Undoes the last record and takes it off. Nothing can fail once the record is undone.
+    fn take_off(&mut self, alloc: Global) -> Reply
+        ensures done { IfOk result (λ d. TakesLast (text_of self.old) (records_of self.old) d (text_of self.new) (records_of self.new)) }
+        ensures refused { IfErr result (λ fault. RefusesTake (text_of self.old) (records_of self.old) fault) }
+        ensures text { OnErr result (text_of self.new ≡ text_of self.old) }
+        ensures journal { OnErr result (records_of self.new ≡ records_of self.old) }
+    {
+        let Some(record) = self.journal.records().last() else {
+            return Err(Fault::NoRecord);
+        };
+        match record.undo(alloc, self.text.as_slice()) {
+            Ok(text) => {
+                let changed = text.as_slice() != self.text.as_slice();
+                let _ = self.journal.pop();
+                self.text = text;
+                Ok(Done {
+                    changed,
+                    fixed: 0,
+                    left: 0,
+                })
+            }
+            Err(Refused::Memory) => Err(Fault::Memory),
+            Err(refused) => Err(Fault::Refused(refused)),
+        }
+    }
+}

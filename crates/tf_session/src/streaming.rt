@@ -1,0 +1,40 @@
+ghost use Rattle.std.specs.Prelude.{◌≡◌, ◌↔◌, true, false, IfOk, IfErr, IsErrOf, IsErrAnd};
+ghost use Rattle.tf_session.specs.Told.{inner_of, has_failed};
+ghost use Rattle.tf_session.specs.Session.{text_of, records_of};
+ghost use Rattle.tf_session.specs.Streams.{is_write};
+ghost use Rattle.tf_session.specs.Streaming.{StepsThrough, StepsAtFault};
+
+use crate::command::{Command, Done};
+use crate::fault::RunFault;
+use crate::putting::put_text;
+use crate::session::Session;
+use crate::taking::take_text;
+use crate::told::Told;
+use edit_record::Journal;
+use std::alloc::Global;
+use std::io::{Read, Write};
+
+/// One command over the whole text of a reader, with no journal. The new text, changed or not, goes to the writer.
+///
+/// Answers the session after the command, and what it did. Nothing is written at any fault but `Write`.
+pub fn step_stream<R: Read, W: Write>(
+    alloc: Global,
+    command: Command,
+    text: &mut Told<R>,
+    out: &mut Told<W>,
+) -> Result<(Session, Done), RunFault>
+    requires text_fresh { has_failed text.old ≡ false }
+    requires out_fresh { has_failed out.old ≡ false }
+    ensures done { IfOk result (λ made. StepsThrough command made.1 (text_of made.0) (records_of made.0) (R.remaining (inner_of text.old)) (R.remaining (inner_of text.new)) (W.contents (inner_of out.old)) (W.contents (inner_of out.new))) }
+    ensures fault { IfErr result (λ fault. StepsAtFault command fault (R.remaining (inner_of text.old)) (R.remaining (inner_of text.new)) (W.contents (inner_of out.old)) (W.contents (inner_of out.new))) }
+    ensures read { IsErrOf result RunFault.Read ↔ has_failed text.new ≡ true }
+    ensures write { IsErrAnd result (λ fault. is_write fault ≡ true) ↔ has_failed out.new ≡ true }
+{
+    let bytes = take_text(alloc, text)?;
+    let mut session = Session::start(bytes, Journal::empty(alloc));
+    let done = session.step(alloc, command)?;
+    match put_text(session.text(), out) {
+        Ok(()) => Ok((session, done)),
+        Err(fault) => Err(fault),
+    }
+}

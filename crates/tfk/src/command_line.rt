@@ -1,0 +1,181 @@
+//! What the words of the command line ask for.
+
+use clap::{Arg, ArgAction, ArgMatches, Command};
+use std::alloc::{AllocError, Global};
+
+const ABOUT: &str = "Formats and lints Terraform files";
+
+const AFTER_HELP: &str = "\
+Exit status:
+  0  nothing to report
+  1  a file or the command line has a fault, which standard error names
+  2  an issue is left
+
+Examples:
+  tfk lint main.tf variables.tf    report the issues of two files
+  tfk lint - < main.tf             report those of standard input
+  tfk fix - < main.tf > fixed.tf   write the text with its issues fixed";
+
+const LINT_ABOUT: &str = "Reports the issues of each file";
+
+const LINT_AFTER_HELP: &str = "\
+Each issue is a line on standard output:
+  FILE:LINE:COLUMN: SEVERITY - what is wrong (rule)
+A file that cannot be read or scanned is named on standard error, and the others are still linted.
+
+Rules:
+  terraform_comment_syntax    comments begin with #, not //
+
+Exit status: 0 no issue, 1 a fault, 2 an issue.";
+
+const LINT_FILE_HELP: &str = "A file to read; - alone is standard input";
+
+const FIX_ABOUT: &str = "Writes a text with its issues fixed";
+
+const FIX_AFTER_HELP: &str = "\
+The text of standard input goes to standard output with all that can be fixed, changed or not.
+The issues that are left are lines on standard error, as those of `tfk lint`.
+Where the text cannot be fixed, nothing is written to standard output.
+
+Exit status: 0 no issue left, 1 a fault, 2 an issue left.";
+
+const FIX_FILE_HELP: &str = "- for standard input; files are not rewritten yet";
+
+/// What is to be done, and to which files.
+#[derive(Debug, Drop)]
+pub struct Task<'a> {
+    pub action: Action,
+    /// One name at least.
+    pub files: Vec<&'a str>,
+}
+
+#[derive(Clone, Copy, Debug, PartialEq, Eq)]
+pub enum Action {
+    Lint,
+    Fix,
+}
+
+/// Why there is nothing to be done.
+#[derive(Debug, Drop)]
+pub enum Stop {
+    /// Help was asked for: a text for standard output.
+    Help(String),
+    /// The words ask for nothing: a text for standard error.
+    Misuse(String),
+    Memory,
+}
+
+impl From<AllocError> for Stop {
+    fn from(_error: AllocError) -> Stop {
+        Stop::Memory
+    }
+}
+
+fn files_argument<'a>(alloc: Global, help: &'a str) -> Arg<'a> {
+    Arg::new(alloc, "FILE")
+        .help(help)
+        .required(true)
+        .num_args(1..)
+        .action(ArgAction::Append)
+}
+
+fn lint_command<'a>(alloc: Global) -> Result<Command<'a>, AllocError> {
+    Command::new(alloc, "lint")
+        .about(LINT_ABOUT)
+        .after_help(LINT_AFTER_HELP)
+        .arg(files_argument(alloc, LINT_FILE_HELP))
+}
+
+fn fix_command<'a>(alloc: Global) -> Result<Command<'a>, AllocError> {
+    Command::new(alloc, "fix")
+        .about(FIX_ABOUT)
+        .after_help(FIX_AFTER_HELP)
+        .arg(files_argument(alloc, FIX_FILE_HELP))
+}
+
+fn whole_command<'a>(alloc: Global) -> Result<Command<'a>, AllocError> {
+    Command::new(alloc, "tfk")
+        .about(ABOUT)
+        .after_help(AFTER_HELP)
+        .version("0.1.0")
+        .no_binary_name(true)
+        .subcommand_required(true)
+        .subcommand(lint_command(alloc)?)?
+        .subcommand(fix_command(alloc)?)
+}
+
+fn values<'a>(
+    alloc: Global,
+    matches: &ArgMatches<'a>,
+    id: &str,
+) -> Result<Vec<&'a str>, AllocError> {
+    let mut all: Vec<&'a str> = Vec::new(alloc);
+    if let Some(given) = matches.get_strs(id) {
+        for value in given {
+            all.push(*value)?;
+        }
+    }
+    Ok(all)
+}
+
+/// Whether `-` stands beside another file.
+fn has_dash_beside(files: &[&str]) -> bool {
+    files.len() > 1 && files.iter().any(|name| *name == "-")
+}
+
+/// Whether a file other than `-` is named.
+fn has_file(files: &[&str]) -> bool {
+    files.iter().any(|name| *name != "-")
+}
+
+fn misuse(alloc: Global, text: &str) -> Stop {
+    match String::from_str(alloc, text) {
+        Ok(text) => Stop::Misuse(text),
+        Err(_) => Stop::Memory,
+    }
+}
+
+/// The task of words that are right by themselves. A `-` beside another file is found first, then a file that is not
+/// taken yet.
+fn task_of<'a>(alloc: Global, matches: &ArgMatches<'a>) -> Result<Task<'a>, Stop> {
+    let Some((name, inner)) = matches.subcommand() else {
+        return Err(misuse(alloc, "tfk: no command\n"));
+    };
+    let action = if name == "fix" {
+        Action::Fix
+    } else {
+        Action::Lint
+    };
+    let files = values(alloc, inner, "FILE")?;
+    if has_dash_beside(&files) {
+        return Err(misuse(alloc, "tfk: - stands alone\n"));
+    }
+    if action == Action::Fix && has_file(&files) {
+        return Err(misuse(alloc, "tfk: only - is taken here\n"));
+    }
+    Ok(Task { action, files })
+}
+
+/// The words, without the program's name.
+pub fn words_of<'a>(alloc: Global, words: &'a [String]) -> Result<Vec<&'a str>, AllocError> {
+    let mut all: Vec<&'a str> = Vec::with_capacity(alloc, words.len())?;
+    for word in words {
+        all.push(word.as_str())?;
+    }
+    Ok(all)
+}
+
+/// What the words ask for.
+pub fn task_from<'a>(alloc: Global, words: &'a [&'a str]) -> Result<Task<'a>, Stop> {
+    match whole_command(alloc)?.try_get_matches_from(words) {
+        Ok(matches) => task_of(alloc, &matches),
+        Err(error) => {
+            let text = error.to_string(alloc)?;
+            if error.use_stderr() {
+                Err(Stop::Misuse(text))
+            } else {
+                Err(Stop::Help(text))
+            }
+        }
+    }
+}

@@ -1,0 +1,62 @@
+//! One file or standard stream.
+
+use std::alloc::Global;
+use std::fs;
+use std::io::{Read, Write};
+use std::rt::Files;
+use tf_lint::rule_set::RuleSet;
+use tf_session::{Command, RunFault, Told, lint_stream, step_stream};
+
+/// The name of standard input, on the command line and in reports.
+pub const STANDARD_INPUT: &str = "-";
+
+/// Writes the issue lines of a file to the output, and answers how many there are. A file that cannot be opened is
+/// `Read`.
+pub fn lint_file<R: Files, O: Write>(
+    rt: &R,
+    alloc: Global,
+    name: &str,
+    output: &mut O,
+    rules: RuleSet,
+) -> Result<usize, RunFault> {
+    match fs::open(rt, name) {
+        Ok(mut file) => lint_reader(alloc, name, &mut file, output, rules),
+        Err(_) => Err(RunFault::Read),
+    }
+}
+
+/// The same for a reader, under this name.
+pub fn lint_reader<I: Read, O: Write>(
+    alloc: Global,
+    name: &str,
+    input: &mut I,
+    output: &mut O,
+    rules: RuleSet,
+) -> Result<usize, RunFault> {
+    lint_stream(
+        alloc,
+        name,
+        &mut Told::new(input),
+        &mut Told::new(output),
+        rules,
+    )
+}
+
+/// Writes the text of the input to the output with its issues fixed, then the lines of the issues left to `left`, and
+/// answers how many are left. Where the text is not fixed, nothing is written.
+pub fn fix_input<I: Read, O: Write, F: Write>(
+    alloc: Global,
+    input: &mut I,
+    output: &mut O,
+    left: &mut F,
+    rules: RuleSet,
+) -> Result<usize, RunFault> {
+    let (session, _) = step_stream(
+        alloc,
+        Command::Fix(rules),
+        &mut Told::new(input),
+        &mut Told::new(output),
+    )?;
+    let mut fixed = session.text();
+    lint_reader(alloc, STANDARD_INPUT, &mut fixed, left, rules)
+}

@@ -1,0 +1,282 @@
+use crate::work;
+use std::fs;
+use std::io::{self, Read, Write};
+use std::test::Fail;
+
+/// What a run of the program answered and wrote.
+#[derive(Drop)]
+struct Ran {
+    status: u8,
+    output: String,
+    faults: String,
+}
+
+fn ran(rt: &HostRuntime, words: &[&str], input: &[u8]) -> Result<Ran, Fail> {
+    let alloc = rt.alloc();
+    let mut all = Vec::new(alloc);
+    for word in words {
+        all.push(String::from_str(alloc, word)?)?;
+    }
+    let mut output: Vec<u8> = Vec::new(alloc);
+    let mut faults: Vec<u8> = Vec::new(alloc);
+    let mut rest = input;
+    let status = work(
+        rt,
+        alloc,
+        all.as_slice(),
+        &mut rest,
+        &mut output,
+        &mut faults,
+    );
+    Ok(Ran {
+        status,
+        output: String::from_utf8(output).map_err(|_| "output")?,
+        faults: String::from_utf8(faults).map_err(|_| "faults")?,
+    })
+}
+
+fn check(
+    rt: &HostRuntime,
+    words: &[&str],
+    input: &[u8],
+    want: (u8, &str, &str),
+) -> Result<(), Fail> {
+    let ran = ran(rt, words, input)?;
+    let (status, output, faults) = want;
+    assert_eq!(rt; ran.output.as_str(), output, "{input:?}");
+    assert_eq!(rt; ran.faults.as_str(), faults, "{input:?}");
+    assert_eq!(rt; ran.status, status, "{input:?}");
+    Ok(())
+}
+
+/// Texts of standard input, and what `lint -` answers and writes.
+const LINTED: [(&[u8], u8, &str, &str); 12] = [
+    (
+        b"a = 1 // one",
+        2,
+        "-:1:7: Warning - Single line comments should begin with # (terraform_comment_syntax)\n",
+        "",
+    ),
+    (b"a = \"// x\"\n", 0, "", ""),
+    (b"", 0, "", ""),
+    (b"a = \"${b}\"\n", 0, "", ""),
+    (
+        b"e\xcc\x81 = 1 // x\n",
+        2,
+        "-:1:7: Warning - Single line comments should begin with # (terraform_comment_syntax)\n",
+        "",
+    ),
+    (
+        b"\xef\xbb\xbf// x\n\n//",
+        2,
+        "-:1:1: Warning - Single line comments should begin with # (terraform_comment_syntax)\n-:3:1: Warning - Single line comments should begin with # (terraform_comment_syntax)\n",
+        "",
+    ),
+    (
+        b"a = 1\rb\n",
+        1,
+        "",
+        "tfk: -: byte 5: unexpected character\n",
+    ),
+    (b"#\xff", 1, "", "tfk: -: byte 1: not UTF-8\n"),
+    (b"a = \"x", 1, "", "tfk: -: byte 4: string is not closed\n"),
+    (b"/* x", 1, "", "tfk: -: byte 0: comment is not closed\n"),
+    (b"a = \"\\q\"", 1, "", "tfk: -: byte 5: unknown escape\n"),
+    (
+        b"a = <<E\n x\n",
+        1,
+        "",
+        "tfk: -: byte 4: heredoc is not closed\n",
+    ),
+];
+
+#[test]
+fn lints_standard_input(rt: HostRuntime) -> Result<(), Fail> {
+    for (text, status, output, faults) in LINTED {
+        check(&rt, &["lint", "-"], text, (status, output, faults))?;
+    }
+    Ok(())
+}
+
+/// Texts of standard input, and what `fix -` answers and writes.
+const FIXED: [(&[u8], u8, &str, &str); 5] = [
+    (b"a = 1 // one\n", 0, "a = 1 # one\n", ""),
+    (b"a = 1 # one\n", 0, "a = 1 # one\n", ""),
+    (b"", 0, "", ""),
+    (
+        b"//\r\n// a\n# // b\n/* // */ //",
+        0,
+        "#\r\n# a\n# // b\n/* // */ #",
+        "",
+    ),
+    (
+        b"a = \"${b // c\n",
+        1,
+        "",
+        "tfk: -: byte 5: template sequence is not closed\n",
+    ),
+];
+
+#[test]
+fn fixes_standard_input(rt: HostRuntime) -> Result<(), Fail> {
+    for (text, status, output, faults) in FIXED {
+        check(&rt, &["fix", "-"], text, (status, output, faults))?;
+    }
+    Ok(())
+}
+
+/// Words that ask for nothing, and the line on standard error.
+const MISUSED: [(&[&str], &str); 6] = [
+    (&["lint", "-", "a.tf"], "tfk: - stands alone\n"),
+    (&["lint", "-", "-"], "tfk: - stands alone\n"),
+    (&["fix", "a.tf", "-"], "tfk: - stands alone\n"),
+    (&["fix", "a.tf"], "tfk: only - is taken here\n"),
+    (&["fix", "a.tf", "b.tf"], "tfk: only - is taken here\n"),
+    (&["lint", "absent.tf"], "tfk: absent.tf: cannot read\n"),
+];
+
+#[test]
+fn tells_faults_of_the_words(rt: HostRuntime) -> Result<(), Fail> {
+    for (words, faults) in MISUSED {
+        check(&rt, words, b"a = 1 // one\n", (1, "", faults))?;
+    }
+    for words in [
+        &[].as_slice(),
+        &["lint"],
+        &["format", "-"],
+        &["lint", "--fix", "-"],
+    ] {
+        let ran = ran(&rt, words, b"")?;
+        assert_eq!(rt; ran.status, 1);
+        assert!(rt; ran.output.is_empty());
+        assert!(rt; ran.faults.as_str().contains("Usage: tfk"), "{words:?}");
+    }
+    Ok(())
+}
+
+#[test]
+fn help_goes_to_standard_output(rt: HostRuntime) -> Result<(), Fail> {
+    for (words, part) in [
+        (["--help"].as_slice(), "tfk lint main.tf"),
+        (["lint", "--help"].as_slice(), "terraform_comment_syntax"),
+        (["fix", "--help"].as_slice(), "standard error"),
+        (["--version"].as_slice(), "tfk 0.1.0"),
+    ] {
+        let ran = ran(&rt, words, b"")?;
+        assert_eq!(rt; ran.status, 0, "{words:?}");
+        assert!(rt; ran.faults.is_empty(), "{words:?}");
+        assert!(rt; ran.output.as_str().contains(part), "{words:?}");
+    }
+    Ok(())
+}
+
+#[test]
+fn a_fault_on_one_file_does_not_stop_the_next(rt: HostRuntime) -> Result<(), Fail> {
+    let folder = "tfk_lints_files";
+    fs::create_dir_all(&rt, folder)?;
+    fs::write(&rt, "tfk_lints_files/main.tf", "a = 1 // one")?;
+    fs::write(&rt, "tfk_lints_files/open.tf", "a = \"x")?;
+    fs::write(&rt, "tfk_lints_files/clean.tf", "a = \"// x\"\n")?;
+    let line =
+        "tfk_lints_files/main.tf:1:7: Warning - Single line comments should begin with # (terraform_comment_syntax)\n";
+    check(
+        &rt,
+        &["lint", "tfk_lints_files/main.tf"],
+        b"",
+        (2, line, ""),
+    )?;
+    check(&rt, &["lint", "tfk_lints_files/clean.tf"], b"", (0, "", ""))?;
+    let words = [
+        "lint",
+        "tfk_lints_files/open.tf",
+        "tfk_lints_files/clean.tf",
+        "tfk_lints_files/main.tf",
+    ];
+    let fault = "tfk: tfk_lints_files/open.tf: byte 4: string is not closed\n";
+    check(&rt, &words, b"", (1, line, fault))?;
+    let folder_is_no_file = "tfk: tfk_lints_files: cannot read\n";
+    check(
+        &rt,
+        &["lint", "tfk_lints_files"],
+        b"",
+        (1, "", folder_is_no_file),
+    )?;
+    fs::remove_dir_all(&rt, folder)?;
+    Ok(())
+}
+
+/// A writer that takes so many bytes and then fails.
+#[derive(Drop)]
+struct Narrow {
+    room: usize,
+}
+
+impl Write for Narrow {
+    fn write(&mut self, buf: &[u8]) -> io::Result<usize> {
+        let taken = buf.len().min(self.room);
+        if taken == 0 {
+            return Err(io::Error::from(io::ErrorKind::WriteZero));
+        }
+        self.room -= taken;
+        Ok(taken)
+    }
+
+    fn flush(&mut self) -> io::Result<()> {
+        Ok(())
+    }
+}
+
+/// A reader that fails at once.
+#[derive(Drop)]
+struct Broken;
+
+impl Read for Broken {
+    fn read(&mut self, _buf: &mut [u8]) -> io::Result<usize> {
+        Err(io::Error::from(io::ErrorKind::Other))
+    }
+}
+
+#[test]
+fn streams_that_fail_are_told(rt: HostRuntime) -> Result<(), Fail> {
+    let alloc = rt.alloc();
+    let mut words = Vec::new(alloc);
+    words.push(String::from_str(alloc, "lint")?)?;
+    words.push(String::from_str(alloc, "-")?)?;
+    let mut faults: Vec<u8> = Vec::new(alloc);
+    let mut text = b"// one".as_slice();
+    let mut narrow = Narrow { room: 5 };
+    let status = work(
+        &rt,
+        alloc,
+        words.as_slice(),
+        &mut text,
+        &mut narrow,
+        &mut faults,
+    );
+    assert_eq!(rt; status, 1);
+    let told = String::from_utf8(faults).map_err(|_| "faults")?;
+    assert_eq!(rt; told.as_str(), "tfk: -: cannot write, 5 bytes sent\n");
+    let mut output: Vec<u8> = Vec::new(alloc);
+    let mut faults: Vec<u8> = Vec::new(alloc);
+    let status = work(
+        &rt,
+        alloc,
+        words.as_slice(),
+        &mut Broken,
+        &mut output,
+        &mut faults,
+    );
+    assert_eq!(rt; status, 1);
+    let told = String::from_utf8(faults).map_err(|_| "faults")?;
+    assert_eq!(rt; told.as_str(), "tfk: -: cannot read\n");
+    let status = work(
+        &rt,
+        alloc,
+        words.as_slice(),
+        &mut Broken,
+        &mut output,
+        &mut Narrow { room: 0 },
+    );
+    assert_eq!(rt; status, 1);
+    Ok(())
+}
