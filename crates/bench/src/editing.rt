@@ -7,7 +7,11 @@ use std::alloc::Global;
 use std::time::Instant;
 
 const TEXT_LEN: usize = 16_000_000;
+
 const EDITS: usize = 500_000;
+
+/// The length of texts whose edits are squashed: short enough for what both lists add.
+const SHORTER_LEN: usize = 12_000_000;
 
 fn long_text(alloc: Global) -> Result<Vec<u8>> {
     let mut text = Vec::with_capacity(alloc, TEXT_LEN)?;
@@ -60,12 +64,18 @@ pub fn run(rt: &HostRuntime) -> Result<()> {
     let time = start.elapsed(rt)?.as_micros();
     let same = back.as_slice() == old.as_slice();
     println!(rt; "undo: {time} us, the old text again: {same}")?;
-    let nested = many(alloc, new.len(), 33, b"x", b"")?;
+    squashes(rt)
+}
+
+/// Squashes of two lists of half a million edits each: inside each other, touching, and far from each other.
+fn squashes(rt: &HostRuntime) -> Result<()> {
+    let alloc = rt.alloc();
+    let first = many(alloc, SHORTER_LEN, 24, b"a", b"xy")?;
+    let nested = many(alloc, first.new_len(), 25, b"x", b"")?;
     squashed(rt, "nested", &first, &nested)?;
-    let touching = many(alloc, new.len(), 33, b"", b"-")?;
+    let touching = many(alloc, first.new_len(), 25, b"", b"-")?;
     squashed(rt, "touching", &first, &touching)?;
-    let wide = many(alloc, TEXT_LEN, 32, b"", b"12345678")?;
-    let apart = many(alloc, wide.new_len(), 40, b"", b"-")?;
-    squashed(rt, "touching in front", &wide, &apart)?;
-    Ok(())
+    let inserts = many(alloc, SHORTER_LEN, 24, b"", b"x")?;
+    let apart = many(alloc, inserts.new_len(), 20, b"", b"-")?;
+    squashed(rt, "some touching, most apart", &inserts, &apart)
 }

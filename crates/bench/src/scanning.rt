@@ -25,7 +25,9 @@ pub fn run(rt: &HostRuntime, name: &str) -> Result<()> {
                 }
                 let placed_in = start.elapsed(rt)?.as_micros();
                 let count = scanned.len();
-                println!(rt; "{len} bytes, {count} tokens, {lines} lines: scan {scanned_in} us, all places {placed_in} us")?;
+                println!(rt;
+                    "{len} bytes, {count} tokens, {lines} lines: scan {scanned_in} us, all places {placed_in} us"
+                )?;
             }
             Err(fault) => println!(rt; "{len} bytes: {fault} in {scanned_in} us")?,
         }

@@ -18,5 +18,6 @@ abbrev pub Goes : Bool → ℕ → List Entry → (ℕ → List ℕ → List ℕ
 Goes back from [] K t u = K from t u
 Goes back from (e ∷ es) K t u = Step back from e (Goes back (e.at + length e.removed) es K) t u
 
+-- behind the edits the texts are one
 abbrev pub Same : ℕ → List ℕ → List ℕ → Type 0
 Same from t u = t ≡ u

@@ -17,6 +17,7 @@ pub record Entered : Type 0 where
 abbrev pub record_turns : Entered → List ℕ → List ℕ → Type 0
 record_turns r t u = Turns r.edits t u
 
+-- and answers by them, forward and back; so its one step is step 0
 abbrev pub record_forward : Entered → List ℕ → Result (List ℕ) Refused
 record_forward r t = answer false r.edits t
 
@@ -36,6 +37,7 @@ record_never_memory r t = (answer_never_memory false r.edits t, answer_never_mem
 abbrev pub journal_turns : List Entered → List ℕ → List ℕ → Type 0
 journal_turns = TurnsAll record_turns
 
+-- and answers by them: its first record first, and back its last; a refusal counts steps inside the record that refused
 abbrev pub journal_forward : List Entered → List ℕ → Result (List ℕ) Refused
 journal_forward = forward_all record_forward
 

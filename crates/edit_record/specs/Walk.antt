@@ -16,6 +16,7 @@ abbrev pub given : Bool → Entry → List ℕ
 given true e = e.removed
 given false e = e.added
 
+-- the answer with these bytes in front
 abbrev pub behind : List ℕ → Result (List ℕ) Refused → Result (List ℕ) Refused
 behind front (Ok rest) = Ok (front ++ rest)
 behind front (Err r) = Err r

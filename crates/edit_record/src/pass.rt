@@ -1,5 +1,5 @@
 //! One pass over a text and the edits, in either direction.
-ghost use Rattle.std.specs.Prelude.{◌≡◌, ℕ, ◌+◌, ◌≤◌, length};
+ghost use Rattle.std.specs.Prelude.{◌≡◌};
 ghost use Rattle.edit_record.specs.Pieces.{as_list, entry, entries};
 ghost use Rattle.edit_record.specs.Made.{AreEdits};
 ghost use Rattle.edit_record.specs.Walk.{taken, given, answer, Gives};

@@ -3,5 +3,5 @@ mod Soundness
 mod Readying
 mod Shaping
 mod Merged
-mod Groupings
+pub mod Groupings
 mod Determined

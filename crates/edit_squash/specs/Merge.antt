@@ -1,8 +1,10 @@
--- Two lists of edits become one, from left to right: the state between two steps.
+-- How the merge goes, for proofs: the state between two steps, and each step as a function. What it comes to is said in
+-- specs/Squash.antt and specs/Shape.antt, which know nothing of this.
 use Rattle.std.specs.Prelude.{◌≡◌, ℕ, ◌+◌, ◌-◌, ◌≤◌, List, [], ◌∷◌, ◌++◌, length, take, drop, min, Bool, true, false, nat_le, ◌==◌, ◌&&◌, if◌then◌else◌}
 use Rattle.edit_record.specs.Pieces.{Entry, removed_len, added_len}
 use Rattle.edit_record.specs.Made.{ArePlaced, limit}
 
+-- two lists on the way to one, from left to right
 pub record State : Type 0 where
   -- the edits that are done
   pub out : List Entry
@@ -24,6 +26,7 @@ pub record State : Type 0 where
 abbrev pub put : List Entry → Entry → List Entry
 put out e = if (length e.removed == 0) && (length e.added == 0) then out else out ++ e ∷ []
 
+-- the edit that is being made ends; what the one list has left, the other keeps
 abbrev pub closed : State → State
 closed s = record {
   out = put s.out (record { at = s.at; removed = s.removed ++ s.second_left; added = s.added ++ s.first_left });
@@ -38,9 +41,11 @@ closed s = record {
   has_second = false;
 }
 
+-- both lists keep n bytes
 abbrev pub skipped : ℕ → State → State
 skipped n s = record s { at = s.at + n; first_end = s.first_end + n; second_end = s.second_end + n }
 
+-- the next edit of the first list comes in, behind bytes that the second removed and the first keeps
 abbrev pub with_first : Entry → State → State
 with_first e s = record s {
   removed = s.removed ++ take (e.at - s.first_end) s.second_left ++ e.removed;
@@ -50,6 +55,7 @@ with_first e s = record s {
   has_first = true;
 }
 
+-- the next edit of the second list comes in, behind bytes that the first added and the second keeps
 abbrev pub with_second : Entry → State → State
 with_second e s = record s {
   added = s.added ++ take (e.at - s.second_end) s.first_left ++ e.added;
@@ -63,6 +69,7 @@ with_second e s = record s {
 abbrev pub meeting : State → ℕ
 meeting s = min (length s.first_left) (length s.second_left)
 
+-- they are passed
 abbrev pub met : State → State
 met s = record s { first_left = drop (meeting s) s.first_left; second_left = drop (meeting s) s.second_left }
 
@@ -84,6 +91,7 @@ first_is_next s [] ys = false
 first_is_next s (x ∷ xs) [] = true
 first_is_next s (x ∷ xs) (y ∷ ys) = nat_le (x.at - s.first_end) (y.at - s.second_end)
 
+-- how many bytes stand before the next edit
 abbrev pub gap : ℕ → List Entry → ℕ
 gap from [] = 0
 gap from (e ∷ es) = e.at - from
@@ -120,7 +128,7 @@ abbrev pub Begins : ℕ → List Entry → Type 0
 Begins from [] = Unit {0}
 Begins from (e ∷ es) = from ≤ e.at
 
--- the next edit can be taken
+-- the next edit can be taken: its list has nothing left, and the other reaches it
 abbrev pub TakesFirst : State → List Entry → Type 0
 TakesFirst s [] = ⊥
 TakesFirst s (e ∷ xs) = (length s.first_left ≡ 0) × (e.at - s.first_end ≤ length s.second_left)

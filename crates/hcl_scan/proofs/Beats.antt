@@ -1,5 +1,5 @@
 -- Each lexeme of the mode at the front of a text is what the scanner finds, or shorter.
-use Rattle.std.proofs.Common.{◌≡◌, ◌≢◌, ℕ, ◌+◌, ◌<◌, true, false, ◌&&◌, ◌==◌, List, [], ◌∷◌, ◌++◌, length, slice_index, Some, refl, sym, ap, subst, ◌∙◌, inl, inr, arith, append_assoc, length-append}
+use Rattle.std.proofs.Common.{◌≡◌, ◌≢◌, ℕ, ◌+◌, ◌<◌, true, false, ◌==◌, List, [], ◌∷◌, ◌++◌, length, slice_index, refl, sym, ap, subst, ◌∙◌, inl, inr, arith, append_assoc, length-append}
 use Rattle.std.proofs.lemmas.Bool.{ne_eqb, and_parts, or_cases, eqb-true, false_from_ne_true, false≢true}
 use Rattle.std.proofs.lemmas.Bool.Decides.{nat_tests}
 use Rattle.std.specs.List.{concat}
@@ -12,7 +12,7 @@ use Rattle.hcl_scan.specs.Markers.{HasMarker}
 use Rattle.hcl_scan.specs.Runs.{line_behind, AreUnits}
 use Rattle.hcl_scan.specs.RunLength.{run_length}
 use Rattle.hcl_scan.specs.Lexeme.{stands_in, quote_unit, Spells, IsLexeme}
-use Rattle.hcl_scan.specs.Next.{Found, begins_opening, quoted_token, token}
+use Rattle.hcl_scan.specs.Next.{begins_opening, quoted_token, token}
 use Rattle.hcl_scan.proofs.Found.{Beats, same_kind}
 use Rattle.hcl_scan.proofs.RunLemmas.{IsRun-adds}
 use Rattle.hcl_scan.proofs.BeatsPlain.{spelt, plain_beats}
@@ -21,7 +21,7 @@ use Rattle.hcl_scan.proofs.HereBeats.{OpeningBeats, interp_beats, directive_beat
 -- ---- in quoted text
 
 -- where a unit begins, neither the closing quote nor an opening does
-unit_begins : (t : List ℕ) → 0 < quote_unit false t → ((slice_index t 0 == 34) ≡ false) × (begins_opening t ≡ false)
+pub unit_begins : (t : List ℕ) → 0 < quote_unit false t → ((slice_index t 0 == 34) ≡ false) × (begins_opening t ≡ false)
 unit_begins [] h = absurd (omega arith)
 unit_begins (b ∷ rest) h = (
   ne_eqb b 34 (λ e. absurd (omega (arith, rw e at h))),
@@ -51,7 +51,7 @@ lit_beats (v ∷ vs) s rest e filled are =
 written : (kind : Kind) (s rest x : List ℕ) → s ≡ x → Beats (quoted_token (x ++ rest)) kind (length x) → Beats (quoted_token (s ++ rest)) kind (length s)
 written kind s rest x e h = subst (λ (y : List ℕ). Beats (quoted_token (y ++ rest)) kind (length y)) (sym e) h
 
-sigil_no_quote : (b : ℕ) → is_sigil b ≡ true → (b == 34) ≡ false
+pub sigil_no_quote : (b : ℕ) → is_sigil b ≡ true → (b == 34) ≡ false
 sigil_no_quote b h = grind (arith, nat_tests)
 
 opens : (kind : Kind) (s rest : List ℕ) → OpeningBeats kind s rest → Beats (quoted_token (s ++ rest)) kind (length s)

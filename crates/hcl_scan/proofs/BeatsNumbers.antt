@@ -1,10 +1,10 @@
 -- A number at the front of a text is what the scanner finds, or shorter.
-use Rattle.std.proofs.Common.{◌≡◌, ℕ, suc, ◌+◌, ◌<◌, ◌≤◌, Bool, true, false, ◌&&◌, ◌||◌, ◌==◌, List, [], ◌∷◌, ◌++◌, length, drop, slice_index, codes, refl, sym, ap, subst, ◌∙◌, inl, inr, arith, append_assoc, length-append, drop_at}
+use Rattle.std.proofs.Common.{◌≡◌, ℕ, suc, ◌+◌, ◌<◌, ◌≤◌, true, false, ◌==◌, List, [], ◌∷◌, ◌++◌, length, drop, slice_index, refl, sym, ap, subst, ◌∙◌, inl, inr, arith, append_assoc, length-append, drop_at}
 use Rattle.std.proofs.lemmas.Bool.{and_parts, cases_lt}
 use Rattle.std.proofs.lemmas.Bool.Decides.{nat_tests}
 use Rattle.std.specs.Char.{is_ascii_digit}
 use Rattle.std.specs.List.{list_all}
-use Rattle.hcl_scan.specs.Lexeme.{is_decimal, IsFraction, IsSign, IsExponent}
+use Rattle.hcl_scan.specs.Lexeme.{is_decimal, IsFraction, IsExponent}
 use Rattle.hcl_scan.specs.Next.{decimal_length, fraction_length, is_sign, is_exponent_letter, exponent_length, tail_length, number_length}
 
 -- ---- digits
@@ -25,23 +25,23 @@ pub head_digit : (s rest : List ℕ) → is_decimal s ≡ true → is_ascii_digi
 head_digit [] rest h = absurd (cc)
 head_digit (d ∷ ds) rest h = (and_parts (is_ascii_digit d) (list_all is_ascii_digit ds) h).0
 
-no_digits : (t : List ℕ) → is_ascii_digit (slice_index t 0) ≡ false → decimal_length t ≡ 0
+pub no_digits : (t : List ℕ) → is_ascii_digit (slice_index t 0) ≡ false → decimal_length t ≡ 0
 no_digits [] h = refl
 no_digits (b ∷ t) h = rw h refl
 
-head_of : (s rest : List ℕ) → 0 < length s → slice_index (s ++ rest) 0 ≡ slice_index s 0
+pub head_of : (s rest : List ℕ) → 0 < length s → slice_index (s ++ rest) 0 ≡ slice_index s 0
 head_of [] rest some = absurd (omega arith)
 head_of (b ∷ s) rest some = refl
 
 -- ---- exponents
 
-letter_no_digit : (b : ℕ) → is_exponent_letter b ≡ true → is_ascii_digit b ≡ false
+pub letter_no_digit : (b : ℕ) → is_exponent_letter b ≡ true → is_ascii_digit b ≡ false
 letter_no_digit b h = grind (arith, nat_tests)
 
-letter_no_point : (b : ℕ) → is_exponent_letter b ≡ true → (b == 46) ≡ false
+pub letter_no_point : (b : ℕ) → is_exponent_letter b ≡ true → (b == 46) ≡ false
 letter_no_point b h = grind (arith, nat_tests)
 
-letter_head : (s : List ℕ) → IsExponent s → 0 < length s → is_exponent_letter (slice_index s 0) ≡ true
+pub letter_head : (s : List ℕ) → IsExponent s → 0 < length s → is_exponent_letter (slice_index s 0) ≡ true
 letter_head s (inl e) some = absurd (omega (arith, ap length e))
 letter_head s (inr (letter, sign, digits, e, h, signed, decimal)) some = ap (λ (x : List ℕ). is_exponent_letter (slice_index x 0)) e ∙ h
 
@@ -70,10 +70,10 @@ exponent_le s rest (inr (letter, sign, digits, e, h, inr (inr minus), decimal)) 
 
 -- ---- a fraction and an exponent
 
-no_point : (t : List ℕ) → (slice_index t 0 == 46) ≡ false → fraction_length t ≡ 0
+pub no_point : (t : List ℕ) → (slice_index t 0 == 46) ≡ false → fraction_length t ≡ 0
 no_point t h = rw h refl
 
-tail_of : (t : List ℕ) (n : ℕ) → fraction_length t ≡ n → tail_length t ≡ n + exponent_length (drop n t)
+pub tail_of : (t : List ℕ) (n : ℕ) → fraction_length t ≡ n → tail_length t ≡ n + exponent_length (drop n t)
 tail_of t n e = ap (λ k. k + exponent_length (drop k t)) e
 
 exponent_tail : (x rest : List ℕ) → IsExponent x → length x ≤ tail_length (x ++ rest)
@@ -117,7 +117,7 @@ tail_le f x rest (inr (digits, e, decimal)) is =
     (subst (λ (y : List ℕ). suc (length (digits ++ x)) ≤ tail_length (46 ∷ y)) (sym (append_assoc digits x rest)) (fraction_tail digits x rest decimal is))
 
 -- what stands behind the whole part begins with no digit
-tail_head : (f x : List ℕ) → IsFraction f → IsExponent x → 0 < length (f ++ x) → is_ascii_digit (slice_index (f ++ x) 0) ≡ false
+pub tail_head : (f x : List ℕ) → IsFraction f → IsExponent x → 0 < length (f ++ x) → is_ascii_digit (slice_index (f ++ x) 0) ≡ false
 tail_head f x (inl e) is some =
     let none : f ++ x ≡ x = ap (λ (y : List ℕ). y ++ x) e in
     let more : 0 < length x = omega (arith, ap length none) in
@@ -126,7 +126,7 @@ tail_head f x (inr (digits, e, decimal)) is some = ap (λ (y : List ℕ). is_asc
 
 -- ---- numbers
 
-number_of : (t : List ℕ) (n : ℕ) → decimal_length t ≡ n → number_length t ≡ n + tail_length (drop n t)
+pub number_of : (t : List ℕ) (n : ℕ) → decimal_length t ≡ n → number_length t ≡ n + tail_length (drop n t)
 number_of t n e = ap (λ k. k + tail_length (drop k t)) e
 
 pub number_le : (whole f x rest : List ℕ) → is_decimal whole ≡ true → IsFraction f → IsExponent x

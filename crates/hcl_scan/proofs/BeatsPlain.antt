@@ -1,5 +1,5 @@
 -- Outside of literal text, each lexeme at the front of a text is what the scanner finds, or shorter.
-use Rattle.std.proofs.Common.{◌≡◌, ℕ, suc, ◌+◌, ◌<◌, ◌≤◌, Bool, true, false, not, nat_lt, ◌&&◌, ◌||◌, ◌==◌, List, [], ◌∷◌, ◌++◌, length, drop, slice_index, codes, if◌then◌else◌, IsUtf8, Some, None, refl, sym, ap, subst, ◌∙◌, inl, inr, arith, append_assoc, length-append, encode_utf8, encode_utf8_all}
+use Rattle.std.proofs.Common.{◌≡◌, ℕ, suc, ◌+◌, ◌<◌, ◌≤◌, Bool, true, false, not, nat_lt, ◌&&◌, ◌||◌, ◌==◌, List, [], ◌∷◌, ◌++◌, length, slice_index, if◌then◌else◌, IsUtf8, Some, refl, sym, ap, subst, ◌∙◌, inl, inr, arith, append_assoc, length-append, encode_utf8, encode_utf8_all}
 use Rattle.std.proofs.lemmas.Bool.{cond_both, both_ways, or_parts, lt-ltb, and_parts, not-true, false≢true}
 use Rattle.std.proofs.lemmas.Bool.Decides.{nat_tests}
 use Rattle.std.proofs.lemmas.Str.{encodes-chars, chars-append, length-encode}
@@ -15,7 +15,7 @@ use Rattle.hcl_scan.specs.Runs.{line_behind, IsRun}
 use Rattle.hcl_scan.specs.RunLength.{run_length}
 use Rattle.hcl_scan.specs.Lexeme.{is_quoted, is_heredoc, stands_in, is_identifier, is_decimal, IsFraction, IsExponent, comment_unit, inline_unit, Spells}
 use Rattle.hcl_scan.specs.HereNext.{here_open}
-use Rattle.hcl_scan.specs.Next.{Found, continue_length, begins_word, decimal_length, number_length, here_or_less, expression_token}
+use Rattle.hcl_scan.specs.Next.{Found, continue_length, begins_word, decimal_length, here_or_less, expression_token}
 use Rattle.hcl_scan.proofs.Found.{Beats, same_kind}
 use Rattle.hcl_scan.proofs.Pieces.{decimal_some}
 use Rattle.hcl_scan.proofs.RunLemmas.{run_length-none, IsRun-adds}
@@ -39,7 +39,7 @@ fixed_is c kind s rest x e h = written c kind s rest x (spelt x s e) h
 
 -- ---- words and numbers
 
-digit_no_word : (b : ℕ) → is_ascii_digit b ≡ true → begins_word b ≡ false
+pub digit_no_word : (b : ℕ) → is_ascii_digit b ≡ true → begins_word b ≡ false
 digit_no_word b h = grind (arith, nat_tests)
 
 continues_add : (cs rest : List ℕ) → list_all continues cs ≡ true → length (encode_utf8_all cs) ≤ continue_length (cs ++ rest)
@@ -119,11 +119,11 @@ longer_1 c rest kind long x = cond_both (slice_index rest 0 == x) _ _ (λ f. Bea
 
 -- ---- all
 
-not_quoted : (mode : Mode) → is_literal mode ≡ false → is_quoted mode ≡ true → ⊥
+pub not_quoted : (mode : Mode) → is_literal mode ≡ false → is_quoted mode ≡ true → ⊥
 not_quoted Quoted plain h = false≢true (sym plain)
 not_quoted mode plain h = false≢true h
 
-not_heredoc : (mode : Mode) → is_literal mode ≡ false → is_heredoc mode ≡ true → ⊥
+pub not_heredoc : (mode : Mode) → is_literal mode ≡ false → is_heredoc mode ≡ true → ⊥
 not_heredoc (Heredoc name fresh) plain h = false≢true (sym plain)
 not_heredoc mode plain h = false≢true h
 

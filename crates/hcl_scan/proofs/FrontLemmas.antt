@@ -1,11 +1,11 @@
 -- The byte order mark at the front of a text, and what stands behind it.
-use Rattle.std.proofs.Common.{◌≡◌, ℕ, ◌≤◌, Bool, true, false, List, [], ◌∷◌, ◌++◌, length, drop, slice_range, IsUtf8, if◌then◌else◌, refl, sym, ap, ap₂, subst, ◌∙◌, arith, length-append}
+use Rattle.std.proofs.Common.{◌≡◌, ℕ, Bool, true, false, List, [], ◌∷◌, ◌++◌, length, drop, slice_range, IsUtf8, if◌then◌else◌, refl, sym, ap, ◌∙◌, arith}
 use Rattle.std.proofs.lemmas.Str.{IsUtf8-past_char}
 use lib.Utf8.{encode}
 use Rattle.hcl_token.specs.declared.kind.Kind.TheVariants.{Mark}
 use Rattle.hcl_token.specs.declared.item.Item.{Item}
 use Rattle.hcl_token.specs.Tokens.{Pair, joining}
-use Rattle.hcl_token.specs.Items.{pairs_of, InOrder}
+use Rattle.hcl_token.specs.Items.{pairs_of}
 use Rattle.hcl_scan.specs.Characters.{begins}
 use Rattle.hcl_scan.specs.Modes.{Mode}
 use Rattle.hcl_scan.specs.Cut.{byte_order_mark, front_of, Cuts}

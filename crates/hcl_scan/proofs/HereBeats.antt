@@ -44,7 +44,7 @@ directive_beats mode s rest (inr e) = subst (λ (x : List ℕ). OpeningBeats Dir
 -- ---- the text of a heredoc
 
 -- no closing line begins with an opening
-opening_no_closing : (name : List ℕ) (fresh : Bool) (t : List ℕ) → IsIdentifier name → begins_opening t ≡ true → (fresh && is_closing name t) ≡ false
+pub opening_no_closing : (name : List ℕ) (fresh : Bool) (t : List ℕ) → IsIdentifier name → begins_opening t ≡ true → (fresh && is_closing name t) ≡ false
 opening_no_closing name fresh t ident h =
     let sigil : is_sigil (slice_index t 0) ≡ true = (and_parts (is_sigil (slice_index t 0)) (slice_index t 1 == 123) h).0 in
     false_from_ne_true _ (λ e. false≢true (sym (closing_no_opening name t ident (and_parts fresh (is_closing name t) e).1) ∙ sigil))
@@ -82,7 +82,7 @@ here_token_beats name fresh kind s rest ident (st, spells) = absurd (false≢tru
 -- ---- where a heredoc opens
 
 -- an ASCII byte is a character
-chars_first : (b : ℕ) (t : List ℕ) → b < 128 → chars (b ∷ t) ≡ b ∷ chars t
+pub chars_first : (b : ℕ) (t : List ℕ) → b < 128 → chars (b ∷ t) ≡ b ∷ chars t
 unfolding chars
 chars_first b [] h = rw (lt-ltb b 128 h) refl
 chars_first b (c ∷ t) h = rw (lt-ltb b 128 h) refl

@@ -1,5 +1,5 @@
 -- A character at a place, and what follows it.
-use Rattle.std.proofs.Common.{◌≡◌, true, Some, None, Bool, nat_le, ◌||◌, ◌==◌, ℕ, ◌+◌, ◌-◌, ◌<◌, ◌≤◌, List, [], ◌∷◌, ◌++◌, slice_index, if◌then◌else◌, length, drop, IsUtf8, encode_utf8, sym, ap, ◌∙◌, arith, length-append, length-drop}
+use Rattle.std.proofs.Common.{◌≡◌, true, Some, None, Bool, ℕ, ◌+◌, ◌-◌, ◌<◌, ◌≤◌, List, [], ◌∷◌, ◌++◌, slice_index, if◌then◌else◌, length, drop, IsUtf8, encode_utf8, sym, ap, ◌∙◌, arith, length-append, length-drop}
 use Rattle.std.proofs.lemmas.Str.{chars_past_char, drop_past_char, IsUtf8-past_char, length-encode, encode_ascii, chars-nil, len_utf8_ascii}
 use Rattle.std.proofs.lemmas.List.{drop_more, drop_all}
 use Rattle.std.specs.Char.{len_utf8}
@@ -8,7 +8,7 @@ use Rattle.std.proofs.lemmas.Bool.Decides.{nat_tests}
 use Rattle.unicode_ident.proofs.IdentLemmas.{is_xid_start-ascii}
 use Rattle.hcl_token.specs.declared.kind.Kind.TheVariants.{Identifier}
 use Rattle.hcl_scan.specs.Characters.{starts, continues}
-use Rattle.hcl_scan.specs.Next.{Found, continue_length, identifier_of, identifier, begins_word}
+use Rattle.hcl_scan.specs.Next.{continue_length, identifier_of, identifier, begins_word}
 
 module _ (text rest : List ℕ) (at c : ℕ) (bytes : drop at text ≡ encode_utf8 c ++ rest) where
   pub chars_at : IsUtf8 (drop at text) → chars (drop at text) ≡ c ∷ chars (drop (at + len_utf8 c) text)

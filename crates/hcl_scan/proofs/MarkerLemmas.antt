@@ -1,5 +1,5 @@
 -- The markers of the heredocs that are open are identifiers: each token keeps it so.
-use Rattle.std.proofs.Common.{◌≡◌, ℕ, suc, ◌<◌, Bool, true, false, not, ◌||◌, ◌==◌, List, [], ◌∷◌, ◌++◌, length, take, drop, slice_index, refl, sym, ap, subst, ◌∙◌, ◌⊎◌, inl, inr, arith, take_at, codes}
+use Rattle.std.proofs.Common.{◌≡◌, ℕ, suc, ◌<◌, ◌≤◌, Bool, true, false, not, ◌||◌, ◌==◌, List, [], ◌∷◌, ◌++◌, length, take, drop, slice_index, refl, sym, ap, subst, ◌∙◌, ◌⊎◌, inl, inr, arith, take_at, codes}
 use Rattle.std.proofs.lemmas.Bool.{cond_both, and_parts, cases_lt, ne_eqb}
 use Rattle.std.proofs.lemmas.Bool.Decides.{nat_tests}
 use Rattle.std.proofs.lemmas.Str.{encodes-chars, NoCharPasses-byte}
@@ -16,55 +16,61 @@ use Rattle.hcl_scan.specs.Lexeme.{is_identifier, IsIdentifier, IsLineEnd, Spells
 use Rattle.hcl_scan.specs.Markers.{HasMarker, HaveMarkers}
 use Rattle.hcl_scan.proofs.HereLemmas.{prefix_adds, identifier_some}
 
--- LF or CR
-abbrev ends : ℕ → Bool
-ends b = b == 10 || b == 13
-
-continues_on : (c : ℕ) → continues c ≡ true → ends c ≡ false
-continues_on c h =
-    elim (cases_lt c 128) [
-      | inl ascii ↦ (let e = rw (is_xid_continue-ascii c ascii) at h in grind (arith, nat_tests))
-      | inr high ↦ grind (arith, nat_tests)
-    ]
-
-starts_on : (c : ℕ) → starts c ≡ true → ends c ≡ false
-starts_on c h =
-    elim (cases_lt c 128) [
-      | inl ascii ↦ (let e = rw (is_xid_start-ascii c ascii) at h in grind (arith, nat_tests))
-      | inr high ↦ grind (arith, nat_tests)
-    ]
-
-none_continue : (cs : List ℕ) → list_all continues cs ≡ true → NonePass ends cs
-none_continue [] h = tt
-none_continue (c ∷ cs) h =
-    let both = and_parts (continues c) (list_all continues cs) h in
-    (continues_on c both.0, none_continue cs both.1)
-
-none_in : (cs : List ℕ) → is_identifier cs ≡ true → NonePass ends cs
-none_in [] h = absurd (cc)
-none_in (c ∷ cs) h =
-    let both = and_parts (starts c) (list_all continues cs) h in
-    (starts_on c both.0, none_continue cs both.1)
-
--- no byte of an identifier is LF or CR
-identifier_byte : (name : List ℕ) → IsIdentifier name → (i : ℕ) → i < length name → ends (slice_index name i) ≡ false
-identifier_byte name (u, h) i within =
-    elim (cases_lt (slice_index name i) 128) [
-      | inl ascii ↦ NoCharPasses-byte ends name i (chars name, encodes-chars name u, none_in (chars name) h) within ascii
-      | inr high ↦ (let b : ℕ = slice_index name i in grind (arith, nat_tests))
-    ]
+-- ---- bytes that stand in no identifier
 
 all_bytes : (p : ℕ → Bool) (t : List ℕ) → ((i : ℕ) → i < length t → p (slice_index t i) ≡ true) → list_all p t ≡ true
 all_bytes p [] each = refl
 all_bytes p (b ∷ t) each = both_true (each 0 (omega arith)) (all_bytes p t (λ i h. each (suc i) (omega arith)))
 
--- an identifier stands before the first LF or CR
-pub identifier_line : (name : List ℕ) → IsIdentifier name → list_all (λ b. not (b == 10 || b == 13)) name ≡ true
-identifier_line name ident = all_bytes _ name (λ i h. ap not (identifier_byte name ident i h))
+module _ (p : ℕ → Bool)
+    (ascii : (b : ℕ) → 128 ≤ b → p b ≡ false)
+    (no_start : (b : ℕ) → b < 128 → starts b ≡ true → p b ≡ false)
+    (no_continue : (b : ℕ) → b < 128 → continues b ≡ true → p b ≡ false) where
+  none_continue : (cs : List ℕ) → list_all continues cs ≡ true → NonePass p cs
+  none_continue [] h = tt
+  none_continue (c ∷ cs) h =
+      let both = and_parts (continues c) (list_all continues cs) h in
+      (elim (cases_lt c 128) [ inl low ↦ no_continue c low both.0 | inr high ↦ ascii c high ], none_continue cs both.1)
+
+  none_in : (cs : List ℕ) → is_identifier cs ≡ true → NonePass p cs
+  none_in [] h = absurd (cc)
+  none_in (c ∷ cs) h =
+      let both = and_parts (starts c) (list_all continues cs) h in
+      (elim (cases_lt c 128) [ inl low ↦ no_start c low both.0 | inr high ↦ ascii c high ], none_continue cs both.1)
+
+  byte_of : (name : List ℕ) → IsIdentifier name → (i : ℕ) → i < length name → p (slice_index name i) ≡ false
+  byte_of name (u, h) i within =
+      elim (cases_lt (slice_index name i) 128) [
+        | inl low ↦ NoCharPasses-byte p name i (chars name, encodes-chars name u, none_in (chars name) h) within low
+        | inr high ↦ ascii (slice_index name i) high
+      ]
+
+  -- ASCII bytes that neither start nor continue an identifier
+  pub identifier_avoids : (name : List ℕ) → IsIdentifier name → list_all (λ b. not (p b)) name ≡ true
+  identifier_avoids name ident = all_bytes (λ b. not (p b)) name (λ i h. ap not (byte_of name ident i h))
+
+-- ---- the marker of an opening
+
+-- LF or CR
+abbrev ends : ℕ → Bool
+ends b = b == 10 || b == 13
+
+ends_ascii : (b : ℕ) → 128 ≤ b → ends b ≡ false
+ends_ascii b h = grind (arith, nat_tests)
+
+ends_no_start : (b : ℕ) → b < 128 → starts b ≡ true → ends b ≡ false
+ends_no_start b low h = let e = rw (is_xid_start-ascii b low) at h in grind (arith, nat_tests)
+
+ends_no_continue : (b : ℕ) → b < 128 → continues b ≡ true → ends b ≡ false
+ends_no_continue b low h = let e = rw (is_xid_continue-ascii b low) at h in grind (arith, nat_tests)
 
 -- before LF or CR
 abbrev on_line : ℕ → Bool
-on_line b = not (b == 10 || b == 13)
+on_line b = not (ends b)
+
+-- an identifier stands before the first LF or CR
+identifier_line : (name : List ℕ) → IsIdentifier name → list_all on_line name ≡ true
+identifier_line name ident = identifier_avoids ends ends_ascii ends_no_start ends_no_continue name ident
 
 line_end_stops : (end : List ℕ) → IsLineEnd end → prefix_len on_line end ≡ 0
 line_end_stops end (inl e) = rw e refl

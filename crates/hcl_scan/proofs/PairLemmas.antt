@@ -1,5 +1,5 @@
 -- More pairs at the end of those that are cut.
-use Rattle.std.proofs.Common.{◌≡◌, ℕ, ◌+◌, ◌≤◌, Bool, true, false, List, [], ◌∷◌, ◌++◌, length, if◌then◌else◌, refl, sym, ap, subst, ◌∙◌, arith, length-append, append_assoc}
+use Rattle.std.proofs.Common.{◌≡◌, ℕ, ◌+◌, ◌≤◌, Bool, true, false, List, [], ◌∷◌, ◌++◌, length, if◌then◌else◌, refl, sym, ap, subst, ◌∙◌, arith, length-append}
 use Rattle.hcl_token.specs.declared.kind.Kind.{Kind}
 use Rattle.hcl_token.specs.declared.kind.Kind.TheVariants.{Mark}
 use Rattle.hcl_token.specs.declared.item.Item.{Item}
@@ -9,7 +9,7 @@ use Rattle.hcl_scan.specs.Characters.{begins}
 use Rattle.hcl_scan.specs.Modes.{Mode, mode_of, after}
 use Rattle.hcl_scan.specs.Markers.{HaveMarkers}
 use Rattle.hcl_scan.specs.Lexeme.{IsLongest}
-use Rattle.hcl_scan.specs.Cut.{IsGap, CutsFrom, Cuts, byte_order_mark, front_of}
+use Rattle.hcl_scan.specs.Cut.{IsGap, CutsFrom, Cuts, byte_order_mark}
 use Rattle.hcl_scan.specs.Fault.{places_after, places_behind}
 use Rattle.hcl_scan.proofs.MarkerLemmas.{markers_after}
 use Rattle.hcl_scan.proofs.Unique.{pair_of}

@@ -1,5 +1,5 @@
 -- The leading digits and the leading characters of a word, and the parts of a number.
-use Rattle.std.proofs.Common.{◌≡◌, ℕ, suc, ◌+◌, ◌<◌, ◌≤◌, Bool, true, false, ◌&&◌, ◌||◌, ◌==◌, List, [], ◌∷◌, ◌++◌, length, take, drop, slice_index, IsUtf8, IsTrue, ◌⊎◌, refl, sym, ap, subst, ◌∙◌, inl, inr, arith, append_assoc, append-nil, length-append, length-take-le, take-append-drop, get_or-drop, drop-drop, drop_at, encode_utf8, encode_utf8_all}
+use Rattle.std.proofs.Common.{◌≡◌, ℕ, suc, ◌+◌, ◌<◌, Bool, true, false, ◌&&◌, ◌==◌, List, [], ◌∷◌, ◌++◌, length, take, drop, slice_index, IsUtf8, IsTrue, refl, sym, ap, subst, ◌∙◌, inl, inr, arith, length-append, length-take-le, take-append-drop, get_or-drop, drop-drop, encode_utf8, encode_utf8_all}
 use Rattle.std.proofs.lemmas.Bool.{cond_both, eqb-true, and_parts, or_cases}
 use Rattle.std.proofs.lemmas.Bool.Decides.{nat_tests}
 use Rattle.std.proofs.lemmas.List.Sums.{prefix_len-le-length}
@@ -10,8 +10,8 @@ use Rattle.std.specs.List.{list_all, prefix_len}
 use Rattle.std.specs.Str.{all_scalars}
 use Rattle.hcl_scan.specs.Characters.{continues}
 use Rattle.hcl_scan.specs.Lexeme.{is_decimal, IsFraction, IsSign, IsExponent}
-use Rattle.hcl_scan.specs.Next.{continue_length, decimal_length, fraction_length, is_sign, is_exponent_letter, exponent_length, tail_length, number_length}
-use Rattle.hcl_scan.proofs.TextLemmas.{front_1, front_2, utf8_past}
+use Rattle.hcl_scan.specs.Next.{continue_length, decimal_length, fraction_length, is_sign, is_exponent_letter, exponent_length}
+use Rattle.hcl_scan.proofs.TextLemmas.{front_1, utf8_past}
 
 -- ---- digits
 

@@ -1,10 +1,9 @@
 -- What the scanner finds at the front of a text is a lexeme of the mode.
-use Rattle.std.proofs.Common.{◌≡◌, ◌≢◌, ℕ, ◌+◌, ◌<◌, Bool, true, false, not, ◌&&◌, cond, ◌==◌, List, [], ◌∷◌, length, drop, slice_index, IsUtf8, Some, None, refl, sym, ap, subst, ◌∙◌, inl, inr, arith}
-use Rattle.std.proofs.lemmas.Bool.{cond_both, eqb-true, and_parts, or_cases}
+use Rattle.std.proofs.Common.{◌≡◌, ◌≢◌, ℕ, ◌<◌, true, false, not, ◌&&◌, cond, ◌==◌, List, [], ◌∷◌, length, drop, slice_index, IsUtf8, Some, None, refl, ap, subst, inl, inr, arith}
+use Rattle.std.proofs.lemmas.Bool.{cond_both, and_parts, or_cases}
 use Rattle.std.proofs.lemmas.Bool.Decides.{nat_tests}
 use Rattle.std.specs.Char.{is_ascii_digit}
 use Rattle.std.specs.Cmp.Derive.{both_true}
-use Rattle.hcl_token.specs.declared.kind.Kind.{Kind}
 use Rattle.hcl_token.specs.declared.kind.Kind.TheVariants.{LineEnd, CloseBrace, Less, QuoteOpen, SeqClose, QuoteClose, InterpOpen, DirectiveOpen}
 use Rattle.hcl_scan.specs.Characters.{is_sigil}
 use Rattle.hcl_scan.specs.Modes.{Mode, is_literal, closes_sequence}

@@ -1,17 +1,17 @@
 -- The words, the numbers and the comments that the scanner finds are lexemes.
-use Rattle.std.proofs.Common.{◌≡◌, ℕ, ◌+◌, ◌<◌, Bool, true, false, not, nat_lt, ◌==◌, List, [], ◌∷◌, ◌++◌, length, drop, slice_index, IsUtf8, IsTrue, Some, None, refl, sym, ap, subst, ◌∙◌, inl, inr, arith, append_assoc, length-append, get_or-drop, encode_utf8, encode_utf8_all}
+use Rattle.std.proofs.Common.{◌≡◌, ℕ, ◌+◌, ◌<◌, true, false, not, nat_lt, List, [], ◌∷◌, ◌++◌, length, drop, slice_index, IsUtf8, IsTrue, None, refl, sym, ap, subst, ◌∙◌, arith, append_assoc, length-append, get_or-drop, encode_utf8, encode_utf8_all}
 use Rattle.std.proofs.lemmas.Bool.{cond_both, ltb-true}
 use Rattle.std.proofs.lemmas.Str.{encodes-chars, scalars-chars, chars-encodes, encodes-append, length-encode, len_utf8_bounds}
 use Rattle.std.specs.Char.{is_ascii_digit}
 use Rattle.std.specs.Cmp.Derive.{both_true}
 use Rattle.std.specs.Str.{chars, all_scalars}
-use Rattle.hcl_token.specs.declared.kind.Kind.TheVariants.{LineComment, InlineComment, Identifier, Number, DotIndex}
+use Rattle.hcl_token.specs.declared.kind.Kind.TheVariants.{LineComment, Number, DotIndex}
 use Rattle.hcl_scan.specs.Characters.{starts}
 use Rattle.hcl_scan.specs.Modes.{Mode, is_literal}
 use Rattle.hcl_scan.specs.Runs.{line_behind, IsRun}
 use Rattle.hcl_scan.specs.RunLength.{run_length}
 use Rattle.hcl_scan.specs.Lexeme.{is_identifier, is_decimal, IsFraction, IsExponent, comment_unit, inline_unit, Spells}
-use Rattle.hcl_scan.specs.Next.{identifier_of, identifier, decimal_length, fraction_length, exponent_length, tail_length, number_length, inline_comment}
+use Rattle.hcl_scan.specs.Next.{identifier_of, identifier, decimal_length, fraction_length, exponent_length, number_length, inline_comment}
 use Rattle.hcl_scan.proofs.Found.{IsFound, Sound}
 use Rattle.hcl_scan.proofs.Pieces.{Split, decimal_split, fraction_split, exponent_split, decimal_some, ContinueSplit, continue_split, scalars_parts}
 use Rattle.hcl_scan.proofs.RunLemmas.{RunSplit, run-split}

@@ -43,7 +43,7 @@ record SamePair (gap gap' s s' rest rest' : List ℕ) (kind kind' : Kind) : Type
   spellings : s ≡ s'
   rests : rest ≡ rest'
 
-same_found : (k k' : Kind) (n n' : ℕ) → ◌≡◌ {A = Found} (Some (k, n)) (Some (k', n')) → (k ≡ k') × (n ≡ n')
+pub same_found : (k k' : Kind) (n n' : ℕ) → ◌≡◌ {A = Found} (Some (k, n)) (Some (k', n')) → (k ≡ k') × (n ≡ n')
 same_found k k' n n' e =
     let pairs : ◌≡◌ {A = Kind × ℕ} (k, n) (k', n') = cc in
     (ap (λ (p : Kind × ℕ). p.0) pairs, ap (λ (p : Kind × ℕ). p.1) pairs)
@@ -64,7 +64,7 @@ one_pair mode gap gap' s s' rest rest' kind kind' m u e g l g' l' =
 abbrev pub pair_of : List ℕ → Kind → List ℕ → Pair
 pair_of gap kind spelling = record { gap = gap; kind = kind; spelling = spelling }
 
-same_pair : (p q : Pair) → p.gap ≡ q.gap → p.kind ≡ q.kind → p.spelling ≡ q.spelling → p ≡ q
+pub same_pair : (p q : Pair) → p.gap ≡ q.gap → p.kind ≡ q.kind → p.spelling ≡ q.spelling → p ≡ q
 same_pair p q g k s =
     ap (λ (x : List ℕ). pair_of x p.kind p.spelling) g ∙ ap (λ (x : Kind). pair_of q.gap x p.spelling) k ∙ ap (pair_of q.gap q.kind) s
 

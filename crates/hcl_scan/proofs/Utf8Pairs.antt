@@ -1,14 +1,12 @@
 -- Each gap and each token of a cut is UTF-8.
-use Rattle.std.proofs.Common.{◌≡◌, ℕ, Bool, true, false, List, [], ◌∷◌, ◌++◌, length, drop, IsUtf8, if◌then◌else◌, refl, sym, ap, subst, ◌∙◌, take_at}
+use Rattle.std.proofs.Common.{◌≡◌, ℕ, true, false, List, [], ◌∷◌, ◌++◌, length, drop, IsUtf8, refl, sym, subst, take_at}
 use Rattle.std.proofs.lemmas.Str.{IsUtf8-take, IsCharBoundary-at_seam}
-use Rattle.hcl_token.specs.declared.kind.Kind.TheVariants.{Mark}
 use Rattle.hcl_token.specs.Tokens.{Pair, joining}
 use Rattle.hcl_token.specs.CutText.{AreUtf8}
 use Rattle.hcl_scan.specs.Characters.{begins}
 use Rattle.hcl_scan.specs.Modes.{Mode, mode_of, after}
-use Rattle.hcl_scan.specs.Markers.{HasMarker, HaveMarkers}
+use Rattle.hcl_scan.specs.Markers.{HaveMarkers}
 use Rattle.hcl_scan.specs.Cut.{CutsFrom, IsCut, byte_order_mark, front_of}
-use Rattle.hcl_scan.specs.Progress.{front_length}
 use Rattle.hcl_scan.proofs.FrontLemmas.{behind_front, front_bytes, front_utf8}
 use Rattle.hcl_scan.proofs.MarkerLemmas.{markers_after, marker_of_mode}
 use Rattle.hcl_scan.proofs.Unique.{utf8_past_blanks, utf8_past_token}

@@ -2,6 +2,7 @@ pub mod Characters
 pub mod Closing
 pub mod Cut
 pub mod Fault
+pub mod Follows
 pub mod Front
 pub mod HereNext
 pub mod Lexeme

@@ -8,7 +8,7 @@ ghost use Rattle.hcl_scan.specs.Cut.{IsCut, MAX_TEXT, byte_order_mark};
 ghost use Rattle.hcl_scan.specs.declared.error.ScanFault.TheVariants.{Memory};
 ghost use Rattle.hcl_scan.specs.Fault.{Stops, IsFault, token_fault, fault_at};
 ghost use Rattle.hcl_scan.specs.Next.{token};
-ghost use Rattle.hcl_scan.specs.Openings.{mode_view, modes_of};
+ghost use Rattle.hcl_scan.specs.Openings.{mode_view};
 ghost use Rattle.hcl_scan.specs.Progress.{front_items, front_length};
 
 use crate::bytes::{byte, part};

@@ -1,6 +1,6 @@
 //! Identifiers.
 
-ghost use Rattle.std.specs.Prelude.{◌≡◌, ◌∷◌, ◌+◌, ◌<◌, ◌≤◌, length, drop, true, ◌==◌, ◌||◌, IsUtf8, slice_index};
+ghost use Rattle.std.specs.Prelude.{◌≡◌, ◌∷◌, ◌+◌, ◌<◌, ◌≤◌, length, drop, true, IsUtf8, slice_index};
 ghost use Rattle.std.specs.Char.{len_utf8};
 ghost use Rattle.std.specs.Str.{chars};
 ghost use Rattle.hcl_scan.specs.Characters.{starts, continues};

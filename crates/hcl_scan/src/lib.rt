@@ -1,7 +1,7 @@
 //! Cuts a text of the HCL native syntax into tokens.
 //!
 //! `scan` answers the cut of a text or its fault, and `Scanned` lends the tokens. That a text has one cut or one fault
-//! is what `laws` says.
+//! is what `laws` says, and `writing` what can be said of a text that is written token by token.
 #![tactic(auto)]
 
 mod bytes;
@@ -18,3 +18,4 @@ pub mod scanned;
 #[cfg(test)]
 mod tests;
 mod token;
+pub mod writing;

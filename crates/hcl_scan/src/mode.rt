@@ -2,7 +2,7 @@
 
 ghost use Rattle.std.specs.Prelude.{◌≡◌, ◌+◌, ◌≤◌, ◌∷◌, OnOk, drop, length};
 ghost use Rattle.std.specs.List.{prefix_len};
-ghost use Rattle.hcl_scan.specs.Modes.{mode_of, is_literal, is_braces, in_sequence, begins_line, marker_of, after};
+ghost use Rattle.hcl_scan.specs.Modes.{mode_of, is_braces, in_sequence, begins_line, marker_of, after};
 ghost use Rattle.hcl_scan.specs.Runs.{line_behind};
 ghost use Rattle.hcl_scan.specs.Fault.{places_after, innermost};
 ghost use Rattle.hcl_scan.specs.Openings.{mode_view, modes_of, places_of, with_line, with_line_in, is_in_line};

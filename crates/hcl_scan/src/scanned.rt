@@ -1,7 +1,6 @@
 //! A text with its cut.
 
-ghost use Rattle.std.specs.Prelude.{◌≡◌, ◌<◌, ◌≤◌, ◌↔◌, [], Some, IsTrue, IsUtf8, length, IfOk, IfErr, ◌⊎◌};
-ghost use Rattle.hcl_token.specs.Tokens.{joining};
+ghost use Rattle.std.specs.Prelude.{◌≡◌, ◌<◌, ◌↔◌, [], Some, IsTrue, IsUtf8, length, IfOk, IfErr, ◌⊎◌};
 ghost use Rattle.hcl_token.specs.CutText.{CutText, AreUtf8, kind_of, spelling_of, gap_of, clusters_of, item_of, joins_of};
 ghost use Rattle.hcl_token.specs.Place.{place_of};
 ghost use Rattle.hcl_scan.specs.Cut.{IsCut};

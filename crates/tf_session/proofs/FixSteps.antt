@@ -1,11 +1,9 @@
 -- A fix of one step is the run of its steps.
-use Rattle.std.proofs.Common.{◌≡◌, ◌∙◌, ◌≤◌, ◌<◌, ◌+◌, ◌⊎◌, ℕ, List, [], ◌∷◌, length, Bool, true, false, MatchBool, Result, Ok, Err, refl, sym, ap, subst, inl, inr, arith}
+use Rattle.std.proofs.Common.{◌≡◌, ◌∙◌, ◌≤◌, ◌⊎◌, ℕ, List, [], length, true, false, refl, sym, ap, subst, inl, inr, arith}
 use Rattle.std.proofs.lemmas.Slice.Eq.{bytes_eq-Decides}
-use Rattle.std.specs.Str.{bytes_eq}
 use Rattle.hcl_token.specs.CutText.{CutText}
 use Rattle.hcl_scan.specs.Cut.{IsCut}
 use Rattle.edit_record.specs.Pieces.{EditList}
-use Rattle.tf_lint.specs.declared.rule.Rule.{Rule}
 use Rattle.tf_lint.specs.declared.rule.Rule.TheVariants.{CommentSyntax}
 use Rattle.tf_lint.specs.declared.rule_set.RuleSet.{RuleSet}
 use Rattle.tf_lint.specs.RuleSets.{has_rule}
@@ -15,9 +13,9 @@ use Rattle.tf_lint.specs.Fixes.{fix_edits, fixed_text}
 use Rattle.tf_session.specs.declared.taking.TheConstants.{TEXT_LIMIT}
 use Rattle.tf_session.specs.declared.command.Command.TheVariants.{Fix}
 use Rattle.tf_session.specs.declared.command.Fault.{Fault}
-use Rattle.tf_session.specs.declared.command.Fault.TheVariants.{FixBroken, TooLong, Memory}
-use Rattle.tf_session.specs.Fixing.{differ, Reads, IsUnread, no_steps, step_before, Made, Fixes, FixMakes}
-use Rattle.tf_session.specs.Makes.{Makes, RefusesText}
+use Rattle.tf_session.specs.declared.command.Fault.TheVariants.{FixBroken, Memory}
+use Rattle.tf_session.specs.Fixing.{differ, Reads, IsUnread, no_steps, step_before, Fixes}
+use Rattle.tf_session.specs.Makes.{RefusesText}
 
 same_text : (t u : List ℕ) → t ≡ u → differ t u ≡ false
 same_text t u e = rw ((bytes_eq-Decides t u).1 e) refl

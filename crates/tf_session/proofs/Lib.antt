@@ -4,3 +4,5 @@ pub mod LineLists
 pub mod RunLaws
 pub mod Sending
 pub mod FixSteps
+pub mod Answering
+pub mod JournalOne

@@ -1,12 +1,11 @@
 -- By induction on the run, on the number of reverts, and on the commands.
-use Rattle.std.proofs.Common.{◌≡◌, ◌∙◌, ◌≤◌, ◌+◌, ℕ, zero, suc, List, [], ◌∷◌, length, drop, replicate, map, Bool, true, false, MatchBool, Result, Ok, Err, refl, sym, ap, subst, arith}
+use Rattle.std.proofs.Common.{◌≡◌, ◌∙◌, ◌≤◌, ℕ, zero, suc, List, [], ◌∷◌, length, drop, replicate, map, Bool, true, false, MatchBool, Result, Ok, Err, refl, ap, subst, arith}
 use Rattle.tf_session.specs.declared.command.Command.{Command}
 use Rattle.tf_session.specs.declared.command.Command.TheVariants.{Fix, Revert}
 use Rattle.tf_session.specs.declared.command.Done.{Done}
 use Rattle.tf_session.specs.declared.command.Fault.{Fault}
 use Rattle.tf_session.specs.Fixing.{Made, differ}
-use Rattle.tf_session.specs.Makes.{Makes}
-use Rattle.tf_session.specs.Machine.{Under, Stack, only, done, put_on, Puts, TakesOff, is_memory, MayWant, Serves, Step, Run}
+use Rattle.tf_session.specs.Machine.{Under, Stack, only, put_on, Puts, TakesOff, is_memory, MayWant, Serves}
 use Rattle.tf_session.specs.RunLaws.{served, given, ServesAll, RefusedDoNotCount, texts_of, reverted, RevertsTakeOff, RevertsGiveTheFirst}
 
 by_memory : (b : Bool) (old mid new : Stack) (command : Command) (commands : List Command) (reply : Result Done Fault) (replies : List (Result Done Fault)) → is_memory reply ≡ b
@@ -41,7 +40,7 @@ pub reverts_take_off : RevertsTakeOff
 reverts_take_off k old new replies le h = reverts_from k old.top old.below new replies le h
 
 -- the text that was there first
-abbrev bottom : List ℕ → List Under → List ℕ
+abbrev pub bottom : List ℕ → List Under → List ℕ
 bottom top [] = top
 bottom top (under ∷ rest) = bottom under.text rest
 
@@ -66,7 +65,7 @@ same_bottom : (command : Command) (old mid : Stack) (reply : Result Done Fault) 
 same_bottom (Fix rules) old mid reply h = answered (Fix rules) h.0 old mid reply h.2
 same_bottom Revert old mid reply h = taken_off old.top old.below reply mid h
 
-same_bottoms : (old mid : Stack) (commands : List Command) (replies : List (Result Done Fault)) → ServesAll old commands replies mid → bottom mid.top mid.below ≡ bottom old.top old.below
+pub same_bottoms : (old mid : Stack) (commands : List Command) (replies : List (Result Done Fault)) → ServesAll old commands replies mid → bottom mid.top mid.below ≡ bottom old.top old.below
 same_bottoms old mid [] [] h = ap (λ (s : Stack). bottom s.top s.below) h
 same_bottoms old mid [] (reply ∷ replies) h = absurd h
 same_bottoms old mid (command ∷ commands) [] h = absurd h

@@ -1,5 +1,5 @@
 -- What went out of a new text at a fault.
-use Rattle.std.proofs.Common.{◌≡◌, ℕ, List, [], Option}
+use Rattle.std.proofs.Common.{ℕ, List, [], Option}
 use Rattle.edit_record.specs.Journal.{Entered}
 use Rattle.tf_session.specs.declared.command.Command.{Command}
 use Rattle.tf_session.specs.declared.command.Done.{Done}

@@ -10,8 +10,8 @@ use Rattle.tf_session.specs.declared.command.Fault.{Fault}
 use Rattle.tf_session.specs.declared.command.Fault.TheVariants.{Scan, FixBroken, TooLong, NoRecord, Refused, Memory}
 use Rattle.tf_session.specs.Fixing.{Made, differ}
 use Rattle.tf_session.specs.Makes.{Makes, is_memory_fault}
-use Rattle.tf_session.specs.Machine.{Under, Stack, done, put_on, Puts, Serves, Step, Run}
-use Rattle.tf_session.specs.Records.{IsRecordOf, Stands, Adds, PutsMade, TakesLast, DoesStep, RefusesTake, RefusesStep}
+use Rattle.tf_session.specs.Machine.{Under, Stack, done, Puts, Serves, Step, Run}
+use Rattle.tf_session.specs.Records.{Stands, Adds, TakesLast, DoesStep, RefusesTake, RefusesStep}
 use Rattle.tf_session.proofs.Lists.{not_nil, same_last}
 
 abbrev stack : List ℕ → List Under → Stack

@@ -1,6 +1,5 @@
 -- What a clause reads of a fixed text.
 use Rattle.std.specs.Prelude.{ℕ, List, [], length, Option, Some, None}
-use Rattle.std.specs.Global.{Vec}
 use Rattle.edit_record.specs.Pieces.{EditList}
 use Rattle.tf_session.specs.declared.fixing.Fixed.{Fixed}
 use Rattle.tf_session.specs.declared.fixing.Change.{Change}

@@ -7,6 +7,8 @@ pub mod Makes
 pub mod Machine
 pub mod Records
 pub mod RunLaws
+pub mod OneAnswer
+pub mod JournalLaws
 pub mod Session
 pub mod Fixed
 pub mod Streaming

@@ -1,8 +1,7 @@
 -- The lines of the issues of a text, and what a call that lints a stream took, wrote and answers.
-use Rattle.std.specs.Prelude.{◌≡◌, ◌≤◌, ◌+◌, ℕ, Bool, true, false, List, [], ◌∷◌, ◌++◌, length, Option}
-use Rattle.std.specs.Io.KnownBytes.{Consumes, Appends, Keeps, IsAtEnd}
+use Rattle.std.specs.Prelude.{◌≡◌, ℕ, List, [], ◌∷◌, ◌++◌, length, Option}
+use Rattle.std.specs.Io.KnownBytes.{Appends, Keeps}
 use Rattle.hcl_token.specs.Tokens.{Pair}
-use Rattle.hcl_scan.specs.declared.error.ScanFault.{ScanFault}
 use Rattle.hcl_scan.specs.Cut.{IsCut}
 use Rattle.hcl_scan.specs.Fault.{IsFault}
 use Rattle.tf_lint.specs.declared.rule_set.RuleSet.{RuleSet}

@@ -1,5 +1,5 @@
 -- What the journal of a session says, in terms of the stack of whole texts.
-use Rattle.std.specs.Prelude.{◌≡◌, ◌≢◌, ℕ, Bool, true, false, List, [], ◌∷◌, ◌++◌, Result, Ok, Err}
+use Rattle.std.specs.Prelude.{◌≡◌, ◌≢◌, ℕ, Bool, true, false, List, [], ◌∷◌, ◌++◌, Ok, Err}
 use Rattle.edit_record.specs.declared.record.Word.{Word}
 use Rattle.edit_record.specs.Pieces.{EditList}
 use Rattle.edit_record.specs.Journal.{Entered, record_turns, record_backward}

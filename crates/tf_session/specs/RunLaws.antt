@@ -1,5 +1,5 @@
 -- Laws of the machine, over lists of commands.
-use Rattle.std.specs.Prelude.{◌≡◌, ◌≤◌, ℕ, Bool, true, false, List, [], ◌∷◌, map, length, drop, replicate, Result, Ok, Err, if◌then◌else◌}
+use Rattle.std.specs.Prelude.{◌≡◌, ◌≤◌, ℕ, true, List, [], ◌∷◌, map, length, drop, replicate, Result, Ok, if◌then◌else◌}
 use Rattle.tf_session.specs.declared.command.Command.{Command}
 use Rattle.tf_session.specs.declared.command.Command.TheVariants.{Revert}
 use Rattle.tf_session.specs.declared.command.Done.{Done}

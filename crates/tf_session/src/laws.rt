@@ -1,5 +1,7 @@
 //! Laws of the machine that `run` stands for: functions that do nothing, for callers whose proofs want what their clauses say.
 
+ghost use Rattle.tf_session.specs.OneAnswer.{OneAnswer};
+ghost use Rattle.tf_session.specs.JournalLaws.{JournalIsOne};
 ghost use Rattle.tf_session.specs.RunLaws.{RefusedDoNotCount, RevertsTakeOff, RevertsGiveTheFirst};
 
 /// A command that met a refused growth might as well not be in the list.
@@ -15,4 +17,19 @@ pub fn reverts_take_off_the_last()
 /// After any commands enough reverts give back the first bytes.
 pub fn reverts_give_the_first_text()
     ensures { RevertsGiveTheFirst }
+{}
+
+/// A command over a stack of texts has one reply, and leaves one stack.
+pub fn each_command_has_one_answer()
+    ensures { OneAnswer }
+{
+    hcl_scan::laws::one_cut();
+    hcl_scan::laws::no_cut_with_fault();
+    hcl_scan::laws::one_fault();
+}
+
+/// The records of the journal of any run, squashed from the first on, are one list of edits, which turns the first text into the
+/// last: on the way no list is refused but for want of memory.
+pub fn journal_squashes_to_one()
+    ensures { JournalIsOne }
 {}

@@ -16,7 +16,8 @@ mod told;
 pub use command::{Command, Done, Fault, Reply};
 pub use fault::{Part, RunFault};
 pub use laws::{
-    refused_commands_do_not_count, reverts_give_the_first_text, reverts_take_off_the_last,
+    each_command_has_one_answer, journal_squashes_to_one, refused_commands_do_not_count,
+    reverts_give_the_first_text, reverts_take_off_the_last,
 };
 pub use linting::lint_stream;
 pub use putting::put_text;

@@ -1,6 +1,7 @@
 //! Readers and writers that fail, and the tests over them.
 
 mod linting;
+mod memory;
 mod sessions;
 mod streaming;
 mod streams;

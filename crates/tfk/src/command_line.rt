@@ -3,7 +3,9 @@
 use clap::{Arg, ArgAction, ArgMatches, Command};
 use std::alloc::{AllocError, Global};
 
-const ABOUT: &str = "Formats and lints Terraform files";
+const ABOUT: &str = "Lints Terraform files, and fixes what it finds";
+
+const PROGRAM: &str = "tfk";
 
 const AFTER_HELP: &str = "\
 Exit status:
@@ -94,11 +96,10 @@ fn fix_command<'a>(alloc: Global) -> Result<Command<'a>, AllocError> {
 }
 
 fn whole_command<'a>(alloc: Global) -> Result<Command<'a>, AllocError> {
-    Command::new(alloc, "tfk")
+    Command::new(alloc, PROGRAM)
         .about(ABOUT)
         .after_help(AFTER_HELP)
         .version("0.1.0")
-        .no_binary_name(true)
         .subcommand_required(true)
         .subcommand(lint_command(alloc)?)?
         .subcommand(fix_command(alloc)?)
@@ -156,9 +157,10 @@ fn task_of<'a>(alloc: Global, matches: &ArgMatches<'a>) -> Result<Task<'a>, Stop
     Ok(Task { action, files })
 }
 
-/// The words, without the program's name.
+/// The words behind the program's name, with that name before them, which `clap` shows in its texts.
 pub fn words_of<'a>(alloc: Global, words: &'a [String]) -> Result<Vec<&'a str>, AllocError> {
-    let mut all: Vec<&'a str> = Vec::with_capacity(alloc, words.len())?;
+    let mut all: Vec<&'a str> = Vec::new(alloc);
+    all.push(PROGRAM)?;
     for word in words {
         all.push(word.as_str())?;
     }

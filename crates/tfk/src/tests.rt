@@ -1,6 +1,7 @@
 use crate::work;
 use std::fs;
 use std::io::{self, Read, Write};
+use std::process::Abort;
 use std::test::Fail;
 
 /// What a run of the program answered and wrote.
@@ -11,7 +12,7 @@ struct Ran {
     faults: String,
 }
 
-fn ran(rt: &HostRuntime, words: &[&str], input: &[u8]) -> Result<Ran, Fail> {
+fn answer_of(rt: &HostRuntime, words: &[&str], input: &[u8]) -> Result<Ran, Fail> {
     let alloc = rt.alloc();
     let mut all = Vec::new(alloc);
     for word in words {
@@ -35,17 +36,19 @@ fn ran(rt: &HostRuntime, words: &[&str], input: &[u8]) -> Result<Ran, Fail> {
     })
 }
 
+/// Runs the program, and compares the status, the output and the faults.
 fn check(
+    tests: &impl Abort,
     rt: &HostRuntime,
     words: &[&str],
     input: &[u8],
     want: (u8, &str, &str),
 ) -> Result<(), Fail> {
-    let ran = ran(rt, words, input)?;
+    let ran = answer_of(rt, words, input)?;
     let (status, output, faults) = want;
-    assert_eq!(rt; ran.output.as_str(), output, "{input:?}");
-    assert_eq!(rt; ran.faults.as_str(), faults, "{input:?}");
-    assert_eq!(rt; ran.status, status, "{input:?}");
+    assert_eq!(tests; ran.output.as_str(), output, "{words:?} {input:?}");
+    assert_eq!(tests; ran.faults.as_str(), faults, "{words:?} {input:?}");
+    assert_eq!(tests; ran.status, status, "{words:?} {input:?}");
     Ok(())
 }
 
@@ -93,7 +96,7 @@ const LINTED: [(&[u8], u8, &str, &str); 12] = [
 #[test]
 fn lints_standard_input(rt: HostRuntime) -> Result<(), Fail> {
     for (text, status, output, faults) in LINTED {
-        check(&rt, &["lint", "-"], text, (status, output, faults))?;
+        check(&rt, &rt, &["lint", "-"], text, (status, output, faults))?;
     }
     Ok(())
 }
@@ -120,7 +123,7 @@ const FIXED: [(&[u8], u8, &str, &str); 5] = [
 #[test]
 fn fixes_standard_input(rt: HostRuntime) -> Result<(), Fail> {
     for (text, status, output, faults) in FIXED {
-        check(&rt, &["fix", "-"], text, (status, output, faults))?;
+        check(&rt, &rt, &["fix", "-"], text, (status, output, faults))?;
     }
     Ok(())
 }
@@ -135,18 +138,16 @@ const MISUSED: [(&[&str], &str); 6] = [
     (&["lint", "absent.tf"], "tfk: absent.tf: cannot read\n"),
 ];
 
+/// Words that are no command.
+const UNKNOWN: [&[&str]; 4] = [&[], &["lint"], &["format", "-"], &["lint", "--fix", "-"]];
+
 #[test]
 fn tells_faults_of_the_words(rt: HostRuntime) -> Result<(), Fail> {
     for (words, faults) in MISUSED {
-        check(&rt, words, b"a = 1 // one\n", (1, "", faults))?;
+        check(&rt, &rt, words, b"a = 1 // one\n", (1, "", faults))?;
     }
-    for words in [
-        &[].as_slice(),
-        &["lint"],
-        &["format", "-"],
-        &["lint", "--fix", "-"],
-    ] {
-        let ran = ran(&rt, words, b"")?;
+    for words in UNKNOWN {
+        let ran = answer_of(&rt, words, b"")?;
         assert_eq!(rt; ran.status, 1);
         assert!(rt; ran.output.is_empty());
         assert!(rt; ran.faults.as_str().contains("Usage: tfk"), "{words:?}");
@@ -162,7 +163,7 @@ fn help_goes_to_standard_output(rt: HostRuntime) -> Result<(), Fail> {
         (["fix", "--help"].as_slice(), "standard error"),
         (["--version"].as_slice(), "tfk 0.1.0"),
     ] {
-        let ran = ran(&rt, words, b"")?;
+        let ran = answer_of(&rt, words, b"")?;
         assert_eq!(rt; ran.status, 0, "{words:?}");
         assert!(rt; ran.faults.is_empty(), "{words:?}");
         assert!(rt; ran.output.as_str().contains(part), "{words:?}");
@@ -181,11 +182,18 @@ fn a_fault_on_one_file_does_not_stop_the_next(rt: HostRuntime) -> Result<(), Fai
         "tfk_lints_files/main.tf:1:7: Warning - Single line comments should begin with # (terraform_comment_syntax)\n";
     check(
         &rt,
+        &rt,
         &["lint", "tfk_lints_files/main.tf"],
         b"",
         (2, line, ""),
     )?;
-    check(&rt, &["lint", "tfk_lints_files/clean.tf"], b"", (0, "", ""))?;
+    check(
+        &rt,
+        &rt,
+        &["lint", "tfk_lints_files/clean.tf"],
+        b"",
+        (0, "", ""),
+    )?;
     let words = [
         "lint",
         "tfk_lints_files/open.tf",
@@ -193,9 +201,10 @@ fn a_fault_on_one_file_does_not_stop_the_next(rt: HostRuntime) -> Result<(), Fai
         "tfk_lints_files/main.tf",
     ];
     let fault = "tfk: tfk_lints_files/open.tf: byte 4: string is not closed\n";
-    check(&rt, &words, b"", (1, line, fault))?;
+    check(&rt, &rt, &words, b"", (1, line, fault))?;
     let folder_is_no_file = "tfk: tfk_lints_files: cannot read\n";
     check(
+        &rt,
         &rt,
         &["lint", "tfk_lints_files"],
         b"",

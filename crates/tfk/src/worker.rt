@@ -37,9 +37,13 @@ fn told_fault<F: Write>(faults: &mut F, text: &str) -> u8 {
 }
 
 fn told_help<O: Write, F: Write>(output: &mut O, faults: &mut F, text: &str) -> u8 {
-    match put_text(text.as_bytes(), &mut Told::new(output)) {
-        Ok(()) => 0,
-        Err(_) => told_fault(faults, "tfk: cannot write the help\n"),
+    let line_end = if text.ends_with('\n') { "" } else { "\n" };
+    let mut output = Told::new(output);
+    let written = put_text(text.as_bytes(), &mut output).is_ok();
+    if written && put_text(line_end.as_bytes(), &mut output).is_ok() {
+        0
+    } else {
+        told_fault(faults, "tfk: cannot write the help\n")
     }
 }
 

@@ -1,13 +1,13 @@
-use Rattle.std.proofs.Common.{◌≡◌, ◌+◌, ℕ, List, [], ◌∷◌, ◌++◌, length, sym, ap, ap₂, subst, subst₂, ◌∙◌, inr, slice_range}
+use Rattle.std.proofs.Common.{◌≡◌, ◌+◌, ℕ, List, [], ◌∷◌, ◌++◌, length, sym, ap, subst, subst₂, ◌∙◌, inr}
 use Rattle.std.proofs.lemmas.Bool.{iff_false}
 use Rattle.hcl_token.specs.declared.item.Item.{Item}
 use Rattle.hcl_scan.specs.declared.mode.Opening.{Opening}
 use Rattle.hcl_scan.specs.Modes.{Mode, mode_of, after}
 use Rattle.hcl_scan.specs.Modes.Mode.{Expression}
-use Rattle.hcl_scan.specs.Fault.{Stops, innermost, places_after}
+use Rattle.hcl_scan.specs.Fault.{Stops, innermost}
 use Rattle.hcl_scan.specs.Markers.{HasMarker}
 use Rattle.hcl_scan.specs.Openings.{mode_view, modes_of, places_of}
-use Rattle.hcl_scan.specs.Progress.{IsCutTo, front_items, front_length}
+use Rattle.hcl_scan.specs.Progress.{IsCutTo, front_items}
 use Rattle.hcl_scan.proofs.FrontLemmas.{started}
 use Rattle.hcl_scan.proofs.OpeningLemmas.{none_open}
 use Rattle.hcl_scan.proofs.Steps.{marker_cut, gap_at, one_more, finished, stopped}

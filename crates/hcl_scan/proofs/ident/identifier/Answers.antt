@@ -1,4 +1,4 @@
-use Rattle.std.proofs.Common.{◌≡◌, ◌+◌, ◌-◌, ℕ, Some, ap, sym, ◌∙◌, arith, drop}
+use Rattle.std.proofs.Common.{◌≡◌, ◌+◌, ◌-◌, Some, ap, sym, ◌∙◌, arith, drop}
 use Rattle.std.specs.Str.{chars}
 use Rattle.hcl_token.specs.declared.kind.Kind.TheVariants.{Identifier}
 use Rattle.hcl_scan.specs.Next.{continue_length}

@@ -1,5 +1,5 @@
 -- Want of memory says nothing of the text, and any other fault of the scanner is the text's.
-use Rattle.std.proofs.Common.{◌≡◌, inl, inr}
+use Rattle.std.proofs.Common.{inl, inr}
 use Rattle.tf_session.proofs.fixing.issues_left.Goals as goal
 
 pub returns-in-Err-clause-fault : goal.returns-in-Err-clause-fault

@@ -1,5 +1,5 @@
 -- The run goes on by one command.
-use Rattle.std.proofs.Common.{◌≡◌, ◌∙◌, ◌++◌, ◌∷◌, [], List, refl, sym, subst, get_or}
+use Rattle.std.proofs.Common.{◌∙◌, ◌++◌, ◌∷◌, [], List, refl, sym, subst}
 use Rattle.std.proofs.lemmas.List.{take_more}
 use Rattle.tf_session.specs.declared.command.Command.{Command}
 use Rattle.tf_session.specs.Machine.{only, Run}

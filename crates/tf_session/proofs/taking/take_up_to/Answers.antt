@@ -1,5 +1,5 @@
 -- Where memory is wanting, what was read last is lost, and is no more than one byte past the limit.
-use Rattle.std.proofs.Common.{◌≡◌, ◌+◌, ◌≤◌, ◌++◌, length, take, arith, length-append}
+use Rattle.std.proofs.Common.{◌++◌, take, arith, length-append}
 use Rattle.std.proofs.lemmas.List.{length-take}
 use Rattle.std.proofs.KnownBytes.{Consumes-trans}
 use Rattle.tf_session.proofs.taking.take_up_to.Goals as goal

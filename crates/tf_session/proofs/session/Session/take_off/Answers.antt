@@ -1,8 +1,8 @@
 -- What `last` lent is what `pop` takes.
-use Rattle.std.proofs.Common.{◌≡◌, ◌∙◌, ◌-◌, [], ◌∷◌, ◌++◌, length, slice_get, Some, Err, Ok, rules, refl, sym, ap}
+use Rattle.std.proofs.Common.{◌≡◌, ◌-◌, length, slice_get, Some, Ok, rules}
 use Rattle.edit_record.specs.Journal.{record_backward, record_undoes}
 use Rattle.tf_session.specs.Session.{text_of, records_of}
-use Rattle.tf_session.proofs.Lists.{ends_with_last, has_last, popped}
+use Rattle.tf_session.proofs.Lists.{popped}
 use Rattle.tf_session.proofs.session.Session.take_off.Goals as goal
 
 pub returns-in-Ok-clause-done : goal.returns-in-Ok-clause-done

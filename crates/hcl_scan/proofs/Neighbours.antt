@@ -1,0 +1,215 @@
+-- A token is a lexeme with its neighbour behind it where it is one with all that stands behind it, and the other way round.
+use Rattle.std.proofs.Common.{◌≡◌, ◌≢◌, ℕ, ◌<◌, Bool, true, false, ◌||◌, ◌==◌, List, [], ◌∷◌, ◌++◌, length, slice_index, refl, sym, ap, subst, ◌∙◌, ◌⊎◌, inl, inr, arith, append_assoc}
+use Rattle.std.proofs.lemmas.Bool.{and_parts, both_ways, false≢true}
+use Rattle.std.proofs.lemmas.Bool.Decides.{nat_tests}
+use Rattle.std.specs.List.{list_all}
+use Rattle.hcl_token.specs.declared.kind.Kind.{Kind}
+use Rattle.hcl_token.specs.declared.kind.Kind.TheVariants.{LineEnd, LineComment, InlineComment, Slash, QuoteClose, InterpOpen, DirectiveOpen, QuoteLit, HereClose, HereLit}
+use Rattle.hcl_token.specs.Tokens.{Pair, joining}
+use Rattle.hcl_scan.specs.Characters.{is_blank, is_sigil}
+use Rattle.hcl_scan.specs.Modes.{Mode, mode_of, begins_line, after}
+use Rattle.hcl_scan.specs.Modes.Mode.{Expression, Sequence, Braces, Quoted, Heredoc}
+use Rattle.hcl_scan.specs.Markers.{HasMarker, HaveMarkers}
+use Rattle.hcl_scan.specs.Runs.{line_behind, IsRun}
+use Rattle.hcl_scan.specs.Closing.{ends_line, IsClosingLine, here_unit}
+use Rattle.hcl_scan.specs.Lexeme.{stands_in, IsIdentifier, Spells, IsLexeme}
+use Rattle.hcl_scan.specs.Follows.{neighbour, Behind, EndsLine}
+use Rattle.hcl_scan.proofs.HereLemmas.{identifier_some, word_no_sigil}
+use Rattle.hcl_scan.proofs.BeatsPlain.{spelt}
+use Rattle.hcl_scan.proofs.Heads.{begins_so}
+use Rattle.hcl_scan.proofs.Apart.{Rest}
+use Rattle.hcl_scan.proofs.RunNeighbours.{IsAlike, comment_same, inline_same, quote_same, here_before_opening, here_before_line}
+
+-- ---- two texts behind a token
+
+-- an opening stands at the front of both
+abbrev pub BothOpen : List ℕ → List ℕ → Type 0
+BothOpen r r' = (c : ℕ) × (t : List ℕ) × (t' : List ℕ) × (r ≡ c ∷ t) × (r' ≡ c ∷ t') × (is_sigil c ≡ true)
+
+-- as far as a token of the kind looks, they are alike
+abbrev pub Alike : Mode → Kind → List ℕ → List ℕ → List ℕ → Type 0
+Alike mode LineComment s r r' = IsAlike r r'
+Alike mode Slash s r r' = slice_index r 0 ≡ slice_index r' 0
+Alike mode QuoteLit s r r' = IsAlike r r'
+Alike mode HereLit s r r' = IsAlike r r' × (BothOpen r r' ⊎ (line_behind (begins_line mode) s ≡ true))
+Alike mode HereClose s r r' = ends_line r ≡ true → ends_line r' ≡ true
+Alike mode kind s r r' = Unit {0}
+
+here_alike : (name : List ℕ) (fresh : Bool) (s r r' : List ℕ) → IsIdentifier name → IsAlike r r' → BothOpen r r' ⊎ (line_behind fresh s ≡ true) → IsRun (here_unit name) fresh s r → IsRun (here_unit name) fresh s r'
+here_alike name fresh s r r' ident a (inr line) run = here_before_line name fresh r r' s ident a line run
+here_alike name fresh s r r' ident a (inl (c, t, t', e, e', sigil)) run =
+    let near : IsAlike (c ∷ t) (c ∷ t') = subst (λ (x : List ℕ). IsAlike x (c ∷ t')) e (subst (IsAlike r) e' a) in
+    subst (IsRun (here_unit name) fresh s) (sym e') (here_before_opening name fresh c t t' s ident sigil near (subst (IsRun (here_unit name) fresh s) e run))
+
+pub spells_alike : (mode : Mode) (kind : Kind) (s r r' : List ℕ) → HasMarker mode → stands_in mode kind ≡ true → Alike mode kind s r r' → Spells mode kind s r → Spells mode kind s r'
+spells_alike mode LineComment s r r' m st a (inl (body, e, run)) = inl (body, e, comment_same r r' body a run)
+spells_alike mode LineComment s r r' m st a (inr (body, e, run)) = inr (body, e, comment_same r r' body a run)
+spells_alike mode InlineComment s r r' m st a (body, e, run) = (body, e, inline_same r r' body run)
+spells_alike mode Slash s r r' m st a (e, h) = (e, ap (λ b. b == 42 || b == 47) (sym a) ∙ h)
+spells_alike mode QuoteLit s r r' m st a (filled, run) = (filled, quote_same r r' s a run)
+spells_alike (Heredoc name fresh) HereLit s r r' m st a (filled, run) = (filled, here_alike name fresh s r r' m a.0 a.1 run)
+spells_alike mode HereLit s r r' m st a h = absurd (false≢true st)
+spells_alike mode HereClose s r r' m st a (before, behind, e, all, all', ends) = (before, behind, e, all, all', a ends)
+spells_alike mode kind s r r' m st a h = h
+
+-- ---- the token behind
+
+alike_more : (b : ℕ) (t more : List ℕ) → is_sigil b ≡ false → IsAlike (b ∷ t) (b ∷ (t ++ more))
+alike_more b t more h = record { first = refl; second = λ k. absurd (both_ways _ h k) }
+
+-- a line end
+line_alike : (kind : Kind) (t more : List ℕ) (mode : Mode) (rest : List ℕ) → kind ≡ LineEnd → Spells mode kind t rest → IsAlike t (t ++ more)
+line_alike LineEnd t more mode rest k (inl e) = rw e (alike_more 10 [] more refl)
+line_alike LineEnd t more mode rest k (inr e) = rw e (alike_more 13 (10 ∷ []) more refl)
+line_alike kind t more mode rest k h = absurd (cc)
+
+-- the opening of a template sequence
+open_alike : (c : ℕ) (t more : List ℕ) → (t ≡ c ∷ 123 ∷ []) ⊎ (t ≡ c ∷ 123 ∷ 126 ∷ []) → IsAlike t (t ++ more)
+open_alike c t more (inl e) = rw e (record { first = refl; second = λ _. refl })
+open_alike c t more (inr e) = rw e (record { first = refl; second = λ _. refl })
+
+both_open : (c : ℕ) (t more : List ℕ) → is_sigil c ≡ true → (t ≡ c ∷ 123 ∷ []) ⊎ (t ≡ c ∷ 123 ∷ 126 ∷ []) → BothOpen t (t ++ more)
+both_open c t more h (inl e) = (c, 123 ∷ [], 123 ∷ more, e, ap (λ (x : List ℕ). x ++ more) e, h)
+both_open c t more h (inr e) = (c, 123 ∷ 126 ∷ [], 123 ∷ 126 ∷ more, e, ap (λ (x : List ℕ). x ++ more) e, h)
+
+-- in quoted text
+quoted_alike : (kind : Kind) (t more : List ℕ) → kind ≢ QuoteLit → stands_in Quoted kind ≡ true → Spells Quoted kind t more → IsAlike t (t ++ more)
+quoted_alike QuoteClose t more other st e = subst (λ (x : List ℕ). IsAlike x (x ++ more)) (sym (spelt _ t e)) (alike_more 34 [] more refl)
+quoted_alike InterpOpen t more other st e = open_alike 36 t more e
+quoted_alike DirectiveOpen t more other st e = open_alike 37 t more e
+quoted_alike QuoteLit t more other st e = absurd (other refl)
+quoted_alike kind t more other st e = absurd (false≢true st)
+
+-- in a heredoc
+close_head : (name t rest : List ℕ) → IsIdentifier name → IsClosingLine name t rest → (0 < length t) × (is_sigil (slice_index t 0) ≡ false)
+close_head name t rest ident ([], behind, e, all, all', ends) =
+    let word = identifier_some name ident in
+    let first = front name behind word.0 in
+    rw e (first.0, ap is_sigil first.1 ∙ word_no_sigil (slice_index name 0) word.1)
+  where
+    front : (xs ys : List ℕ) → 0 < length xs → (0 < length (xs ++ ys)) × (slice_index (xs ++ ys) 0 ≡ slice_index xs 0)
+    front [] ys h = absurd (omega arith)
+    front (x ∷ xs) ys h = (omega arith, refl)
+close_head name t rest ident (b ∷ before, behind, e, all, all', ends) =
+    let blank : is_blank b ≡ true = (and_parts (is_blank b) (list_all is_blank before) all).0 in
+    rw e (omega arith, blank_no_sigil b blank)
+  where
+    blank_no_sigil : (c : ℕ) → is_blank c ≡ true → is_sigil c ≡ false
+    blank_no_sigil c h = grind (arith, nat_tests)
+
+head_alike : (t more : List ℕ) → 0 < length t → is_sigil (slice_index t 0) ≡ false → IsAlike t (t ++ more)
+head_alike [] more some h = absurd (omega arith)
+head_alike (b ∷ t) more some h = alike_more b t more h
+
+here_next : (name : List ℕ) (fresh : Bool) (kind : Kind) (t more : List ℕ) → IsIdentifier name → kind ≢ HereLit → IsLexeme (Heredoc name fresh) kind t more
+    → IsAlike t (t ++ more) × (BothOpen t (t ++ more) ⊎ (fresh ≡ true))
+here_next name fresh HereClose t more ident other (st, close) =
+    let head = close_head name t more ident close in
+    (head_alike t more head.0 head.1, inr st)
+here_next name fresh InterpOpen t more ident other (st, e) = (open_alike 36 t more e, inl (both_open 36 t more refl e))
+here_next name fresh DirectiveOpen t more ident other (st, e) = (open_alike 37 t more e, inl (both_open 37 t more refl e))
+here_next name fresh HereLit t more ident other (st, e) = absurd (other refl)
+here_next name fresh kind t more ident other (st, e) = absurd (false≢true st)
+
+-- ---- behind a closing line
+
+pub ends_more : (b : ℕ) (t more : List ℕ) → ends_line (b ∷ t) ≡ true → ends_line (b ∷ (t ++ more)) ≡ true
+ends_more b [] more h =
+    let line : b ≡ 10 = grind (arith, nat_tests) in
+    rw line refl
+ends_more b (c ∷ t) more h = h
+
+-- ---- a lexeme is not empty
+
+pub filled_some : (s : List ℕ) → s ≢ [] → 0 < length s
+filled_some [] h = absurd (h refl)
+filled_some (b ∷ s) h = omega arith
+
+opening_some : (c : ℕ) (s : List ℕ) → (s ≡ c ∷ 123 ∷ []) ⊎ (s ≡ c ∷ 123 ∷ 126 ∷ []) → 0 < length s
+opening_some c s (inl e) = omega (arith, ap length e)
+opening_some c s (inr e) = omega (arith, ap length e)
+
+quoted_some : (kind : Kind) (s rest : List ℕ) → IsLexeme Quoted kind s rest → 0 < length s
+quoted_some QuoteClose s rest (st, e) = omega (arith, ap length (spelt _ s e))
+quoted_some QuoteLit s rest (st, (filled, run)) = filled_some s filled
+quoted_some InterpOpen s rest (st, e) = opening_some 36 s e
+quoted_some DirectiveOpen s rest (st, e) = opening_some 37 s e
+quoted_some kind s rest (st, e) = absurd (false≢true st)
+
+here_some : (name : List ℕ) (fresh : Bool) (kind : Kind) (s rest : List ℕ) → IsIdentifier name → IsLexeme (Heredoc name fresh) kind s rest → 0 < length s
+here_some name fresh HereClose s rest ident (st, close) = (close_head name s rest ident close).0
+here_some name fresh HereLit s rest ident (st, (filled, run)) = filled_some s filled
+here_some name fresh InterpOpen s rest ident (st, e) = opening_some 36 s e
+here_some name fresh DirectiveOpen s rest ident (st, e) = opening_some 37 s e
+here_some name fresh kind s rest ident (st, e) = absurd (false≢true st)
+
+pub lexeme_filled : (mode : Mode) (kind : Kind) (s rest : List ℕ) → HasMarker mode → IsLexeme mode kind s rest → 0 < length s
+lexeme_filled Expression kind s rest m h = (begins_so Expression kind s rest refl h.0 h.1).0
+lexeme_filled Sequence kind s rest m h = (begins_so Sequence kind s rest refl h.0 h.1).0
+lexeme_filled Braces kind s rest m h = (begins_so Braces kind s rest refl h.0 h.1).0
+lexeme_filled Quoted kind s rest m h = quoted_some kind s rest h
+lexeme_filled (Heredoc name fresh) kind s rest m h = here_some name fresh kind s rest m h
+
+-- ---- the neighbour and all that stands behind
+
+always_alike : (r : List ℕ) → IsAlike r r
+always_alike r = record { first = refl; second = λ _. refl }
+
+comment_far : (mode : Mode) (ps : List Pair) (last : List ℕ) → EndsLine ps last → Rest mode ps last → IsAlike (neighbour ps last) (joining ps last)
+comment_far mode [] last e rest = always_alike last
+comment_far mode (q ∷ qs) last (none, line) rest = rw none (line_alike q.kind q.spelling (joining qs last) mode (joining qs last) line rest.1.1)
+
+slash_far : (mode : Mode) → HasMarker mode → (ps : List Pair) (last : List ℕ) → Rest mode ps last → slice_index (neighbour ps last) 0 ≡ slice_index (joining ps last) 0
+slash_far mode m [] last rest = refl
+slash_far mode m (q ∷ qs) last rest = behind_gap q.gap
+  where
+    more : List ℕ
+    more = joining qs last
+
+    front : (t : List ℕ) → 0 < length t → slice_index t 0 ≡ slice_index (t ++ more) 0
+    front [] some = absurd (omega arith)
+    front (b ∷ t) some = refl
+
+    behind_gap : (gap : List ℕ) → slice_index (gap ++ q.spelling) 0 ≡ slice_index (gap ++ (q.spelling ++ more)) 0
+    behind_gap [] = front q.spelling (lexeme_filled mode q.kind q.spelling (joining qs last) m rest.1)
+    behind_gap (b ∷ gap) = refl
+
+quoted_far : (ps : List Pair) (last : List ℕ) → Behind QuoteLit ps last → Rest Quoted ps last → IsAlike (neighbour ps last) (joining ps last)
+quoted_far [] last behind rest = always_alike last
+quoted_far (q ∷ qs) last behind rest =
+    let none : q.gap ≡ [] = rest.0.1 refl in
+    rw none (quoted_alike q.kind q.spelling (joining qs last) behind rest.1.0 rest.1.1)
+
+here_far : (name : List ℕ) (fresh : Bool) (ps : List Pair) (last : List ℕ) → IsIdentifier name → Behind HereLit ps last → Rest (Heredoc name fresh) ps last
+    → IsAlike (neighbour ps last) (joining ps last) × (BothOpen (neighbour ps last) (joining ps last) ⊎ (fresh ≡ true))
+here_far name fresh [] last ident behind rest = absurd (false≢true (sym rest.1))
+here_far name fresh (q ∷ qs) last ident behind rest =
+    let none : q.gap ≡ [] = rest.0.1 refl in
+    rw none (here_next name fresh q.kind q.spelling (joining qs last) ident behind rest.1)
+
+close_far : (mode : Mode) → HasMarker mode → (ps : List Pair) (last : List ℕ) → Rest mode ps last → ends_line (neighbour ps last) ≡ true → ends_line (joining ps last) ≡ true
+close_far mode m [] last rest h = h
+close_far mode m (q ∷ qs) last rest h = behind_gap q.gap h
+  where
+    front : (t : List ℕ) → 0 < length t → ends_line t ≡ true → ends_line (t ++ joining qs last) ≡ true
+    front [] some k = absurd (omega arith)
+    front (b ∷ t) some k = ends_more b t (joining qs last) k
+
+    behind_gap : (gap : List ℕ) → ends_line (gap ++ q.spelling) ≡ true → ends_line (gap ++ (q.spelling ++ joining qs last)) ≡ true
+    behind_gap [] k = front q.spelling (lexeme_filled mode q.kind q.spelling (joining qs last) m rest.1) k
+    behind_gap (b ∷ gap) k = ap (λ (x : List ℕ). ends_line (b ∷ x)) (sym (append_assoc gap q.spelling (joining qs last))) ∙ ends_more b (gap ++ q.spelling) (joining qs last) k
+
+-- a token of the kind behind which these stand
+abbrev pub Stands : List Mode → Kind → List ℕ → List Pair → List ℕ → Type 0
+Stands modes kind s ps last =
+    HaveMarkers modes × (stands_in (mode_of modes) kind ≡ true) × Behind kind ps last × HasMarker (mode_of (after kind s modes)) × Rest (mode_of (after kind s modes)) ps last
+
+pub far : (modes : List Mode) (kind : Kind) (s : List ℕ) (ps : List Pair) (last : List ℕ) → Stands modes kind s ps last → Alike (mode_of modes) kind s (neighbour ps last) (joining ps last)
+far modes LineComment s ps last h = comment_far (mode_of modes) ps last h.2 h.4
+far modes Slash s ps last h = slash_far (mode_of modes) h.3 ps last h.4
+far (Quoted ∷ ms) QuoteLit s ps last h = quoted_far ps last h.2 h.4
+far modes QuoteLit s ps last h = absurd (false≢true h.1)
+far (Heredoc name fresh ∷ ms) HereLit s ps last h = here_far name (line_behind fresh s) ps last h.0.0 h.2 h.4
+far modes HereLit s ps last h = absurd (false≢true h.1)
+far modes HereClose s ps last h = close_far (mode_of (after HereClose s modes)) h.3 ps last h.4
+far modes kind s ps last h = tt

@@ -1,0 +1,96 @@
+-- Lists of gaps and tokens that can be written one behind the other: the tokens are then those of the text that was written.
+-- HCL native syntax specification, Lexical Elements and Templates.
+use Rattle.std.specs.Prelude.{◌≡◌, ◌≢◌, ℕ, Bool, true, false, ◌||◌, List, [], ◌∷◌, ◌++◌, map, IsUtf8, ◌⊎◌}
+use Rattle.std.specs.List.{list_all}
+use Rattle.hcl_token.specs.declared.kind.Kind.{Kind}
+use Rattle.hcl_token.specs.declared.kind.Kind.TheVariants.{Mark, LineEnd, LineComment, QuoteClose, QuoteLit, InterpOpen, DirectiveOpen, HereClose, HereLit}
+use Rattle.hcl_token.specs.Tokens.{Pair}
+use Rattle.hcl_token.specs.Joins.{joins_with}
+use Rattle.hcl_scan.specs.Characters.{is_blank}
+use Rattle.hcl_scan.specs.Modes.{Mode, mode_of, after}
+use Rattle.hcl_scan.specs.Lexeme.{IsLexeme}
+use Rattle.hcl_scan.specs.Cut.{IsGap, byte_order_mark}
+
+-- the gap and the token right behind a token; the last gap, if there is none
+abbrev pub neighbour : List Pair → List ℕ → List ℕ
+neighbour [] last = last
+neighbour (p ∷ ps) last = p.gap ++ p.spelling
+
+-- the line ends here: a line end stands here, or nothing
+abbrev pub EndsLine : List Pair → List ℕ → Type 0
+EndsLine [] last = last ≡ []
+EndsLine (p ∷ ps) last = (p.gap ≡ []) × (p.kind ≡ LineEnd)
+
+-- the next token is of another kind
+abbrev pub IsOther : Kind → List Pair → Type 0
+IsOther kind [] = Unit {0}
+IsOther kind (p ∷ ps) = p.kind ≢ kind
+
+-- what a token of the kind asks of those behind it, beside its spelling: a comment goes on to the end of its line, and no two literals stand side by side
+abbrev pub Behind : Kind → List Pair → List ℕ → Type 0
+Behind LineComment ps last = EndsLine ps last
+Behind QuoteLit ps last = IsOther QuoteLit ps
+Behind HereLit ps last = IsOther HereLit ps
+Behind kind ps last = Unit {0}
+
+-- From these modes on, each gap can stand in its mode, each token is a lexeme of its mode with its neighbour behind it, and the modes that are left are these.
+-- So a `}` has the kind that its mode asks for; a comment that ends in CR has no LF alone behind it; text that ends in `$` or `%` has no opening behind it
+-- that begins with the same byte; the text of a heredoc holds no closing line; and a closing line stands where a line begins, with its line end, or nothing, behind it.
+abbrev pub FollowsFrom : List Mode → List Pair → List ℕ → List Mode → Type 0
+FollowsFrom modes [] last left = modes ≡ left
+FollowsFrom modes (p ∷ ps) last left =
+    IsGap (mode_of modes) p.gap
+    × IsUtf8 p.spelling
+    × IsLexeme (mode_of modes) p.kind p.spelling (neighbour ps last)
+    × Behind p.kind ps last
+    × FollowsFrom (after p.kind p.spelling modes) ps last left
+
+abbrev pub mark : Pair
+mark = record { gap = []; kind = Mark; spelling = byte_order_mark }
+
+-- gaps and tokens, perhaps behind a byte order mark, that leave these modes, and a last gap
+pub record Follows (pairs : List Pair) (last : List ℕ) (left : List Mode) : Type 0 where
+  pub body : List Pair
+  pub front : (pairs ≡ body) ⊎ (pairs ≡ mark ∷ body)
+  pub follows : FollowsFrom [] body last left
+  pub blank : list_all is_blank last ≡ true
+
+-- a token of the kind, so spelt, does not join with the one behind it, if no gap stands between them
+abbrev pub IsApart : Kind → List ℕ → List Pair → Type 0
+IsApart kind spelling [] = Unit {0}
+IsApart kind spelling (q ∷ qs) = q.gap ≡ [] → joins_with kind spelling q.kind q.spelling ≡ false
+
+-- no empty gap stands between two tokens that join
+abbrev pub AreApart : List Pair → Type 0
+AreApart [] = Unit {0}
+AreApart (p ∷ ps) = IsApart p.kind p.spelling ps × AreApart ps
+
+-- ---- the same tokens with other gaps
+
+abbrev pub tokens_of : List Pair → List (Kind × List ℕ)
+tokens_of pairs = map (λ (p : Pair). (p.kind, p.spelling)) pairs
+
+-- the byte order mark and the tokens that stand in literal text, or end it, have no gap before them
+abbrev pub has_no_gap : Kind → Bool
+has_no_gap Mark = true
+has_no_gap QuoteClose = true
+has_no_gap QuoteLit = true
+has_no_gap InterpOpen = true
+has_no_gap DirectiveOpen = true
+has_no_gap HereClose = true
+has_no_gap HereLit = true
+has_no_gap kind = false
+
+-- comments and closing lines have none behind them
+abbrev pub shuts_gap : Kind → Bool
+shuts_gap LineComment = true
+shuts_gap HereClose = true
+shuts_gap kind = false
+
+-- Each gap is of blanks, and empty where the kinds beside it ask for that; the first stands behind a token that does, or not.
+abbrev pub AreGaps : Bool → List Pair → List ℕ → Type 0
+AreGaps shut [] last = (list_all is_blank last ≡ true) × (shut ≡ true → last ≡ [])
+AreGaps shut (p ∷ ps) last =
+    (list_all is_blank p.gap ≡ true)
+    × ((shut || has_no_gap p.kind) ≡ true → p.gap ≡ [])
+    × AreGaps (shuts_gap p.kind) ps last

@@ -1,0 +1,171 @@
+-- One text has one cut or one fault, so each step of a fix has one text, and each command one answer.
+use Rattle.std.proofs.Common.{◌≡◌, ◌∙◌, ◌≤◌, ◌<◌, ◌⊎◌, ℕ, List, [], ◌∷◌, length, Bool, true, false, MatchBool, Result, Ok, Err, refl, sym, ap, subst, inl, inr, arith}
+use Rattle.hcl_token.specs.Tokens.{Pair}
+use Rattle.hcl_token.specs.CutText.{CutText}
+use Rattle.hcl_scan.specs.declared.error.ScanFault.{ScanFault}
+use Rattle.hcl_scan.specs.Cut.{IsCut}
+use Rattle.hcl_scan.specs.Fault.{IsFault}
+use Rattle.edit_record.specs.Pieces.{EditList}
+use Rattle.tf_lint.specs.declared.rule.Rule.{Rule}
+use Rattle.tf_lint.specs.declared.rule_set.RuleSet.{RuleSet}
+use Rattle.tf_lint.specs.RuleSets.{has_rule}
+use Rattle.tf_lint.specs.Issues.{issues_of}
+use Rattle.tf_lint.specs.Fixes.{fixed_text}
+use Rattle.tf_session.specs.declared.taking.TheConstants.{TEXT_LIMIT}
+use Rattle.tf_session.specs.declared.command.Command.{Command}
+use Rattle.tf_session.specs.declared.command.Command.TheVariants.{Fix, Revert}
+use Rattle.tf_session.specs.declared.command.Done.{Done}
+use Rattle.tf_session.specs.declared.command.Fault.{Fault}
+use Rattle.tf_session.specs.declared.command.Fault.TheVariants.{Scan, FixBroken, TooLong, NoRecord, Refused, Memory}
+use Rattle.tf_session.specs.Fixing.{Reads, Steps, step_before, StepBreaks, StepThen, RunSteps, fix_order, IsOneList, Made, Fixes, FixMakes}
+use Rattle.tf_session.specs.Machine.{Under, Stack, Puts, TakesOff}
+use Rattle.tf_session.specs.OneAnswer.{OneAnswer}
+
+abbrev pub OneCut : Type 0
+OneCut = (text : List ℕ) (pairs others : List Pair) (last other : List ℕ) → IsCut text pairs last → IsCut text others other → (pairs ≡ others) × (last ≡ other)
+
+abbrev pub NoCutWithFault : Type 0
+NoCutWithFault = (text : List ℕ) (fault : ScanFault) (pairs : List Pair) (last : List ℕ) → IsFault text fault → IsCut text pairs last → ⊥
+
+abbrev pub OneFault : Type 0
+OneFault = (text : List ℕ) (fault other : ScanFault) → IsFault text fault → IsFault text other → fault ≡ other
+
+one_list : (len : ℕ) (lists : List EditList) (e f : EditList) → IsOneList len lists e → IsOneList len lists f → e ≡ f
+one_list len [] e f p q = p ∙ sym q
+one_list len (single ∷ []) e f p q = p ∙ sym q
+one_list len (first ∷ second ∷ more) e f p q = absurd p
+
+-- the two ways in which a step can't be done
+broken_how : (rule : Rule) (cut : CutText) (f : Fault) → StepBreaks rule cut f
+    → ((f ≡ TooLong) × (TEXT_LIMIT < length (fixed_text rule cut))) ⊎ ((f ≡ FixBroken rule) × (length (fixed_text rule cut) ≤ TEXT_LIMIT))
+broken_how rule cut (Scan fault) w = absurd w
+broken_how rule cut (FixBroken broken) w = inr (ap (λ (r : Rule). FixBroken r) w.0, w.1)
+broken_how rule cut TooLong w = inl (refl, w)
+broken_how rule cut NoRecord w = absurd w
+broken_how rule cut (Refused refused) w = absurd w
+broken_how rule cut Memory w = absurd w
+
+same_break : (rule : Rule) (cut : CutText) (f g : Fault) → StepBreaks rule cut f → StepBreaks rule cut g → f ≡ g
+same_break rule cut f g v w =
+    elim (broken_how rule cut f v) [
+      | inl a ↦ elim (broken_how rule cut g w) [ inl b ↦ a.0 ∙ sym b.0 | inr b ↦ absurd (omega (arith, a.1, b.1)) ]
+      | inr a ↦ elim (broken_how rule cut g w) [ inl b ↦ absurd (omega (arith, a.1, b.1)) | inr b ↦ a.0 ∙ sym b.0 ]
+    ]
+
+put_same : (command : Command) (answer : Result Made Fault) (old : Stack) (reply other : Result Done Fault) (new another : Stack)
+    → Puts command answer old reply new → Puts command answer old other another → (reply ≡ other) × (new ≡ another)
+put_same command (Ok made) old reply other new another p q = (p.0 ∙ sym q.0, p.1 ∙ sym q.1)
+put_same command (Err fault) old reply other new another p q = (p.0 ∙ sym q.0, p.1 ∙ sym q.1)
+
+take_same : (top : List ℕ) (below : List Under) (reply other : Result Done Fault) (new another : Stack)
+    → TakesOff top below reply new → TakesOff top below other another → (reply ≡ other) × (new ≡ another)
+take_same top [] reply other new another p q = (p.0 ∙ sym q.0, p.1 ∙ sym q.1)
+take_same top (under ∷ rest) reply other new another p q = (p.0 ∙ sym q.0, p.1 ∙ sym q.1)
+
+-- why a fix refuses a text: it can't be read, or a step can't be done
+abbrev Why : RuleSet → List ℕ → Fault → Type 0
+Why rules text f = ((fault : ScanFault) × (f ≡ Scan fault) × IsFault text fault) ⊎ ((cut : CutText) × Reads text cut × RunSteps rules fix_order cut (Err f))
+
+why : (rules : RuleSet) (text : List ℕ) (f : Fault) → FixMakes rules text (Err f) → Why rules text f
+why rules text (Scan fault) h = inl (fault, refl, h)
+why rules text (FixBroken rule) h = inr h
+why rules text TooLong h = inr h
+why rules text NoRecord h = absurd h
+why rules text (Refused refused) h = absurd h
+why rules text Memory h = absurd h
+
+module _ (one_cut : OneCut) (no_cut : NoCutWithFault) (one_fault : OneFault) where
+  same_cut : (text : List ℕ) (a b : CutText) → Reads text a → Reads text b → a ≡ b
+  same_cut text a b p q =
+      let h = one_cut text a.pairs b.pairs a.last b.last p.1 q.1 in
+      ap (λ (x : List ℕ). let r : CutText = record { text = x; pairs = a.pairs; last = a.last } in r) (p.0 ∙ sym q.0)
+      ∙ ap (λ (x : List Pair). let r : CutText = record { text = b.text; pairs = x; last = a.last } in r) h.0
+      ∙ ap (λ (x : List ℕ). let r : CutText = record { text = b.text; pairs = b.pairs; last = x } in r) h.1
+
+  not_broken : (rule : Rule) (cut next : CutText) (f : Fault) → length (fixed_text rule cut) ≤ TEXT_LIMIT → Reads (fixed_text rule cut) next → StepBreaks rule cut f → ⊥
+  not_broken rule cut next (Scan fault) short reads w = w
+  not_broken rule cut next (FixBroken broken) short reads w = no_cut (fixed_text rule cut) w.2.0 next.pairs next.last w.2.1 reads.1
+  not_broken rule cut next TooLong short reads w = omega (arith, short, w)
+  not_broken rule cut next NoRecord short reads w = w
+  not_broken rule cut next (Refused refused) short reads w = w
+  not_broken rule cut next Memory short reads w = w
+
+  done_or_broken : (rule : Rule) (cut : CutText) (Others : CutText → Result Steps Fault → Type 0) → ((c : CutText) (x y : Result Steps Fault) → Others c x → Others c y → x ≡ y)
+      → (s : Steps) (f : Fault) → StepThen rule cut Others (Ok s) → StepThen rule cut Others (Err f) → ⊥
+  done_or_broken rule cut Others ih s f p (inl w) = not_broken rule cut p.1 f p.0 p.3 w
+  done_or_broken rule cut Others ih s f p (inr w) =
+      let same = same_cut (fixed_text rule cut) w.1 p.1 w.2 p.3 in
+      let e : Ok p.2 ≡ Err f = ih p.1 (Ok p.2) (Err f) p.4 (subst (λ (c : CutText). Others c (Err f)) same w.3) in
+      cc
+
+  same_then : (rule : Rule) (cut : CutText) (Others : CutText → Result Steps Fault → Type 0) → ((c : CutText) (x y : Result Steps Fault) → Others c x → Others c y → x ≡ y)
+      → (a b : Result Steps Fault) → StepThen rule cut Others a → StepThen rule cut Others b → a ≡ b
+  same_then rule cut Others ih (Ok s) (Ok t) p q =
+      let same = same_cut (fixed_text rule cut) q.1 p.1 q.3 p.3 in
+      let e : ◌≡◌ {A = Result Steps Fault} (Ok p.2) (Ok q.2) = ih p.1 (Ok p.2) (Ok q.2) p.4 (subst (λ (c : CutText). Others c (Ok q.2)) same q.4) in
+      let more : p.2 ≡ q.2 = cc in
+      ap (λ (x : Steps). Ok x) (p.5 ∙ ap (step_before rule cut) more ∙ sym q.5)
+  same_then rule cut Others ih (Ok s) (Err f) p q = absurd (done_or_broken rule cut Others ih s f p q)
+  same_then rule cut Others ih (Err f) (Ok t) p q = absurd (done_or_broken rule cut Others ih t f q p)
+  same_then rule cut Others ih (Err f) (Err g) (inl v) (inl w) = ap (λ (x : Fault). Err x) (same_break rule cut f g v w)
+  same_then rule cut Others ih (Err f) (Err g) (inl v) (inr w) = absurd (not_broken rule cut w.1 f w.0 w.2 v)
+  same_then rule cut Others ih (Err f) (Err g) (inr v) (inl w) = absurd (not_broken rule cut v.1 g v.0 v.2 w)
+  same_then rule cut Others ih (Err f) (Err g) (inr v) (inr w) =
+      let same = same_cut (fixed_text rule cut) w.1 v.1 w.2 v.2 in
+      ih v.1 (Err f) (Err g) v.3 (subst (λ (c : CutText). Others c (Err g)) same w.3)
+
+  choose : (chosen : Bool) (rule : Rule) (cut : CutText) (Others : CutText → Result Steps Fault → Type 0) → ((c : CutText) (x y : Result Steps Fault) → Others c x → Others c y → x ≡ y)
+      → (a b : Result Steps Fault) → MatchBool chosen (StepThen rule cut Others a) (Others cut a) → MatchBool chosen (StepThen rule cut Others b) (Others cut b) → a ≡ b
+  choose true rule cut Others ih a b p q = same_then rule cut Others ih a b p q
+  choose false rule cut Others ih a b p q = ih cut a b p q
+
+  same_steps : (rules : RuleSet) (order : List Rule) (cut : CutText) (a b : Result Steps Fault) → RunSteps rules order cut a → RunSteps rules order cut b → a ≡ b
+  same_steps rules [] cut a b p q = p ∙ sym q
+  same_steps rules (rule ∷ others) cut a b p q = choose (has_rule rules rule) rule cut (RunSteps rules others) (same_steps rules others) a b p q
+
+  -- from two cuts of one text
+  same_runs : (rules : RuleSet) (text : List ℕ) (c d : CutText) (a b : Result Steps Fault) → Reads text c → Reads text d → RunSteps rules fix_order c a → RunSteps rules fix_order d b → a ≡ b
+  same_runs rules text c d a b p q runs other =
+      let same = same_cut text d c q p in
+      same_steps rules fix_order c a b runs (subst (λ (x : CutText). RunSteps rules fix_order x b) same other)
+
+  same_made : (rules : RuleSet) (text : List ℕ) (a b : Made) → Fixes rules text a → Fixes rules text b → a ≡ b
+  same_made rules text a b p q =
+      let e : ◌≡◌ {A = Result Steps Fault} (Ok p.steps) (Ok q.steps) = same_runs rules text p.cut q.cut (Ok p.steps) (Ok q.steps) p.reads q.reads p.runs q.runs in
+      let steps : p.steps ≡ q.steps = cc in
+      let texts : a.text ≡ b.text = p.text_is ∙ ap (λ (s : Steps). s.text) steps ∙ sym q.text_is in
+      let lists : IsOneList (length text) p.steps.lists b.edits = subst (λ (s : Steps). IsOneList (length text) s.lists b.edits) (sym steps) q.edits_are in
+      let edits : a.edits ≡ b.edits = one_list (length text) p.steps.lists a.edits b.edits p.edits_are lists in
+      let fixed : a.fixed ≡ b.fixed = p.fixed_is ∙ ap (λ (s : Steps). s.fixed) steps ∙ sym q.fixed_is in
+      let cuts = same_cut a.text p.new_cut q.new_cut p.new_reads (subst (λ (t : List ℕ). Reads t q.new_cut) (sym texts) q.new_reads) in
+      let left : a.left ≡ b.left = p.left_is ∙ ap (λ (c : CutText). length (issues_of rules c.pairs)) cuts ∙ sym q.left_is in
+      ap (λ (x : List ℕ). let r : Made = record { text = x; edits = a.edits; fixed = a.fixed; left = a.left } in r) texts
+      ∙ ap (λ (x : EditList). let r : Made = record { text = b.text; edits = x; fixed = a.fixed; left = a.left } in r) edits
+      ∙ ap (λ (x : ℕ). let r : Made = record { text = b.text; edits = b.edits; fixed = x; left = a.left } in r) fixed
+      ∙ ap (λ (x : ℕ). let r : Made = record { text = b.text; edits = b.edits; fixed = b.fixed; left = x } in r) left
+
+  same_why : (rules : RuleSet) (text : List ℕ) (f g : Fault) → Why rules text f → Why rules text g → f ≡ g
+  same_why rules text f g (inl v) (inl w) = v.1 ∙ ap (λ (x : ScanFault). Scan x) (one_fault text v.0 w.0 v.2 w.2) ∙ sym w.1
+  same_why rules text f g (inl v) (inr w) = absurd (no_cut text v.0 w.0.pairs w.0.last v.2 w.1.1)
+  same_why rules text f g (inr v) (inl w) = absurd (no_cut text w.0 v.0.pairs v.0.last w.2 v.1.1)
+  same_why rules text f g (inr v) (inr w) =
+      let e : ◌≡◌ {A = Result Steps Fault} (Err f) (Err g) = same_runs rules text v.0 w.0 (Err f) (Err g) v.1 w.1 v.2 w.2 in
+      cc
+
+  made_or_refused : (rules : RuleSet) (text : List ℕ) (made : Made) (f : Fault) → Fixes rules text made → Why rules text f → ⊥
+  made_or_refused rules text made f p (inl w) = no_cut text w.0 p.cut.pairs p.cut.last w.2 p.reads.1
+  made_or_refused rules text made f p (inr w) =
+      let e : Ok p.steps ≡ Err f = same_runs rules text p.cut w.0 (Ok p.steps) (Err f) p.reads w.1 p.runs w.2 in
+      cc
+
+  same_makes : (rules : RuleSet) (text : List ℕ) (a b : Result Made Fault) → FixMakes rules text a → FixMakes rules text b → a ≡ b
+  same_makes rules text (Ok a) (Ok b) p q = ap (λ (x : Made). Ok x) (same_made rules text a b p q)
+  same_makes rules text (Ok a) (Err f) p q = absurd (made_or_refused rules text a f p (why rules text f q))
+  same_makes rules text (Err f) (Ok b) p q = absurd (made_or_refused rules text b f q (why rules text f p))
+  same_makes rules text (Err f) (Err g) p q = ap (λ (x : Fault). Err x) (same_why rules text f g (why rules text f p) (why rules text g q))
+
+  pub one_answer : OneAnswer
+  one_answer (Fix rules) old reply other new another p q =
+      let same = same_makes rules old.top q.0 p.0 q.1 p.1 in
+      put_same (Fix rules) p.0 old reply other new another p.2 (subst (λ (a : Result Made Fault). Puts (Fix rules) a old other another) same q.2)
+  one_answer Revert old reply other new another p q = take_same old.top old.below reply other new another p q
