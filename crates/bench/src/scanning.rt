@@ -1,7 +1,7 @@
 //! Scanning a file.
 
 use anyhow::Result;
-use hcl_scan::scanned::scan;
+use hcl_scan::scan;
 use std::fs;
 use std::time::Instant;
 

@@ -1,11 +1,12 @@
 -- Texts that go by edits, and by two lists one after the other.
-use Rattle.std.proofs.Common.{◌≡◌, ℕ, ◌+◌, ◌-◌, ◌≤◌, List, [], ◌∷◌, ◌++◌, length, replicate, false, refl, arith}
+use Rattle.std.proofs.Common.{◌≡◌, ℕ, ◌+◌, ◌-◌, ◌≤◌, List, [], ◌∷◌, ◌++◌, length, replicate, refl, arith}
 use Rattle.std.proofs.lemmas.List.{length-replicate}
+use Rattle.edit_record.specs.declared.direction.Direction.TheVariants.{Forward}
 use Rattle.edit_record.specs.Pieces.{Entry, Turns, as_list, removed_len, added_len}
 use Rattle.edit_record.specs.Made.{ArePlaced}
-use Rattle.edit_record.specs.Goes.{Goes}
-use Rattle.edit_record.specs.Turning.{lengths}
-use Rattle.edit_record.specs.Laws.{goes_from_turns, turns_from_goes}
+use Rattle.edit_record.specs.Inner.Goes.{Goes}
+use Rattle.edit_record.specs.Inner.Turning.{lengths}
+use Rattle.edit_record.specs.Inner.Exact.{goes_from_turns, turns_from_goes}
 use Rattle.edit_record.proofs.Parts.{Ends, ends_from_same, same_from_ends}
 use Rattle.edit_record.proofs.Pairs.{Both}
 
@@ -14,7 +15,7 @@ use Rattle.edit_record.proofs.Pairs.{Both}
 pub record SomeGo (from : ℕ) (es : List Entry) (K : ℕ → List ℕ → List ℕ → Type 0) : Type 0 where
   pub t : List ℕ
   pub u : List ℕ
-  pub goes : Goes false from es K t u
+  pub goes : Goes Forward from es K t u
 
 -- K holds of some texts at each place up to n
 pub some_goes : (n from : ℕ) (es : List Entry) (K : ℕ → List ℕ → List ℕ → Type 0) → ArePlaced n from es → ((p : ℕ) → p ≤ n → (t : List ℕ) × (u : List ℕ) × K p t u) → SomeGo from es K
@@ -33,7 +34,7 @@ some_goes n from (e ∷ es) K p k =
 pub some_text : (n from : ℕ) (es : List Entry) → ArePlaced n from es → SomeGo from es (Ends n)
 some_text n from es p = some_goes n from es (Ends n) p (λ q l. let z = replicate (n - q) 0 in let k : length z ≡ n - q = length-replicate (n - q) 0 in (z, z, (refl, omega arith)))
 
-pub lengths_go : (n from : ℕ) (es : List Entry) (t u : List ℕ) → Goes false from es (Ends n) t u → (length u + removed_len es ≡ length t + added_len es) × (from + length t ≡ n)
+pub lengths_go : (n from : ℕ) (es : List Entry) (t u : List ℕ) → Goes Forward from es (Ends n) t u → (length u + removed_len es ≡ length t + added_len es) × (from + length t ≡ n)
 lengths_go n from es t u g = let s = same_from_ends n from es t u g in (lengths from es t u s.0, s.1)
 
 -- ---- both lists, by the relation and by pieces

@@ -4,3 +4,6 @@ pub mod Undoing
 pub mod Parts
 pub mod Pairs
 pub mod Following
+pub mod Stopping
+pub mod PieceLemmas
+pub mod ListLemmas

@@ -1,9 +1,10 @@
 -- Two lists of edits one after another, and how texts go by what is left of both.
-use Rattle.std.proofs.Common.{◌≡◌, ℕ, ◌+◌, ◌-◌, ◌≤◌, List, [], ◌∷◌, ◌++◌, length, take, drop, false, refl, arith, sym, ap, ◌∙◌, append_assoc}
+use Rattle.std.proofs.Common.{◌≡◌, ℕ, ◌+◌, ◌-◌, ◌≤◌, List, [], ◌∷◌, ◌++◌, length, take, drop, refl, arith, sym, ap, ◌∙◌, append_assoc}
 use Rattle.std.proofs.lemmas.List.{append_cancel_left, take-append-drop, length-take-le}
+use Rattle.edit_record.specs.declared.direction.Direction.TheVariants.{Forward}
 use Rattle.edit_record.specs.Pieces.{Entry}
 use Rattle.edit_record.specs.Made.{ArePlaced}
-use Rattle.edit_record.specs.Goes.{Goes}
+use Rattle.edit_record.specs.Inner.Goes.{Goes}
 use Rattle.edit_record.proofs.Parts.{fronts, Ends, pass, pass_back, pass_new, long, end_of}
 
 -- t goes to v by what is left of both lists, over a text between; the first list added bytes that the second has not
@@ -12,8 +13,8 @@ pub record Both (la lb : ℕ) (pa : List ℕ) (af : ℕ) (xs : List Entry) (pb :
   pub mid_first : List ℕ
   pub mid_second : List ℕ
   pub same : pa ++ mid_first ≡ pb ++ mid_second
-  pub first : Goes false af xs (Ends la) t mid_first
-  pub second : Goes false bf ys (Ends lb) mid_second v
+  pub first : Goes Forward af xs (Ends la) t mid_first
+  pub second : Goes Forward bf ys (Ends lb) mid_second v
 
 -- K is x to y, and then L
 pub record Moved (x y : List ℕ) (L : List ℕ → List ℕ → Type 0) (t v : List ℕ) : Type 0 where
@@ -151,9 +152,9 @@ pub record Alike (K L : List ℕ → List ℕ → Type 0) : Type 0 where
 pub alike_then : (K L M : List ℕ → List ℕ → Type 0) → Alike K L → Alike L M → Alike K M
 alike_then K L M p q = record { go = λ t v h. q.go t v (p.go t v h); back = λ t v h. p.back t v (q.back t v h) }
 
-pub goes_map : (from : ℕ) (es : List Entry) (K L : ℕ → List ℕ → List ℕ → Type 0) → ((t v : List ℕ) → K (end_of from es) t v → L (end_of from es) t v) → (t v : List ℕ) → Goes false from es K t v → Goes false from es L t v
+pub goes_map : (from : ℕ) (es : List Entry) (K L : ℕ → List ℕ → List ℕ → Type 0) → ((t v : List ℕ) → K (end_of from es) t v → L (end_of from es) t v) → (t v : List ℕ) → Goes Forward from es K t v → Goes Forward from es L t v
 goes_map from [] K L f t v g = f t v g
 goes_map from (e ∷ es) K L f t v g = record { kept = g.kept; t_rest = g.t_rest; u_rest = g.u_rest; gap = g.gap; t_is = g.t_is; u_is = g.u_is; rest = goes_map (e.at + length e.removed) es K L f g.t_rest g.u_rest g.rest }
 
-pub goes_alike : (from : ℕ) (es : List Entry) (K L : ℕ → List ℕ → List ℕ → Type 0) → Alike (K (end_of from es)) (L (end_of from es)) → Alike (Goes false from es K) (Goes false from es L)
+pub goes_alike : (from : ℕ) (es : List Entry) (K L : ℕ → List ℕ → List ℕ → Type 0) → Alike (K (end_of from es)) (L (end_of from es)) → Alike (Goes Forward from es K) (Goes Forward from es L)
 goes_alike from es K L a = record { go = goes_map from es K L a.go; back = goes_map from es L K a.back }

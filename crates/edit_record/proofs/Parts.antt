@@ -1,9 +1,10 @@
 -- Parts of lists, and what edits do to the front of a text that they keep.
-use Rattle.std.proofs.Common.{◌≡◌, ℕ, ◌+◌, ◌≤◌, ◌<◌, List, [], ◌∷◌, ◌++◌, length, take, drop, false, refl, arith, sym, ap, ◌∙◌, append_assoc, length-append, subst}
+use Rattle.std.proofs.Common.{◌≡◌, ℕ, ◌+◌, ◌≤◌, ◌<◌, List, [], ◌∷◌, ◌++◌, length, take, drop, refl, arith, sym, ap, ◌∙◌, append_assoc, length-append, subst}
 use Rattle.std.proofs.lemmas.List.{take-append-drop, length-take-le, nil_from_length, append-nil}
+use Rattle.edit_record.specs.declared.direction.Direction.TheVariants.{Forward}
 use Rattle.edit_record.specs.Pieces.{Entry}
 use Rattle.edit_record.specs.Made.{ArePlaced}
-use Rattle.edit_record.specs.Goes.{Goes, Same}
+use Rattle.edit_record.specs.Inner.Goes.{Goes, Same}
 
 -- x is the front of k
 pub record Cut {X : Type 0} (x k t s : List X) : Type 0 where
@@ -32,7 +33,7 @@ fronts {X} a b c d l e =
 abbrev pub Ends : ℕ → ℕ → List ℕ → List ℕ → Type 0
 Ends n from t u = (t ≡ u) × (from + length t ≡ n)
 
-pub ends_from_same : (n from : ℕ) (es : List Entry) (t u : List ℕ) → from + length t ≡ n → Goes false from es Same t u → Goes false from es (Ends n) t u
+pub ends_from_same : (n from : ℕ) (es : List Entry) (t u : List ℕ) → from + length t ≡ n → Goes Forward from es Same t u → Goes Forward from es (Ends n) t u
 ends_from_same n from [] t u l g = (g, l)
 ends_from_same n from (e ∷ es) t u l g =
     let gap = g.gap in
@@ -41,7 +42,7 @@ ends_from_same n from (e ∷ es) t u l g =
     let k = length-append e.removed g.t_rest in
     record { kept = g.kept; t_rest = g.t_rest; u_rest = g.u_rest; gap = g.gap; t_is = g.t_is; u_is = g.u_is; rest = ends_from_same n (e.at + length e.removed) es g.t_rest g.u_rest (omega arith) g.rest }
 
-pub same_from_ends : (n from : ℕ) (es : List Entry) (t u : List ℕ) → Goes false from es (Ends n) t u → Goes false from es Same t u × (from + length t ≡ n)
+pub same_from_ends : (n from : ℕ) (es : List Entry) (t u : List ℕ) → Goes Forward from es (Ends n) t u → Goes Forward from es Same t u × (from + length t ≡ n)
 same_from_ends n from [] t u g = g
 same_from_ends n from (e ∷ es) t u g =
     let h = same_from_ends n (e.at + length e.removed) es g.t_rest g.u_rest g.rest in
@@ -56,9 +57,9 @@ same_from_ends n from (e ∷ es) t u g =
 pub record Passed (n from : ℕ) (x : List ℕ) (es : List Entry) (t u : List ℕ) : Type 0 where
   pub u_rest : List ℕ
   pub u_is : u ≡ x ++ u_rest
-  pub rest : Goes false (from + length x) es (Ends n) t u_rest
+  pub rest : Goes Forward (from + length x) es (Ends n) t u_rest
 
-pub pass : (n from : ℕ) (x : List ℕ) (es : List Entry) (t u : List ℕ) → ArePlaced n (from + length x) es → Goes false from es (Ends n) (x ++ t) u → Passed n from x es t u
+pub pass : (n from : ℕ) (x : List ℕ) (es : List Entry) (t u : List ℕ) → ArePlaced n (from + length x) es → Goes Forward from es (Ends n) (x ++ t) u → Passed n from x es t u
 pass n from x [] t u p g =
     let l = g.1 in let m = length-append x t in
     record { u_rest = t; u_is = sym g.0; rest = (refl, omega arith) }
@@ -72,7 +73,7 @@ pass n from x (e ∷ es) t u p g =
       rest = record { kept = c.more; t_rest = g.t_rest; u_rest = g.u_rest; gap = omega arith; t_is = c.rest; u_is = refl; rest = g.rest };
     }
 
-pub pass_back : (n from : ℕ) (x : List ℕ) (es : List Entry) (t u : List ℕ) → Goes false (from + length x) es (Ends n) t u → Goes false from es (Ends n) (x ++ t) (x ++ u)
+pub pass_back : (n from : ℕ) (x : List ℕ) (es : List Entry) (t u : List ℕ) → Goes Forward (from + length x) es (Ends n) t u → Goes Forward from es (Ends n) (x ++ t) (x ++ u)
 pass_back n from x [] t u g = let l = g.1 in let m = length-append x t in (ap (λ (y : List ℕ). x ++ y) g.0, omega arith)
 pass_back n from x (e ∷ es) t u g =
     let gap = g.gap in
@@ -87,7 +88,7 @@ pass_back n from x (e ∷ es) t u g =
     }
 
 -- so many bytes are there
-pub long : (n from k : ℕ) (es : List Entry) (t u : List ℕ) → ArePlaced n (from + k) es → Goes false from es (Ends n) t u → k ≤ length t
+pub long : (n from k : ℕ) (es : List Entry) (t u : List ℕ) → ArePlaced n (from + k) es → Goes Forward from es (Ends n) t u → k ≤ length t
 long n from k [] t u p g = let l = g.1 in omega (arith, p)
 long n from k (e ∷ es) t u p g =
     let gap = g.gap in let later = p.0.later in
@@ -96,14 +97,14 @@ long n from k (e ∷ es) t u p g =
     omega arith
 
 -- the same, where the new text is known
-at_front : (n from : ℕ) (x w : List ℕ) (es : List Entry) (t u : List ℕ) → length w ≡ length x → ArePlaced n (from + length x) es → Goes false from es (Ends n) (w ++ t) (x ++ u) → (x ≡ w) × Goes false (from + length x) es (Ends n) t u
+at_front : (n from : ℕ) (x w : List ℕ) (es : List Entry) (t u : List ℕ) → length w ≡ length x → ArePlaced n (from + length x) es → Goes Forward from es (Ends n) (w ++ t) (x ++ u) → (x ≡ w) × Goes Forward (from + length x) es (Ends n) t u
 at_front n from x w es t u wl p g =
     let q = pass n from w es t (x ++ u) (rw wl p) g in
     let f = fronts x w u q.u_rest (sym wl) q.u_is in
-    let P : ℕ → Type 0 = λ k. Goes false (from + k) es (Ends n) t q.u_rest in
+    let P : ℕ → Type 0 = λ k. Goes Forward (from + k) es (Ends n) t q.u_rest in
     (f.0, rw f.1 (subst P wl q.rest))
 
-pub pass_new : (n from : ℕ) (x : List ℕ) (es : List Entry) (t u : List ℕ) → ArePlaced n (from + length x) es → Goes false from es (Ends n) t (x ++ u) → (t_rest : List ℕ) × (t ≡ x ++ t_rest) × Goes false (from + length x) es (Ends n) t_rest u
+pub pass_new : (n from : ℕ) (x : List ℕ) (es : List Entry) (t u : List ℕ) → ArePlaced n (from + length x) es → Goes Forward from es (Ends n) t (x ++ u) → (t_rest : List ℕ) × (t ≡ x ++ t_rest) × Goes Forward (from + length x) es (Ends n) t_rest u
 pass_new n from x es t u p g =
     let l = long n from (length x) es t (x ++ u) p g in
     let split = take-append-drop (length x) t in

@@ -4,7 +4,7 @@ use Rattle.std.proofs.lemmas.List.{take_more, take_all}
 use Rattle.edit_record.specs.declared.change.Refused.{Refused}
 use Rattle.edit_record.specs.declared.change.Refused.TheVariants.{Length, Differs, Memory}
 use Rattle.edit_record.specs.Many.{◌>>=◌, backward_all}
-use Rattle.edit_record.specs.Walk.{Gives}
+use Rattle.edit_record.specs.Refusals.{Gives}
 
 bind_bind : (r : Result (List ℕ) Refused) (f g : List ℕ → Result (List ℕ) Refused) → ((r >>= f) >>= g) ≡ (r >>= λ x. f x >>= g)
 bind_bind (Ok x) f g = refl

@@ -1,9 +1,7 @@
 pub mod Pieces
 pub mod Made
+pub mod Pieced
 pub mod Refusals
-pub mod Walk
-pub mod Goes
 pub mod Many
-pub mod Turning
-pub mod Laws
 pub mod Journal
+pub mod Inner

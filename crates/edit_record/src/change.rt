@@ -1,7 +1,7 @@
 ghost use Rattle.std.specs.Prelude.{◌≡◌, ◌≢◌, ◌↔◌, List, ℕ, Result, Ok, Err};
 ghost use Rattle.edit_record.specs.declared.change.Refused.TheVariants.{Memory};
 ghost use Rattle.edit_record.specs.declared.change.Refused.{Refused};
-ghost use Rattle.edit_record.specs.Walk.{Gives};
+ghost use Rattle.edit_record.specs.Refusals.{Gives};
 
 use std::alloc::{AllocError, AllocFailed, Global};
 use thiserror::Error;

@@ -1,12 +1,13 @@
 ghost use Rattle.std.specs.Prelude.{◌≡◌, ◌+◌};
 
+use crate::direction::Direction;
 use crate::pass::turned_text;
 use crate::{BadEdits, Change, Edit, Refused};
 use std::alloc::Global;
 use std::marker::Model;
 
-/// The most bytes of a text.
-const LIMIT: usize = 16_777_216;
+/// The most bytes of a text, old or new: 16 MiB.
+pub const MAX_TEXT: usize = 16_777_216;
 
 /// A list of edits of texts of one length, in order and apart. Edits may touch.
 #[derive(Debug, Drop)]
@@ -31,14 +32,14 @@ impl Edits {
     ghost use Rattle.edit_record.specs.Pieces.{as_list, entries, removed_len, added_len};
     ghost use Rattle.edit_record.specs.Made.{made, AreEdits, new_len};
 
-    /// The edits as a list for texts of `old_len` bytes. A text has at most 16,777,216 bytes.
+    /// The edits as a list for texts of `old_len` bytes. A text has at most [`MAX_TEXT`] bytes.
     ///
     /// Refused are, in this order: an old length over that; the first edit that is empty, begins before the end of
     /// the one before, or ends past the text; and a new length over the limit.
     pub fn make(old_len: usize, edits: Vec<Edit>) -> Result<Self, BadEdits>
         ensures { result ≡ made old_len (entries edits.items) }
     {
-        if old_len > LIMIT {
+        if old_len > MAX_TEXT {
             return Err(BadEdits::TooLong);
         }
         let mut from = 0;
@@ -58,7 +59,7 @@ impl Edits {
             removed += edit.removed.len();
             added = added.saturating_add(edit.added.len());
         }
-        if added > LIMIT - (old_len - removed) {
+        if added > MAX_TEXT - (old_len - removed) {
             return Err(BadEdits::TooLong);
         }
         let new_len = old_len - removed + added;
@@ -105,28 +106,51 @@ impl Edits {
 }
 
 impl Change for Edits {
-    ghost use Rattle.std.specs.Prelude.{true, false};
+    ghost use Rattle.std.specs.Prelude.{IfErr};
     ghost use Rattle.edit_record.specs.Pieces.{Turns};
-    ghost use Rattle.edit_record.specs.Walk.{answer};
-    ghost use Rattle.edit_record.specs.Laws.{forward_exact, backward_exact, answer_never_memory};
+    ghost use Rattle.edit_record.specs.Refusals.{Gives, HasLen};
+    ghost use Rattle.edit_record.specs.Inner.Walk.{answer};
+    ghost use Rattle.edit_record.specs.Inner.Exact.{forward_exact, backward_exact, answer_never_memory};
+    ghost use Rattle.edit_record.specs.declared.change.Refused.TheVariants.{Memory};
+    ghost use Rattle.edit_record.specs.declared.direction.Direction.TheVariants.{Forward, Backward};
 
     ghost turns = { Turns };
 
-    ghost forward = { answer false };
+    ghost forward = { answer Forward };
 
-    ghost backward = { answer true };
+    ghost backward = { answer Backward };
 
     ghost applies = { forward_exact };
 
     ghost undoes = { backward_exact };
 
-    ghost never_memory = { λ e t. (answer_never_memory false e t, answer_never_memory true e t) };
+    ghost never_memory = { λ e t. (answer_never_memory Forward e t, answer_never_memory Backward e t) };
 
-    fn apply(&self, alloc: Global, text: &[u8]) -> Result<Vec<u8>, Refused> {
-        turned_text(alloc, false, self.old_len, self.new_len, &self.edits, text)
+    fn apply(&self, alloc: Global, text: &[u8]) -> Result<Vec<u8>, Refused>
+        ensures gives { Gives result (answer Forward self.now text.now) }
+        ensures memory { IfErr result (λ e. e ≡ Memory → HasLen Forward self.now text.now) }
+    {
+        turned_text(
+            alloc,
+            Direction::Forward,
+            self.old_len,
+            self.new_len,
+            &self.edits,
+            text,
+        )
     }
 
-    fn undo(&self, alloc: Global, text: &[u8]) -> Result<Vec<u8>, Refused> {
-        turned_text(alloc, true, self.old_len, self.new_len, &self.edits, text)
+    fn undo(&self, alloc: Global, text: &[u8]) -> Result<Vec<u8>, Refused>
+        ensures gives { Gives result (answer Backward self.now text.now) }
+        ensures memory { IfErr result (λ e. e ≡ Memory → HasLen Backward self.now text.now) }
+    {
+        turned_text(
+            alloc,
+            Direction::Backward,
+            self.old_len,
+            self.new_len,
+            &self.edits,
+            text,
+        )
     }
 }

@@ -56,7 +56,8 @@ impl Journal {
 }
 
 impl Change for Journal {
-    ghost use Rattle.edit_record.specs.Journal.{journal_turns, journal_forward, journal_backward, journal_applies, journal_undoes, journal_never_memory};
+    ghost use Rattle.edit_record.specs.Journal.{journal_turns, journal_forward, journal_backward};
+    ghost use Rattle.edit_record.specs.Inner.JournalExact.{journal_applies, journal_undoes, journal_never_memory};
 
     ghost turns = { journal_turns };
 

@@ -1,7 +1,12 @@
-//! Laws of changes: functions that do nothing, for callers whose proofs want what their clauses say.
-ghost use Rattle.std.specs.Prelude.{◌≡◌, ◌↔◌, List, ℕ, Ok, true, false};
+//! Laws of changes and of edits: functions that do nothing, for callers whose proofs want what their clauses say.
+ghost use Rattle.std.specs.Prelude.{◌≡◌, ◌≤◌, ◌↔◌, List, ℕ, Ok, length};
+ghost use Rattle.edit_record.specs.Pieces.{Entry, EditList, Piece, Turns, old_text};
+ghost use Rattle.edit_record.specs.Made.{MakeIsExact, HaveLengths};
+ghost use Rattle.edit_record.specs.Pieced.{AreChanges, PiecesTurn, PiecesMake};
 ghost use Rattle.edit_record.specs.Refusals.{Answers};
-ghost use Rattle.edit_record.specs.Walk.{answer};
+ghost use Rattle.edit_record.specs.declared.edits.TheConstants.{MAX_TEXT};
+ghost use Rattle.edit_record.specs.Inner.Walk.{answer};
+ghost use Rattle.edit_record.specs.declared.direction.Direction.TheVariants.{Forward, Backward};
 
 use crate::{Change, Edits};
 
@@ -24,6 +29,27 @@ pub fn sides_fix_each_other<C: Change>(change: &C)
 /// What edits answer about a text, forward and back: the text on the other side, or else that the length is another
 /// one, or else the lowest edit that does not stand in it.
 pub fn edits_refuse_exactly(edits: &Edits)
-    ensures forward { (t : List ℕ) → Answers false edits.now t (answer false edits.now t) }
-    ensures backward { (u : List ℕ) → Answers true edits.now u (answer true edits.now u) }
+    ensures forward { (t : List ℕ) → Answers Forward edits.now t (answer Forward edits.now t) }
+    ensures backward { (u : List ℕ) → Answers Backward edits.now u (answer Backward edits.now u) }
+{}
+
+/// Edits turn texts of their old length into texts of their new length.
+pub fn turned_texts_have_the_lengths()
+    ensures { (e : EditList) (t u : List ℕ) → Turns e t u → HaveLengths e t u }
+{}
+
+/// `Edits::make` accepts exactly the edits that are placed one behind the other, not empty, and within the limit.
+pub fn make_is_exact()
+    ensures { (old_len : ℕ) (es : List Entry) → MakeIsExact old_len es }
+{}
+
+/// The changed pieces of a text turn it into the new text.
+pub fn pieces_turn()
+    ensures { (ps : List Piece) → PiecesTurn ps }
+{}
+
+/// `Edits::make` accepts the changed pieces of a text within the limit, if none of them is empty on both sides, and
+/// the new text is within the limit too; else the new text is too long.
+pub fn pieces_make()
+    ensures { (ps : List Piece) → AreChanges ps → length (old_text ps) ≤ MAX_TEXT → PiecesMake ps }
 {}

@@ -6,19 +6,19 @@
 #![tactic(auto)]
 
 mod change;
+mod direction;
 mod edit;
 mod edits;
 mod journal;
-mod laws;
+pub mod laws;
 mod many;
 mod pass;
 mod record;
 
 pub use change::{Change, Refused};
 pub use edit::{BadEdits, Edit};
-pub use edits::Edits;
+pub use edits::{Edits, MAX_TEXT};
 pub use journal::Journal;
-pub use laws::{apply_is_exact, edits_refuse_exactly, sides_fix_each_other, undo_is_exact};
 pub use many::{apply_all, undo_all};
 pub use record::{Record, Word};
 

@@ -1,6 +1,6 @@
 //! Changes one after another.
 ghost use Rattle.edit_record.specs.Many.{forward_all, backward_all};
-ghost use Rattle.edit_record.specs.Walk.{Gives};
+ghost use Rattle.edit_record.specs.Refusals.{Gives};
 
 use crate::{Change, Refused};
 use std::alloc::Global;

@@ -52,7 +52,12 @@ impl Record {
 }
 
 impl Change for Record {
-    ghost use Rattle.edit_record.specs.Journal.{record_turns, record_forward, record_backward, record_applies, record_undoes, record_never_memory};
+    ghost use Rattle.std.specs.Prelude.{IfErr};
+    ghost use Rattle.edit_record.specs.Journal.{record_turns, record_forward, record_backward};
+    ghost use Rattle.edit_record.specs.Refusals.{Gives, HasLen};
+    ghost use Rattle.edit_record.specs.Inner.JournalExact.{record_applies, record_undoes, record_never_memory};
+    ghost use Rattle.edit_record.specs.declared.change.Refused.TheVariants.{Memory};
+    ghost use Rattle.edit_record.specs.declared.direction.Direction.TheVariants.{Forward, Backward};
 
     ghost turns = { record_turns };
 
@@ -66,11 +71,17 @@ impl Change for Record {
 
     ghost never_memory = { record_never_memory };
 
-    fn apply(&self, alloc: Global, text: &[u8]) -> Result<Vec<u8>, Refused> {
+    fn apply(&self, alloc: Global, text: &[u8]) -> Result<Vec<u8>, Refused>
+        ensures gives { Gives result (record_forward self.now text.now) }
+        ensures memory { IfErr result (λ e. e ≡ Memory → HasLen Forward self.now.edits text.now) }
+    {
         self.edits.apply(alloc, text)
     }
 
-    fn undo(&self, alloc: Global, text: &[u8]) -> Result<Vec<u8>, Refused> {
+    fn undo(&self, alloc: Global, text: &[u8]) -> Result<Vec<u8>, Refused>
+        ensures gives { Gives result (record_backward self.now text.now) }
+        ensures memory { IfErr result (λ e. e ≡ Memory → HasLen Backward self.now.edits text.now) }
+    {
         self.edits.undo(alloc, text)
     }
 }

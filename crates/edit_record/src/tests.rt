@@ -1,3 +1,4 @@
+use super::laws::*;
 use super::*;
 use std::alloc::Global;
 use std::process::Abort;
@@ -82,6 +83,10 @@ fn edits_are_made(rt: HostRuntime) -> Result<(), Fail> {
     undo_is_exact(&edits);
     sides_fix_each_other(&edits);
     edits_refuse_exactly(&edits);
+    turned_texts_have_the_lengths();
+    make_is_exact();
+    pieces_turn();
+    pieces_make();
     Ok(())
 }
 
@@ -99,6 +104,37 @@ fn edits_apply_and_undo(rt: HostRuntime) -> Result<(), Fail> {
     assert!(rt; is_refused(alloc, &edits, "xx", length));
     let second = Refused::Differs { step: 0, edit: 1 };
     assert_eq!(rt; edits.apply(alloc, b"abd").err(), Some(second));
+    Ok(())
+}
+
+/// The piece, 10,000 times.
+fn repeated(alloc: Global, piece: &str) -> Result<Vec<u8>, Fail> {
+    let mut text = Vec::new(alloc);
+    for _ in 0..10_000 {
+        text.extend_from_slice(piece.as_bytes())?;
+    }
+    Ok(text)
+}
+
+#[test]
+fn ten_thousand_edits_apply_and_undo(rt: HostRuntime) -> Result<(), Fail> {
+    let alloc = rt.alloc();
+    let mut rows = Vec::new(alloc);
+    for i in 0..10_000 {
+        rows.push(Edit {
+            at: 2 * i,
+            removed: Vec::from_slice(alloc, b"a")?,
+            added: Vec::from_slice(alloc, b"xyz")?,
+        })?;
+    }
+    let edits = Edits::make(20_000, rows)?;
+    assert_eq!(rt; edits.new_len(), 40_000);
+    let old = repeated(alloc, "ab")?;
+    let new = repeated(alloc, "xyzb")?;
+    let forward = edits.apply(alloc, &old)?;
+    assert!(rt; forward.as_slice() == new.as_slice());
+    let back = edits.undo(alloc, &new)?;
+    assert!(rt; back.as_slice() == old.as_slice());
     Ok(())
 }
 

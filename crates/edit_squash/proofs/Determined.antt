@@ -1,15 +1,16 @@
 -- Two lists of edits squash to one list at most.
-use Rattle.std.proofs.Common.{◌≡◌, ℕ, ◌+◌, ◌≤◌, ◌<◌, List, [], ◌∷◌, ◌++◌, length, map, false, refl, arith, sym, ap, ◌∙◌, append_assoc, length-append, ◌⊎◌, inl, inr}
+use Rattle.std.proofs.Common.{◌≡◌, ℕ, ◌+◌, ◌≤◌, ◌<◌, List, [], ◌∷◌, ◌++◌, length, map, refl, arith, sym, ap, ◌∙◌, append_assoc, length-append, ◌⊎◌, inl, inr}
 use Rattle.std.specs.Prelude.{All, Contains}
 use Rattle.std.specs.List.{Any}
 use Rattle.std.proofs.lemmas.Bool.{cases_lt}
 use Rattle.std.proofs.lemmas.List.{nil_from_length}
 use Rattle.std.proofs.lemmas.List.Elements.{All-nil, All-append, All-contains, All-weaker, Contains-append_left, Contains-append_right, Contains-append_cases, Contains-push}
+use Rattle.edit_record.specs.declared.direction.Direction.TheVariants.{Forward}
 use Rattle.edit_record.specs.Pieces.{Entry, EditList}
-use Rattle.edit_record.specs.Goes.{Goes, Same}
-use Rattle.edit_record.specs.Laws.{goes_from_turns}
+use Rattle.edit_record.specs.Inner.Goes.{Goes, Same}
+use Rattle.edit_record.specs.Inner.Exact.{goes_from_turns}
 use Rattle.edit_record.proofs.Parts.{cut, fronts}
-use Rattle.edit_squash.specs.Shape.{Span, past, Linked, Joined, first_alone, second_alone, first_joins, second_joins, Group, firsts_of, seconds_of, Apart, Covers, Extent, extent_of, IsEditOf, put_first, Become}
+use Rattle.edit_squash.specs.Shape.{Span, past, Linked, Connected, first_alone, second_alone, first_connects, second_connects, Group, firsts_of, seconds_of, Apart, Covers, Extent, extent_of, IsEditOf, put_first, Become}
 use Rattle.edit_squash.specs.Squash.{IsSquash}
 use Rattle.edit_squash.proofs.Shaping.{become_at}
 
@@ -79,12 +80,12 @@ module _ (firsts seconds later_firsts later_seconds : List Span) (apart : Apart 
       ]
 
   -- edits that are joined and begin in the group stay in it
-  stays : (more_firsts more_seconds : List Span) {fs ss : List Span} → Joined fs ss → fs ++ more_firsts ≡ firsts ++ later_firsts → ss ++ more_seconds ≡ seconds ++ later_seconds → Shares fs ss firsts seconds → (length fs ≤ length firsts) × (length ss ≤ length seconds)
+  stays : (more_firsts more_seconds : List Span) {fs ss : List Span} → Connected fs ss → fs ++ more_firsts ≡ firsts ++ later_firsts → ss ++ more_seconds ≡ seconds ++ later_seconds → Shares fs ss firsts seconds → (length fs ≤ length firsts) × (length ss ≤ length seconds)
   stays mf ms (first_alone x) p q (inl i) = let some = i.1 in (omega arith, omega arith)
   stays mf ms (first_alone x) p q (inr i) = let none = i.0 in absurd (omega arith)
   stays mf ms (second_alone y) p q (inl i) = let none = i.0 in absurd (omega arith)
   stays mf ms (second_alone y) p q (inr i) = let some = i.1 in (omega arith, omega arith)
-  stays mf ms (first_joins xs ys x j link) p q i =
+  stays mf ms (first_connects xs ys x j link) p q i =
       let h = stays ((x ∷ []) ++ mf) ms j (sym (append_assoc xs (x ∷ []) mf) ∙ p) q (shares_first xs ys mf ms x link p q i) in
       let n = length-append xs (x ∷ []) in
       let before = h.0 in
@@ -95,7 +96,7 @@ module _ (firsts seconds later_firsts later_seconds : List Span) (apart : Apart 
             let here = in_front ys seconds later_seconds ms link.1 h.1 q (some_there (λ y. Linked x y) ys link) in
             absurd (not_across_second x link.1 across here link.4)
       ]
-  stays mf ms (second_joins xs ys y j link) p q i =
+  stays mf ms (second_connects xs ys y j link) p q i =
       let h = stays mf ((y ∷ []) ++ ms) j p (sym (append_assoc ys (y ∷ []) ms) ∙ q) (shares_second xs ys mf ms y link p q i) in
       let n = length-append ys (y ∷ []) in
       let before = h.1 in
@@ -109,11 +110,11 @@ module _ (firsts seconds later_firsts later_seconds : List Span) (apart : Apart 
 
 -- ---- the groups of two lists are determined
 
-not_empty : {fs ss : List Span} → Joined fs ss → 0 < length fs + length ss
+not_empty : {fs ss : List Span} → Connected fs ss → 0 < length fs + length ss
 not_empty (first_alone x) = omega arith
 not_empty (second_alone y) = omega arith
-not_empty (first_joins xs ys x j link) = let n = length-append xs (x ∷ []) in omega arith
-not_empty (second_joins xs ys y j link) = let n = length-append ys (y ∷ []) in omega arith
+not_empty (first_connects xs ys x j link) = let n = length-append xs (x ∷ []) in omega arith
+not_empty (second_connects xs ys y j link) = let n = length-append ys (y ∷ []) in omega arith
 
 some_of : (xs : List Span) → 0 < length xs → (x : Span) × Contains xs x
 some_of [] l = absurd (omega arith)
@@ -121,7 +122,7 @@ some_of (x ∷ xs) l = (x, Contains-append_left (x ∷ []) xs x (Contains-push [
 
 -- what is known of the first group, and of those behind it
 pub record Leads (g : Group) (later_firsts later_seconds : List Span) (to : ℕ) : Type 0 where
-  pub joined : Joined g.firsts g.seconds
+  pub connected : Connected g.firsts g.seconds
   pub apart : Apart g later_firsts later_seconds
   pub firsts_end : All (λ x. past x ≤ to) g.firsts
   pub seconds_end : All (λ y. past y ≤ to) g.seconds
@@ -143,8 +144,8 @@ crossing g g' lf ls lf' ls' to to' h k p q fl sl fl' sl' =
 
 shares : (g g' : Group) (lf ls lf' ls' : List Span) (to to' : ℕ) → Leads g lf ls to → Leads g' lf' ls' to' → g.firsts ++ lf ≡ g'.firsts ++ lf' → g.seconds ++ ls ≡ g'.seconds ++ ls' → Shares g.firsts g.seconds g'.firsts g'.seconds
 shares g g' lf ls lf' ls' to to' h k p q =
-    let some = not_empty h.joined in
-    let some' = not_empty k.joined in
+    let some = not_empty h.connected in
+    let some' = not_empty k.connected in
     elim (cases_lt 0 (length g.firsts)) [
       | inl f ↦ elim (cases_lt 0 (length g'.firsts)) [
         | inl f' ↦ inl (f, f')
@@ -173,8 +174,8 @@ pub record SameLead (g g' : Group) (lf ls lf' ls' : List Span) : Type 0 where
 same_lead : (g g' : Group) (lf ls lf' ls' : List Span) (to to' : ℕ) → Leads g lf ls to → Leads g' lf' ls' to' → g.firsts ++ lf ≡ g'.firsts ++ lf' → g.seconds ++ ls ≡ g'.seconds ++ ls' → SameLead g g' lf ls lf' ls'
 same_lead g g' lf ls lf' ls' to to' h k p q =
     let s = shares g g' lf ls lf' ls' to to' h k p q in
-    let one = stays g'.firsts g'.seconds lf' ls' k.apart lf ls h.joined p q s in
-    let two = stays g.firsts g.seconds lf ls h.apart lf' ls' k.joined (sym p) (sym q) (shares_back g.firsts g.seconds g'.firsts g'.seconds s) in
+    let one = stays g'.firsts g'.seconds lf' ls' k.apart lf ls h.connected p q s in
+    let two = stays g.firsts g.seconds lf ls h.apart lf' ls' k.connected (sym p) (sym q) (shares_back g.firsts g.seconds g'.firsts g'.seconds s) in
     let a = one.0 in let b = one.1 in let c = two.0 in let d = two.1 in
     let f = fronts g.firsts g'.firsts lf lf' (omega arith) p in
     let r = fronts g.seconds g'.seconds ls ls' (omega arith) q in
@@ -210,7 +211,7 @@ leads old mid g gs es h =
     let c = h.edit_is.covers in
     let rest = behind (h.edit.at + h.edit.removed) h.to gs h.later h.rest in
     let ends : (xs : List Span) → All (λ x. (h.from ≤ x.from) × (past x ≤ h.to)) xs → All (λ x. past x ≤ h.to) xs = λ xs a. All-weaker (λ x. (h.from ≤ x.from) × (past x ≤ h.to)) (λ x. past x ≤ h.to) (λ x w. w.1) xs a in
-    record { joined = h.joined; apart = h.apart; firsts_end = ends g.firsts c.firsts_within; seconds_end = ends g.seconds c.seconds_within; firsts_later = rest.0; seconds_later = rest.1 }
+    record { connected = h.connected; apart = h.apart; firsts_end = ends g.firsts c.firsts_within; seconds_end = ends g.seconds c.seconds_within; firsts_later = rest.0; seconds_later = rest.1 }
 
 covered_from : (g : Group) (from to from' to' : ℕ) → Covers g from to → Covers g from' to' → from' ≤ from
 covered_from g from to from' to' h k =
@@ -251,7 +252,7 @@ same_edit old mid g from to from' to' e e' h k =
     let added = h.added_is in let added' = k.added_is in
     record { to_is = omega arith; edit_is = extent_same e e' (omega arith) (omega arith) (omega arith) }
 
-no_group : (g : Group) (lf ls : List Span) → Joined g.firsts g.seconds → g.firsts ++ lf ≡ [] → g.seconds ++ ls ≡ [] → ⊥
+no_group : (g : Group) (lf ls : List Span) → Connected g.firsts g.seconds → g.firsts ++ lf ≡ [] → g.seconds ++ ls ≡ [] → ⊥
 no_group g lf ls j p q =
     let some = not_empty j in
     let n = length-append g.firsts lf in
@@ -262,8 +263,8 @@ no_group g lf ls j p q =
 
 same_edits : (gs gs' : List Group) (old mid : ℕ) (es es' : List Extent) → Become old mid gs es → Become old mid gs' es' → firsts_of gs ≡ firsts_of gs' → seconds_of gs ≡ seconds_of gs' → es ≡ es'
 same_edits [] [] old mid es es' h k p q = h ∙ sym k
-same_edits [] (g' ∷ gs') old mid es es' h k p q = absurd (no_group g' (firsts_of gs') (seconds_of gs') k.joined (sym p) (sym q))
-same_edits (g ∷ gs) [] old mid es es' h k p q = absurd (no_group g (firsts_of gs) (seconds_of gs) h.joined p q)
+same_edits [] (g' ∷ gs') old mid es es' h k p q = absurd (no_group g' (firsts_of gs') (seconds_of gs') k.connected (sym p) (sym q))
+same_edits (g ∷ gs) [] old mid es es' h k p q = absurd (no_group g (firsts_of gs) (seconds_of gs) h.connected p q)
 same_edits (g ∷ gs) (g' ∷ gs') old mid es es' h k p q =
     let l = same_lead g g' (firsts_of gs) (seconds_of gs) (firsts_of gs') (seconds_of gs') h.to k.to (leads old mid g gs es h) (leads old mid g' gs' es' k) p q in
     let e = same_edit old mid g h.from h.to k.from k.to h.edit k.edit h.edit_is (group_at old mid g.firsts g.seconds g'.firsts g'.seconds k.from k.to k.edit l.firsts l.seconds k.edit_is) in
@@ -274,13 +275,13 @@ same_edits (g ∷ gs) (g' ∷ gs') old mid es es' h k p q =
 
 -- ---- places and lengths determine the bytes
 
-goes_at : (n n' : ℕ) (es : List Entry) (t t' u u' : List ℕ) → n ≡ n' → t ≡ t' → u ≡ u' → Goes false n' es Same t' u' → Goes false n es Same t u
+goes_at : (n n' : ℕ) (es : List Entry) (t t' u u' : List ℕ) → n ≡ n' → t ≡ t' → u ≡ u' → Goes Forward n' es Same t' u' → Goes Forward n es Same t u
 goes_at n n' es t t' u u' p q r g = rw (p, q, r) g
 
 entry_same : (e e' : Entry) → e.at ≡ e'.at → e.removed ≡ e'.removed → e.added ≡ e'.added → e ≡ e'
 entry_same e e' p q r = ap (λ k. record { at = k; removed = e.removed; added = e.added }) p ∙ ap (λ k. record { at = e'.at; removed = k; added = e.added }) q ∙ ap (λ k. record { at = e'.at; removed = e'.removed; added = k }) r
 
-same_bytes : (es es' : List Entry) (from : ℕ) (t v : List ℕ) → map extent_of es ≡ map extent_of es' → Goes false from es Same t v → Goes false from es' Same t v → es ≡ es'
+same_bytes : (es es' : List Entry) (from : ℕ) (t v : List ℕ) → map extent_of es ≡ map extent_of es' → Goes Forward from es Same t v → Goes Forward from es' Same t v → es ≡ es'
 same_bytes [] [] from t v x g k = refl
 same_bytes [] (e' ∷ es') from t v x g k = absurd cc
 same_bytes (e ∷ es) [] from t v x g k = absurd cc

@@ -3,14 +3,15 @@ use Rattle.std.proofs.Common.{◌≡◌, ℕ, ◌+◌, ◌-◌, ◌≤◌, List,
 use Rattle.std.specs.Prelude.{◌==◌}
 use Rattle.std.proofs.lemmas.Bool.{eqb-true, and_parts}
 use Rattle.std.proofs.lemmas.List.{length-drop, length-take-le, append-nil, nil_from_length, take-append-drop}
+use Rattle.edit_record.specs.declared.direction.Direction.TheVariants.{Forward}
 use Rattle.edit_record.specs.Pieces.{Entry}
 use Rattle.edit_record.specs.Made.{ArePlaced}
-use Rattle.edit_record.specs.Goes.{Step, Goes}
-use Rattle.edit_squash.specs.Merge.{State, closed, skipped, with_first, with_second, meeting, met}
+use Rattle.edit_record.specs.Inner.Goes.{EditStep, Goes}
+use Rattle.edit_squash.specs.Inner.Merge.{State, closed, skipped, with_first, with_second, meeting, met}
 use Rattle.edit_record.proofs.Parts.{Ends, end_of, end_within}
 use Rattle.edit_record.proofs.Pairs.{Alike, alike_then, goes_alike, Both, Moved, Passes, passes_first, passes_second, passes_met, passes_first_left, passes_second_left, Skips, skips}
 
-pub goes_push : (from : ℕ) (es : List Entry) (e : Entry) (K : ℕ → List ℕ → List ℕ → Type 0) → Alike (Goes false from (es ++ e ∷ []) K) (Goes false from es (λ p. Step false p e (K (e.at + length e.removed))))
+pub goes_push : (from : ℕ) (es : List Entry) (e : Entry) (K : ℕ → List ℕ → List ℕ → Type 0) → Alike (Goes Forward from (es ++ e ∷ []) K) (Goes Forward from es (λ p. EditStep Forward p e (K (e.at + length e.removed))))
 goes_push from [] e K = record { go = λ t v h. h; back = λ t v h. h }
 goes_push from (d ∷ es) e K =
     let a = goes_push (d.at + length d.removed) es e K in
@@ -22,7 +23,7 @@ goes_push from (d ∷ es) e K =
 abbrev pub edit : ℕ → List ℕ → List ℕ → Entry
 edit at removed added = record { at = at; removed = removed; added = added }
 
-pub step_moved : (p at : ℕ) (r n x y : List ℕ) (K L : List ℕ → List ℕ → Type 0) → Passes x y K L → Alike (Step false p (edit at r n) K) (Step false p (edit at (r ++ x) (n ++ y)) L)
+pub step_moved : (p at : ℕ) (r n x y : List ℕ) (K L : List ℕ → List ℕ → Type 0) → Passes x y K L → Alike (EditStep Forward p (edit at r n) K) (EditStep Forward p (edit at (r ++ x) (n ++ y)) L)
 step_moved p at r n x y K L m = record {
   go = λ t v g.
       let h = m.go g.t_rest g.u_rest g.rest in
@@ -46,7 +47,7 @@ step_moved p at r n x y K L m = record {
   };
 }
 
-pub step_skipped : (la lb p at n : ℕ) (K L : List ℕ → List ℕ → Type 0) → p ≤ at → Skips la lb n K L → Alike (Step false p (edit at [] []) K) (Step false p (edit (at + n) [] []) L)
+pub step_skipped : (la lb p at n : ℕ) (K L : List ℕ → List ℕ → Type 0) → p ≤ at → Skips la lb n K L → Alike (EditStep Forward p (edit at [] []) K) (EditStep Forward p (edit (at + n) [] []) L)
 step_skipped la lb p at n K L le s = record {
   go = λ t v g.
       let h = s.skip_go g.t_rest g.u_rest g.rest in
@@ -78,7 +79,7 @@ step_skipped la lb p at n K L le s = record {
 }
 
 -- an edit, and then an empty one right behind it
-pub step_closed : (p at end : ℕ) (r n : List ℕ) (K : List ℕ → List ℕ → Type 0) → at + length r ≡ end → Alike (Step false p (edit at r n) K) (Step false p (edit at r n) (Step false (at + length r) (edit end [] []) K))
+pub step_closed : (p at end : ℕ) (r n : List ℕ) (K : List ℕ → List ℕ → Type 0) → at + length r ≡ end → Alike (EditStep Forward p (edit at r n) K) (EditStep Forward p (edit at r n) (EditStep Forward (at + length r) (edit end [] []) K))
 step_closed p at end r n K e = record {
   go = λ t v g. record {
     kept = g.kept;
@@ -105,7 +106,7 @@ step_closed p at end r n K e = record {
 }
 
 -- the same steps, and behind them what holds of the same texts
-pub step_alike : (p : ℕ) (e : Entry) (K L : List ℕ → List ℕ → Type 0) → Alike K L → Alike (Step false p e K) (Step false p e L)
+pub step_alike : (p : ℕ) (e : Entry) (K L : List ℕ → List ℕ → Type 0) → Alike K L → Alike (EditStep Forward p e K) (EditStep Forward p e L)
 step_alike p e K L a = record {
   go = λ t v g. record { kept = g.kept; t_rest = g.t_rest; u_rest = g.u_rest; gap = g.gap; t_is = g.t_is; u_is = g.u_is; rest = a.go g.t_rest g.u_rest g.rest };
   back = λ t v g. record { kept = g.kept; t_rest = g.t_rest; u_rest = g.u_rest; gap = g.gap; t_is = g.t_is; u_is = g.u_is; rest = a.back g.t_rest g.u_rest g.rest };
@@ -113,7 +114,7 @@ step_alike p e K L a = record {
 
 -- an edit that is put at the end of the list, or is empty
 put_alike : (out : List Entry) (at end : ℕ) (r n : List ℕ) (K : List ℕ → List ℕ → Type 0) (b : Bool) → ((length r == 0) && (length n == 0)) ≡ b → at + length r ≡ end
-    → Alike (Goes false 0 out (λ p. Step false p (edit at r n) K)) (Goes false 0 (cond b out (out ++ edit at r n ∷ [])) (λ p. Step false p (edit end [] []) K))
+    → Alike (Goes Forward 0 out (λ p. EditStep Forward p (edit at r n) K)) (Goes Forward 0 (cond b out (out ++ edit at r n ∷ [])) (λ p. EditStep Forward p (edit end [] []) K))
 put_alike out at end r n K true t e =
     let q = and_parts (length r == 0) (length n == 0) t in
     let rl = eqb-true (length r) 0 q.0 in
@@ -122,8 +123,8 @@ put_alike out at end r n K true t e =
     let ez : end ≡ at = omega arith in
     rw (rz, nz, ez) (record { go = λ t v h. h; back = λ t v h. h })
 put_alike out at end r n K false t e =
-    let push = goes_push 0 out (edit at r n) (λ p. Step false p (edit end [] []) K) in
-    let mid = goes_alike 0 out (λ p. Step false p (edit at r n) K) (λ p. Step false p (edit at r n) (Step false (at + length r) (edit end [] []) K)) (step_closed (end_of 0 out) at end r n K e) in
+    let push = goes_push 0 out (edit at r n) (λ p. EditStep Forward p (edit end [] []) K) in
+    let mid = goes_alike 0 out (λ p. EditStep Forward p (edit at r n) K) (λ p. EditStep Forward p (edit at r n) (EditStep Forward (at + length r) (edit end [] []) K)) (step_closed (end_of 0 out) at end r n K e) in
     record { go = λ t v h. push.back t v (mid.go t v h); back = λ t v h. mid.back t v (push.go t v h) }
 
 module _ (la lb : ℕ) where
@@ -132,15 +133,15 @@ module _ (la lb : ℕ) where
 
   -- the edits that are done, the one that is being made, and what is left
   abbrev pub Means : State → List Entry → List Entry → List ℕ → List ℕ → Type 0
-  Means s xs ys = Goes false 0 s.out (λ p. Step false p (edit s.at s.removed s.added) (Rest s xs ys))
+  Means s xs ys = Goes Forward 0 s.out (λ p. EditStep Forward p (edit s.at s.removed s.added) (Rest s xs ys))
 
   pub means_first : (e : Entry) (s : State) (xs ys : List Entry) → length s.first_left ≡ 0 → s.first_end ≤ e.at → e.at - s.first_end ≤ length s.second_left → Alike (Means s (e ∷ xs) ys) (Means (with_first e s) xs ys)
   means_first e s xs ys z later within =
       let none = nil_from_length s.first_left z in
       let d = e.at - s.first_end in
       let p = passes_first la lb e xs s.second_left s.first_end s.second_end ys later within in
-      goes_alike 0 s.out (λ p. Step false p (edit s.at s.removed s.added) (Rest s (e ∷ xs) ys)) (λ p. Step false p (edit s.at (s.removed ++ take d s.second_left ++ e.removed) s.added) (Rest (with_first e s) xs ys))
-      (rw (none, append_assoc) (subst (λ (n : List ℕ). Alike (Step false (end_of 0 s.out) (edit s.at s.removed s.added) (Both la lb [] s.first_end (e ∷ xs) s.second_left s.second_end ys)) (Step false (end_of 0 s.out) (edit s.at (s.removed ++ (take d s.second_left ++ e.removed)) n) (Rest (with_first e s) xs ys))) (append-nil s.added)
+      goes_alike 0 s.out (λ p. EditStep Forward p (edit s.at s.removed s.added) (Rest s (e ∷ xs) ys)) (λ p. EditStep Forward p (edit s.at (s.removed ++ take d s.second_left ++ e.removed) s.added) (Rest (with_first e s) xs ys))
+      (rw (none, append_assoc) (subst (λ (n : List ℕ). Alike (EditStep Forward (end_of 0 s.out) (edit s.at s.removed s.added) (Both la lb [] s.first_end (e ∷ xs) s.second_left s.second_end ys)) (EditStep Forward (end_of 0 s.out) (edit s.at (s.removed ++ (take d s.second_left ++ e.removed)) n) (Rest (with_first e s) xs ys))) (append-nil s.added)
       (step_moved (end_of 0 s.out) s.at s.removed s.added (take d s.second_left ++ e.removed) [] _ _ p)))
 
   pub means_second : (e : Entry) (s : State) (xs ys : List Entry) → length s.second_left ≡ 0 → s.second_end ≤ e.at → e.at - s.second_end ≤ length s.first_left → Alike (Means s xs (e ∷ ys)) (Means (with_second e s) xs ys)
@@ -148,8 +149,8 @@ module _ (la lb : ℕ) where
       let none = nil_from_length s.second_left z in
       let d = e.at - s.second_end in
       let p = passes_second la lb e ys s.first_left s.first_end s.second_end xs later within in
-      goes_alike 0 s.out (λ p. Step false p (edit s.at s.removed s.added) (Rest s xs (e ∷ ys))) (λ p. Step false p (edit s.at s.removed (s.added ++ take d s.first_left ++ e.added)) (Rest (with_second e s) xs ys))
-      (rw (none, append_assoc) (subst (λ (n : List ℕ). Alike (Step false (end_of 0 s.out) (edit s.at s.removed s.added) (Both la lb s.first_left s.first_end xs [] s.second_end (e ∷ ys))) (Step false (end_of 0 s.out) (edit s.at n (s.added ++ (take d s.first_left ++ e.added))) (Rest (with_second e s) xs ys))) (append-nil s.removed)
+      goes_alike 0 s.out (λ p. EditStep Forward p (edit s.at s.removed s.added) (Rest s xs (e ∷ ys))) (λ p. EditStep Forward p (edit s.at s.removed (s.added ++ take d s.first_left ++ e.added)) (Rest (with_second e s) xs ys))
+      (rw (none, append_assoc) (subst (λ (n : List ℕ). Alike (EditStep Forward (end_of 0 s.out) (edit s.at s.removed s.added) (Both la lb s.first_left s.first_end xs [] s.second_end (e ∷ ys))) (EditStep Forward (end_of 0 s.out) (edit s.at n (s.added ++ (take d s.first_left ++ e.added))) (Rest (with_second e s) xs ys))) (append-nil s.removed)
       (step_moved (end_of 0 s.out) s.at s.removed s.added [] (take d s.first_left ++ e.added) _ _ p)))
 
   moved_none : (L : List ℕ → List ℕ → Type 0) (t v : List ℕ) → Moved [] [] L t v → L t v
@@ -169,7 +170,7 @@ module _ (la lb : ℕ) where
       let m = meeting s in
       let p : s.first_left ≡ take m s.first_left ++ drop m s.first_left = sym (take-append-drop m s.first_left) in
       let q : s.second_left ≡ take m s.first_left ++ drop m s.second_left = sym (take-append-drop m s.second_left) ∙ ap (λ (z : List ℕ). z ++ drop m s.second_left) (sym e) in
-      goes_alike 0 s.out (λ p. Step false p (edit s.at s.removed s.added) (Rest s xs ys)) (λ p. Step false p (edit s.at s.removed s.added) (Rest (met s) xs ys))
+      goes_alike 0 s.out (λ p. EditStep Forward p (edit s.at s.removed s.added) (Rest s xs ys)) (λ p. EditStep Forward p (edit s.at s.removed s.added) (Rest (met s) xs ys))
       (step_alike (end_of 0 s.out) (edit s.at s.removed s.added) (Rest s xs ys) (Rest (met s) xs ys) (met_alike (take m s.first_left) (drop m s.first_left) (drop m s.second_left) s.first_left s.second_left s.first_end xs s.second_end ys p q))
 
   -- bytes of one list that the other keeps
@@ -185,7 +186,7 @@ module _ (la lb : ℕ) where
       let l = length-append s.removed s.second_left in
       let moved = step_moved (end_of 0 s.out) s.at s.removed s.added s.second_left s.first_left (Rest s xs ys) (Rest (closed s) xs ys) (passes_left s.first_left s.second_left s.first_end xs s.second_end ys one p q) in
       alike_then _ _ _
-      (goes_alike 0 s.out (λ p. Step false p (edit s.at s.removed s.added) (Rest s xs ys)) (λ p. Step false p (edit s.at (s.removed ++ s.second_left) (s.added ++ s.first_left)) (Rest (closed s) xs ys)) moved)
+      (goes_alike 0 s.out (λ p. EditStep Forward p (edit s.at s.removed s.added) (Rest s xs ys)) (λ p. EditStep Forward p (edit s.at (s.removed ++ s.second_left) (s.added ++ s.first_left)) (Rest (closed s) xs ys)) moved)
       (put_alike s.out s.at (s.first_end + length s.second_left) (s.removed ++ s.second_left) (s.added ++ s.first_left) (Rest (closed s) xs ys) _ refl (omega arith))
 
   -- no edit is being made
@@ -195,10 +196,10 @@ module _ (la lb : ℕ) where
   pub means_skipped : (n : ℕ) (out : List Entry) (at af bf : ℕ) (xs ys : List Entry) → ArePlaced at 0 out → ArePlaced la (af + n) xs → ArePlaced lb (bf + n) ys
       → Alike (Means (empty_at out at af bf) xs ys) (Means (skipped n (empty_at out at af bf)) xs ys)
   means_skipped n out at af bf xs ys d p q =
-      goes_alike 0 out (λ p. Step false p (edit at [] []) (Both la lb [] af xs [] bf ys)) (λ p. Step false p (edit (at + n) [] []) (Both la lb [] (af + n) xs [] (bf + n) ys))
+      goes_alike 0 out (λ p. EditStep Forward p (edit at [] []) (Both la lb [] af xs [] bf ys)) (λ p. EditStep Forward p (edit (at + n) [] []) (Both la lb [] (af + n) xs [] (bf + n) ys))
       (step_skipped la lb (end_of 0 out) at n _ _ (end_within at 0 out d) (skips la lb n af bf xs ys p q))
 
-  ended : (p at af bf : ℕ) → p ≤ at → at ≡ af → af ≤ la → bf + la ≡ lb + af → Alike (Step false p (edit at [] []) (Both la lb [] af [] [] bf [])) (Ends la p)
+  ended : (p at af bf : ℕ) → p ≤ at → at ≡ af → af ≤ la → bf + la ≡ lb + af → Alike (EditStep Forward p (edit at [] []) (Both la lb [] af [] [] bf [])) (Ends la p)
   ended p at af bf le e within balance = record {
     go = λ t v g.
         let h = g.rest in
@@ -224,8 +225,8 @@ module _ (la lb : ℕ) where
         };
   }
 
-  pub means_end : (out : List Entry) (at af bf : ℕ) → ArePlaced at 0 out → at ≡ af → af ≤ la → bf + la ≡ lb + af → Alike (Means (empty_at out at af bf) [] []) (Goes false 0 out (Ends la))
-  means_end out at af bf d e within balance = goes_alike 0 out (λ p. Step false p (edit at [] []) (Both la lb [] af [] [] bf [])) (Ends la) (ended (end_of 0 out) at af bf (end_within at 0 out d) e within balance)
+  pub means_end : (out : List Entry) (at af bf : ℕ) → ArePlaced at 0 out → at ≡ af → af ≤ la → bf + la ≡ lb + af → Alike (Means (empty_at out at af bf) [] []) (Goes Forward 0 out (Ends la))
+  means_end out at af bf d e within balance = goes_alike 0 out (λ p. EditStep Forward p (edit at [] []) (Both la lb [] af [] [] bf [])) (Ends la) (ended (end_of 0 out) at af bf (end_within at 0 out d) e within balance)
 
   pub means_start : (xs ys : List Entry) → Alike (Both la lb [] 0 xs [] 0 ys) (Means (empty_at [] 0 0 0) xs ys)
   means_start xs ys = record {

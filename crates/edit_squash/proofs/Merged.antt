@@ -1,12 +1,13 @@
 -- The whole merge, step by step.
 use Rattle.std.proofs.Common.{◌≡◌, ℕ, ◌+◌, ◌-◌, ◌≤◌, ◌<◌, List, [], ◌∷◌, ◌++◌, length, take, drop, replicate, Bool, true, false, refl, arith, sym, ap, ◌∙◌, append_assoc, length-append, ◌⊎◌, inl, inr}
 use Rattle.std.proofs.lemmas.List.{append-nil, length-replicate, take_at, nil_from_length, length-take-le, length-drop, take-append-drop}
+use Rattle.edit_record.specs.declared.direction.Direction.TheVariants.{Forward}
 use Rattle.edit_record.specs.Pieces.{Entry, as_list}
 use Rattle.edit_record.specs.Made.{ArePlaced, AreEdits, new_len}
-use Rattle.edit_record.specs.Goes.{Step, Goes}
-use Rattle.edit_record.specs.Laws.{goes_from_turns, turns_from_goes}
-use Rattle.edit_squash.specs.Merge.{State, closed, meeting, met, readied, took, start, Sound, One, ReadyFor}
-use Rattle.edit_squash.specs.Squash.{CanFollow, Contradiction, IsSquash, front}
+use Rattle.edit_record.specs.Inner.Goes.{EditStep, Goes}
+use Rattle.edit_record.specs.Inner.Exact.{goes_from_turns, turns_from_goes}
+use Rattle.edit_squash.specs.Inner.Merge.{State, closed, meeting, met, readied, took, start, Sound, One, ReadyFor}
+use Rattle.edit_squash.specs.Squash.{CanFollow, Contradiction, IsSquash}
 use Rattle.edit_record.proofs.Placed.{placed_room}
 use Rattle.edit_record.proofs.Parts.{Ends, ends_from_same, same_from_ends, placed_earlier, placed_longer, fronts}
 use Rattle.edit_record.proofs.Pairs.{Both, Alike, alike_then}
@@ -72,11 +73,11 @@ module _ (la lb : ℕ) where
       let l0 = l.0 in let l1 = l.1 in
       let k = length-append s.first_left f.u in
       let rest : Rest la lb s xs [] f.t (s.first_left ++ f.u) = record { mid_first = f.u; mid_second = s.first_left ++ f.u; same = rw none refl; first = f.goes; second = (refl, omega arith) } in
-      let made : (p : ℕ) → p ≤ s.at → (t : List ℕ) × (v : List ℕ) × Step false p (edit s.at s.removed s.added) (Rest la lb s xs []) t v = λ p le.
+      let made : (p : ℕ) → p ≤ s.at → (t : List ℕ) × (v : List ℕ) × EditStep Forward p (edit s.at s.removed s.added) (Rest la lb s xs []) t v = λ p le.
       let kept = replicate (s.at - p) 0 in
       let kl : length kept ≡ s.at - p = length-replicate (s.at - p) 0 in
       (kept ++ (s.removed ++ f.t), kept ++ (s.added ++ (s.first_left ++ f.u)), record { kept = kept; t_rest = f.t; u_rest = s.first_left ++ f.u; gap = omega arith; t_is = refl; u_is = refl; rest = rest }) in
-      let w = some_goes s.at 0 s.out (λ p. Step false p (edit s.at s.removed s.added) (Rest la lb s xs [])) h.done made in
+      let w = some_goes s.at 0 s.out (λ p. EditStep Forward p (edit s.at s.removed s.added) (Rest la lb s xs [])) h.done made in
       (w.t, w.u, w.goes)
 
   took_first : (a b : List Entry) (s s' : State) (xs ys : List Entry) → Kept a b s xs ys → Readied la lb s (true, s') xs ys → GroupedReady la lb a b (true, s') xs ys → (q : State × List Entry × List Entry) → q ≡ took true s' xs ys → Kept a b q.0 q.1 q.2 × (length q.1 + length q.2 < length xs + length ys)
@@ -152,7 +153,7 @@ module _ (la lb : ℕ) where
 
   -- ---- bytes that differ
 
-  goes_last : (from : ℕ) (es : List Entry) (K : ℕ → List ℕ → List ℕ → Type 0) (t v : List ℕ) → Goes false from es K t v → (p : ℕ) × (x : List ℕ) × (y : List ℕ) × K p x y
+  goes_last : (from : ℕ) (es : List Entry) (K : ℕ → List ℕ → List ℕ → Type 0) (t v : List ℕ) → Goes Forward from es K t v → (p : ℕ) × (x : List ℕ) × (y : List ℕ) × K p x y
   goes_last from [] K t v g = (from, t, v, g)
   goes_last from (e ∷ es) K t v g = goes_last (e.at + length e.removed) es K g.t_rest g.u_rest g.rest
 
@@ -167,7 +168,7 @@ module _ (la lb : ℕ) where
 
   none_goes : (s : State) (xs ys : List Entry) (t v : List ℕ) → (take (meeting s) s.first_left ≡ take (meeting s) s.second_left → ⊥) → Means la lb s xs ys t v → ⊥
   none_goes s xs ys t v differ h =
-      let g = goes_last 0 s.out (λ p. Step false p (edit s.at s.removed s.added) (Rest la lb s xs ys)) t v h in
+      let g = goes_last 0 s.out (λ p. EditStep Forward p (edit s.at s.removed s.added) (Rest la lb s xs ys)) t v h in
       differ (both_meet s xs ys g.3.t_rest g.3.u_rest g.3.rest)
 
   take_front : (front ys : List Entry) (n : ℕ) → length front ≡ n → take n (front ++ ys) ≡ front
@@ -225,7 +226,7 @@ module _ (la lb : ℕ) where
       let p : s.first_end ≤ la = h.first_placed in let q : s.second_end ≤ lb = h.second_placed in let b = h.balance in
       (omega arith, omega arith)
 
-  squashes : (a b c : List Entry) (s : State) → Progress a b s [] [] → c ≡ (closed s).out → Alike (Both la lb [] 0 a [] 0 b) (Goes false 0 c (Ends la))
+  squashes : (a b c : List Entry) (s : State) → Progress a b s [] [] → c ≡ (closed s).out → Alike (Both la lb [] 0 a [] 0 b) (Goes Forward 0 c (Ends la))
   squashes a b c s p e =
       let k = p.kept in
       let n = at_end s k.sound p.one in

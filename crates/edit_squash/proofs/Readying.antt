@@ -4,7 +4,7 @@ use Rattle.std.specs.Prelude.{◌==◌}
 use Rattle.std.proofs.lemmas.Bool.{leb-true, leb-false, eqb-true, and_parts}
 use Rattle.edit_record.specs.Pieces.{Entry}
 use Rattle.edit_record.specs.Made.{ArePlaced}
-use Rattle.edit_squash.specs.Merge.{State, closed, skipped, reaches, gap, joins_first, joins_second, first_is_next, opened, readied, Sound, One, TakesFirst, TakesSecond, Takes}
+use Rattle.edit_squash.specs.Inner.Merge.{State, closed, skipped, reaches, gap, joins_first, joins_second, first_is_next, opened, readied, Sound, One, TakesFirst, TakesSecond, Takes}
 use Rattle.edit_record.proofs.Placed.{placed_room}
 use Rattle.edit_record.proofs.Parts.{placed_earlier}
 use Rattle.edit_record.proofs.Pairs.{Alike, alike_then}

@@ -10,8 +10,8 @@ use Rattle.std.proofs.lemmas.List.Elements.{All-nil, All-cons, All-push, All-wea
 use Rattle.std.proofs.lemmas.List.Quantifiers.{Any-push}
 use Rattle.edit_record.specs.Pieces.{Entry, as_list}
 use Rattle.edit_record.specs.Made.{ArePlaced}
-use Rattle.edit_squash.specs.Merge.{State, put, closed, skipped, with_first, with_second, meeting, met, reaches, gap, joins_first, joins_second, first_is_next, opened, readied, start, Sound, One}
-use Rattle.edit_squash.specs.Shape.{Span, past, added_spans, removed_spans, Linked, Joined, first_alone, second_alone, first_joins, second_joins, Group, firsts_of, seconds_of, Apart, Covers, Extent, extent_of, IsEditOf, put_first, Become, HasShape}
+use Rattle.edit_squash.specs.Inner.Merge.{State, put, closed, skipped, with_first, with_second, meeting, met, reaches, gap, joins_first, joins_second, first_is_next, opened, readied, start, Sound, One}
+use Rattle.edit_squash.specs.Shape.{Span, past, added_spans, removed_spans, Linked, Connected, first_alone, second_alone, first_connects, second_connects, Group, firsts_of, seconds_of, Apart, Covers, Extent, extent_of, IsEditOf, put_first, Become, HasShape}
 use Rattle.edit_squash.proofs.Soundness.{apart_first}
 
 -- ---- places in the text between
@@ -34,7 +34,7 @@ become_moved n old mid (g ∷ gs) es h =
     let at = i.at_is in
     let order = i.in_order in
     record {
-      joined = h.joined;
+      connected = h.connected;
       apart = h.apart;
       from = h.from;
       to = h.to;
@@ -92,7 +92,7 @@ pub record Grouped (a b : List Entry) (s : State) (xs ys : List Entry) : Type 0 
   pub within_seconds : All (Within begin s.second_end) seconds
   pub has_first : Has s.has_first firsts mid (length s.first_left)
   pub has_second : Has s.has_second seconds s.second_end (length s.second_left)
-  pub made : (s.has_first ≡ true) ⊎ (s.has_second ≡ true) → Joined firsts seconds × BeginsAt firsts seconds begin
+  pub made : (s.has_first ≡ true) ⊎ (s.has_second ≡ true) → Connected firsts seconds × BeginsAt firsts seconds begin
   pub none : s.has_first ≡ false → s.has_second ≡ false → (length s.removed ≡ 0) × (length s.added ≡ 0)
 
 -- no edit is being made, or there is one of the other list to link to
@@ -129,14 +129,14 @@ module _ (la lb : ℕ) (a b : List Entry) where
   -- ---- an edit is taken
 
   made_first : (s : State) (e : Entry) (xs ys : List Entry) (g : Grouped a b s (e ∷ xs) ys) → Sound la lb s (e ∷ xs) ys → length s.first_left ≡ 0 → e.at - s.first_end ≤ length s.second_left → Linkable true s
-      → (x : Span) → x ≡ record { from = g.mid + (e.at - s.first_end); len = length e.added; other = length e.removed } → Joined (g.firsts ++ x ∷ []) g.seconds × BeginsAt (g.firsts ++ x ∷ []) g.seconds g.begin
+      → (x : Span) → x ≡ record { from = g.mid + (e.at - s.first_end); len = length e.added; other = length e.removed } → Connected (g.firsts ++ x ∷ []) g.seconds × BeginsAt (g.firsts ++ x ∷ []) g.seconds g.begin
   made_first s e xs ys g h z w (inl t) x x_is =
       let m = g.made (inr t) in
       let n = has_true s.has_second g.seconds s.second_end (length s.second_left) t g.has_second in
       let mid_is = g.mid_is in let ends = n.ends in let left = n.has_left in
       let from : x.from ≡ g.mid + (e.at - s.first_end) = ap (λ (y : Span). y.from) x_is in
       let linked : Linked x n.last = record { one_way = omega arith; other_way = omega arith } in
-      (first_joins g.firsts g.seconds x m.0 (any_last (λ y. Linked x y) g.seconds n.front n.last n.whole linked), more_first g.firsts g.seconds x g.begin m.1)
+      (first_connects g.firsts g.seconds x m.0 (any_last (λ y. Linked x y) g.seconds n.front n.last n.whole linked), more_first g.firsts g.seconds x g.begin m.1)
   made_first s e xs ys g h z w (inr f) x x_is =
       let p = has_false s.has_first g.firsts g.mid (length s.first_left) f.0 g.has_first in
       let q = has_false s.has_second g.seconds s.second_end (length s.second_left) f.1 g.has_second in
@@ -183,7 +183,7 @@ module _ (la lb : ℕ) (a b : List Entry) where
       }
 
   made_second : (s : State) (e : Entry) (xs ys : List Entry) (g : Grouped a b s xs (e ∷ ys)) → Sound la lb s xs (e ∷ ys) → length s.second_left ≡ 0 → e.at - s.second_end ≤ length s.first_left → Linkable false s
-      → (y : Span) → y ≡ record { from = e.at; len = length e.removed; other = length e.added } → Joined g.firsts (g.seconds ++ y ∷ []) × BeginsAt g.firsts (g.seconds ++ y ∷ []) g.begin
+      → (y : Span) → y ≡ record { from = e.at; len = length e.removed; other = length e.added } → Connected g.firsts (g.seconds ++ y ∷ []) × BeginsAt g.firsts (g.seconds ++ y ∷ []) g.begin
   made_second s e xs ys g h z w (inl t) y y_is =
       let m = g.made (inl t) in
       let n = has_true s.has_first g.firsts g.mid (length s.first_left) t g.has_first in
@@ -191,7 +191,7 @@ module _ (la lb : ℕ) (a b : List Entry) where
       let mid_is = g.mid_is in let ends = n.ends in let left = n.has_left in
       let from : y.from ≡ e.at = ap (λ (x : Span). x.from) y_is in
       let linked : Linked n.last y = record { one_way = omega arith; other_way = omega arith } in
-      (second_joins g.firsts g.seconds y m.0 (any_last (λ x. Linked x y) g.firsts n.front n.last n.whole linked), more_second g.firsts g.seconds y g.begin m.1)
+      (second_connects g.firsts g.seconds y m.0 (any_last (λ x. Linked x y) g.firsts n.front n.last n.whole linked), more_second g.firsts g.seconds y g.begin m.1)
   made_second s e xs ys g h z w (inr f) y y_is =
       let p = has_false s.has_first g.firsts g.mid (length s.first_left) f.0 g.has_first in
       let q = has_false s.has_second g.seconds s.second_end (length s.second_left) f.1 g.has_second in
@@ -431,7 +431,7 @@ module _ (la lb : ℕ) (a b : List Entry) where
             let apart : Apart group (firsts_of tail) (seconds_of tail) = record { from_seconds = rw q' away_seconds; from_firsts = rw p' away_firsts } in
             become_lists ((g.groups ++ group ∷ []) ++ tail) (g.groups ++ (group ∷ tail)) (map extent_of (put s.out edit) ++ es) (map extent_of s.out ++ put_first (extent_of edit) es) (append_assoc g.groups (group ∷ []) tail) (put_extents s.out edit es ((length edit.removed == 0) && (length edit.added == 0)))
             (g.shape (group ∷ tail) (put_first (extent_of edit) es) (ap (λ (y : List Span). g.firsts ++ y) p') (ap (λ (y : List Span). g.seconds ++ y) q')
-            (record { joined = (g.made some).0; apart = apart; from = g.begin; to = to; edit = extent_of edit; edit_is = is_edit; later = es; edits_are = refl; rest = behind }));
+            (record { connected = (g.made some).0; apart = apart; from = g.begin; to = to; edit = extent_of edit; edit_is = is_edit; later = es; edits_are = refl; rest = behind }));
         removed_is = omega arith;
         added_is = omega arith;
         begin_first = omega arith;

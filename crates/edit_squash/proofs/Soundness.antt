@@ -5,7 +5,7 @@ use Rattle.std.proofs.lemmas.List.{length-drop, length-take-le}
 use Rattle.std.specs.Prelude.{◌==◌}
 use Rattle.edit_record.specs.Pieces.{Entry}
 use Rattle.edit_record.specs.Made.{ArePlaced}
-use Rattle.edit_squash.specs.Merge.{State, closed, skipped, with_first, with_second, meeting, met, joins_first, joins_second, Sound, One}
+use Rattle.edit_squash.specs.Inner.Merge.{State, closed, skipped, with_first, with_second, meeting, met, joins_first, joins_second, Sound, One}
 use Rattle.edit_record.proofs.Placed.{placed_room}
 use Rattle.edit_record.proofs.Parts.{placed_longer, placed_push}
 

@@ -1,5 +1,4 @@
-pub mod Merge
-pub mod MergeState
 pub mod Shape
 pub mod Squash
 pub mod Grouping
+pub mod Inner

@@ -32,11 +32,11 @@ pub record Linked (x y : Span) : Type 0 where
 
 -- edits of the first list and edits of the second that are linked, directly or through others: from one edit on, each
 -- is linked to one of the other list that is already there
-pub data Joined : List Span → List Span → Type 0 where
-  first_alone : (x : Span) → Joined (x ∷ []) []
-  second_alone : (y : Span) → Joined [] (y ∷ [])
-  first_joins : (xs ys : List Span) (x : Span) → Joined xs ys → Any (λ y. Linked x y) ys → Joined (xs ++ x ∷ []) ys
-  second_joins : (xs ys : List Span) (y : Span) → Joined xs ys → Any (λ x. Linked x y) xs → Joined xs (ys ++ y ∷ [])
+pub data Connected : List Span → List Span → Type 0 where
+  first_alone : (x : Span) → Connected (x ∷ []) []
+  second_alone : (y : Span) → Connected [] (y ∷ [])
+  first_connects : (xs ys : List Span) (x : Span) → Connected xs ys → Any (λ y. Linked x y) ys → Connected (xs ++ x ∷ []) ys
+  second_connects : (xs ys : List Span) (y : Span) → Connected xs ys → Any (λ x. Linked x y) xs → Connected xs (ys ++ y ∷ [])
 
 -- edits that become one
 pub record Group : Type 0 where
@@ -51,8 +51,8 @@ seconds_of = flat_map (λ g. g.seconds)
 
 -- no edit of the group is linked to one of these
 pub record Apart (g : Group) (firsts seconds : List Span) : Type 0 where
-  pub from_seconds : All (λ x. All (λ y. Linked x y → ⊥) seconds) g.firsts
-  pub from_firsts : All (λ y. All (λ x. Linked x y → ⊥) firsts) g.seconds
+  pub from_seconds : All (λ x. All (λ y. ¬ (Linked x y)) seconds) g.firsts
+  pub from_firsts : All (λ y. All (λ x. ¬ (Linked x y)) firsts) g.seconds
 
 -- the bytes of the text between from the first edit of the group to the end of its last
 pub record Covers (g : Group) (from to : ℕ) : Type 0 where
@@ -86,7 +86,7 @@ put_first e es = if (e.removed == 0) && (e.added == 0) then es else e ∷ es
 
 -- The first group becomes one edit, and no edit of it is linked to one of the later groups; K holds behind it.
 pub record BecomesOne (old mid : ℕ) (g : Group) (gs : List Group) (K : ℕ → ℕ → List Extent → Type 0) (edits : List Extent) : Type 0 where
-  pub joined : Joined g.firsts g.seconds
+  pub connected : Connected g.firsts g.seconds
   pub apart : Apart g (firsts_of gs) (seconds_of gs)
   pub from : ℕ
   pub to : ℕ

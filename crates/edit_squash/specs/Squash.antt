@@ -1,9 +1,7 @@
 -- One list of edits in the place of two, the second of which goes on from the first.
 use Rattle.std.specs.Prelude.{◌≡◌, ◌≢◌, ◌↔◌, ℕ, ◌+◌, ◌<◌, List, length, take, Result, Ok, Err}
-use Rattle.std.specs.Global.{Vec}
-use Rattle.edit_record.specs.declared.edit.Edit.{Edit}
-use Rattle.edit_record.specs.Pieces.{EditList, Turns, as_list, entries}
-use Rattle.edit_record.specs.Made.{AreEdits, new_len}
+use Rattle.edit_record.specs.Pieces.{EditList, Turns}
+use Rattle.edit_record.specs.Made.{new_len}
 use Rattle.edit_squash.specs.Shape.{HasShape}
 use Rattle.edit_squash.specs.declared.squashing.Unmet.{Unmet}
 use Rattle.edit_squash.specs.declared.squashing.Unmet.TheVariants.{LengthsDiffer, Contradicts, Memory}
@@ -17,15 +15,15 @@ abbrev pub TurnsAlike : EditList → EditList → EditList → Type 0
 TurnsAlike c a b = (t v : List ℕ) → Turns c t v ↔ ((u : List ℕ) × Turns a t u × Turns b u v)
 
 -- the first edits of a list
-abbrev pub front : ℕ → EditList → EditList
-front k b = record { old_len = b.old_len; entries = take k b.entries }
+abbrev pub first_edits : ℕ → EditList → EditList
+first_edits k b = record { old_len = b.old_len; entries = take k b.entries }
 
 -- the edits of b before this one can follow a, with it none can: it is the lowest that contradicts
 pub record Contradiction (a b : EditList) (edit : ℕ) : Type 0 where
   pub there : edit < length b.entries
-  pub before : CanFollow a (front edit b)
-  pub with_it : CanFollow a (front (edit + 1) b) → ⊥
-  pub none : CanFollow a b → ⊥
+  pub before : CanFollow a (first_edits edit b)
+  pub with_it : ¬ (CanFollow a (first_edits (edit + 1) b))
+  pub none : ¬ (CanFollow a b)
 
 -- c is the one list in the place of a and b
 pub record IsSquash (a b c : EditList) : Type 0 where
@@ -35,16 +33,9 @@ pub record IsSquash (a b c : EditList) : Type 0 where
   pub alike : TurnsAlike c a b
   pub shape : HasShape a b c
 
--- what squash answers
+-- what squash answers; a refused growth is told only of lists whose lengths follow, since no memory is taken before that
 abbrev pub Squashes : EditList → EditList → Result EditList Unmet → Type 0
 Squashes a b (Ok c) = IsSquash a b c
 Squashes a b (Err LengthsDiffer) = new_len a ≢ b.old_len
 Squashes a b (Err (Contradicts edit)) = (new_len a ≡ b.old_len) × Contradiction a b edit
-Squashes a b (Err Memory) = Unit {0}
-
--- what the merge answers, where the lengths follow: the same, and that the edits are a list of edits
-abbrev pub Merges : EditList → EditList → Result (Vec Edit) Unmet → Type 0
-Merges a b (Ok c) = AreEdits a.old_len (new_len b) (entries c.items) × IsSquash a b (as_list a.old_len (entries c.items))
-Merges a b (Err LengthsDiffer) = ⊥
-Merges a b (Err (Contradicts edit)) = Contradiction a b edit
-Merges a b (Err Memory) = Unit {0}
+Squashes a b (Err Memory) = new_len a ≡ b.old_len

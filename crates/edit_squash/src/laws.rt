@@ -19,6 +19,6 @@ pub fn squash_associates(a: &Edits, b: &Edits, c: &Edits)
 
 /// A list and any others that go on from it, squashed from the first on, become one list at most. It turns exactly
 /// the texts that go by all of them.
-pub fn squash_all_is_one(first: &Edits)
-    ensures { (others : List EditList) → SquashAsOne first.now others }
+pub fn squash_all_is_one()
+    ensures { (first : EditList) (others : List EditList) → SquashAsOne first others }
 {}

@@ -1,8 +1,8 @@
 //! Two lists of edits on the way to one: the state between two steps, and the steps.
 ghost use Rattle.std.specs.Prelude.{◌≡◌, ◌↔◌, ◌+◌, ◌-◌, ◌^◌, ◌<◌, ◌≤◌, length, take, IfOk, OnOk, IsTrue};
 ghost use Rattle.edit_record.specs.Pieces.{entry, entries};
-ghost use Rattle.edit_squash.specs.Merge.{closed, skipped, with_first, with_second, meeting, met, reaches, gap, Begins, Ready, readied, opened, joins_first, joins_second, first_is_next, took, ReadyFor, start};
-ghost use Rattle.edit_squash.specs.MergeState.{state};
+ghost use Rattle.edit_squash.specs.Inner.Merge.{closed, skipped, with_first, with_second, meeting, met, reaches, gap, Begins, Ready, readied, opened, joins_first, joins_second, first_is_next, took, ReadyFor, start};
+ghost use Rattle.edit_squash.specs.Inner.MergeState.{state};
 
 use edit_record::Edit;
 use std::alloc::{AllocError, Global};

@@ -1,6 +1,7 @@
 ghost use Rattle.std.specs.Prelude.{◌≡◌, ◌↔◌, ◌+◌, ◌<◌, length, IsTrue};
 ghost use Rattle.edit_record.specs.Made.{new_len};
-ghost use Rattle.edit_squash.specs.Squash.{Merges, Squashes};
+ghost use Rattle.edit_squash.specs.Inner.Merging.{Merges};
+ghost use Rattle.edit_squash.specs.Squash.{Squashes};
 ghost use Rattle.edit_squash.specs.declared.squashing.Unmet.TheVariants.{Memory};
 
 use crate::merge::Merge;

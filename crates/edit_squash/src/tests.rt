@@ -1,5 +1,6 @@
+use super::laws::*;
 use super::*;
-use edit_record::{Edit, Edits};
+use edit_record::{Change, Edit, Edits, Journal, Record, Word};
 use std::alloc::Global;
 use std::process::Abort;
 use std::test::*;
@@ -124,9 +125,87 @@ fn three_lists_squash_in_both_groupings(rt: HostRuntime) -> Result<(), Fail> {
     let right = squash(alloc, &a, &squash(alloc, &b, &c)?)?;
     squash_is_one(&a, &b);
     squash_associates(&a, &b, &c);
-    squash_all_is_one(&a);
+    squash_all_is_one();
     assert!(rt; are_same(&left, &edits_of(alloc, 9, "1;; |2;; |3; // x;|")?));
     assert!(rt; are_same(&right, &left));
+    Ok(())
+}
+
+/// So many edits, each so many bytes behind the one before.
+fn spread(
+    alloc: Global,
+    times: usize,
+    apart: usize,
+    removed: &str,
+    added: &str,
+) -> Result<Vec<Edit>, Fail> {
+    let mut edits = Vec::new(alloc);
+    let mut at = 0usize;
+    for _ in 0..times {
+        edits.push(Edit {
+            at,
+            removed: Vec::from_slice(alloc, removed.as_bytes())?,
+            added: Vec::from_slice(alloc, added.as_bytes())?,
+        })?;
+        at = at.saturating_add(apart);
+    }
+    Ok(edits)
+}
+
+fn repeated(alloc: Global, times: usize, piece: &str) -> Result<Vec<u8>, Fail> {
+    let mut text = Vec::new(alloc);
+    for _ in 0..times {
+        text.extend_from_slice(piece.as_bytes())?;
+    }
+    Ok(text)
+}
+
+/// The edits turn so many times the one piece into so many times the other, and back.
+fn turns(alloc: Global, edits: &Edits, times: usize, old: &str, new: &str) -> Result<bool, Fail> {
+    let old = repeated(alloc, times, old)?;
+    let new = repeated(alloc, times, new)?;
+    let forward = edits.apply(alloc, &old)?;
+    let back = edits.undo(alloc, &new)?;
+    Ok(forward.as_slice() == new.as_slice() && back.as_slice() == old.as_slice())
+}
+
+#[test]
+fn ten_thousand_edits_become_ten_thousand(rt: HostRuntime) -> Result<(), Fail> {
+    let alloc = rt.alloc();
+    let first = Edits::make(30_000, spread(alloc, 10_000, 3, "a", "xy")?)?;
+    let second = Edits::make(40_000, spread(alloc, 10_000, 4, "xy", "z")?)?;
+    let squashed = squash(alloc, &first, &second)?;
+    let want = Edits::make(30_000, spread(alloc, 10_000, 3, "a", "z")?)?;
+    assert!(rt; are_same(&squashed, &want));
+    assert!(rt; turns(alloc, &squashed, 10_000, "abc", "zbc")?);
+    Ok(())
+}
+
+/// Each record turns one more `ab` into `xyb`, from the front on.
+fn two_hundred_records(alloc: Global) -> Result<Journal, Fail> {
+    let mut journal = Journal::empty(alloc);
+    for i in 0..200 {
+        let mut edit = Vec::new(alloc);
+        edit.push(Edit {
+            at: 3 * i,
+            removed: Vec::from_slice(alloc, b"a")?,
+            added: Vec::from_slice(alloc, b"xy")?,
+        })?;
+        journal.push(Record::make(Word::Fix, Edits::make(400 + i, edit)?))?;
+    }
+    Ok(journal)
+}
+
+#[test]
+fn the_records_of_a_journal_become_one(rt: HostRuntime) -> Result<(), Fail> {
+    let alloc = rt.alloc();
+    let journal = two_hundred_records(alloc)?;
+    let mut one = edits_of(alloc, 400, "")?;
+    for record in journal.records() {
+        one = squash(alloc, &one, record.edits())?;
+    }
+    assert!(rt; are_same(&one, &Edits::make(400, spread(alloc, 200, 2, "a", "xy")?)?));
+    assert!(rt; turns(alloc, &one, 200, "ab", "xyb")?);
     Ok(())
 }
 

@@ -10,18 +10,18 @@ use Rattle.std.specs.Str.{chars}
 use Rattle.unicode_ident.proofs.IdentLemmas.{is_xid_start-ascii, is_xid_continue-ascii}
 use Rattle.hcl_token.specs.declared.kind.Kind.{Kind}
 use Rattle.hcl_token.specs.declared.kind.Kind.TheVariants.{LineEnd, LineComment, Identifier, Number, DotIndex, Minus, Less, LessEqual, Greater, Bang, Equal, Colon, Dot, Ellipsis, HereOpen, SeqClose, QuoteClose, InterpOpen, DirectiveOpen, QuoteLit, HereClose, HereLit}
-use Rattle.hcl_token.specs.Tokens.{Pair, joining}
+use Rattle.hcl_token.specs.Tokens.{Pair, whole_text}
 use Rattle.hcl_token.specs.Joins.{begins_with, is_digits, after_identifier, after_dot_index, after_dot, joins_with}
 use Rattle.hcl_scan.specs.Characters.{is_blank, is_sigil, sigil_length, starts}
 use Rattle.hcl_scan.specs.Modes.{Mode, mode_of, is_literal, after}
 use Rattle.hcl_scan.specs.Modes.Mode.{Expression, Sequence, Braces, Quoted, Heredoc}
-use Rattle.hcl_scan.specs.Markers.{HaveMarkers}
+use Rattle.hcl_scan.proofs.OpenMarkers.{HaveMarkers}
 use Rattle.hcl_scan.specs.Runs.{line_behind}
 use Rattle.hcl_scan.specs.Closing.{is_closing, here_unit}
 use Rattle.hcl_scan.specs.Lexeme.{stands_in, comment_unit, quote_unit, IsIdentifier, Spells, IsLexeme}
 use Rattle.hcl_scan.specs.Cut.{IsGap}
-use Rattle.hcl_scan.specs.HereNext.{here_open}
-use Rattle.hcl_scan.specs.Next.{begins_word, continue_length, fraction_length, is_exponent_letter}
+use Rattle.hcl_scan.specs.Inner.HereNext.{here_open}
+use Rattle.hcl_scan.specs.Inner.Next.{begins_word, continue_length, fraction_length, is_exponent_letter}
 use Rattle.hcl_scan.specs.Follows.{Behind, EndsLine, IsApart}
 use Rattle.hcl_scan.proofs.BeatsNumbers.{head_of}
 use Rattle.hcl_scan.proofs.BeatsPlain.{spelt, not_quoted, not_heredoc}
@@ -35,12 +35,12 @@ use Rattle.hcl_scan.proofs.Ends.{IsNot, Ends}
 -- tokens of this mode and those behind, as far as the first token tells
 abbrev pub Rest : Mode → List Pair → List ℕ → Type 0
 Rest mode [] last = (list_all is_blank last ≡ true) × (is_literal mode ≡ false)
-Rest mode (q ∷ qs) last = IsGap mode q.gap × IsLexeme mode q.kind q.spelling (joining qs last)
+Rest mode (q ∷ qs) last = IsGap mode q.gap × IsLexeme mode q.kind q.spelling (whole_text qs last)
 
 -- what stands behind the first token does not go on with it
 abbrev pub NextEnds : Mode → List Pair → List ℕ → Type 0
 NextEnds mode [] last = Unit {0}
-NextEnds mode (q ∷ qs) last = Ends mode q.kind q.spelling (joining qs last)
+NextEnds mode (q ∷ qs) last = Ends mode q.kind q.spelling (whole_text qs last)
 
 -- of the first token, where no gap stands before it
 abbrev Next : (Kind → List ℕ → Type 0) → List Pair → Type 0
@@ -64,12 +64,12 @@ gap_passes p h (b ∷ gap) t all none = blank_passes p h b (and_parts (is_blank 
 
 -- the byte behind a token: a blank, the end of the text, or the first byte of the token behind it
 byte_behind : (p : ℕ → Bool) (mode : Mode) → is_literal mode ≡ false → PassesBlanks p → (ps : List Pair) (last : List ℕ) → Rest mode ps last
-    → Next (λ kind s. HeadIs kind (slice_index s 0) → p (slice_index s 0) ≡ true) ps → p (slice_index (joining ps last) 0) ≡ true
+    → Next (λ kind s. HeadIs kind (slice_index s 0) → p (slice_index s 0) ≡ true) ps → p (slice_index (whole_text ps last) 0) ≡ true
 byte_behind p mode plain h [] last rest next = blanks_pass p h last rest.0
 byte_behind p mode plain h (q ∷ qs) last rest next =
-    let begins = begins_so mode q.kind q.spelling (joining qs last) plain rest.1.0 rest.1.1 in
-    gap_passes p h q.gap (q.spelling ++ joining qs last) rest.0.0
-    (λ e. ap p (head_of q.spelling (joining qs last) begins.0) ∙ next e begins.1)
+    let begins = begins_so mode q.kind q.spelling (whole_text qs last) plain rest.1.0 rest.1.1 in
+    gap_passes p h q.gap (q.spelling ++ whole_text qs last) rest.0.0
+    (λ e. ap p (head_of q.spelling (whole_text qs last) begins.0) ∙ next e begins.1)
 
 -- ---- a byte that the next token does not begin with
 
@@ -89,17 +89,17 @@ next_of Holds kind s (q ∷ qs) apart each = λ e. each q.kind q.spelling (apart
 
 module _ (mode : Mode) (plain : is_literal mode ≡ false) (kind : Kind) (s : List ℕ) (ps : List Pair) (last : List ℕ) (apart : IsApart kind s ps) (rest : Rest mode ps last) where
   -- where tokens that begin with the byte join
-  no_byte : (x : ℕ) → PassesBlanks (is_not x) → ((k : Kind) (t : List ℕ) → joins_with kind s k t ≡ false → begins_with x t ≡ false) → IsNot x (joining ps last)
+  no_byte : (x : ℕ) → PassesBlanks (is_not x) → ((k : Kind) (t : List ℕ) → joins_with kind s k t ≡ false → begins_with x t ≡ false) → IsNot x (whole_text ps last)
   no_byte x h each =
-      not_at x (joining ps last)
+      not_at x (whole_text ps last)
       (byte_behind (is_not x) mode plain h ps last rest (next_of _ kind s ps apart (λ k t j _. begins_other x t h.0 (each k t j))))
 
   -- where tokens that begin with such a byte join
-  no_such : (p : ℕ → Bool) → PassesBlanks p → ((k : Kind) (t : List ℕ) → joins_with kind s k t ≡ false → HeadIs k (slice_index t 0) → p (slice_index t 0) ≡ true) → p (slice_index (joining ps last) 0) ≡ true
+  no_such : (p : ℕ → Bool) → PassesBlanks p → ((k : Kind) (t : List ℕ) → joins_with kind s k t ≡ false → HeadIs k (slice_index t 0) → p (slice_index t 0) ≡ true) → p (slice_index (whole_text ps last) 0) ≡ true
   no_such p h each = byte_behind p mode plain h ps last rest (next_of _ kind s ps apart each)
 
-joined : (P : Type 0) → true ≡ false → P
-joined P h = absurd (false≢true (sym h))
+text_is : (P : Type 0) → true ≡ false → P
+text_is P h = absurd (false≢true (sym h))
 
 -- ---- identifiers
 
@@ -115,9 +115,9 @@ no_word (b ∷ t) h =
     no_continue b t ascii (rw (is_xid_continue-ascii b ascii) (not-true (is_ascii_alphanumeric b || b == 95 || b == 45) both.1))
 
 word_next : (k : Kind) → after_identifier k ≡ false → Passes stops_word k
-word_next Identifier j = joined _ j
-word_next Number j = joined _ j
-word_next Minus j = joined _ j
+word_next Identifier j = text_is _ j
+word_next Number j = text_is _ j
+word_next Minus j = text_is _ j
 word_next k j = refl
 
 -- ---- numbers and legacy indices
@@ -126,7 +126,7 @@ abbrev stops_number : ℕ → Bool
 stops_number b = not (is_ascii_digit b) && not (is_exponent_letter b)
 
 number_next : (s : List ℕ) (k : Kind) (t : List ℕ) → joins_with Number s k t ≡ false → HeadIs k (slice_index t 0) → stops_number (slice_index t 0) ≡ true
-number_next s Number t j h = joined _ j
+number_next s Number t j h = text_is _ j
 number_next s Identifier [] j h = refl
 number_next s Identifier (b ∷ t) j h =
     let both = or_parts (b == 101) (b == 69) j in
@@ -141,7 +141,7 @@ word_no_point b h = grind (arith, nat_tests)
 
 behind_digits : (mode : Mode) (s : List ℕ) → is_digits s ≡ true → (k : Kind) (t more : List ℕ) → joins_with Number s k t ≡ false → 0 < length t → HeadIs k (slice_index t 0)
     → Spells mode k t more → Ends mode k t more → fraction_length (t ++ more) ≡ 0
-behind_digits mode s digits Number t more j some h spells ends = joined _ j
+behind_digits mode s digits Number t more j some h spells ends = text_is _ j
 behind_digits mode s digits DotIndex t more j some h spells ends = absurd (both_ways _ j digits)
 behind_digits mode s digits Dot t more j some h e ends = subst (λ (x : List ℕ). fraction_length (x ++ more) ≡ 0) (sym (spelt _ t e)) (rw ends.0 refl)
 behind_digits mode s digits Ellipsis t more j some h e ends = subst (λ (x : List ℕ). fraction_length (x ++ more) ≡ 0) (sym (spelt _ t e)) refl
@@ -153,16 +153,16 @@ behind_digits mode s digits k t more j some h spells ends =
 blank_no_point : (b : ℕ) → is_blank b ≡ true → (b == 46) ≡ false
 blank_no_point b h = grind (arith, nat_tests)
 
-fraction_behind : (mode : Mode) → is_literal mode ≡ false → (s : List ℕ) (ps : List Pair) (last : List ℕ) → IsApart Number s ps → Rest mode ps last → NextEnds mode ps last → is_digits s ≡ true → fraction_length (joining ps last) ≡ 0
+fraction_behind : (mode : Mode) → is_literal mode ≡ false → (s : List ℕ) (ps : List Pair) (last : List ℕ) → IsApart Number s ps → Rest mode ps last → NextEnds mode ps last → is_digits s ≡ true → fraction_length (whole_text ps last) ≡ 0
 fraction_behind mode plain s [] last apart rest ends digits =
     no_fraction last (not_at 46 last (blanks_pass (is_not 46) (refl, refl, refl) last rest.0))
 fraction_behind mode plain s (q ∷ qs) last apart rest ends digits = at_gap q.gap rest.0.0 apart
   where
-    at_gap : (gap : List ℕ) → list_all is_blank gap ≡ true → (gap ≡ [] → joins_with Number s q.kind q.spelling ≡ false) → fraction_length (gap ++ (q.spelling ++ joining qs last)) ≡ 0
+    at_gap : (gap : List ℕ) → list_all is_blank gap ≡ true → (gap ≡ [] → joins_with Number s q.kind q.spelling ≡ false) → fraction_length (gap ++ (q.spelling ++ whole_text qs last)) ≡ 0
     at_gap [] all j =
-        let begins = begins_so mode q.kind q.spelling (joining qs last) plain rest.1.0 rest.1.1 in
-        behind_digits mode s digits q.kind q.spelling (joining qs last) (j refl) begins.0 begins.1 rest.1.1 ends
-    at_gap (b ∷ gap) all j = no_fraction (b ∷ (gap ++ (q.spelling ++ joining qs last))) (blank_no_point b (and_parts (is_blank b) (list_all is_blank gap) all).0)
+        let begins = begins_so mode q.kind q.spelling (whole_text qs last) plain rest.1.0 rest.1.1 in
+        behind_digits mode s digits q.kind q.spelling (whole_text qs last) (j refl) begins.0 begins.1 rest.1.1 ends
+    at_gap (b ∷ gap) all j = no_fraction (b ∷ (gap ++ (q.spelling ++ whole_text qs last))) (blank_no_point b (and_parts (is_blank b) (list_all is_blank gap) all).0)
 
 abbrev no_digit : ℕ → Bool
 no_digit b = not (is_ascii_digit b)
@@ -172,7 +172,7 @@ word_no_digit b h = grind (arith, nat_tests)
 
 index_next : (k : Kind) → after_dot_index k ≡ false → Passes no_digit k
 index_next Identifier j = word_no_digit
-index_next Number j = joined _ j
+index_next Number j = text_is _ j
 index_next k j = refl
 
 -- ---- `.`
@@ -185,16 +185,16 @@ word_no_dot b h = grind (arith, nat_tests)
 
 dot_next : (k : Kind) → after_dot k ≡ false → Passes stops_dot k
 dot_next Identifier j = word_no_dot
-dot_next Number j = joined _ j
-dot_next Dot j = joined _ j
-dot_next Ellipsis j = joined _ j
-dot_next DotIndex j = joined _ j
+dot_next Number j = text_is _ j
+dot_next Dot j = text_is _ j
+dot_next Ellipsis j = text_is _ j
+dot_next DotIndex j = text_is _ j
 dot_next k j = refl
 
 -- ---- `<`
 
 less_equal : (s : List ℕ) (k : Kind) (t : List ℕ) → joins_with Less s k t ≡ false → begins_with 61 t ≡ false
-less_equal s Less t j = joined _ j
+less_equal s Less t j = text_is _ j
 less_equal s k t j = j
 
 no_intro : (t : List ℕ) → IsNot 60 t → here_open (60 ∷ t) ≡ None
@@ -211,7 +211,7 @@ digit_no_less : (b : ℕ) → is_ascii_digit b ≡ true → is_not 60 b ≡ true
 digit_no_less b h = grind (arith, nat_tests)
 
 less_next : (mode : Mode) (s : List ℕ) (k : Kind) (t more : List ℕ) → joins_with Less s k t ≡ false → 0 < length t → HeadIs k (slice_index t 0) → Spells mode k t more → here_open (60 ∷ (t ++ more)) ≡ None
-less_next mode s Less t more j some h e = joined _ j
+less_next mode s Less t more j some h e = text_is _ j
 less_next mode s LessEqual t more j some h e =
     subst (λ (x : List ℕ). here_open (60 ∷ (x ++ more)) ≡ None) (sym (spelt _ t e)) (no_name 61 more (omega arith) (rw (is_xid_start-ascii 61 (omega arith)) refl) refl)
 less_next mode s HereOpen t more j some h (dash, name, end, e, is, ident, line) =
@@ -226,15 +226,15 @@ less_next mode s k t more j some h e =
 blank_no_less : (b : ℕ) → is_blank b ≡ true → (b == 60) ≡ false
 blank_no_less b h = grind (arith, nat_tests)
 
-less_behind : (mode : Mode) → is_literal mode ≡ false → (s : List ℕ) (ps : List Pair) (last : List ℕ) → IsApart Less s ps → Rest mode ps last → here_open (60 ∷ joining ps last) ≡ None
+less_behind : (mode : Mode) → is_literal mode ≡ false → (s : List ℕ) (ps : List Pair) (last : List ℕ) → IsApart Less s ps → Rest mode ps last → here_open (60 ∷ whole_text ps last) ≡ None
 less_behind mode plain s [] last apart rest = no_intro last (not_at 60 last (blanks_pass (is_not 60) (refl, refl, refl) last rest.0))
 less_behind mode plain s (q ∷ qs) last apart rest = at_gap q.gap rest.0.0 apart
   where
-    at_gap : (gap : List ℕ) → list_all is_blank gap ≡ true → (gap ≡ [] → joins_with Less s q.kind q.spelling ≡ false) → here_open (60 ∷ (gap ++ (q.spelling ++ joining qs last))) ≡ None
+    at_gap : (gap : List ℕ) → list_all is_blank gap ≡ true → (gap ≡ [] → joins_with Less s q.kind q.spelling ≡ false) → here_open (60 ∷ (gap ++ (q.spelling ++ whole_text qs last))) ≡ None
     at_gap [] all j =
-        let begins = begins_so mode q.kind q.spelling (joining qs last) plain rest.1.0 rest.1.1 in
-        less_next mode s q.kind q.spelling (joining qs last) (j refl) begins.0 begins.1 rest.1.1
-    at_gap (b ∷ gap) all j = no_intro (b ∷ (gap ++ (q.spelling ++ joining qs last))) (blank_no_less b (and_parts (is_blank b) (list_all is_blank gap) all).0)
+        let begins = begins_so mode q.kind q.spelling (whole_text qs last) plain rest.1.0 rest.1.1 in
+        less_next mode s q.kind q.spelling (whole_text qs last) (j refl) begins.0 begins.1 rest.1.1
+    at_gap (b ∷ gap) all j = no_intro (b ∷ (gap ++ (q.spelling ++ whole_text qs last))) (blank_no_less b (and_parts (is_blank b) (list_all is_blank gap) all).0)
 
 -- ---- `${` and `%{`
 
@@ -266,23 +266,23 @@ directive_short : (s : List ℕ) → (s ≡ codes "%{") ⊎ (s ≡ codes "%{~") 
 directive_short s (inl e) two = e
 directive_short s (inr e) two = absurd (omega (arith, ap length e))
 
-interp_behind : (s : List ℕ) (ps : List Pair) (last : List ℕ) → (s ≡ codes "${") ⊎ (s ≡ codes "${~") → IsApart InterpOpen s ps → Rest Sequence ps last → length s ≡ 2 → IsNot 126 (joining ps last)
+interp_behind : (s : List ℕ) (ps : List Pair) (last : List ℕ) → (s ≡ codes "${") ⊎ (s ≡ codes "${~") → IsApart InterpOpen s ps → Rest Sequence ps last → length s ≡ 2 → IsNot 126 (whole_text ps last)
 interp_behind s ps last is apart rest two =
     let short : IsApart InterpOpen (codes "${") ps = subst (λ (x : List ℕ). IsApart InterpOpen x ps) (interp_short s is two) apart in
-    not_at 126 (joining ps last) (no_such Sequence refl InterpOpen (codes "${") ps last short rest (is_not 126) (refl, refl, refl) (λ k t j h. tilde_next k t (interp_apart k t j) h))
+    not_at 126 (whole_text ps last) (no_such Sequence refl InterpOpen (codes "${") ps last short rest (is_not 126) (refl, refl, refl) (λ k t j h. tilde_next k t (interp_apart k t j) h))
 
-directive_behind : (s : List ℕ) (ps : List Pair) (last : List ℕ) → (s ≡ codes "%{") ⊎ (s ≡ codes "%{~") → IsApart DirectiveOpen s ps → Rest Sequence ps last → length s ≡ 2 → IsNot 126 (joining ps last)
+directive_behind : (s : List ℕ) (ps : List Pair) (last : List ℕ) → (s ≡ codes "%{") ⊎ (s ≡ codes "%{~") → IsApart DirectiveOpen s ps → Rest Sequence ps last → length s ≡ 2 → IsNot 126 (whole_text ps last)
 directive_behind s ps last is apart rest two =
     let short : IsApart DirectiveOpen (codes "%{") ps = subst (λ (x : List ℕ). IsApart DirectiveOpen x ps) (directive_short s is two) apart in
-    not_at 126 (joining ps last) (no_such Sequence refl DirectiveOpen (codes "%{") ps last short rest (is_not 126) (refl, refl, refl) (λ k t j h. tilde_next k t (directive_apart k t j) h))
+    not_at 126 (whole_text ps last) (no_such Sequence refl DirectiveOpen (codes "%{") ps last short rest (is_not 126) (refl, refl, refl) (λ k t j h. tilde_next k t (directive_apart k t j) h))
 
 -- ---- comments and literals
 
-comment_behind : (mode : Mode) (ps : List Pair) (last : List ℕ) → EndsLine ps last → Rest mode ps last → comment_unit false (joining ps last) ≡ 0
+comment_behind : (mode : Mode) (ps : List Pair) (last : List ℕ) → EndsLine ps last → Rest mode ps last → comment_unit false (whole_text ps last) ≡ 0
 comment_behind mode [] last e rest = rw e refl
 comment_behind mode (q ∷ qs) last (none, line) rest = rw none (at_kind q.kind q.spelling line rest.1.1)
   where
-    at_kind : (k : Kind) (t : List ℕ) → k ≡ LineEnd → Spells mode k t (joining qs last) → comment_unit false (t ++ joining qs last) ≡ 0
+    at_kind : (k : Kind) (t : List ℕ) → k ≡ LineEnd → Spells mode k t (whole_text qs last) → comment_unit false (t ++ whole_text qs last) ≡ 0
     at_kind LineEnd t e (inl h) = rw h refl
     at_kind LineEnd t e (inr h) = rw h refl
     at_kind k t e h = absurd (cc)
@@ -327,15 +327,15 @@ split_dot t h =
     (not-true (is_ascii_digit (slice_index t 0)) both.0, rw point refl)
 
 plain_ends : (mode : Mode) → is_literal mode ≡ false → (kind : Kind) (s : List ℕ) (ps : List Pair) (last : List ℕ)
-    → Behind kind ps last → IsApart kind s ps → Rest mode ps last → NextEnds mode ps last → stands_in mode kind ≡ true → Ends mode kind s (joining ps last)
+    → Behind kind ps last → IsApart kind s ps → Rest mode ps last → NextEnds mode ps last → stands_in mode kind ≡ true → Ends mode kind s (whole_text ps last)
 plain_ends mode plain LineComment s ps last behind apart rest ends st = comment_behind mode ps last behind rest
 plain_ends mode plain Identifier s ps last behind apart rest ends st =
-    no_word (joining ps last) (no_such mode plain Identifier s ps last apart rest stops_word (refl, refl, refl) (λ k t j h. head_passes stops_word k (slice_index t 0) h (word_next k j)))
+    no_word (whole_text ps last) (no_such mode plain Identifier s ps last apart rest stops_word (refl, refl, refl) (λ k t j h. head_passes stops_word k (slice_index t 0) h (word_next k j)))
 plain_ends mode plain Number s ps last behind apart rest ends st =
-    let both = split_number (slice_index (joining ps last) 0) (no_such mode plain Number s ps last apart rest stops_number (refl, refl, refl) (number_next s)) in
+    let both = split_number (slice_index (whole_text ps last) 0) (no_such mode plain Number s ps last apart rest stops_number (refl, refl, refl) (number_next s)) in
     (both.0, both.1, fraction_behind mode plain s ps last apart rest ends)
 plain_ends mode plain DotIndex s ps last behind apart rest ends st =
-    not-true (is_ascii_digit (slice_index (joining ps last) 0)) (no_such mode plain DotIndex s ps last apart rest no_digit (refl, refl, refl) (λ k t j h. head_passes no_digit k (slice_index t 0) h (index_next k j)))
+    not-true (is_ascii_digit (slice_index (whole_text ps last) 0)) (no_such mode plain DotIndex s ps last apart rest no_digit (refl, refl, refl) (λ k t j h. head_passes no_digit k (slice_index t 0) h (index_next k j)))
 plain_ends mode plain Less s ps last behind apart rest ends st =
     (no_byte mode plain Less s ps last apart rest 61 (refl, refl, refl) (less_equal s), less_behind mode plain s ps last apart rest)
 plain_ends mode plain Greater s ps last behind apart rest ends st = no_byte mode plain Greater s ps last apart rest 61 (refl, refl, refl) (λ k t j. j)
@@ -346,7 +346,7 @@ plain_ends mode plain Equal s ps last behind apart rest ends st = (
 )
 plain_ends mode plain Colon s ps last behind apart rest ends st = no_byte mode plain Colon s ps last apart rest 58 (refl, refl, refl) (λ k t j. j)
 plain_ends mode plain Dot s ps last behind apart rest ends st =
-    split_dot (joining ps last) (no_such mode plain Dot s ps last apart rest stops_dot (refl, refl, refl) (λ k t j h. head_passes stops_dot k (slice_index t 0) h (dot_next k j)))
+    split_dot (whole_text ps last) (no_such mode plain Dot s ps last apart rest stops_dot (refl, refl, refl) (λ k t j h. head_passes stops_dot k (slice_index t 0) h (dot_next k j)))
 plain_ends mode plain InterpOpen s ps last behind apart rest ends st = absurd (both_ways _ plain st)
 plain_ends mode plain DirectiveOpen s ps last behind apart rest ends st = absurd (both_ways _ plain st)
 plain_ends mode plain QuoteLit s ps last behind apart rest ends st = absurd (not_quoted mode plain st)
@@ -356,14 +356,14 @@ plain_ends mode plain kind s ps last behind apart rest ends st = tt
 -- what stands behind a token, told by the modes behind it
 abbrev EndsHere : List Mode → Kind → List ℕ → List Pair → List ℕ → Type 0
 EndsHere modes kind s ps last =
-    HaveMarkers modes → IsLexeme (mode_of modes) kind s (joining ps last) → Behind kind ps last → IsApart kind s ps
-    → Rest (mode_of (after kind s modes)) ps last → NextEnds (mode_of (after kind s modes)) ps last → Ends (mode_of modes) kind s (joining ps last)
+    HaveMarkers modes → IsLexeme (mode_of modes) kind s (whole_text ps last) → Behind kind ps last → IsApart kind s ps
+    → Rest (mode_of (after kind s modes)) ps last → NextEnds (mode_of (after kind s modes)) ps last → Ends (mode_of modes) kind s (whole_text ps last)
 
-quoted_behind : (ps : List Pair) (last : List ℕ) → Behind QuoteLit ps last → Rest Quoted ps last → quote_unit false (joining ps last) ≡ 0
+quoted_behind : (ps : List Pair) (last : List ℕ) → Behind QuoteLit ps last → Rest Quoted ps last → quote_unit false (whole_text ps last) ≡ 0
 quoted_behind [] last behind rest = absurd (false≢true (sym rest.1))
 quoted_behind (q ∷ qs) last behind rest =
     let none : q.gap ≡ [] = rest.0.1 refl in
-    rw none (quote_next q.kind q.spelling (joining qs last) behind rest.1.0 rest.1.1)
+    rw none (quote_next q.kind q.spelling (whole_text qs last) behind rest.1.0 rest.1.1)
 
 quoted_ends : (ms : List Mode) (kind : Kind) (s : List ℕ) (ps : List Pair) (last : List ℕ) → EndsHere (Quoted ∷ ms) kind s ps last
 quoted_ends ms InterpOpen s ps last m lexeme behind apart rest ends = interp_behind s ps last lexeme.1 apart rest
@@ -372,11 +372,11 @@ quoted_ends ms QuoteLit s ps last m lexeme behind apart rest ends = quoted_behin
 quoted_ends ms QuoteClose s ps last m lexeme behind apart rest ends = tt
 quoted_ends ms kind s ps last m lexeme behind apart rest ends = absurd (false≢true lexeme.0)
 
-here_behind : (name : List ℕ) (fresh : Bool) (ps : List Pair) (last : List ℕ) → IsIdentifier name → Behind HereLit ps last → Rest (Heredoc name fresh) ps last → here_unit name fresh (joining ps last) ≡ 0
+here_behind : (name : List ℕ) (fresh : Bool) (ps : List Pair) (last : List ℕ) → IsIdentifier name → Behind HereLit ps last → Rest (Heredoc name fresh) ps last → here_unit name fresh (whole_text ps last) ≡ 0
 here_behind name fresh [] last ident behind rest = absurd (false≢true (sym rest.1))
 here_behind name fresh (q ∷ qs) last ident behind rest =
     let none : q.gap ≡ [] = rest.0.1 refl in
-    rw none (here_next name fresh q.kind q.spelling (joining qs last) ident behind rest.1)
+    rw none (here_next name fresh q.kind q.spelling (whole_text qs last) ident behind rest.1)
 
 here_ends : (name : List ℕ) (fresh : Bool) (ms : List Mode) (kind : Kind) (s : List ℕ) (ps : List Pair) (last : List ℕ) → EndsHere (Heredoc name fresh ∷ ms) kind s ps last
 here_ends name fresh ms InterpOpen s ps last m lexeme behind apart rest ends = interp_behind s ps last lexeme.1 apart rest

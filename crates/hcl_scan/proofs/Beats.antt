@@ -8,11 +8,11 @@ use Rattle.hcl_token.specs.declared.kind.Kind.TheVariants.{QuoteClose, InterpOpe
 use Rattle.hcl_scan.specs.Characters.{is_sigil}
 use Rattle.hcl_scan.specs.Modes.{Mode}
 use Rattle.hcl_scan.specs.Modes.Mode.{Expression, Sequence, Braces, Quoted, Heredoc}
-use Rattle.hcl_scan.specs.Markers.{HasMarker}
+use Rattle.hcl_scan.specs.Inner.Markers.{HasMarker}
 use Rattle.hcl_scan.specs.Runs.{line_behind, AreUnits}
-use Rattle.hcl_scan.specs.RunLength.{run_length}
+use Rattle.hcl_scan.specs.Inner.RunLength.{run_length}
 use Rattle.hcl_scan.specs.Lexeme.{stands_in, quote_unit, Spells, IsLexeme}
-use Rattle.hcl_scan.specs.Next.{begins_opening, quoted_token, token}
+use Rattle.hcl_scan.specs.Inner.Next.{begins_opening, quoted_token, token}
 use Rattle.hcl_scan.proofs.Found.{Beats, same_kind}
 use Rattle.hcl_scan.proofs.RunLemmas.{IsRun-adds}
 use Rattle.hcl_scan.proofs.BeatsPlain.{spelt, plain_beats}

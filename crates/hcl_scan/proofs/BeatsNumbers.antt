@@ -5,7 +5,7 @@ use Rattle.std.proofs.lemmas.Bool.Decides.{nat_tests}
 use Rattle.std.specs.Char.{is_ascii_digit}
 use Rattle.std.specs.List.{list_all}
 use Rattle.hcl_scan.specs.Lexeme.{is_decimal, IsFraction, IsExponent}
-use Rattle.hcl_scan.specs.Next.{decimal_length, fraction_length, is_sign, is_exponent_letter, exponent_length, tail_length, number_length}
+use Rattle.hcl_scan.specs.Inner.Next.{decimal_length, fraction_length, is_sign, is_exponent_letter, exponent_length, tail_length, number_length}
 
 -- ---- digits
 

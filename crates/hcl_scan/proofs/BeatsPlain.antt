@@ -12,10 +12,10 @@ use Rattle.hcl_scan.specs.Characters.{starts, continues}
 use Rattle.hcl_scan.specs.Modes.{Mode, is_literal, closes_sequence, begins_line}
 use Rattle.hcl_scan.specs.Modes.Mode.{Quoted, Heredoc}
 use Rattle.hcl_scan.specs.Runs.{line_behind, IsRun}
-use Rattle.hcl_scan.specs.RunLength.{run_length}
+use Rattle.hcl_scan.specs.Inner.RunLength.{run_length}
 use Rattle.hcl_scan.specs.Lexeme.{is_quoted, is_heredoc, stands_in, is_identifier, is_decimal, IsFraction, IsExponent, comment_unit, inline_unit, Spells}
-use Rattle.hcl_scan.specs.HereNext.{here_open}
-use Rattle.hcl_scan.specs.Next.{Found, continue_length, begins_word, decimal_length, here_or_less, expression_token}
+use Rattle.hcl_scan.specs.Inner.HereNext.{here_open}
+use Rattle.hcl_scan.specs.Inner.Next.{Found, continue_length, begins_word, decimal_length, here_or_less, expression_token}
 use Rattle.hcl_scan.proofs.Found.{Beats, same_kind}
 use Rattle.hcl_scan.proofs.Pieces.{decimal_some}
 use Rattle.hcl_scan.proofs.RunLemmas.{run_length-none, IsRun-adds}

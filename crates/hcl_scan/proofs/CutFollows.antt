@@ -6,19 +6,20 @@ use Rattle.std.proofs.lemmas.Str.{IsUtf8-take, IsCharBoundary-at_seam}
 use Rattle.std.specs.List.{list_all, concat}
 use Rattle.hcl_token.specs.declared.kind.Kind.{Kind}
 use Rattle.hcl_token.specs.declared.kind.Kind.TheVariants.{Mark, LineEnd, LineComment, Identifier, Number, QuoteLit, HereClose, HereLit, Slash}
-use Rattle.hcl_token.specs.Tokens.{Pair, joining}
+use Rattle.hcl_token.specs.Tokens.{Pair, whole_text}
 use Rattle.hcl_scan.specs.Characters.{is_blank, begins, begins_line_end}
 use Rattle.hcl_scan.specs.Modes.{Mode, mode_of, is_literal, closes_sequence, after}
 use Rattle.hcl_scan.specs.Modes.Mode.{Expression, Sequence, Braces, Quoted, Heredoc}
-use Rattle.hcl_scan.specs.Markers.{HasMarker, HaveMarkers}
+use Rattle.hcl_scan.specs.Inner.Markers.{HasMarker}
+use Rattle.hcl_scan.proofs.OpenMarkers.{HaveMarkers}
 use Rattle.hcl_scan.specs.Runs.{UnitLength, line_behind, IsRun}
-use Rattle.hcl_scan.specs.RunLength.{run_length}
+use Rattle.hcl_scan.specs.Inner.RunLength.{run_length}
 use Rattle.hcl_scan.specs.Closing.{ends_line, here_unit}
 use Rattle.hcl_scan.specs.Lexeme.{comment_unit, quote_unit, Spells, IsLexeme}
 use Rattle.hcl_scan.specs.Cut.{CutsFrom, IsCut, byte_order_mark}
-use Rattle.hcl_scan.specs.Front.{begins_word}
-use Rattle.hcl_scan.specs.HereNext.{here_token}
-use Rattle.hcl_scan.specs.Next.{Found, quoted_token, expression_token, token}
+use Rattle.hcl_scan.specs.Inner.Front.{begins_word}
+use Rattle.hcl_scan.specs.Inner.HereNext.{here_token}
+use Rattle.hcl_scan.specs.Inner.Next.{Found, quoted_token, expression_token, token}
 use Rattle.hcl_scan.specs.Follows.{neighbour, Behind, EndsLine, IsOther, FollowsFrom, Follows, mark}
 use Rattle.hcl_scan.proofs.RunLemmas.{IsRun-adds}
 use Rattle.hcl_scan.proofs.UnitLemmas.{byte_unit_fits, byte_unit_any, quote_unit_fits, quote_unit_any, here_unit_fits}
@@ -108,7 +109,7 @@ only_line_end Identifier b head h = absurd (both_ways _ (word_no_line b head) h)
 only_line_end Number b head h = absurd (both_ways _ (digit_no_line b head) h)
 only_line_end kind b head h = absurd (both_ways _ (not-true (is_line_byte b) (one_passes (λ x. not (is_line_byte x)) b (heads kind) head refl)) h)
 
-line_ends : (mode : Mode) → is_literal mode ≡ false → (ps : List Pair) (last : List ℕ) → Rest mode ps last → comment_unit false (joining ps last) ≡ 0 → EndsLine ps last
+line_ends : (mode : Mode) → is_literal mode ≡ false → (ps : List Pair) (last : List ℕ) → Rest mode ps last → comment_unit false (whole_text ps last) ≡ 0 → EndsLine ps last
 line_ends mode plain [] last rest stop = blanks last rest.0 stop
   where
     blanks : (t : List ℕ) → list_all is_blank t ≡ true → comment_unit false t ≡ 0 → t ≡ []
@@ -117,16 +118,16 @@ line_ends mode plain [] last rest stop = blanks last rest.0 stop
 line_ends mode plain (q ∷ qs) last rest stop = at_gap q.gap rest.0.0 stop
   where
     head : (0 < length q.spelling) × HeadIs q.kind (slice_index q.spelling 0)
-    head = begins_so mode q.kind q.spelling (joining qs last) plain rest.1.0 rest.1.1
+    head = begins_so mode q.kind q.spelling (whole_text qs last) plain rest.1.0 rest.1.1
 
-    at_token : (t : List ℕ) → 0 < length t → HeadIs q.kind (slice_index t 0) → comment_unit false (t ++ joining qs last) ≡ 0 → q.kind ≡ LineEnd
+    at_token : (t : List ℕ) → 0 < length t → HeadIs q.kind (slice_index t 0) → comment_unit false (t ++ whole_text qs last) ≡ 0 → q.kind ≡ LineEnd
     at_token [] some h k = absurd (omega arith)
-    at_token (b ∷ t) some h k = only_line_end q.kind b h (line_byte b (t ++ joining qs last) (comment_stop b (t ++ joining qs last) k))
+    at_token (b ∷ t) some h k = only_line_end q.kind b h (line_byte b (t ++ whole_text qs last) (comment_stop b (t ++ whole_text qs last) k))
 
-    at_gap : (gap : List ℕ) → list_all is_blank gap ≡ true → comment_unit false (gap ++ (q.spelling ++ joining qs last)) ≡ 0 → (gap ≡ []) × (q.kind ≡ LineEnd)
+    at_gap : (gap : List ℕ) → list_all is_blank gap ≡ true → comment_unit false (gap ++ (q.spelling ++ whole_text qs last)) ≡ 0 → (gap ≡ []) × (q.kind ≡ LineEnd)
     at_gap [] all h = (refl, at_token q.spelling head.0 head.1 h)
     at_gap (b ∷ gap) all h =
-        let more : List ℕ = gap ++ (q.spelling ++ joining qs last) in
+        let more : List ℕ = gap ++ (q.spelling ++ whole_text qs last) in
         absurd (both_ways _ (blank_no_line b (and_parts (is_blank b) (list_all is_blank gap) all).0) (line_byte b more (comment_stop b more h)))
 
 -- ---- literals
@@ -151,40 +152,40 @@ here_run name fresh s rest filled run =
     let some : (run_length (here_unit name) fresh t == 0) ≡ false = ne_eqb (run_length (here_unit name) fresh t) 0 (λ z. absurd (omega arith)) in
     rw (begins.0, begins.1, some) refl
 
-quoted_other : (s : List ℕ) (ps : List Pair) (last : List ℕ) → s ≢ [] → IsRun quote_unit false s (joining ps last) → quoted_token (s ++ joining ps last) ≡ Some (QuoteLit, length s) → Rest Quoted ps last → IsOther QuoteLit ps
+quoted_other : (s : List ℕ) (ps : List Pair) (last : List ℕ) → s ≢ [] → IsRun quote_unit false s (whole_text ps last) → quoted_token (s ++ whole_text ps last) ≡ Some (QuoteLit, length s) → Rest Quoted ps last → IsOther QuoteLit ps
 quoted_other s [] last filled run is rest = tt
 quoted_other s (q ∷ qs) last filled run is rest = λ same.
-    let more : List ℕ = joining (q ∷ qs) last in
+    let more : List ℕ = whole_text (q ∷ qs) last in
     let size : run_length quote_unit false (s ++ more) ≡ length s = same_length QuoteLit _ (length s) (sym (quoted_run s more filled run) ∙ is) in
     let stop : quote_unit (line_behind false s) more ≡ 0 = full_run quote_unit quote_unit_fits false s more run size in
-    let next = subst (λ k. Spells Quoted k q.spelling (joining qs last)) same rest.1.1 in
-    let begins : 0 < quote_unit false (q.spelling ++ joining qs last) = run_begins quote_unit false q.spelling (joining qs last) next.0 next.1 in
-    let whole : more ≡ q.spelling ++ joining qs last = ap (λ (x : List ℕ). x ++ (q.spelling ++ joining qs last)) (rest.0.1 refl) in
-    let none : quote_unit false (q.spelling ++ joining qs last) ≡ 0 = ap (quote_unit false) (sym whole) ∙ sym (quote_unit_any (line_behind false s) more) ∙ stop in
+    let next = subst (λ k. Spells Quoted k q.spelling (whole_text qs last)) same rest.1.1 in
+    let begins : 0 < quote_unit false (q.spelling ++ whole_text qs last) = run_begins quote_unit false q.spelling (whole_text qs last) next.0 next.1 in
+    let whole : more ≡ q.spelling ++ whole_text qs last = ap (λ (x : List ℕ). x ++ (q.spelling ++ whole_text qs last)) (rest.0.1 refl) in
+    let none : quote_unit false (q.spelling ++ whole_text qs last) ≡ 0 = ap (quote_unit false) (sym whole) ∙ sym (quote_unit_any (line_behind false s) more) ∙ stop in
     absurd (omega (arith, begins, none))
 
-here_other : (name : List ℕ) (fresh : Bool) (s : List ℕ) (ps : List Pair) (last : List ℕ) → s ≢ [] → IsRun (here_unit name) fresh s (joining ps last) → here_token name fresh (s ++ joining ps last) ≡ Some (HereLit, length s)
+here_other : (name : List ℕ) (fresh : Bool) (s : List ℕ) (ps : List Pair) (last : List ℕ) → s ≢ [] → IsRun (here_unit name) fresh s (whole_text ps last) → here_token name fresh (s ++ whole_text ps last) ≡ Some (HereLit, length s)
     → Rest (Heredoc name (line_behind fresh s)) ps last → IsOther HereLit ps
 here_other name fresh s [] last filled run is rest = tt
 here_other name fresh s (q ∷ qs) last filled run is rest = λ same.
-    let more : List ℕ = joining (q ∷ qs) last in
+    let more : List ℕ = whole_text (q ∷ qs) last in
     let begun : Bool = line_behind fresh s in
     let size : run_length (here_unit name) fresh (s ++ more) ≡ length s = same_length HereLit _ (length s) (sym (here_run name fresh s more filled run) ∙ is) in
     let stop : here_unit name begun more ≡ 0 = full_run (here_unit name) (here_unit_fits name) fresh s more run size in
-    let next = subst (λ k. Spells (Heredoc name begun) k q.spelling (joining qs last)) same rest.1.1 in
-    let begins : 0 < here_unit name begun (q.spelling ++ joining qs last) = run_begins (here_unit name) begun q.spelling (joining qs last) next.0 next.1 in
-    let whole : more ≡ q.spelling ++ joining qs last = ap (λ (x : List ℕ). x ++ (q.spelling ++ joining qs last)) (rest.0.1 refl) in
-    let none : here_unit name begun (q.spelling ++ joining qs last) ≡ 0 = ap (here_unit name begun) (sym whole) ∙ stop in
+    let next = subst (λ k. Spells (Heredoc name begun) k q.spelling (whole_text qs last)) same rest.1.1 in
+    let begins : 0 < here_unit name begun (q.spelling ++ whole_text qs last) = run_begins (here_unit name) begun q.spelling (whole_text qs last) next.0 next.1 in
+    let whole : more ≡ q.spelling ++ whole_text qs last = ap (λ (x : List ℕ). x ++ (q.spelling ++ whole_text qs last)) (rest.0.1 refl) in
+    let none : here_unit name begun (q.spelling ++ whole_text qs last) ≡ 0 = ap (here_unit name begun) (sym whole) ∙ stop in
     absurd (omega (arith, begins, none))
 
 -- ---- what a token asks of those behind
 
-behind_of : (modes : List Mode) (kind : Kind) (s : List ℕ) (ps : List Pair) (last : List ℕ) → token (mode_of modes) (s ++ joining ps last) ≡ Some (kind, length s) → IsLexeme (mode_of modes) kind s (joining ps last)
+behind_of : (modes : List Mode) (kind : Kind) (s : List ℕ) (ps : List Pair) (last : List ℕ) → token (mode_of modes) (s ++ whole_text ps last) ≡ Some (kind, length s) → IsLexeme (mode_of modes) kind s (whole_text ps last)
     → Rest (mode_of (after kind s modes)) ps last → Behind kind ps last
 behind_of modes LineComment s ps last is h rest =
     let plain : is_literal (mode_of modes) ≡ false = not-true (is_literal (mode_of modes)) h.0 in
     line_ends (mode_of modes) plain ps last rest
-    (comment_full (closes_sequence (mode_of modes)) s (joining ps last) h.1 (sym (plain_token (mode_of modes) (s ++ joining ps last) plain) ∙ is))
+    (comment_full (closes_sequence (mode_of modes)) s (whole_text ps last) h.1 (sym (plain_token (mode_of modes) (s ++ whole_text ps last) plain) ∙ is))
 behind_of (Quoted ∷ ms) QuoteLit s ps last is h rest = quoted_other s ps last h.1.0 h.1.1 is rest
 behind_of modes QuoteLit s ps last is h rest = absurd (false≢true h.0)
 behind_of (Heredoc name fresh ∷ ms) HereLit s ps last is h rest = here_other name fresh s ps last h.1.0 h.1.1 is rest
@@ -202,16 +203,16 @@ close_token : (mode : Mode) (kind : Kind) (t more : List ℕ) → 0 < length t �
 close_token mode kind [] more some head spells h = refl
 close_token mode kind (b ∷ t) more some head spells h = line_close mode kind (b ∷ t) more (only_line_end kind b head (line_byte b (t ++ more) h)) spells
 
-close_near : (mode : Mode) → is_literal mode ≡ false → (ps : List Pair) (last : List ℕ) → Rest mode ps last → ends_line (joining ps last) ≡ true → ends_line (neighbour ps last) ≡ true
+close_near : (mode : Mode) → is_literal mode ≡ false → (ps : List Pair) (last : List ℕ) → Rest mode ps last → ends_line (whole_text ps last) ≡ true → ends_line (neighbour ps last) ≡ true
 close_near mode plain [] last rest h = h
 close_near mode plain (q ∷ qs) last rest h = at_gap q.gap rest.0.0 h
   where
-    at_gap : (gap : List ℕ) → list_all is_blank gap ≡ true → ends_line (gap ++ (q.spelling ++ joining qs last)) ≡ true → ends_line (gap ++ q.spelling) ≡ true
+    at_gap : (gap : List ℕ) → list_all is_blank gap ≡ true → ends_line (gap ++ (q.spelling ++ whole_text qs last)) ≡ true → ends_line (gap ++ q.spelling) ≡ true
     at_gap [] all k =
-        let head = begins_so mode q.kind q.spelling (joining qs last) plain rest.1.0 rest.1.1 in
-        close_token mode q.kind q.spelling (joining qs last) head.0 head.1 rest.1.1 k
+        let head = begins_so mode q.kind q.spelling (whole_text qs last) plain rest.1.0 rest.1.1 in
+        close_token mode q.kind q.spelling (whole_text qs last) head.0 head.1 rest.1.1 k
     at_gap (b ∷ gap) all k =
-        absurd (both_ways _ (blank_no_line b (and_parts (is_blank b) (list_all is_blank gap) all).0) (line_byte b (gap ++ (q.spelling ++ joining qs last)) k))
+        absurd (both_ways _ (blank_no_line b (and_parts (is_blank b) (list_all is_blank gap) all).0) (line_byte b (gap ++ (q.spelling ++ whole_text qs last)) k))
 
 swap_open : (r r' : List ℕ) → BothOpen r r' → BothOpen r' r
 swap_open r r' (c, t, t', e, e', sigil) = (c, t', t, e', e, sigil)
@@ -220,14 +221,14 @@ swap_here : (r r' : List ℕ) (line : Type 0) → BothOpen r r' ⊎ line → Bot
 swap_here r r' line (inl both) = inl (swap_open r r' both)
 swap_here r r' line (inr h) = inr h
 
-near : (modes : List Mode) (kind : Kind) (s : List ℕ) (ps : List Pair) (last : List ℕ) → Stands modes kind s ps last → AreNested modes → Alike (mode_of modes) kind s (joining ps last) (neighbour ps last)
-near modes LineComment s ps last h nested = alike_back (neighbour ps last) (joining ps last) (far modes LineComment s ps last h)
+near : (modes : List Mode) (kind : Kind) (s : List ℕ) (ps : List Pair) (last : List ℕ) → Stands modes kind s ps last → AreNested modes → Alike (mode_of modes) kind s (whole_text ps last) (neighbour ps last)
+near modes LineComment s ps last h nested = alike_back (neighbour ps last) (whole_text ps last) (far modes LineComment s ps last h)
 near modes Slash s ps last h nested = sym (far modes Slash s ps last h)
-near (Quoted ∷ ms) QuoteLit s ps last h nested = alike_back (neighbour ps last) (joining ps last) (far (Quoted ∷ ms) QuoteLit s ps last h)
+near (Quoted ∷ ms) QuoteLit s ps last h nested = alike_back (neighbour ps last) (whole_text ps last) (far (Quoted ∷ ms) QuoteLit s ps last h)
 near modes QuoteLit s ps last h nested = absurd (false≢true h.1)
 near (Heredoc name fresh ∷ ms) HereLit s ps last h nested =
     let both = far (Heredoc name fresh ∷ ms) HereLit s ps last h in
-    (alike_back (neighbour ps last) (joining ps last) both.0, swap_here (neighbour ps last) (joining ps last) (line_behind fresh s ≡ true) both.1)
+    (alike_back (neighbour ps last) (whole_text ps last) both.0, swap_here (neighbour ps last) (whole_text ps last) (line_behind fresh s ≡ true) both.1)
 near modes HereLit s ps last h nested = absurd (false≢true h.1)
 near (Heredoc name fresh ∷ ms) HereClose s ps last h nested = close_near (mode_of ms) nested.0 ps last h.4
 near modes HereClose s ps last h nested = absurd (false≢true h.1)
@@ -242,11 +243,11 @@ rest_of : (modes : List Mode) (ps : List Pair) (last : List ℕ) → list_all is
 rest_of modes [] last blank c = (blank, rw c refl)
 rest_of modes (q ∷ qs) last blank c = (c.0, c.1.0)
 
-follows_from : (ps : List Pair) (modes : List Mode) (last : List ℕ) → HaveMarkers modes → AreNested modes → IsUtf8 (joining ps last) → list_all is_blank last ≡ true → CutsFrom modes ps last [] → FollowsFrom modes ps last []
+follows_from : (ps : List Pair) (modes : List Mode) (last : List ℕ) → HaveMarkers modes → AreNested modes → IsUtf8 (whole_text ps last) → list_all is_blank last ≡ true → CutsFrom modes ps last [] → FollowsFrom modes ps last []
 follows_from [] modes last m nested u blank c = c
 follows_from (p ∷ ps) modes last m nested u blank c =
     let mode : Mode = mode_of modes in
-    let more : List ℕ = joining ps last in
+    let more : List ℕ = whole_text ps last in
     let behind : List Mode = after p.kind p.spelling modes in
     let marked : HasMarker mode = marker_of_mode modes m in
     let u_token : IsUtf8 (p.spelling ++ more) = utf8_past_blanks p.gap (p.spelling ++ more) c.0.0 u in
@@ -269,7 +270,7 @@ at_front false pairs body e = inl e
 
 pub cut_follows : (text : List ℕ) (pairs : List Pair) (last : List ℕ) → IsCut text pairs last → Follows pairs last []
 cut_follows text pairs last c =
-    let u : IsUtf8 (joining c.cuts.body last) = subst IsUtf8 (sym (behind_front text pairs last [] c.cuts)) (front_utf8 text c.utf8) in
+    let u : IsUtf8 (whole_text c.cuts.body last) = subst IsUtf8 (sym (behind_front text pairs last [] c.cuts)) (front_utf8 text c.utf8) in
     record {
       body = c.cuts.body;
       front = at_front (begins byte_order_mark text) pairs c.cuts.body c.cuts.front;

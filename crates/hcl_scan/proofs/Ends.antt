@@ -9,8 +9,8 @@ use Rattle.hcl_scan.specs.Runs.{line_behind}
 use Rattle.hcl_scan.specs.Modes.{Mode, marker, begins_line}
 use Rattle.hcl_scan.specs.Closing.{here_unit}
 use Rattle.hcl_scan.specs.Lexeme.{comment_unit, quote_unit}
-use Rattle.hcl_scan.specs.HereNext.{here_open}
-use Rattle.hcl_scan.specs.Next.{continue_length, fraction_length, is_exponent_letter}
+use Rattle.hcl_scan.specs.Inner.HereNext.{here_open}
+use Rattle.hcl_scan.specs.Inner.Next.{continue_length, fraction_length, is_exponent_letter}
 
 -- the byte at the front of a text is not this one
 abbrev pub IsNot : ℕ → List ℕ → Type 0

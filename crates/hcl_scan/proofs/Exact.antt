@@ -8,13 +8,13 @@ use Rattle.hcl_token.specs.declared.kind.Kind.TheVariants.{QuoteClose, InterpOpe
 use Rattle.hcl_scan.specs.Characters.{is_sigil}
 use Rattle.hcl_scan.specs.Modes.{Mode}
 use Rattle.hcl_scan.specs.Modes.Mode.{Expression, Sequence, Braces, Quoted, Heredoc}
-use Rattle.hcl_scan.specs.Markers.{HasMarker}
+use Rattle.hcl_scan.specs.Inner.Markers.{HasMarker}
 use Rattle.hcl_scan.specs.Runs.{line_behind, AreUnits}
-use Rattle.hcl_scan.specs.RunLength.{run_length}
+use Rattle.hcl_scan.specs.Inner.RunLength.{run_length}
 use Rattle.hcl_scan.specs.Closing.{is_closing, here_unit}
 use Rattle.hcl_scan.specs.Lexeme.{stands_in, quote_unit, IsIdentifier, Spells, IsLexeme, IsLongest}
-use Rattle.hcl_scan.specs.HereNext.{here_token}
-use Rattle.hcl_scan.specs.Next.{begins_opening, opening, quoted_token, token}
+use Rattle.hcl_scan.specs.Inner.HereNext.{here_token}
+use Rattle.hcl_scan.specs.Inner.Next.{begins_opening, opening, quoted_token, token}
 use Rattle.hcl_scan.proofs.Found.{IsFound, Sound}
 use Rattle.hcl_scan.proofs.Sound.{sound}
 use Rattle.hcl_scan.proofs.RunLemmas.{run_length-none, IsRun-adds}
@@ -118,6 +118,6 @@ exact (Heredoc name fresh) kind s rest m h ends = here_exact name fresh kind s r
 pub exact_longest : (mode : Mode) (kind : Kind) (s rest : List ℕ) → HasMarker mode → IsUtf8 (s ++ rest) → token mode (s ++ rest) ≡ Some (kind, length s) → IsLongest mode kind s rest
 exact_longest mode kind s rest m u is =
     let f : IsFound mode (s ++ rest) kind (length s) = subst (Sound mode (s ++ rest)) is (sound mode (s ++ rest) m u) in
-    let same = split_same f.spelling f.rest s rest f.len (sym f.joined) in
+    let same = split_same f.spelling f.rest s rest f.len (sym f.text_is) in
     subst (λ (x : List ℕ). IsLongest mode kind x rest) same.0
     (subst (IsLongest mode kind f.spelling) same.1 (found_longest mode (s ++ rest) kind (length s) m is f))

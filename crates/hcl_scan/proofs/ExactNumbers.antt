@@ -7,7 +7,7 @@ use Rattle.std.specs.Cmp.Derive.{both_true}
 use Rattle.std.specs.List.{list_all}
 use Rattle.hcl_token.specs.Joins.{is_digits}
 use Rattle.hcl_scan.specs.Lexeme.{is_decimal, IsFraction, IsExponent}
-use Rattle.hcl_scan.specs.Next.{decimal_length, fraction_length, is_sign, is_exponent_letter, exponent_length, tail_length, number_length}
+use Rattle.hcl_scan.specs.Inner.Next.{decimal_length, fraction_length, is_sign, is_exponent_letter, exponent_length, tail_length, number_length}
 use Rattle.hcl_scan.proofs.BeatsNumbers.{digits_add, all_digits, head_digit, no_digits, head_of, letter_no_digit, letter_no_point, letter_head, no_point, tail_of, tail_head, number_of}
 use Rattle.hcl_scan.proofs.Ends.{EndsNumber}
 

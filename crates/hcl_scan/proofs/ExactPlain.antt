@@ -7,10 +7,10 @@ use Rattle.hcl_token.specs.declared.kind.Kind.TheVariants.{Mark, LineEnd, LineCo
 use Rattle.hcl_scan.specs.Modes.{Mode, is_literal, closes_sequence, begins_line}
 use Rattle.hcl_scan.specs.Modes.Mode.{Quoted}
 use Rattle.hcl_scan.specs.Runs.{line_behind, IsRun}
-use Rattle.hcl_scan.specs.RunLength.{run_length}
+use Rattle.hcl_scan.specs.Inner.RunLength.{run_length}
 use Rattle.hcl_scan.specs.Lexeme.{is_heredoc, stands_in, is_decimal, comment_unit, inline_unit, Spells}
-use Rattle.hcl_scan.specs.HereNext.{here_open}
-use Rattle.hcl_scan.specs.Next.{Found, begins_word, number_length, here_or_less, expression_token}
+use Rattle.hcl_scan.specs.Inner.HereNext.{here_open}
+use Rattle.hcl_scan.specs.Inner.Next.{Found, begins_word, number_length, here_or_less, expression_token}
 use Rattle.hcl_scan.proofs.RunLemmas.{run_length-none, IsRun-adds}
 use Rattle.hcl_scan.proofs.UnitLemmas.{byte_unit_any}
 use Rattle.hcl_scan.proofs.HereLemmas.{identifier_some}

@@ -4,13 +4,13 @@ use Rattle.std.proofs.lemmas.Bool.{cases_lt}
 use Rattle.hcl_token.specs.declared.kind.Kind.{Kind}
 use Rattle.hcl_scan.specs.Modes.{Mode}
 use Rattle.hcl_scan.specs.Lexeme.{IsLexeme}
-use Rattle.hcl_scan.specs.Front.{Found}
+use Rattle.hcl_scan.specs.Inner.Front.{Found}
 
 -- a lexeme of the kind, with so many bytes, stands at the front
 pub record IsFound (mode : Mode) (t : List ℕ) (kind : Kind) (n : ℕ) : Type 0 where
   pub spelling : List ℕ
   pub rest : List ℕ
-  pub joined : t ≡ spelling ++ rest
+  pub text_is : t ≡ spelling ++ rest
   pub len : length spelling ≡ n
   pub lexeme : IsLexeme mode kind spelling rest
   pub some : 0 < n

@@ -4,26 +4,27 @@ use Rattle.std.proofs.lemmas.Str.{IsUtf8-past_char}
 use lib.Utf8.{encode}
 use Rattle.hcl_token.specs.declared.kind.Kind.TheVariants.{Mark}
 use Rattle.hcl_token.specs.declared.item.Item.{Item}
-use Rattle.hcl_token.specs.Tokens.{Pair, joining}
+use Rattle.hcl_token.specs.Tokens.{Pair, whole_text}
 use Rattle.hcl_token.specs.Items.{pairs_of}
 use Rattle.hcl_scan.specs.Characters.{begins}
 use Rattle.hcl_scan.specs.Modes.{Mode}
 use Rattle.hcl_scan.specs.Cut.{byte_order_mark, front_of, Cuts}
 use Rattle.hcl_scan.specs.Fault.{places_behind}
-use Rattle.hcl_scan.specs.Progress.{front_items, front_length, IsCutTo}
+use Rattle.hcl_scan.specs.Inner.MarkItem.{front_items, front_length}
+use Rattle.hcl_scan.proofs.CutTo.{IsCutTo}
 use Rattle.hcl_scan.proofs.HereLemmas.{marker_at}
 
 abbrev mark : Pair
 mark = record { gap = []; kind = Mark; spelling = byte_order_mark }
 
 behind : (b : Bool) (text : List ℕ) (body : List Pair) (rest : List ℕ)
-    → text ≡ joining ((if b then record { gap = []; kind = Mark; spelling = byte_order_mark } ∷ [] else []) ++ body) rest → joining body rest ≡ drop (if b then 3 else 0) text
+    → text ≡ whole_text ((if b then record { gap = []; kind = Mark; spelling = byte_order_mark } ∷ [] else []) ++ body) rest → whole_text body rest ≡ drop (if b then 3 else 0) text
 behind true text body rest e = sym (ap (drop 3) e)
 behind false text body rest e = sym e
 
 -- behind the mark the other pairs stand
-pub behind_front : (text : List ℕ) (pairs : List Pair) (rest : List ℕ) (left : List Mode) (c : Cuts text pairs rest left) → joining c.body rest ≡ drop (front_length text) text
-behind_front text pairs rest left c = behind (begins byte_order_mark text) text c.body rest (c.joined ∙ ap (λ (x : List Pair). joining x rest) c.front)
+pub behind_front : (text : List ℕ) (pairs : List Pair) (rest : List ℕ) (left : List Mode) (c : Cuts text pairs rest left) → whole_text c.body rest ≡ drop (front_length text) text
+behind_front text pairs rest left c = behind (begins byte_order_mark text) text c.body rest (c.text_is ∙ ap (λ (x : List Pair). whole_text x rest) c.front)
 
 pub front_bytes : (text : List ℕ) → (begins byte_order_mark text ≡ true) → text ≡ 239 ∷ 187 ∷ 191 ∷ drop 3 text
 front_bytes text h = marker_at byte_order_mark text h
@@ -54,7 +55,7 @@ started text u =
             within = omega (arith, ap length whole);
             utf8 = utf8;
             cuts = record {
-              joined = whole ∙ ap (λ (x : List Pair). joining x (drop 3 text)) (sym pairs);
+              text_is = whole ∙ ap (λ (x : List Pair). whole_text x (drop 3 text)) (sym pairs);
               body = [];
               front = pairs ∙ sym (ap (λ (x : List Pair). x ++ []) front);
               cuts = refl;
@@ -67,7 +68,7 @@ started text u =
           rw h (record {
             within = omega arith;
             utf8 = u;
-            cuts = record { joined = refl; body = []; front = sym (ap (λ (x : List Pair). x ++ []) front); cuts = refl };
+            cuts = record { text_is = refl; body = []; front = sym (ap (λ (x : List Pair). x ++ []) front); cuts = refl };
             places = refl;
             order = refl;
           })

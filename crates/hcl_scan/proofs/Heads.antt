@@ -8,7 +8,7 @@ use Rattle.hcl_token.specs.declared.kind.Kind.TheVariants.{Mark, LineEnd, LineCo
 use Rattle.hcl_scan.specs.Modes.{Mode, is_literal, begins_line}
 use Rattle.hcl_scan.specs.Modes.Mode.{Quoted, Heredoc}
 use Rattle.hcl_scan.specs.Lexeme.{is_quoted, is_heredoc, stands_in, is_decimal, fixed, Spells}
-use Rattle.hcl_scan.specs.Front.{begins_word}
+use Rattle.hcl_scan.specs.Inner.Front.{begins_word}
 use Rattle.hcl_scan.proofs.HereLemmas.{identifier_some}
 
 -- the first byte of the only spelling

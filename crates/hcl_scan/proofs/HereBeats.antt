@@ -11,15 +11,15 @@ use Rattle.unicode_ident.proofs.IdentLemmas.{is_xid_continue-ascii}
 use Rattle.hcl_token.specs.declared.kind.Kind.{Kind}
 use Rattle.hcl_token.specs.declared.kind.Kind.TheVariants.{Identifier, Less, HereOpen, HereClose, HereLit, InterpOpen, DirectiveOpen}
 use Rattle.hcl_scan.specs.Runs.{line_behind, AreUnits}
-use Rattle.hcl_scan.specs.RunLength.{run_length}
+use Rattle.hcl_scan.specs.Inner.RunLength.{run_length}
 use Rattle.hcl_scan.specs.Characters.{starts, continues, is_sigil}
 use Rattle.hcl_scan.specs.Modes.{Mode}
 use Rattle.hcl_scan.specs.Modes.Mode.{Heredoc}
 use Rattle.hcl_scan.specs.Closing.{is_closing, here_unit}
 use Rattle.hcl_scan.specs.Lexeme.{is_identifier, IsIdentifier, IsLineEnd, Spells, IsLexeme}
-use Rattle.hcl_scan.specs.Front.{Found, begins_word, continue_length, identifier, begins_opening, opening}
-use Rattle.hcl_scan.specs.HereNext.{line_end_length, named, here_open, here_token}
-use Rattle.hcl_scan.specs.Next.{here_or_less}
+use Rattle.hcl_scan.specs.Inner.Front.{Found, begins_word, continue_length, identifier, begins_opening, opening}
+use Rattle.hcl_scan.specs.Inner.HereNext.{line_end_length, named, here_open, here_token}
+use Rattle.hcl_scan.specs.Inner.Next.{here_or_less}
 use Rattle.hcl_scan.proofs.Found.{Beats, same_kind}
 use Rattle.hcl_scan.proofs.RunLemmas.{IsRun-adds}
 use Rattle.hcl_scan.proofs.HereLemmas.{identifier_some, close_found, closing_no_opening, unit_begins}

@@ -12,8 +12,8 @@ use Rattle.unicode_ident.proofs.IdentLemmas.{is_xid_start-ascii}
 use Rattle.hcl_scan.specs.Characters.{is_blank, begins, starts, continues, is_sigil}
 use Rattle.hcl_scan.specs.Closing.{ends_line, behind_marker, is_closing, IsClosingLine, here_unit}
 use Rattle.hcl_scan.specs.Lexeme.{is_identifier, IsIdentifier}
-use Rattle.hcl_scan.specs.Front.{begins_word, begins_opening}
-use Rattle.hcl_scan.specs.HereNext.{closing_length}
+use Rattle.hcl_scan.specs.Inner.Front.{begins_word, begins_opening}
+use Rattle.hcl_scan.specs.Inner.HereNext.{closing_length}
 use Rattle.hcl_scan.proofs.Pieces.{prefix_all}
 use Rattle.hcl_scan.proofs.TextLemmas.{utf8_rest}
 
@@ -111,7 +111,7 @@ close_found name s rest ident (before, behind, e, all, all', ends) =
 pub record CloseSplit (name t : List ℕ) : Type 0 where
   pub spelling : List ℕ
   pub rest : List ℕ
-  pub joined : t ≡ spelling ++ rest
+  pub text_is : t ≡ spelling ++ rest
   pub len : length spelling ≡ closing_length name t
   pub close : IsClosingLine name spelling rest
   pub ends : ends_line rest ≡ true
@@ -134,7 +134,7 @@ close_split name t h =
     record {
       spelling = before ++ (name ++ behind);
       rest = rest;
-      joined = whole;
+      text_is = whole;
       len = length-append before (name ++ behind) ∙ omega (arith, length-append name behind, length-take-le n t (prefix_len-le-length is_blank t), length-take-le m tail (prefix_len-le-length is_blank tail));
       close = (before, behind, refl, prefix_all is_blank t, prefix_all is_blank tail, both.1);
       ends = both.1;

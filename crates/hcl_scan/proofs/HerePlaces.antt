@@ -6,8 +6,8 @@ use Rattle.std.specs.List.{starts_with}
 use Rattle.hcl_token.specs.declared.kind.Kind.{Kind}
 use Rattle.hcl_scan.specs.Characters.{begins, is_sigil, sigil_length}
 use Rattle.hcl_scan.specs.Closing.{is_closing, here_unit}
-use Rattle.hcl_scan.specs.Front.{Found, begins_word, identifier}
-use Rattle.hcl_scan.specs.HereNext.{intro_length, begins_intro}
+use Rattle.hcl_scan.specs.Inner.Front.{Found, begins_word, identifier}
+use Rattle.hcl_scan.specs.Inner.HereNext.{intro_length, begins_intro}
 use Rattle.hcl_scan.proofs.TextLemmas.{front_1, front_2, utf8_past}
 use Rattle.hcl_scan.proofs.HereLemmas.{identifier_some}
 use Rattle.hcl_scan.proofs.HereSound.{WordSplit, Words, words}
@@ -42,7 +42,7 @@ here_unit_at name text at fresh h =
 word_first : (t : List ℕ) (n : ℕ) → WordSplit t n → begins_word (slice_index t 0) ≡ true
 word_first t n w =
     let word = identifier_some w.name w.is in
-    ap begins_word (ap (λ (x : List ℕ). slice_index x 0) w.joined ∙ first w.name w.rest word.0) ∙ word.1
+    ap begins_word (ap (λ (x : List ℕ). slice_index x 0) w.text_is ∙ first w.name w.rest word.0) ∙ word.1
   where
     first : (xs ys : List ℕ) → 0 < length xs → slice_index (xs ++ ys) 0 ≡ slice_index xs 0
     first [] ys h = absurd (omega arith)
@@ -63,7 +63,7 @@ fits_at t (Some f) words kind n e =
     let w : WordSplit t f.1 = words.0 in
     let same : Some f ≡ Some (kind, n) = e in
     let size : f.1 ≡ n = ap (λ (p : Kind × ℕ). p.1) (some_same f (kind, n) same) in
-    omega (arith, ap length w.joined, length-append w.name w.rest, w.len)
+    omega (arith, ap length w.text_is, length-append w.name w.rest, w.len)
   where
     some_same : (p q : Kind × ℕ) → Some p ≡ Some q → p ≡ q
     some_same p q e = cc

@@ -8,14 +8,14 @@ use Rattle.std.specs.Str.{chars, all_scalars}
 use Rattle.hcl_token.specs.declared.kind.Kind.{Kind}
 use Rattle.hcl_token.specs.declared.kind.Kind.TheVariants.{Identifier, InterpOpen, DirectiveOpen}
 use Rattle.hcl_scan.specs.Runs.{line_behind}
-use Rattle.hcl_scan.specs.RunLength.{run_length}
+use Rattle.hcl_scan.specs.Inner.RunLength.{run_length}
 use Rattle.hcl_scan.specs.Characters.{starts, is_sigil}
 use Rattle.hcl_scan.specs.Modes.{Mode, is_literal}
 use Rattle.hcl_scan.specs.Modes.Mode.{Heredoc}
 use Rattle.hcl_scan.specs.Closing.{is_closing, here_unit}
 use Rattle.hcl_scan.specs.Lexeme.{is_identifier, IsIdentifier, IsLineEnd, IsLexeme}
-use Rattle.hcl_scan.specs.Front.{Found, identifier_of, identifier, begins_opening, opening}
-use Rattle.hcl_scan.specs.HereNext.{line_end_length, named, here_open, closing_length, here_token}
+use Rattle.hcl_scan.specs.Inner.Front.{Found, identifier_of, identifier, begins_opening, opening}
+use Rattle.hcl_scan.specs.Inner.HereNext.{line_end_length, named, here_open, closing_length, here_token}
 use Rattle.hcl_scan.proofs.Found.{IsFound, Sound}
 use Rattle.hcl_scan.proofs.Pieces.{ContinueSplit, continue_split, scalars_parts}
 use Rattle.hcl_scan.proofs.TextLemmas.{front_1, front_2, utf8_past, utf8_rest}
@@ -38,7 +38,7 @@ module _ (mode : Mode) (literal : is_literal mode ≡ true) (t : List ℕ) (u : 
       record {
         spelling = a ∷ 123 ∷ 126 ∷ [];
         rest = drop 3 t;
-        joined = whole;
+        text_is = whole;
         len = refl;
         lexeme = lexeme (a ∷ 123 ∷ 126 ∷ []) (inr refl);
         some = omega arith;
@@ -47,7 +47,7 @@ module _ (mode : Mode) (literal : is_literal mode ≡ true) (t : List ℕ) (u : 
       (λ _. record {
         spelling = a ∷ 123 ∷ [];
         rest = drop 2 t;
-        joined = e;
+        text_is = e;
         len = refl;
         lexeme = lexeme (a ∷ 123 ∷ []) (inl refl);
         some = omega arith;
@@ -77,11 +77,11 @@ here_token_sound name fresh t ident u =
     record {
       spelling = s.spelling;
       rest = s.rest;
-      joined = s.joined;
+      text_is = s.text_is;
       len = s.len;
       lexeme = (both.0, s.close);
       some = some;
-      utf8 = utf8_rest s.spelling s.rest (subst IsUtf8 s.joined u) (ends_ascii s.rest s.ends);
+      utf8 = utf8_rest s.spelling s.rest (subst IsUtf8 s.text_is u) (ends_ascii s.rest s.ends);
     })
     (λ _. cond_both (begins_opening t) _ _ P
     (λ h. opening_sound (Heredoc name fresh) refl t u h)
@@ -91,11 +91,11 @@ here_token_sound name fresh t ident u =
     let s : RunSplit (here_unit name) fresh t = run-split (here_unit name) (here_unit_fits name) fresh t in
     let some : 0 < run_length (here_unit name) fresh t = grind (arith, nat_tests) in
     let filled : s.front ≢ [] = λ e. absurd (omega (arith, s.len, ap length e)) in
-    let before : IsUtf8 (s.front ++ s.rest) = subst IsUtf8 s.joined u in
+    let before : IsUtf8 (s.front ++ s.rest) = subst IsUtf8 s.text_is u in
     record {
       spelling = s.front;
       rest = s.rest;
-      joined = s.joined;
+      text_is = s.text_is;
       len = s.len;
       lexeme = (refl, (filled, s.run));
       some = some;
@@ -111,7 +111,7 @@ here_token_sound name fresh t ident u =
 record LineEndSplit (t : List ℕ) (n : ℕ) : Type 0 where
   pub end : List ℕ
   pub rest : List ℕ
-  pub joined : t ≡ end ++ rest
+  pub text_is : t ≡ end ++ rest
   pub len : length end ≡ n
   pub is : IsLineEnd end
   pub utf8 : IsUtf8 t → IsUtf8 rest
@@ -123,7 +123,7 @@ line_end_split t =
     record {
       end = 10 ∷ [];
       rest = drop 1 t;
-      joined = e;
+      text_is = e;
       len = refl;
       is = inl refl;
       utf8 = λ u. utf8_past 10 (drop 1 t) (omega arith) (subst IsUtf8 e u);
@@ -134,7 +134,7 @@ line_end_split t =
     record {
       end = 13 ∷ 10 ∷ [];
       rest = drop 2 t;
-      joined = e;
+      text_is = e;
       len = refl;
       is = inr refl;
       utf8 = λ u. utf8_past 10 (drop 2 t) (omega arith) (utf8_past 13 (10 ∷ drop 2 t) (omega arith) (subst IsUtf8 e u));
@@ -145,7 +145,7 @@ line_end_split t =
 pub record WordSplit (t : List ℕ) (n : ℕ) : Type 0 where
   pub name : List ℕ
   pub rest : List ℕ
-  pub joined : t ≡ name ++ rest
+  pub text_is : t ≡ name ++ rest
   pub len : length name ≡ n
   pub is : IsIdentifier name
   pub utf8 : IsUtf8 rest
@@ -160,11 +160,11 @@ words_at t (c ∷ cs) e scalars =
     cond_both (starts c) _ None (λ f. Words t f)
     (λ h.
     let s : ContinueSplit cs = continue_split cs in
-    let parts = scalars_parts (c ∷ s.front) s.rest (subst (λ (x : List ℕ). all_scalars (c ∷ x) ≡ true) s.joined scalars) in (
+    let parts = scalars_parts (c ∷ s.front) s.rest (subst (λ (x : List ℕ). all_scalars (c ∷ x) ≡ true) s.text_is scalars) in (
       record {
         name = encode_utf8_all (c ∷ s.front);
         rest = encode_utf8_all s.rest;
-        joined = sym e ∙ ap (λ (x : List ℕ). encode_utf8_all (c ∷ x)) s.joined ∙ encodes-append (c ∷ s.front) s.rest;
+        text_is = sym e ∙ ap (λ (x : List ℕ). encode_utf8_all (c ∷ x)) s.text_is ∙ encodes-append (c ∷ s.front) s.rest;
         len = length-append (encode_utf8 c) (encode_utf8_all s.front) ∙ omega (arith, length-encode c, s.len);
         is = ((c ∷ s.front, (parts.0, refl)), ap is_identifier (chars-encodes (c ∷ s.front) parts.0) ∙ both_true h s.all);
         utf8 = (s.rest, (parts.1, refl));
@@ -184,18 +184,18 @@ module _ (mode : Mode) (plain : is_literal mode ≡ false) (t : List ℕ) (u : I
   named_sound dash more None is e words = tt
   named_sound dash more (Some f) is e words =
       let w : WordSplit more f.1 = words.0 in
-      let behind : drop f.1 more ≡ w.rest = ap₂ drop (sym w.len) w.joined ∙ drop_at w.name w.rest (length w.name) refl in
+      let behind : drop f.1 more ≡ w.rest = ap₂ drop (sym w.len) w.text_is ∙ drop_at w.name w.rest (length w.name) refl in
       let before : ℕ = 2 + length dash + f.1 in
       cond_both (line_end_length (drop f.1 more) == 0) None _ (λ g. Sound mode t g)
       (λ _. tt)
       (λ h.
       let l : LineEndSplit (drop f.1 more) (line_end_length (drop f.1 more)) = line_end_split (drop f.1 more) h in
       let s : List ℕ = codes "<<" ++ (dash ++ (w.name ++ l.end)) in
-      let inner : more ≡ (w.name ++ l.end) ++ l.rest = w.joined ∙ ap (λ (x : List ℕ). w.name ++ x) (sym behind ∙ l.joined) ∙ sym (append_assoc w.name l.end l.rest) in
+      let inner : more ≡ (w.name ++ l.end) ++ l.rest = w.text_is ∙ ap (λ (x : List ℕ). w.name ++ x) (sym behind ∙ l.text_is) ∙ sym (append_assoc w.name l.end l.rest) in
       record {
         spelling = s;
         rest = l.rest;
-        joined = e ∙ ap (λ (x : List ℕ). 60 ∷ 60 ∷ x) (ap (λ (x : List ℕ). dash ++ x) inner ∙ sym (append_assoc dash (w.name ++ l.end) l.rest));
+        text_is = e ∙ ap (λ (x : List ℕ). 60 ∷ 60 ∷ x) (ap (λ (x : List ℕ). dash ++ x) inner ∙ sym (append_assoc dash (w.name ++ l.end) l.rest));
         len = omega (arith, length-append dash (w.name ++ l.end), length-append w.name l.end, w.len, l.len);
         lexeme = (ap not plain, (dash, w.name, l.end, refl, is, w.is, l.is));
         some = omega arith;

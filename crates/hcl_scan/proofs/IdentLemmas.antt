@@ -8,7 +8,7 @@ use Rattle.std.proofs.lemmas.Bool.Decides.{nat_tests}
 use Rattle.unicode_ident.proofs.IdentLemmas.{is_xid_start-ascii}
 use Rattle.hcl_token.specs.declared.kind.Kind.TheVariants.{Identifier}
 use Rattle.hcl_scan.specs.Characters.{starts, continues}
-use Rattle.hcl_scan.specs.Next.{continue_length, identifier_of, identifier, begins_word}
+use Rattle.hcl_scan.specs.Inner.Next.{continue_length, identifier_of, identifier, begins_word}
 
 module _ (text rest : List ℕ) (at c : ℕ) (bytes : drop at text ≡ encode_utf8 c ++ rest) where
   pub chars_at : IsUtf8 (drop at text) → chars (drop at text) ≡ c ∷ chars (drop (at + len_utf8 c) text)

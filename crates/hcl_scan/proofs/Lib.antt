@@ -3,6 +3,7 @@ pub mod Beats
 pub mod BeatsNumbers
 pub mod BeatsPlain
 pub mod CutFollows
+pub mod CutTo
 pub mod Ends
 pub mod Exact
 pub mod ExactNumbers
@@ -20,6 +21,7 @@ pub mod MarkerLemmas
 pub mod Neighbours
 pub mod NestedLemmas
 pub mod OneCut
+pub mod OpenMarkers
 pub mod OpeningLemmas
 pub mod OtherGaps
 pub mod PairLemmas

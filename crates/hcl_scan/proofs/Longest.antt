@@ -6,9 +6,9 @@ use Rattle.hcl_token.specs.declared.kind.Kind.{Kind}
 use Rattle.hcl_scan.specs.Characters.{is_blank}
 use Rattle.hcl_scan.specs.Modes.{Mode, is_literal}
 use Rattle.hcl_scan.specs.Modes.Mode.{Expression, Sequence, Braces, Quoted, Heredoc}
-use Rattle.hcl_scan.specs.Markers.{HasMarker}
+use Rattle.hcl_scan.specs.Inner.Markers.{HasMarker}
 use Rattle.hcl_scan.specs.Lexeme.{IsLexeme, IsLongest}
-use Rattle.hcl_scan.specs.Next.{Found, token, gap_length}
+use Rattle.hcl_scan.specs.Inner.Next.{Found, token, gap_length}
 use Rattle.hcl_scan.specs.Cut.{IsGap}
 use Rattle.hcl_scan.proofs.Found.{IsFound, Sound, Beats}
 use Rattle.hcl_scan.proofs.HereLemmas.{prefix_adds}
@@ -20,7 +20,7 @@ pub found_longest : (mode : Mode) (t : List ℕ) (kind : Kind) (n : ℕ) → Has
 found_longest mode t kind n m is f = (
   f.lexeme,
   λ other s' rest' lexeme same.
-      let found : token mode (s' ++ rest') ≡ Some (kind, n) = ap (token mode) (same ∙ sym f.joined) ∙ is in
+      let found : token mode (s' ++ rest') ≡ Some (kind, n) = ap (token mode) (same ∙ sym f.text_is) ∙ is in
       let b : Beats (Some (kind, n)) other (length s') = subst (λ x. Beats x other (length s')) found (beats mode other s' rest' m lexeme) in
       elim b [ inl less ↦ omega (arith, f.len, less) | inr both ↦ omega (arith, f.len, both.0) ],
 )
@@ -32,7 +32,7 @@ longest_found mode kind s rest m u longest = by_found (token mode (s ++ rest)) (
     by_found : (x : Found) → Sound mode (s ++ rest) x → Beats x kind (length s) → x ≡ Some (kind, length s)
     by_found None f b = absurd b
     by_found (Some (k, n)) f (inl less) =
-        absurd (omega (arith, f.len, less, longest.1 k f.spelling f.rest f.lexeme (sym f.joined)))
+        absurd (omega (arith, f.len, less, longest.1 k f.spelling f.rest f.lexeme (sym f.text_is)))
     by_found (Some (k, n)) f (inr both) = ap₂ (λ x y. Some (x, y)) (sym both.1) (sym both.0)
 
 -- no lexeme where none is found

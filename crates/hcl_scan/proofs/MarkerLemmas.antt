@@ -13,7 +13,8 @@ use Rattle.hcl_scan.specs.Characters.{starts, continues}
 use Rattle.hcl_scan.specs.Modes.{Mode, mode_of, in_sequence, is_braces, marker_of, read_on, within_line, after}
 use Rattle.hcl_scan.specs.Modes.Mode.{Expression, Sequence, Braces, Quoted, Heredoc}
 use Rattle.hcl_scan.specs.Lexeme.{is_identifier, IsIdentifier, IsLineEnd, Spells}
-use Rattle.hcl_scan.specs.Markers.{HasMarker, HaveMarkers}
+use Rattle.hcl_scan.specs.Inner.Markers.{HasMarker}
+use Rattle.hcl_scan.proofs.OpenMarkers.{HaveMarkers}
 use Rattle.hcl_scan.proofs.HereLemmas.{prefix_adds, identifier_some}
 
 -- ---- bytes that stand in no identifier

@@ -5,11 +5,12 @@ use Rattle.std.proofs.lemmas.Bool.Decides.{nat_tests}
 use Rattle.std.specs.List.{list_all}
 use Rattle.hcl_token.specs.declared.kind.Kind.{Kind}
 use Rattle.hcl_token.specs.declared.kind.Kind.TheVariants.{LineEnd, LineComment, InlineComment, Slash, QuoteClose, InterpOpen, DirectiveOpen, QuoteLit, HereClose, HereLit}
-use Rattle.hcl_token.specs.Tokens.{Pair, joining}
+use Rattle.hcl_token.specs.Tokens.{Pair, whole_text}
 use Rattle.hcl_scan.specs.Characters.{is_blank, is_sigil}
 use Rattle.hcl_scan.specs.Modes.{Mode, mode_of, begins_line, after}
 use Rattle.hcl_scan.specs.Modes.Mode.{Expression, Sequence, Braces, Quoted, Heredoc}
-use Rattle.hcl_scan.specs.Markers.{HasMarker, HaveMarkers}
+use Rattle.hcl_scan.specs.Inner.Markers.{HasMarker}
+use Rattle.hcl_scan.proofs.OpenMarkers.{HaveMarkers}
 use Rattle.hcl_scan.specs.Runs.{line_behind, IsRun}
 use Rattle.hcl_scan.specs.Closing.{ends_line, IsClosingLine, here_unit}
 use Rattle.hcl_scan.specs.Lexeme.{stands_in, IsIdentifier, Spells, IsLexeme}
@@ -155,56 +156,56 @@ lexeme_filled (Heredoc name fresh) kind s rest m h = here_some name fresh kind s
 always_alike : (r : List ℕ) → IsAlike r r
 always_alike r = record { first = refl; second = λ _. refl }
 
-comment_far : (mode : Mode) (ps : List Pair) (last : List ℕ) → EndsLine ps last → Rest mode ps last → IsAlike (neighbour ps last) (joining ps last)
+comment_far : (mode : Mode) (ps : List Pair) (last : List ℕ) → EndsLine ps last → Rest mode ps last → IsAlike (neighbour ps last) (whole_text ps last)
 comment_far mode [] last e rest = always_alike last
-comment_far mode (q ∷ qs) last (none, line) rest = rw none (line_alike q.kind q.spelling (joining qs last) mode (joining qs last) line rest.1.1)
+comment_far mode (q ∷ qs) last (none, line) rest = rw none (line_alike q.kind q.spelling (whole_text qs last) mode (whole_text qs last) line rest.1.1)
 
-slash_far : (mode : Mode) → HasMarker mode → (ps : List Pair) (last : List ℕ) → Rest mode ps last → slice_index (neighbour ps last) 0 ≡ slice_index (joining ps last) 0
+slash_far : (mode : Mode) → HasMarker mode → (ps : List Pair) (last : List ℕ) → Rest mode ps last → slice_index (neighbour ps last) 0 ≡ slice_index (whole_text ps last) 0
 slash_far mode m [] last rest = refl
 slash_far mode m (q ∷ qs) last rest = behind_gap q.gap
   where
     more : List ℕ
-    more = joining qs last
+    more = whole_text qs last
 
     front : (t : List ℕ) → 0 < length t → slice_index t 0 ≡ slice_index (t ++ more) 0
     front [] some = absurd (omega arith)
     front (b ∷ t) some = refl
 
     behind_gap : (gap : List ℕ) → slice_index (gap ++ q.spelling) 0 ≡ slice_index (gap ++ (q.spelling ++ more)) 0
-    behind_gap [] = front q.spelling (lexeme_filled mode q.kind q.spelling (joining qs last) m rest.1)
+    behind_gap [] = front q.spelling (lexeme_filled mode q.kind q.spelling (whole_text qs last) m rest.1)
     behind_gap (b ∷ gap) = refl
 
-quoted_far : (ps : List Pair) (last : List ℕ) → Behind QuoteLit ps last → Rest Quoted ps last → IsAlike (neighbour ps last) (joining ps last)
+quoted_far : (ps : List Pair) (last : List ℕ) → Behind QuoteLit ps last → Rest Quoted ps last → IsAlike (neighbour ps last) (whole_text ps last)
 quoted_far [] last behind rest = always_alike last
 quoted_far (q ∷ qs) last behind rest =
     let none : q.gap ≡ [] = rest.0.1 refl in
-    rw none (quoted_alike q.kind q.spelling (joining qs last) behind rest.1.0 rest.1.1)
+    rw none (quoted_alike q.kind q.spelling (whole_text qs last) behind rest.1.0 rest.1.1)
 
 here_far : (name : List ℕ) (fresh : Bool) (ps : List Pair) (last : List ℕ) → IsIdentifier name → Behind HereLit ps last → Rest (Heredoc name fresh) ps last
-    → IsAlike (neighbour ps last) (joining ps last) × (BothOpen (neighbour ps last) (joining ps last) ⊎ (fresh ≡ true))
+    → IsAlike (neighbour ps last) (whole_text ps last) × (BothOpen (neighbour ps last) (whole_text ps last) ⊎ (fresh ≡ true))
 here_far name fresh [] last ident behind rest = absurd (false≢true (sym rest.1))
 here_far name fresh (q ∷ qs) last ident behind rest =
     let none : q.gap ≡ [] = rest.0.1 refl in
-    rw none (here_next name fresh q.kind q.spelling (joining qs last) ident behind rest.1)
+    rw none (here_next name fresh q.kind q.spelling (whole_text qs last) ident behind rest.1)
 
-close_far : (mode : Mode) → HasMarker mode → (ps : List Pair) (last : List ℕ) → Rest mode ps last → ends_line (neighbour ps last) ≡ true → ends_line (joining ps last) ≡ true
+close_far : (mode : Mode) → HasMarker mode → (ps : List Pair) (last : List ℕ) → Rest mode ps last → ends_line (neighbour ps last) ≡ true → ends_line (whole_text ps last) ≡ true
 close_far mode m [] last rest h = h
 close_far mode m (q ∷ qs) last rest h = behind_gap q.gap h
   where
-    front : (t : List ℕ) → 0 < length t → ends_line t ≡ true → ends_line (t ++ joining qs last) ≡ true
+    front : (t : List ℕ) → 0 < length t → ends_line t ≡ true → ends_line (t ++ whole_text qs last) ≡ true
     front [] some k = absurd (omega arith)
-    front (b ∷ t) some k = ends_more b t (joining qs last) k
+    front (b ∷ t) some k = ends_more b t (whole_text qs last) k
 
-    behind_gap : (gap : List ℕ) → ends_line (gap ++ q.spelling) ≡ true → ends_line (gap ++ (q.spelling ++ joining qs last)) ≡ true
-    behind_gap [] k = front q.spelling (lexeme_filled mode q.kind q.spelling (joining qs last) m rest.1) k
-    behind_gap (b ∷ gap) k = ap (λ (x : List ℕ). ends_line (b ∷ x)) (sym (append_assoc gap q.spelling (joining qs last))) ∙ ends_more b (gap ++ q.spelling) (joining qs last) k
+    behind_gap : (gap : List ℕ) → ends_line (gap ++ q.spelling) ≡ true → ends_line (gap ++ (q.spelling ++ whole_text qs last)) ≡ true
+    behind_gap [] k = front q.spelling (lexeme_filled mode q.kind q.spelling (whole_text qs last) m rest.1) k
+    behind_gap (b ∷ gap) k = ap (λ (x : List ℕ). ends_line (b ∷ x)) (sym (append_assoc gap q.spelling (whole_text qs last))) ∙ ends_more b (gap ++ q.spelling) (whole_text qs last) k
 
 -- a token of the kind behind which these stand
 abbrev pub Stands : List Mode → Kind → List ℕ → List Pair → List ℕ → Type 0
 Stands modes kind s ps last =
     HaveMarkers modes × (stands_in (mode_of modes) kind ≡ true) × Behind kind ps last × HasMarker (mode_of (after kind s modes)) × Rest (mode_of (after kind s modes)) ps last
 
-pub far : (modes : List Mode) (kind : Kind) (s : List ℕ) (ps : List Pair) (last : List ℕ) → Stands modes kind s ps last → Alike (mode_of modes) kind s (neighbour ps last) (joining ps last)
+pub far : (modes : List Mode) (kind : Kind) (s : List ℕ) (ps : List Pair) (last : List ℕ) → Stands modes kind s ps last → Alike (mode_of modes) kind s (neighbour ps last) (whole_text ps last)
 far modes LineComment s ps last h = comment_far (mode_of modes) ps last h.2 h.4
 far modes Slash s ps last h = slash_far (mode_of modes) h.3 ps last h.4
 far (Quoted ∷ ms) QuoteLit s ps last h = quoted_far ps last h.2 h.4

@@ -7,17 +7,17 @@ use Rattle.std.specs.Str.{IsValidUpTo}
 use Rattle.std.specs.Str.Lossy.{utf8_valid_len}
 use Rattle.std.proofs.lemmas.Str.{utf8_valid_len-IsValidUpTo}
 use Rattle.hcl_token.specs.declared.kind.Kind.{Kind}
-use Rattle.hcl_token.specs.Tokens.{Pair, joining}
+use Rattle.hcl_token.specs.Tokens.{Pair, whole_text}
 use Rattle.hcl_scan.specs.declared.error.ScanFault.{ScanFault}
 use Rattle.hcl_scan.specs.declared.error.ScanFault.TheVariants.{NotUtf8}
 use Rattle.hcl_scan.specs.Characters.{is_blank}
 use Rattle.hcl_scan.specs.Modes.{Mode, mode_of, is_literal}
 use Rattle.hcl_scan.specs.Modes.Mode.{Expression}
 use Rattle.hcl_scan.specs.Lexeme.{IsLexeme}
-use Rattle.hcl_scan.specs.Next.{token, gap_length}
+use Rattle.hcl_scan.specs.Inner.Next.{token, gap_length}
 use Rattle.hcl_scan.specs.Cut.{Cuts, IsCut, front_of}
 use Rattle.hcl_scan.specs.Fault.{IsEnd, Stops, IsFault, fault_at, innermost, places_behind}
-use Rattle.hcl_scan.specs.Progress.{front_length}
+use Rattle.hcl_scan.specs.Inner.MarkItem.{front_length}
 use Rattle.hcl_scan.proofs.Found.{Beats}
 use Rattle.hcl_scan.proofs.Beats.{beats}
 use Rattle.hcl_scan.proofs.Longest.{gap_is}
@@ -46,8 +46,8 @@ gap_end last all gap s more kind g lexeme same =
 same_cuts : (text : List ℕ) (ps qs : List Pair) (rest rest' : List ℕ) (left left' : List Mode) → IsUtf8 text
     → Cuts text ps rest left → Cuts text qs rest' left' → IsEnd (mode_of left) rest → IsEnd (mode_of left') rest' → Same ps qs rest rest' left left'
 same_cuts text ps qs rest rest' left left' u c d end end' =
-    let first : joining c.body rest ≡ drop (front_length text) text = behind_front text ps rest left c in
-    let second : joining d.body rest' ≡ drop (front_length text) text = behind_front text qs rest' left' d in
+    let first : whole_text c.body rest ≡ drop (front_length text) text = behind_front text ps rest left c in
+    let second : whole_text d.body rest' ≡ drop (front_length text) text = behind_front text qs rest' left' d in
     let same : Same c.body d.body rest rest' left left' =
     one_maximal c.body d.body [] rest rest' left left' tt (subst IsUtf8 (sym first) (front_utf8 text u)) (first ∙ sym second) c.cuts d.cuts end end' in
     record { pairs = c.front ∙ ap (λ (x : List Pair). front_of text ++ x) same.pairs ∙ sym d.front; rests = same.rests; modes = same.modes }
@@ -66,10 +66,10 @@ one_stop text fault other u f g =
     let width' : length g.gap ≡ gap_length (mode_of g.left) (g.gap ++ g.rest) = gap_is (mode_of g.left) g.gap g.rest g.blank g.past in
     let size : length f.gap ≡ length g.gap = width ∙ ap₂ gap_length mode same.rests ∙ sym width' in
     let parts = split_same f.gap f.rest g.gap g.rest size same.rests in
-    let place : length (joining f.pairs f.gap) ≡ length (joining g.pairs g.gap) = ap length (ap₂ joining same.pairs parts.0) in
+    let place : length (whole_text f.pairs f.gap) ≡ length (whole_text g.pairs g.gap) = ap length (ap₂ whole_text same.pairs parts.0) in
     f.fault_is
-    ∙ ap (λ (m : List Mode). fault_at (mode_of m) (innermost m (places_behind 0 [] [] f.pairs)) (length (joining f.pairs f.gap)) f.rest) same.modes
-    ∙ ap (λ (ps : List Pair). fault_at (mode_of g.left) (innermost g.left (places_behind 0 [] [] ps)) (length (joining f.pairs f.gap)) f.rest) same.pairs
+    ∙ ap (λ (m : List Mode). fault_at (mode_of m) (innermost m (places_behind 0 [] [] f.pairs)) (length (whole_text f.pairs f.gap)) f.rest) same.modes
+    ∙ ap (λ (ps : List Pair). fault_at (mode_of g.left) (innermost g.left (places_behind 0 [] [] ps)) (length (whole_text f.pairs f.gap)) f.rest) same.pairs
     ∙ ap₂ (λ n (t : List ℕ). fault_at (mode_of g.left) (innermost g.left (places_behind 0 [] [] g.pairs)) n t) place parts.1
     ∙ sym g.fault_is
 

@@ -3,7 +3,7 @@ use Rattle.std.proofs.Common.{◌≡◌, ℕ, suc, ◌-◌, ◌<◌, ◌==◌, B
 use Rattle.std.proofs.lemmas.List.{reverse-append, length-reverse, length-map}
 use Rattle.hcl_scan.specs.Runs.{line_behind}
 use Rattle.hcl_scan.specs.declared.mode.Opening.{Opening}
-use Rattle.hcl_scan.specs.Openings.{mode_view, modes_of, places_of}
+use Rattle.hcl_scan.specs.Inner.Openings.{mode_view, modes_of, places_of}
 use Rattle.hcl_scan.proofs.RunLemmas.{line_behind-last}
 
 pub modes_of-push : (openings : List Opening) (o : Opening) → modes_of (openings ++ o ∷ []) ≡ mode_view o.mode ∷ modes_of openings

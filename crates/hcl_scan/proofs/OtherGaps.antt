@@ -13,8 +13,8 @@ use Rattle.hcl_scan.specs.Modes.Mode.{Sequence, Quoted, Heredoc}
 use Rattle.hcl_scan.specs.Closing.{ends_line}
 use Rattle.hcl_scan.specs.Lexeme.{is_quoted, is_heredoc, stands_in, Spells, IsLexeme}
 use Rattle.hcl_scan.specs.Cut.{IsGap}
-use Rattle.hcl_scan.specs.Front.{begins_word}
-use Rattle.hcl_scan.specs.Follows.{neighbour, EndsLine, IsOther, Behind, FollowsFrom, Follows, mark, IsApart, AreApart, tokens_of, has_no_gap, shuts_gap, AreGaps}
+use Rattle.hcl_scan.specs.Inner.Front.{begins_word}
+use Rattle.hcl_scan.specs.Follows.{neighbour, EndsLine, IsOther, Behind, FollowsFrom, Follows, mark, IsApart, AreApart, tokens_of, has_no_gap, has_no_gap_behind, AreGaps}
 use Rattle.hcl_scan.proofs.Heads.{heads, HeadIs, begins_so, one_passes}
 use Rattle.hcl_scan.proofs.Unique.{same_pair}
 use Rattle.hcl_scan.proofs.RunNeighbours.{inline_same}
@@ -110,12 +110,12 @@ literal_none : (mode : Mode) → is_literal mode ≡ true → (ps : List Pair) (
 literal_none mode literal [] last first = absurd (both_ways _ first.1 literal)
 literal_none mode literal (p ∷ ps) last first = first.0.1 literal
 
-literal_shut : (mode : Mode) → is_literal mode ≡ true → (shut : Bool) (qs ps : List Pair) (other last : List ℕ) → NextSame qs ps → FirstOf mode ps last → AreGaps shut qs other → NoGap qs other
-literal_shut mode literal shut [] [] other last same first gaps = absurd (both_ways _ first.1 literal)
-literal_shut mode literal shut [] (p ∷ ps) other last same first gaps = absurd same
-literal_shut mode literal shut (q ∷ qs) [] other last same first gaps = absurd same
-literal_shut mode literal shut (q ∷ qs) (p ∷ ps) other last same first gaps =
-    gaps.1 (or_right shut (has_no_gap q.kind) (ap has_no_gap same.0 ∙ literal_no_gap mode p.kind first.1.0 literal))
+literal_shut : (mode : Mode) → is_literal mode ≡ true → (must_be_empty : Bool) (qs ps : List Pair) (other last : List ℕ) → NextSame qs ps → FirstOf mode ps last → AreGaps must_be_empty qs other → NoGap qs other
+literal_shut mode literal must_be_empty [] [] other last same first gaps = absurd (both_ways _ first.1 literal)
+literal_shut mode literal must_be_empty [] (p ∷ ps) other last same first gaps = absurd same
+literal_shut mode literal must_be_empty (q ∷ qs) [] other last same first gaps = absurd same
+literal_shut mode literal must_be_empty (q ∷ qs) (p ∷ ps) other last same first gaps =
+    gaps.1 (or_right must_be_empty (has_no_gap q.kind) (ap has_no_gap same.0 ∙ literal_no_gap mode p.kind first.1.0 literal))
 
 -- ---- `/`
 
@@ -141,15 +141,15 @@ slash_next s Identifier t j h = word_no_comment (slice_index t 0) h
 slash_next s Number t j h = digit_no_comment (slice_index t 0) h
 slash_next s kind t j h = other_no_comment t j (one_passes (λ b. not (b == 42)) (slice_index t 0) (heads kind) h refl)
 
-slash_behind : (mode : Mode) → is_literal mode ≡ false → (s : List ℕ) (shut : Bool) (qs ps : List Pair) (other last : List ℕ) → NextSame qs ps → FirstOf mode ps last → AreGaps shut qs other → IsApart Slash s qs
+slash_behind : (mode : Mode) → is_literal mode ≡ false → (s : List ℕ) (must_be_empty : Bool) (qs ps : List Pair) (other last : List ℕ) → NextSame qs ps → FirstOf mode ps last → AreGaps must_be_empty qs other → IsApart Slash s qs
     → no_comment (slice_index (neighbour qs other) 0) ≡ true
-slash_behind mode plain s shut [] ps other last same first gaps apart = blanks other gaps.0
+slash_behind mode plain s must_be_empty [] ps other last same first gaps apart = blanks other gaps.0
   where
     blanks : (t : List ℕ) → list_all is_blank t ≡ true → no_comment (slice_index t 0) ≡ true
     blanks [] all = refl
     blanks (b ∷ t) all = blank_no_comment b (and_parts (is_blank b) (list_all is_blank t) all).0
-slash_behind mode plain s shut (q ∷ qs) [] other last same first gaps apart = absurd same
-slash_behind mode plain s shut (q ∷ qs) (p ∷ ps) other last same first gaps apart = at_gap q.gap gaps.0 apart
+slash_behind mode plain s must_be_empty (q ∷ qs) [] other last same first gaps apart = absurd same
+slash_behind mode plain s must_be_empty (q ∷ qs) (p ∷ ps) other last same first gaps apart = at_gap q.gap gaps.0 apart
   where
     at_gap : (gap : List ℕ) → list_all is_blank gap ≡ true → (gap ≡ [] → joins_with Slash s q.kind q.spelling ≡ false) → no_comment (slice_index (gap ++ q.spelling) 0) ≡ true
     at_gap [] all j =
@@ -161,7 +161,7 @@ slash_behind mode plain s shut (q ∷ qs) (p ∷ ps) other last same first gaps 
 -- ---- a token with another neighbour
 
 respelt : (modes : List Mode) (kind : Kind) (s : List ℕ) (qs ps : List Pair) (other last : List ℕ) → stands_in (mode_of modes) kind ≡ true → Behind kind ps last → FirstOf (mode_of (after kind s modes)) ps last
-    → NextSame qs ps → AreGaps (shuts_gap kind) qs other → IsApart kind s qs → Spells (mode_of modes) kind s (neighbour ps last) → Spells (mode_of modes) kind s (neighbour qs other)
+    → NextSame qs ps → AreGaps (has_no_gap_behind kind) qs other → IsApart kind s qs → Spells (mode_of modes) kind s (neighbour ps last) → Spells (mode_of modes) kind s (neighbour qs other)
 respelt modes LineComment s qs ps other last st behind first same gaps apart h =
     subst (Spells (mode_of modes) LineComment s) (same_neighbour qs ps other last same (shut_none qs other gaps) (line_none ps last behind)) h
 respelt modes InlineComment s qs ps other last st behind first same gaps apart (body, e, run) = (body, e, inline_same (neighbour ps last) (neighbour qs other) body run)
@@ -188,7 +188,7 @@ other_same kind [] ps same h = tt
 other_same kind (q ∷ qs) [] same h = absurd same
 other_same kind (q ∷ qs) (p ∷ ps) same h = λ e. h (sym same.0 ∙ e)
 
-behind_same : (kind : Kind) (qs ps : List Pair) (other last : List ℕ) → NextSame qs ps → AreGaps (shuts_gap kind) qs other → Behind kind ps last → Behind kind qs other
+behind_same : (kind : Kind) (qs ps : List Pair) (other last : List ℕ) → NextSame qs ps → AreGaps (has_no_gap_behind kind) qs other → Behind kind ps last → Behind kind qs other
 behind_same LineComment qs ps other last same gaps h = line_behind_same qs ps other last same gaps h
 behind_same QuoteLit qs ps other last same gaps h = other_same QuoteLit qs ps same h
 behind_same HereLit qs ps other last same gaps h = other_same HereLit qs ps same h
@@ -201,27 +201,27 @@ abbrev Step : List Mode → List ℕ → Kind → List ℕ → List Pair → Lis
 Step modes gap kind s qs other =
     IsGap (mode_of modes) gap × IsUtf8 s × IsLexeme (mode_of modes) kind s (neighbour qs other) × Behind kind qs other × FollowsFrom (after kind s modes) qs other []
 
-regap : (ps qs : List Pair) (modes : List Mode) (last other : List ℕ) (shut : Bool) → tokens_of qs ≡ tokens_of ps → list_all is_blank last ≡ true → FollowsFrom modes ps last [] → AreGaps shut qs other → AreApart qs → FollowsFrom modes qs other []
-regap [] [] modes last other shut e blank f gaps apart = f
-regap [] (q ∷ qs) modes last other shut e blank f gaps apart = absurd (cc)
-regap (p ∷ ps) [] modes last other shut e blank f gaps apart = absurd (cc)
-regap (p ∷ ps) (q ∷ qs) modes last other shut e blank f gaps apart =
+regap : (ps qs : List Pair) (modes : List Mode) (last other : List ℕ) (must_be_empty : Bool) → tokens_of qs ≡ tokens_of ps → list_all is_blank last ≡ true → FollowsFrom modes ps last [] → AreGaps must_be_empty qs other → AreApart qs → FollowsFrom modes qs other []
+regap [] [] modes last other must_be_empty e blank f gaps apart = f
+regap [] (q ∷ qs) modes last other must_be_empty e blank f gaps apart = absurd (cc)
+regap (p ∷ ps) [] modes last other must_be_empty e blank f gaps apart = absurd (cc)
+regap (p ∷ ps) (q ∷ qs) modes last other must_be_empty e blank f gaps apart =
     let same = same_head q p qs ps e in
     let mode : Mode = mode_of modes in
     let behind : List Mode = after p.kind p.spelling modes in
     let first : FirstOf (mode_of behind) ps last = first_of_list behind ps last blank f.4 in
     let next : NextSame qs ps = next_same qs ps same.tails in
-    let more : AreGaps (shuts_gap p.kind) qs other = subst (λ k. AreGaps (shuts_gap k) qs other) same.kinds gaps.2 in
+    let more : AreGaps (has_no_gap_behind p.kind) qs other = subst (λ k. AreGaps (has_no_gap_behind k) qs other) same.kinds gaps.2 in
     let parted : IsApart p.kind p.spelling qs = subst (λ k. IsApart k p.spelling qs) same.kinds (subst (λ (x : List ℕ). IsApart q.kind x qs) same.spellings apart.0) in
-    let gap : IsGap mode q.gap = (gaps.0, λ literal. gaps.1 (or_right shut (has_no_gap q.kind) (ap has_no_gap same.kinds ∙ literal_no_gap mode p.kind f.2.0 literal))) in
+    let gap : IsGap mode q.gap = (gaps.0, λ literal. gaps.1 (or_right must_be_empty (has_no_gap q.kind) (ap has_no_gap same.kinds ∙ literal_no_gap mode p.kind f.2.0 literal))) in
     let lexeme : IsLexeme mode p.kind p.spelling (neighbour qs other) = (f.2.0, respelt modes p.kind p.spelling qs ps other last f.2.0 f.3 first next more parted f.2.1) in
     let step : Step modes q.gap p.kind p.spelling qs other =
-    (gap, f.1, lexeme, behind_same p.kind qs ps other last next more f.3, regap ps qs behind last other (shuts_gap p.kind) same.tails blank f.4 more apart.1) in
+    (gap, f.1, lexeme, behind_same p.kind qs ps other last next more f.3, regap ps qs behind last other (has_no_gap_behind p.kind) same.tails blank f.4 more apart.1) in
     subst (λ k. Step modes q.gap k q.spelling qs other) (sym same.kinds) (subst (λ (x : List ℕ). Step modes q.gap p.kind x qs other) (sym same.spellings) step)
 
-last_blank : (shut : Bool) (qs : List Pair) (other : List ℕ) → AreGaps shut qs other → list_all is_blank other ≡ true
-last_blank shut [] other gaps = gaps.0
-last_blank shut (q ∷ qs) other gaps = last_blank (shuts_gap q.kind) qs other gaps.2
+last_blank : (must_be_empty : Bool) (qs : List Pair) (other : List ℕ) → AreGaps must_be_empty qs other → list_all is_blank other ≡ true
+last_blank must_be_empty [] other gaps = gaps.0
+last_blank must_be_empty (q ∷ qs) other gaps = last_blank (has_no_gap_behind q.kind) qs other gaps.2
 
 pub other_gaps : (pairs others : List Pair) (last other : List ℕ) → Follows pairs last [] → tokens_of others ≡ tokens_of pairs → AreGaps false others other → AreApart others → Follows others other []
 other_gaps pairs others last other f e gaps apart = at_front others f.front e gaps apart
@@ -239,7 +239,7 @@ other_gaps pairs others last other f e gaps apart = at_front others f.front e ga
         record {
           body = qs;
           front = inr (ap (λ x. x ∷ qs) (same_pair q mark (g.1 (ap has_no_gap head.kinds)) head.kinds head.spellings));
-          follows = regap f.body qs [] last other (shuts_gap q.kind) head.tails f.blank f.follows g.2 a.1;
+          follows = regap f.body qs [] last other (has_no_gap_behind q.kind) head.tails f.blank f.follows g.2 a.1;
           blank = last_blank false (q ∷ qs) other g;
         }
 
@@ -264,22 +264,22 @@ no_gap_literal mode HereLit st h = heredoc_literal mode st
 no_gap_literal mode kind st h = absurd (false≢true h)
 
 -- behind a token that asks for no gap there is none
-shuts_none : (modes : List Mode) (kind : Kind) (s : List ℕ) (ps : List Pair) (last : List ℕ) → Spells (mode_of modes) kind s (neighbour ps last) → Behind kind ps last → FirstOf (mode_of (after kind s modes)) ps last → shuts_gap kind ≡ true → NoGap ps last
+shuts_none : (modes : List Mode) (kind : Kind) (s : List ℕ) (ps : List Pair) (last : List ℕ) → Spells (mode_of modes) kind s (neighbour ps last) → Behind kind ps last → FirstOf (mode_of (after kind s modes)) ps last → has_no_gap_behind kind ≡ true → NoGap ps last
 shuts_none modes LineComment s ps last spells behind first h = line_none ps last behind
 shuts_none modes HereClose s ps last spells behind first h = close_none (mode_of (after HereClose s modes)) ps last first spells.5
 shuts_none modes kind s ps last spells behind first h = absurd (false≢true h)
 
-gaps_from : (ps : List Pair) (modes : List Mode) (last : List ℕ) (shut : Bool) → list_all is_blank last ≡ true → FollowsFrom modes ps last [] → (shut ≡ true → NoGap ps last) → AreGaps shut ps last
-gaps_from [] modes last shut blank f none = (blank, none)
-gaps_from (p ∷ ps) modes last shut blank f none =
+gaps_from : (ps : List Pair) (modes : List Mode) (last : List ℕ) (must_be_empty : Bool) → list_all is_blank last ≡ true → FollowsFrom modes ps last [] → (must_be_empty ≡ true → NoGap ps last) → AreGaps must_be_empty ps last
+gaps_from [] modes last must_be_empty blank f none = (blank, none)
+gaps_from (p ∷ ps) modes last must_be_empty blank f none =
     let behind : List Mode = after p.kind p.spelling modes in
     let first : FirstOf (mode_of behind) ps last = first_of_list behind ps last blank f.4 in (
       f.0.0,
-      λ h. elim (or_cases shut (has_no_gap p.kind) h) [
+      λ h. elim (or_cases must_be_empty (has_no_gap p.kind) h) [
         | inl k ↦ none k
         | inr k ↦ f.0.1 (no_gap_literal (mode_of modes) p.kind f.2.0 k)
       ],
-      gaps_from ps behind last (shuts_gap p.kind) blank f.4 (shuts_none modes p.kind p.spelling ps last f.2.1 f.3 first),
+      gaps_from ps behind last (has_no_gap_behind p.kind) blank f.4 (shuts_none modes p.kind p.spelling ps last f.2.1 f.3 first),
     )
 
 pub gaps_of : (pairs : List Pair) (last : List ℕ) → Follows pairs last [] → AreGaps false pairs last

@@ -3,26 +3,26 @@ use Rattle.std.proofs.Common.{◌≡◌, ℕ, ◌+◌, ◌≤◌, Bool, true, fa
 use Rattle.hcl_token.specs.declared.kind.Kind.{Kind}
 use Rattle.hcl_token.specs.declared.kind.Kind.TheVariants.{Mark}
 use Rattle.hcl_token.specs.declared.item.Item.{Item}
-use Rattle.hcl_token.specs.Tokens.{Pair, joining}
+use Rattle.hcl_token.specs.Tokens.{Pair, whole_text}
 use Rattle.hcl_token.specs.Items.{InOrder}
 use Rattle.hcl_scan.specs.Characters.{begins}
 use Rattle.hcl_scan.specs.Modes.{Mode, mode_of, after}
-use Rattle.hcl_scan.specs.Markers.{HaveMarkers}
+use Rattle.hcl_scan.proofs.OpenMarkers.{HaveMarkers}
 use Rattle.hcl_scan.specs.Lexeme.{IsLongest}
 use Rattle.hcl_scan.specs.Cut.{IsGap, CutsFrom, Cuts, byte_order_mark}
 use Rattle.hcl_scan.specs.Fault.{places_after, places_behind}
 use Rattle.hcl_scan.proofs.MarkerLemmas.{markers_after}
 use Rattle.hcl_scan.proofs.Unique.{pair_of}
 
-pub joining_more : (ps : List Pair) (gap s more : List ℕ) (kind : Kind) → joining (ps ++ pair_of gap kind s ∷ []) more ≡ joining ps (gap ++ (s ++ more))
+pub joining_more : (ps : List Pair) (gap s more : List ℕ) (kind : Kind) → whole_text (ps ++ pair_of gap kind s ∷ []) more ≡ whole_text ps (gap ++ (s ++ more))
 joining_more [] gap s more kind = refl
 joining_more (p ∷ ps) gap s more kind = ap (λ (x : List ℕ). p.gap ++ (p.spelling ++ x)) (joining_more ps gap s more kind)
 
-pub joining_rest : (ps : List Pair) (rest : List ℕ) → length (joining ps rest) ≡ length (joining ps []) + length rest
+pub joining_rest : (ps : List Pair) (rest : List ℕ) → length (whole_text ps rest) ≡ length (whole_text ps []) + length rest
 joining_rest [] rest = omega arith
 joining_rest (p ∷ ps) rest =
     let rec = joining_rest ps rest in
-    rw (length-append p.gap (p.spelling ++ joining ps rest), length-append p.spelling (joining ps rest), length-append p.gap (p.spelling ++ joining ps []), length-append p.spelling (joining ps [])) (omega arith)
+    rw (length-append p.gap (p.spelling ++ whole_text ps rest), length-append p.spelling (whole_text ps rest), length-append p.gap (p.spelling ++ whole_text ps []), length-append p.spelling (whole_text ps [])) (omega arith)
 
 pub cuts_more : (ps : List Pair) (modes left : List Mode) (gap s more : List ℕ) (kind : Kind)
     → CutsFrom modes ps (gap ++ (s ++ more)) left → IsGap (mode_of left) gap → IsLongest (mode_of left) kind s more
@@ -42,7 +42,7 @@ cuts_more (p ∷ ps) modes left gap s more kind c g longest = (
 pub markers_behind : (ps : List Pair) (modes left : List Mode) (rest : List ℕ) → HaveMarkers modes → CutsFrom modes ps rest left → HaveMarkers left
 markers_behind [] modes left rest h c = subst HaveMarkers c h
 markers_behind (p ∷ ps) modes left rest h c =
-    markers_behind ps (after p.kind p.spelling modes) left rest (markers_after p.kind p.spelling (joining ps rest) modes c.1.0.1 h) c.2
+    markers_behind ps (after p.kind p.spelling modes) left rest (markers_after p.kind p.spelling (whole_text ps rest) modes c.1.0.1 h) c.2
 
 -- ---- places
 
@@ -65,24 +65,24 @@ modes_cut text pairs rest left c =
     ap (modes_behind []) c.front ∙ modes_front (begins byte_order_mark text) c.body ∙ modes_left c.body [] left rest c.cuts
 
 places_more : (ps : List Pair) (at : ℕ) (modes : List Mode) (places : List ℕ) (gap s : List ℕ) (kind : Kind)
-    → places_behind at modes places (ps ++ pair_of gap kind s ∷ []) ≡ places_after kind (at + length (joining ps gap)) (modes_behind modes ps) (places_behind at modes places ps)
+    → places_behind at modes places (ps ++ pair_of gap kind s ∷ []) ≡ places_after kind (at + length (whole_text ps gap)) (modes_behind modes ps) (places_behind at modes places ps)
 places_more [] at modes places gap s kind = refl
 places_more (p ∷ ps) at modes places gap s kind =
     let next : ℕ = at + length p.gap + length p.spelling in
     let left : List Mode = modes_behind modes (p ∷ ps) in
     let openings : List ℕ = places_behind at modes places (p ∷ ps) in
-    let place : next + length (joining ps gap) ≡ at + length (joining (p ∷ ps) gap) =
-    rw (length-append p.gap (p.spelling ++ joining ps gap), length-append p.spelling (joining ps gap)) (omega arith) in
+    let place : next + length (whole_text ps gap) ≡ at + length (whole_text (p ∷ ps) gap) =
+    rw (length-append p.gap (p.spelling ++ whole_text ps gap), length-append p.spelling (whole_text ps gap)) (omega arith) in
     places_more ps next (after p.kind p.spelling modes) (places_after p.kind (at + length p.gap) modes places) gap s kind
     ∙ ap (λ n. places_after kind n left openings) place
 
 -- one token more, which begins at this place
 pub places_push : (text : List ℕ) (pairs : List Pair) (rest : List ℕ) (left : List Mode) (start : ℕ) (gap s : List ℕ) (kind : Kind)
-    → Cuts text pairs rest left → length (joining pairs gap) ≡ start
+    → Cuts text pairs rest left → length (whole_text pairs gap) ≡ start
     → places_behind 0 [] [] (pairs ++ pair_of gap kind s ∷ []) ≡ places_after kind start left (places_behind 0 [] [] pairs)
 places_push text pairs rest left start gap s kind c e =
     let openings : List ℕ = places_behind 0 [] [] pairs in
-    let place : 0 + length (joining pairs gap) ≡ start = omega (arith, e) in
+    let place : 0 + length (whole_text pairs gap) ≡ start = omega (arith, e) in
     places_more pairs 0 [] [] gap s kind
     ∙ ap (λ n. places_after kind n (modes_behind [] pairs) openings) place
     ∙ ap (λ (m : List Mode). places_after kind start m openings) (modes_cut text pairs rest left c)

@@ -10,7 +10,7 @@ use Rattle.std.specs.List.{list_all, prefix_len}
 use Rattle.std.specs.Str.{all_scalars}
 use Rattle.hcl_scan.specs.Characters.{continues}
 use Rattle.hcl_scan.specs.Lexeme.{is_decimal, IsFraction, IsSign, IsExponent}
-use Rattle.hcl_scan.specs.Next.{continue_length, decimal_length, fraction_length, is_sign, is_exponent_letter, exponent_length}
+use Rattle.hcl_scan.specs.Inner.Next.{continue_length, decimal_length, fraction_length, is_sign, is_exponent_letter, exponent_length}
 use Rattle.hcl_scan.proofs.TextLemmas.{front_1, utf8_past}
 
 -- ---- digits
@@ -27,7 +27,7 @@ prefix_all p (b ∷ t) =
 pub record Split (Is : List ℕ → Type 0) (n : ℕ) (t : List ℕ) : Type 0 where
   pub front : List ℕ
   pub rest : List ℕ
-  pub joined : t ≡ front ++ rest
+  pub text_is : t ≡ front ++ rest
   pub len : length front ≡ n
   pub is : Is front
   pub behind : rest ≡ drop n t
@@ -58,7 +58,7 @@ decimal_split t digit =
     record {
       front = take n t;
       rest = drop n t;
-      joined = whole;
+      text_is = whole;
       len = size;
       is = decimal_from (take n t) (omega (arith, size, some)) all;
       behind = refl;
@@ -71,12 +71,12 @@ decimal_split t digit =
 pub record ContinueSplit (cs : List ℕ) : Type 0 where
   pub front : List ℕ
   pub rest : List ℕ
-  pub joined : cs ≡ front ++ rest
+  pub text_is : cs ≡ front ++ rest
   pub len : length (encode_utf8_all front) ≡ continue_length cs
   pub all : list_all continues front ≡ true
 
 pub continue_split : (cs : List ℕ) → ContinueSplit cs
-continue_split [] = record { front = []; rest = []; joined = refl; len = refl; all = refl }
+continue_split [] = record { front = []; rest = []; text_is = refl; len = refl; all = refl }
 continue_split (c ∷ cs) =
     elim (continues c) as (λ b. continues c ≡ b → ContinueSplit (c ∷ cs)) [
       | true ↦ λ h.
@@ -84,11 +84,11 @@ continue_split (c ∷ cs) =
           record {
             front = c ∷ s.front;
             rest = s.rest;
-            joined = ap (λ (x : List ℕ). c ∷ x) s.joined;
+            text_is = ap (λ (x : List ℕ). c ∷ x) s.text_is;
             len = rw h (length-append (encode_utf8 c) (encode_utf8_all s.front) ∙ omega (arith, length-encode c, s.len));
             all = both_true h s.all;
           }
-      | false ↦ λ h. record { front = []; rest = c ∷ cs; joined = refl; len = rw h refl; all = refl }
+      | false ↦ λ h. record { front = []; rest = c ∷ cs; text_is = refl; len = rw h refl; all = refl }
     ] refl
 
 pub scalars_parts : (xs ys : List ℕ) → all_scalars (xs ++ ys) ≡ true → (all_scalars xs ≡ true) × (all_scalars ys ≡ true)
@@ -102,14 +102,14 @@ scalars_parts (x ∷ xs) ys h =
 
 -- a piece of no bytes
 none_split : (Is : List ℕ → Type 0) (t : List ℕ) → Is [] → Split Is 0 t
-none_split Is t is = record { front = []; rest = t; joined = refl; len = refl; is = is; behind = refl; utf8 = λ u. u }
+none_split Is t is = record { front = []; rest = t; text_is = refl; len = refl; is = is; behind = refl; utf8 = λ u. u }
 
 -- one ASCII byte more before a piece
 after_1 : (Is More : List ℕ → Type 0) (t : List ℕ) (x n : ℕ) → t ≡ x ∷ drop 1 t → x < 128 → Split Is n (drop 1 t) → ((s : List ℕ) → Is s → More (x ∷ s)) → Split More (1 + n) t
 after_1 Is More t x n e h s more = record {
   front = x ∷ s.front;
   rest = s.rest;
-  joined = e ∙ ap (λ (y : List ℕ). x ∷ y) s.joined;
+  text_is = e ∙ ap (λ (y : List ℕ). x ∷ y) s.text_is;
   len = omega (arith, s.len);
   is = more s.front s.is;
   behind = s.behind ∙ drop-drop n 1 t ∙ ap (λ k. drop k t) (omega arith);

@@ -3,7 +3,7 @@ use Rattle.std.proofs.Common.{◌≡◌, ℕ, zero, suc, ◌+◌, ◌-◌, ◌<�
 use Rattle.std.proofs.lemmas.Bool.Decides.{nat_tests}
 use Rattle.std.specs.List.{concat}
 use Rattle.hcl_scan.specs.Runs.{UnitLength, line_behind, AreUnits, IsRun}
-use Rattle.hcl_scan.specs.RunLength.{run_from, run_length}
+use Rattle.hcl_scan.specs.Inner.RunLength.{run_from, run_length}
 
 -- ---- whether a line begins
 
@@ -76,7 +76,7 @@ module _ (unit : UnitLength) where
   pub record RunSplit (fresh : Bool) (t : List ℕ) : Type 0 where
     pub front : List ℕ
     pub rest : List ℕ
-    pub joined : t ≡ front ++ rest
+    pub text_is : t ≡ front ++ rest
     pub len : length front ≡ run_length unit fresh t
     pub run : IsRun unit fresh front rest
     -- no unit begins behind it
@@ -88,7 +88,7 @@ module _ (unit : UnitLength) where
     split_at fuel rec fresh t zero h is = record {
       front = [];
       rest = t;
-      joined = refl;
+      text_is = refl;
       len = sym (run_length-none fresh t is);
       run = ([], refl, tt);
       stops = is;
@@ -102,11 +102,11 @@ module _ (unit : UnitLength) where
         let s : RunSplit behind more = rec behind more shorter in
         let size : length u ≡ suc n = length-take-le (suc n) t within in
         let whole : u ++ (concat s.run.0 ++ s.rest) ≡ t =
-        ap (λ (x : List ℕ). u ++ (x ++ s.rest)) (sym s.run.1) ∙ ap (λ (x : List ℕ). u ++ x) (sym s.joined) ∙ take-append-drop (suc n) t in
+        ap (λ (x : List ℕ). u ++ (x ++ s.rest)) (sym s.run.1) ∙ ap (λ (x : List ℕ). u ++ x) (sym s.text_is) ∙ take-append-drop (suc n) t in
         record {
           front = u ++ s.front;
           rest = s.rest;
-          joined = sym (append_assoc u s.front s.rest ∙ ap (λ (x : List ℕ). u ++ x) (sym s.joined) ∙ take-append-drop (suc n) t);
+          text_is = sym (append_assoc u s.front s.rest ∙ ap (λ (x : List ℕ). u ++ x) (sym s.text_is) ∙ take-append-drop (suc n) t);
           len = length-append u s.front ∙ omega (arith, size, s.len, run_length-step fresh t (suc n) is (omega arith) within);
           run = (u ∷ s.run.0, ap (λ (x : List ℕ). u ++ x) s.run.1, (omega arith, ap (unit fresh) whole ∙ is ∙ sym size, s.run.2));
           stops = ap (λ f. unit f s.rest) (line_behind-append fresh u s.front) ∙ s.stops;
@@ -116,7 +116,7 @@ module _ (unit : UnitLength) where
     split_by zero fresh t h = record {
       front = [];
       rest = t;
-      joined = refl;
+      text_is = refl;
       len = sym (run_length-none fresh t (omega (arith, fits fresh t)));
       run = ([], refl, tt);
       stops = omega (arith, fits fresh t);

@@ -8,12 +8,12 @@ use Rattle.hcl_token.specs.declared.kind.Kind.TheVariants.{LineEnd, CloseBrace, 
 use Rattle.hcl_scan.specs.Characters.{is_sigil}
 use Rattle.hcl_scan.specs.Modes.{Mode, is_literal, closes_sequence}
 use Rattle.hcl_scan.specs.Modes.Mode.{Expression, Sequence, Braces, Quoted, Heredoc}
-use Rattle.hcl_scan.specs.Markers.{HasMarker}
+use Rattle.hcl_scan.specs.Inner.Markers.{HasMarker}
 use Rattle.hcl_scan.specs.Runs.{line_behind}
-use Rattle.hcl_scan.specs.RunLength.{run_length}
+use Rattle.hcl_scan.specs.Inner.RunLength.{run_length}
 use Rattle.hcl_scan.specs.Lexeme.{quote_unit}
-use Rattle.hcl_scan.specs.HereNext.{here_open}
-use Rattle.hcl_scan.specs.Next.{Found, begins_word, here_or_less, punctuation, expression_token, begins_opening, opening, quoted_token, token}
+use Rattle.hcl_scan.specs.Inner.HereNext.{here_open}
+use Rattle.hcl_scan.specs.Inner.Next.{Found, begins_word, here_or_less, punctuation, expression_token, begins_opening, opening, quoted_token, token}
 use Rattle.hcl_scan.proofs.Found.{IsFound, Sound}
 use Rattle.hcl_scan.proofs.HereSound.{here_open_sound, here_token_sound}
 use Rattle.hcl_scan.proofs.RunLemmas.{RunSplit, run-split}
@@ -112,11 +112,11 @@ quoted_sound t u =
     record {
       spelling = s.front;
       rest = s.rest;
-      joined = s.joined;
+      text_is = s.text_is;
       len = s.len;
       lexeme = (refl, (filled, s.run));
       some = some;
-      utf8 = utf8_rest s.front s.rest (subst IsUtf8 s.joined u) (quote_stops (line_behind false s.front) s.rest s.stops);
+      utf8 = utf8_rest s.front s.rest (subst IsUtf8 s.text_is u) (quote_stops (line_behind false s.front) s.rest s.stops);
     })))
 
 pub sound : (mode : Mode) (t : List ℕ) → HasMarker mode → IsUtf8 t → Sound mode t (token mode t)

@@ -5,7 +5,7 @@ use Rattle.hcl_token.specs.declared.kind.Kind.{Kind}
 use Rattle.hcl_token.specs.declared.kind.Kind.TheVariants.{Plus, Minus, Star, Slash, Percent, And, Or, Bang, DoubleEqual, NotEqual, Less, Greater, LessEqual, GreaterEqual, Question, Colon, DoubleColon, Equal, FatArrow, OpenBrace, OpenBracket, CloseBracket, OpenParen, CloseParen, Comma, Dot, Ellipsis}
 use Rattle.hcl_scan.specs.Modes.{Mode, is_literal}
 use Rattle.hcl_scan.specs.Lexeme.{IsLexeme}
-use Rattle.hcl_scan.specs.Next.{Found, single, compound, is_compound, operator}
+use Rattle.hcl_scan.specs.Inner.Next.{Found, single, compound, is_compound, operator}
 use Rattle.hcl_scan.proofs.Found.{IsFound, Sound}
 use Rattle.hcl_scan.proofs.TextLemmas.{front_1, front_2, front_3, utf8_past}
 
@@ -15,7 +15,7 @@ module _ (mode : Mode) (t : List ℕ) (u : IsUtf8 t) where
   fixed_1 kind x e h lexeme = record {
     spelling = x ∷ [];
     rest = drop 1 t;
-    joined = e;
+    text_is = e;
     len = refl;
     lexeme = lexeme;
     some = omega arith;
@@ -26,7 +26,7 @@ module _ (mode : Mode) (t : List ℕ) (u : IsUtf8 t) where
   fixed_2 kind x y e h k lexeme = record {
     spelling = x ∷ y ∷ [];
     rest = drop 2 t;
-    joined = e;
+    text_is = e;
     len = refl;
     lexeme = lexeme;
     some = omega arith;
@@ -37,7 +37,7 @@ module _ (mode : Mode) (t : List ℕ) (u : IsUtf8 t) where
   fixed_3 kind x y z e h k l lexeme = record {
     spelling = x ∷ y ∷ z ∷ [];
     rest = drop 3 t;
-    joined = e;
+    text_is = e;
     len = refl;
     lexeme = lexeme;
     some = omega arith;

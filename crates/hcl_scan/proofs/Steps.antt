@@ -6,17 +6,18 @@ use Rattle.std.proofs.lemmas.Bool.{false≢true}
 use Rattle.std.specs.List.{list_all, prefix_len}
 use Rattle.hcl_token.specs.declared.kind.Kind.{Kind}
 use Rattle.hcl_token.specs.declared.item.Item.{Item}
-use Rattle.hcl_token.specs.Tokens.{Pair, joining}
+use Rattle.hcl_token.specs.Tokens.{Pair, whole_text}
 use Rattle.hcl_token.specs.Items.{pair_at, pairs_of}
 use Rattle.hcl_scan.specs.Characters.{is_blank}
 use Rattle.hcl_scan.specs.Modes.{Mode, mode_of, is_literal, after}
 use Rattle.hcl_scan.specs.Modes.Mode.{Expression}
-use Rattle.hcl_scan.specs.Markers.{HasMarker, HaveMarkers}
+use Rattle.hcl_scan.specs.Inner.Markers.{HasMarker}
+use Rattle.hcl_scan.proofs.OpenMarkers.{HaveMarkers}
 use Rattle.hcl_scan.specs.Lexeme.{IsLexeme, IsLongest}
-use Rattle.hcl_scan.specs.Next.{Found, token, gap_length}
+use Rattle.hcl_scan.specs.Inner.Next.{Found, token, gap_length}
 use Rattle.hcl_scan.specs.Cut.{IsGap, CutsFrom, Cuts, IsCut, MAX_TEXT, front_of}
 use Rattle.hcl_scan.specs.Fault.{Stops, fault_at, innermost, places_after, places_behind}
-use Rattle.hcl_scan.specs.Progress.{IsCutTo}
+use Rattle.hcl_scan.proofs.CutTo.{IsCutTo}
 use Rattle.hcl_scan.proofs.Pieces.{prefix_all}
 use Rattle.hcl_scan.proofs.Found.{IsFound, Sound, Beats}
 use Rattle.hcl_scan.proofs.MarkerLemmas.{marker_of_mode}
@@ -80,7 +81,7 @@ one_more text items at modes places start kind len c start_is found =
     let g : GapAt text mode at start = gap_at text mode at start c.within c.utf8 start_is in
     let t : List ℕ = drop start text in
     let f : IsFound mode t kind len = subst (Sound mode t) found (sound mode t m g.utf8) in
-    let size : length t ≡ len + length f.rest = ap length f.joined ∙ length-append f.spelling f.rest ∙ ap (λ n. n + length f.rest) f.len in
+    let size : length t ≡ len + length f.rest = ap length f.text_is ∙ length-append f.spelling f.rest ∙ ap (λ n. n + length f.rest) f.len in
     let within : stop ≤ length text = omega (arith, size, length-drop {A = ℕ} start text, g.within) in
     let s : List ℕ = slice_range text start stop in
     let more : List ℕ = drop stop text in
@@ -88,7 +89,7 @@ one_more text items at modes places start kind len c start_is found =
     let short : length s ≡ len = length-take-le (stop - start) t (omega arith) ∙ width in
     let rest : drop (stop - start) t ≡ more = drop-drop (stop - start) start text ∙ ap (λ n. drop n text) (omega arith) in
     let split : t ≡ s ++ more = sym (ap (λ (x : List ℕ). s ++ x) (sym rest) ∙ take-append-drop (stop - start) t) in
-    let same = split_same f.spelling f.rest s more (f.len ∙ sym short) (sym f.joined ∙ split) in
+    let same = split_same f.spelling f.rest s more (f.len ∙ sym short) (sym f.text_is ∙ split) in
     let longest : IsLongest mode kind s more = subst₂ (IsLongest mode kind) same.0 same.1 (found_longest mode t kind len m found f) in
     let gap : List ℕ = slice_range text at start in
     let both : drop at text ≡ gap ++ (s ++ more) = g.split ∙ ap (λ (x : List ℕ). gap ++ x) split in
@@ -96,9 +97,9 @@ one_more text items at modes places start kind len c start_is found =
     let body : List Pair = c.cuts.body in
     let pair : Pair = pair_of gap kind s in
     let pushed : pairs_of text (items ++ item ∷ []) ≡ pairs ++ pair ∷ [] = map-append (pair_at text) items (item ∷ []) in
-    let joined : text ≡ joining pairs (gap ++ (s ++ more)) = c.cuts.joined ∙ ap (joining pairs) both in
-    let place : length (joining pairs gap) ≡ start =
-    omega (arith, ap length joined, joining_rest pairs (gap ++ (s ++ more)), joining_rest pairs gap, length-append gap (s ++ more), length-append s more, short, ap length split, length-drop {A = ℕ} start text, within) in
+    let text_is : text ≡ whole_text pairs (gap ++ (s ++ more)) = c.cuts.text_is ∙ ap (whole_text pairs) both in
+    let place : length (whole_text pairs gap) ≡ start =
+    omega (arith, ap length text_is, joining_rest pairs (gap ++ (s ++ more)), joining_rest pairs gap, length-append gap (s ++ more), length-append s more, short, ap length split, length-drop {A = ℕ} start text, within) in
     let cuts : CutsFrom [] (body ++ pair ∷ []) more (after kind s modes) =
     cuts_more body [] modes gap s more kind (subst (λ (x : List ℕ). CutsFrom [] body x modes) both c.cuts.cuts) g.blank longest in
     let openings : places_after kind start modes places ≡ places_behind 0 [] [] (pairs ++ pair ∷ []) =
@@ -108,7 +109,7 @@ one_more text items at modes places start kind len c start_is found =
         within = within;
         utf8 = subst IsUtf8 same.1 f.utf8;
         cuts = record {
-          joined = joined ∙ sym (joining_more pairs gap s more kind) ∙ ap (λ (x : List Pair). joining x more) (sym pushed);
+          text_is = text_is ∙ sym (joining_more pairs gap s more kind) ∙ ap (λ (x : List Pair). whole_text x more) (sym pushed);
           body = body ++ pair ∷ [];
           front = pushed ∙ ap (λ (x : List Pair). x ++ pair ∷ []) c.cuts.front ∙ append_assoc (front_of text) body (pair ∷ []);
           cuts = cuts;
@@ -124,7 +125,7 @@ token_within mode text at m within u None e = tt
 token_within mode text at m within u (Some f) e =
     let t : List ℕ = drop at text in
     let is : IsFound mode t f.0 f.1 = subst (Sound mode t) (sym e) (sound mode t m u) in
-    let size : length t ≡ f.1 + length is.rest = ap length is.joined ∙ length-append is.spelling is.rest ∙ ap (λ n. n + length is.rest) is.len in
+    let size : length t ≡ f.1 + length is.rest = ap length is.text_is ∙ length-append is.spelling is.rest ∙ ap (λ n. n + length is.rest) is.len in
     (is.some, omega (arith, size, length-drop {A = ℕ} at text))
 
 -- at the end there is none
@@ -139,7 +140,7 @@ token_end mode text at m u end = by_found (token mode t) (sound mode t m u)
 
     by_found : (f : Found) → Sound mode t f → f ≡ None
     by_found None is = refl
-    by_found (Some f) is = absurd (omega (arith, size, ap length is.joined, length-append is.spelling is.rest, is.len, is.some))
+    by_found (Some f) is = absurd (omega (arith, size, ap length is.text_is, length-append is.spelling is.rest, is.len, is.some))
 
 -- a lexeme at the front is not passed over
 lexeme_found : (mode : Mode) (kind : Kind) (s rest : List ℕ) → HasMarker mode → IsLexeme mode kind s rest → (f : Kind × ℕ) × (token mode (s ++ rest) ≡ Some f)
@@ -192,16 +193,16 @@ stopped text items at start modes places c start_is none unfinished =
     let gap : List ℕ = slice_range text at start in
     let rest : List ℕ = drop start text in
     let pairs : List Pair = pairs_of text items in
-    let joined : text ≡ joining pairs (gap ++ rest) = c.cuts.joined ∙ ap (joining pairs) g.split in
+    let text_is : text ≡ whole_text pairs (gap ++ rest) = c.cuts.text_is ∙ ap (whole_text pairs) g.split in
     let width : length gap ≡ gap_length mode t = length-take-le (start - at) t (omega (arith, g.within, length-drop {A = ℕ} at text)) ∙ omega (arith, g.after_at) in
-    let place : length (joining pairs gap) ≡ start =
-    omega (arith, ap length joined, joining_rest pairs (gap ++ rest), joining_rest pairs gap, length-append gap rest, length-drop {A = ℕ} start text, g.within) in
+    let place : length (whole_text pairs gap) ≡ start =
+    omega (arith, ap length text_is, joining_rest pairs (gap ++ rest), joining_rest pairs gap, length-append gap rest, length-drop {A = ℕ} start text, g.within) in
     record {
       pairs = pairs;
       gap = gap;
       rest = rest;
       left = modes;
-      cuts = record { joined = joined; body = c.cuts.body; front = c.cuts.front; cuts = subst (λ (x : List ℕ). CutsFrom [] c.cuts.body x modes) g.split c.cuts.cuts };
+      cuts = record { text_is = text_is; body = c.cuts.body; front = c.cuts.front; cuts = subst (λ (x : List ℕ). CutsFrom [] c.cuts.body x modes) g.split c.cuts.cuts };
       ends = λ gap' s more kind blank lexeme same.
           let width' : length gap' ≡ gap_length mode (gap' ++ (s ++ more)) = gap_is mode gap' (s ++ more) blank (lexeme_no_blank mode kind s more m lexeme) in
           let size : length gap ≡ length gap' = width ∙ ap (gap_length mode) (g.split ∙ same) ∙ sym width' in
@@ -211,5 +212,5 @@ stopped text items at start modes places c start_is none unfinished =
       unfinished = λ e z. unfinished e (omega (arith, ap length z, length-drop {A = ℕ} start text, g.within));
       fault_is =
           ap (λ n. fault_at mode (innermost modes places) n rest) (sym place)
-          ∙ ap (λ (x : List ℕ). fault_at mode (innermost modes x) (length (joining pairs gap)) rest) c.places;
+          ∙ ap (λ (x : List ℕ). fault_at mode (innermost modes x) (length (whole_text pairs gap)) rest) c.places;
     }

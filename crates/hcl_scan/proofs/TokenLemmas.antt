@@ -2,8 +2,8 @@
 use Rattle.std.proofs.Common.{◌≡◌, ℕ, Bool, true, false, List, drop, slice_index, refl, ap, ◌∙◌, arith, get_or-drop, Some}
 use Rattle.std.specs.Char.{is_ascii_digit}
 use Rattle.hcl_token.specs.declared.kind.Kind.TheVariants.{Number}
-use Rattle.hcl_scan.specs.HereNext.{begins_intro, here_open}
-use Rattle.hcl_scan.specs.Next.{begins_word, identifier, number_length, here_or_less, punctuation, expression_token}
+use Rattle.hcl_scan.specs.Inner.HereNext.{begins_intro, here_open}
+use Rattle.hcl_scan.specs.Inner.Next.{begins_word, identifier, number_length, here_or_less, punctuation, expression_token}
 
 first_at : (text : List ℕ) (at : ℕ) → slice_index (drop at text) 0 ≡ slice_index text at
 first_at text at = get_or-drop at text 0 0 ∙ ap (slice_index text) (omega arith)

@@ -4,12 +4,13 @@ use Rattle.std.proofs.lemmas.Bool.{and_parts}
 use Rattle.std.proofs.lemmas.Bool.Decides.{nat_tests}
 use Rattle.std.specs.List.{list_all}
 use Rattle.hcl_token.specs.declared.kind.Kind.{Kind}
-use Rattle.hcl_token.specs.Tokens.{Pair, joining}
+use Rattle.hcl_token.specs.Tokens.{Pair, whole_text}
 use Rattle.hcl_scan.specs.Characters.{is_blank}
 use Rattle.hcl_scan.specs.Modes.{Mode, mode_of, after}
-use Rattle.hcl_scan.specs.Markers.{HasMarker, HaveMarkers}
+use Rattle.hcl_scan.specs.Inner.Markers.{HasMarker}
+use Rattle.hcl_scan.proofs.OpenMarkers.{HaveMarkers}
 use Rattle.hcl_scan.specs.Lexeme.{IsLongest}
-use Rattle.hcl_scan.specs.Next.{Found, token, gap_length}
+use Rattle.hcl_scan.specs.Inner.Next.{Found, token, gap_length}
 use Rattle.hcl_scan.specs.Cut.{IsGap, CutsFrom}
 use Rattle.hcl_scan.specs.Fault.{IsEnd}
 use Rattle.hcl_scan.proofs.TextLemmas.{utf8_past}
@@ -35,7 +36,7 @@ utf8_past_blanks (b ∷ gap) rest all u =
 pub utf8_past_token : (mode : Mode) (kind : Kind) (s rest : List ℕ) → HasMarker mode → IsUtf8 (s ++ rest) → IsLongest mode kind s rest → IsUtf8 rest
 utf8_past_token mode kind s rest m u longest =
     let f : IsFound mode (s ++ rest) kind (length s) = subst (Sound mode (s ++ rest)) (longest_found mode kind s rest m u longest) (sound mode (s ++ rest) m u) in
-    subst IsUtf8 (sym (split_same s rest f.spelling f.rest (sym f.len) f.joined).1) f.utf8
+    subst IsUtf8 (sym (split_same s rest f.spelling f.rest (sym f.len) f.text_is).1) f.utf8
 
 record SamePair (gap gap' s s' rest rest' : List ℕ) (kind kind' : Kind) : Type 0 where
   gaps : gap ≡ gap'
@@ -75,20 +76,20 @@ pub record Same (ps qs : List Pair) (rest rest' : List ℕ) (left left' : List M
   pub modes : left ≡ left'
 
 pub one_maximal : (ps qs : List Pair) (modes : List Mode) (rest rest' : List ℕ) (left left' : List Mode)
-    → HaveMarkers modes → IsUtf8 (joining ps rest) → joining ps rest ≡ joining qs rest'
+    → HaveMarkers modes → IsUtf8 (whole_text ps rest) → whole_text ps rest ≡ whole_text qs rest'
     → CutsFrom modes ps rest left → CutsFrom modes qs rest' left' → IsEnd (mode_of left) rest → IsEnd (mode_of left') rest' → Same ps qs rest rest' left left'
 one_maximal [] [] modes rest rest' left left' h u e c c' end end' = record { pairs = refl; rests = e; modes = sym c ∙ c' }
 one_maximal [] (q ∷ qs) modes rest rest' left left' h u e c c' end end' =
-    absurd (subst (λ (m : List Mode). IsEnd (mode_of m) rest) (sym c) end q.gap q.spelling (joining qs rest') q.kind c'.0 c'.1.0 e)
+    absurd (subst (λ (m : List Mode). IsEnd (mode_of m) rest) (sym c) end q.gap q.spelling (whole_text qs rest') q.kind c'.0 c'.1.0 e)
 one_maximal (p ∷ ps) [] modes rest rest' left left' h u e c c' end end' =
-    absurd (subst (λ (m : List Mode). IsEnd (mode_of m) rest') (sym c') end' p.gap p.spelling (joining ps rest) p.kind c.0 c.1.0 (sym e))
+    absurd (subst (λ (m : List Mode). IsEnd (mode_of m) rest') (sym c') end' p.gap p.spelling (whole_text ps rest) p.kind c.0 c.1.0 (sym e))
 one_maximal (p ∷ ps) (q ∷ qs) modes rest rest' left left' h u e c c' end end' =
     let mode : Mode = mode_of modes in
     let m : HasMarker mode = marker_of_mode modes h in
-    let s = one_pair mode p.gap q.gap p.spelling q.spelling (joining ps rest) (joining qs rest') p.kind q.kind m u e c.0 c.1 c'.0 c'.1 in
+    let s = one_pair mode p.gap q.gap p.spelling q.spelling (whole_text ps rest) (whole_text qs rest') p.kind q.kind m u e c.0 c.1 c'.0 c'.1 in
     let same : p ≡ q = same_pair p q s.gaps s.kinds s.spellings in
-    let u_rest : IsUtf8 (joining ps rest) = utf8_past_token mode p.kind p.spelling (joining ps rest) m (utf8_past_blanks p.gap _ c.0.0 u) c.1 in
+    let u_rest : IsUtf8 (whole_text ps rest) = utf8_past_token mode p.kind p.spelling (whole_text ps rest) m (utf8_past_blanks p.gap _ c.0.0 u) c.1 in
     let next = subst (λ (x : Pair). CutsFrom (after x.kind x.spelling modes) qs rest' left') (sym same) c'.2 in
-    let marked : HaveMarkers (after p.kind p.spelling modes) = markers_after p.kind p.spelling (joining ps rest) modes c.1.0.1 h in
+    let marked : HaveMarkers (after p.kind p.spelling modes) = markers_after p.kind p.spelling (whole_text ps rest) modes c.1.0.1 h in
     let more = one_maximal ps qs (after p.kind p.spelling modes) rest rest' left left' marked u_rest s.rests c.2 next end end' in
     record { pairs = ap₂ (λ x xs. x ∷ xs) same more.pairs; rests = more.rests; modes = more.modes }

@@ -10,11 +10,12 @@ use Rattle.unicode_ident.proofs.Computing.{unicode_ident}
 use Rattle.unicode_ident.specs.Ident.{is_xid_start}
 use Rattle.hcl_token.specs.declared.kind.Kind.{Kind}
 use Rattle.hcl_token.specs.declared.kind.Kind.TheVariants.{Identifier, Number}
-use Rattle.hcl_token.specs.Tokens.{Pair, joining}
+use Rattle.hcl_token.specs.Tokens.{Pair, whole_text}
 use Rattle.hcl_scan.specs.Characters.{is_blank, begins, starts, continues}
 use Rattle.hcl_scan.specs.Modes.{Mode, mode_of, after}
 use Rattle.hcl_scan.specs.Modes.Mode.{Expression}
-use Rattle.hcl_scan.specs.Markers.{HasMarker, HaveMarkers}
+use Rattle.hcl_scan.specs.Inner.Markers.{HasMarker}
+use Rattle.hcl_scan.proofs.OpenMarkers.{HaveMarkers}
 use Rattle.hcl_scan.specs.Lexeme.{is_identifier, Spells, IsLexeme, IsLongest}
 use Rattle.hcl_scan.specs.Cut.{CutsFrom, IsCut, MAX_TEXT, byte_order_mark, front_of}
 use Rattle.hcl_scan.specs.Follows.{neighbour, FollowsFrom, Follows, AreApart, mark}
@@ -44,7 +45,7 @@ utf8_blanks (b ∷ t) all =
 
 record IsWritten (modes : List Mode) (ps : List Pair) (last : List ℕ) : Type 0 where
   cuts : CutsFrom modes ps last []
-  utf8 : IsUtf8 (joining ps last)
+  utf8 : IsUtf8 (whole_text ps last)
   rest : Rest (mode_of modes) ps last
   ends : NextEnds (mode_of modes) ps last
 
@@ -57,7 +58,7 @@ written [] modes last m f blank apart = record {
 }
 written (p ∷ ps) modes last m f blank apart =
     let mode : Mode = mode_of modes in
-    let more : List ℕ = joining ps last in
+    let more : List ℕ = whole_text ps last in
     let behind : List Mode = after p.kind p.spelling modes in
     let marked : HasMarker mode = marker_of_mode modes m in
     let m_behind : HaveMarkers behind = markers_after p.kind p.spelling (neighbour ps last) modes f.2.1 m in
@@ -120,7 +121,7 @@ token_no_mark Number s more h some head = not_begun (s ++ more) (ap (λ b. not (
 token_no_mark kind s more h some head = not_begun (s ++ more) (ap (λ b. not (b == 239)) (head_of s more some) ∙ one_passes (λ b. not (b == 239)) (slice_index s 0) (heads kind) head refl)
 
 -- nothing but the mark begins with it
-no_mark : (ps : List Pair) (last : List ℕ) → Rest Expression ps last → begins byte_order_mark (joining ps last) ≡ false
+no_mark : (ps : List Pair) (last : List ℕ) → Rest Expression ps last → begins byte_order_mark (whole_text ps last) ≡ false
 no_mark [] last rest = blanks last rest.0
   where
     blanks : (t : List ℕ) → list_all is_blank t ≡ true → begins byte_order_mark t ≡ false
@@ -128,34 +129,34 @@ no_mark [] last rest = blanks last rest.0
     blanks (b ∷ t) all = not_front b t (blank_no_mark b (and_parts (is_blank b) (list_all is_blank t) all).0)
 no_mark (q ∷ qs) last rest = at_gap q.gap rest.0.0
   where
-    at_gap : (gap : List ℕ) → list_all is_blank gap ≡ true → begins byte_order_mark (gap ++ (q.spelling ++ joining qs last)) ≡ false
+    at_gap : (gap : List ℕ) → list_all is_blank gap ≡ true → begins byte_order_mark (gap ++ (q.spelling ++ whole_text qs last)) ≡ false
     at_gap [] all =
-        let head = begins_so Expression q.kind q.spelling (joining qs last) refl rest.1.0 rest.1.1 in
-        token_no_mark q.kind q.spelling (joining qs last) rest.1.1 head.0 head.1
-    at_gap (b ∷ gap) all = not_front b (gap ++ (q.spelling ++ joining qs last)) (blank_no_mark b (and_parts (is_blank b) (list_all is_blank gap) all).0)
+        let head = begins_so Expression q.kind q.spelling (whole_text qs last) refl rest.1.0 rest.1.1 in
+        token_no_mark q.kind q.spelling (whole_text qs last) rest.1.1 head.0 head.1
+    at_gap (b ∷ gap) all = not_front b (gap ++ (q.spelling ++ whole_text qs last)) (blank_no_mark b (and_parts (is_blank b) (list_all is_blank gap) all).0)
 
 -- ---- the text
 
-pub writes_back : (pairs : List Pair) (last : List ℕ) → Follows pairs last [] → AreApart pairs → length (joining pairs last) ≤ MAX_TEXT → IsCut (joining pairs last) pairs last
+pub writes_back : (pairs : List Pair) (last : List ℕ) → Follows pairs last [] → AreApart pairs → length (whole_text pairs last) ≤ MAX_TEXT → IsCut (whole_text pairs last) pairs last
 writes_back pairs last f apart short = at_front f.front
   where
-    at_front : (pairs ≡ f.body) ⊎ (pairs ≡ mark ∷ f.body) → IsCut (joining pairs last) pairs last
+    at_front : (pairs ≡ f.body) ⊎ (pairs ≡ mark ∷ f.body) → IsCut (whole_text pairs last) pairs last
     at_front (inl e) =
         let w : IsWritten [] f.body last = written f.body [] last tt f.follows f.blank (subst AreApart e apart) in
-        let none : front_of (joining pairs last) ≡ [] = rw (ap (λ (x : List Pair). begins byte_order_mark (joining x last)) e ∙ no_mark f.body last w.rest) refl in
+        let none : front_of (whole_text pairs last) ≡ [] = rw (ap (λ (x : List Pair). begins byte_order_mark (whole_text x last)) e ∙ no_mark f.body last w.rest) refl in
         record {
           short = short;
-          utf8 = subst (λ (x : List Pair). IsUtf8 (joining x last)) (sym e) w.utf8;
-          cuts = record { joined = refl; body = f.body; front = e ∙ ap (λ (x : List Pair). x ++ f.body) (sym none); cuts = w.cuts };
+          utf8 = subst (λ (x : List Pair). IsUtf8 (whole_text x last)) (sym e) w.utf8;
+          cuts = record { text_is = refl; body = f.body; front = e ∙ ap (λ (x : List Pair). x ++ f.body) (sym none); cuts = w.cuts };
           blank = f.blank;
         }
     at_front (inr e) =
         let w : IsWritten [] f.body last = written f.body [] last tt f.follows f.blank (subst AreApart e apart).1 in
-        let whole : joining pairs last ≡ byte_order_mark ++ joining f.body last = ap (λ (x : List Pair). joining x last) e in
-        let front : front_of (joining pairs last) ≡ mark ∷ [] = ap front_of whole in
+        let whole : whole_text pairs last ≡ byte_order_mark ++ whole_text f.body last = ap (λ (x : List Pair). whole_text x last) e in
+        let front : front_of (whole_text pairs last) ≡ mark ∷ [] = ap front_of whole in
         record {
           short = short;
-          utf8 = subst IsUtf8 (sym whole) (IsUtf8-append byte_order_mark (joining f.body last) mark_utf8 w.utf8);
-          cuts = record { joined = refl; body = f.body; front = e ∙ ap (λ (x : List Pair). x ++ f.body) (sym front); cuts = w.cuts };
+          utf8 = subst IsUtf8 (sym whole) (IsUtf8-append byte_order_mark (whole_text f.body last) mark_utf8 w.utf8);
+          cuts = record { text_is = refl; body = f.body; front = e ∙ ap (λ (x : List Pair). x ++ f.body) (sym front); cuts = w.cuts };
           blank = f.blank;
         }

@@ -2,14 +2,12 @@
 use Rattle.std.specs.Prelude.{◌≡◌, ℕ, ◌≤◌, true, List, [], ◌∷◌, ◌++◌, length, IsUtf8, if◌then◌else◌}
 use Rattle.std.specs.List.{list_all}
 use Rattle.hcl_token.specs.declared.kind.Kind.TheVariants.{Mark}
-use Rattle.hcl_token.specs.Tokens.{Pair, joining}
+use Rattle.hcl_token.specs.Tokens.{Pair, whole_text}
+-- the greatest number of bytes of a text
+pub use Rattle.hcl_token.specs.declared.tokens.TheConstants.{MAX_TEXT}
 use Rattle.hcl_scan.specs.Characters.{is_blank, begins}
 use Rattle.hcl_scan.specs.Modes.{Mode, mode_of, is_literal, after}
 use Rattle.hcl_scan.specs.Lexeme.{IsLongest}
-
--- the greatest number of bytes of a text
-abbrev pub MAX_TEXT : ℕ
-MAX_TEXT = 16777216
 
 -- U+FEFF
 abbrev pub byte_order_mark : List ℕ
@@ -29,12 +27,12 @@ abbrev pub CutsFrom : List Mode → List Pair → List ℕ → List Mode → Typ
 CutsFrom modes [] rest left = modes ≡ left
 CutsFrom modes (p ∷ ps) rest left =
     IsGap (mode_of modes) p.gap
-    × IsLongest (mode_of modes) p.kind p.spelling (joining ps rest)
+    × IsLongest (mode_of modes) p.kind p.spelling (whole_text ps rest)
     × CutsFrom (after p.kind p.spelling modes) ps rest left
 
 -- the pairs are cut from the front of a text, and rest is left, in these modes
 pub record Cuts (text : List ℕ) (pairs : List Pair) (rest : List ℕ) (left : List Mode) : Type 0 where
-  pub joined : text ≡ joining pairs rest
+  pub text_is : text ≡ whole_text pairs rest
   pub body : List Pair
   pub front : pairs ≡ front_of text ++ body
   pub cuts : CutsFrom [] body rest left

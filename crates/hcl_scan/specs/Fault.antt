@@ -3,7 +3,7 @@ use Rattle.std.specs.Prelude.{◌≡◌, ◌≢◌, ℕ, ◌+◌, ◌<◌, ◌�
 use Rattle.std.specs.Str.{IsValidUpTo}
 use Rattle.hcl_token.specs.declared.kind.Kind.{Kind}
 use Rattle.hcl_token.specs.declared.kind.Kind.TheVariants.{OpenBrace, CloseBrace, QuoteOpen, QuoteClose, HereOpen, HereClose, InterpOpen, DirectiveOpen, SeqClose}
-use Rattle.hcl_token.specs.Tokens.{Pair, joining}
+use Rattle.hcl_token.specs.Tokens.{Pair, whole_text}
 use Rattle.hcl_scan.specs.declared.error.ScanFault.{ScanFault}
 use Rattle.hcl_scan.specs.declared.error.ScanFault.TheVariants.{TooLong, NotUtf8, BadCharacter, BadEscape, OpenString, OpenTemplate, OpenHeredoc, OpenComment}
 use Rattle.hcl_scan.specs.Characters.{is_blank}
@@ -71,7 +71,7 @@ pub record Stops (text : List ℕ) (fault : ScanFault) : Type 0 where
   pub past : is_literal (mode_of left) ≡ false → is_blank (slice_index rest 0) ≡ false
   -- the text is not cut to its end
   pub unfinished : left ≡ [] → rest ≢ []
-  pub fault_is : fault ≡ fault_at (mode_of left) (innermost left (places_behind 0 [] [] pairs)) (length (joining pairs gap)) rest
+  pub fault_is : fault ≡ fault_at (mode_of left) (innermost left (places_behind 0 [] [] pairs)) (length (whole_text pairs gap)) rest
 
 -- the fault of a text: it has too many bytes; else it is not UTF-8 at the first byte of the first sequence that is ill-formed; else as above
 abbrev pub IsFault : List ℕ → ScanFault → Type 0

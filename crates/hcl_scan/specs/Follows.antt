@@ -1,6 +1,6 @@
 -- Lists of gaps and tokens that can be written one behind the other: the tokens are then those of the text that was written.
 -- HCL native syntax specification, Lexical Elements and Templates.
-use Rattle.std.specs.Prelude.{◌≡◌, ◌≢◌, ℕ, Bool, true, false, ◌||◌, List, [], ◌∷◌, ◌++◌, map, IsUtf8, ◌⊎◌}
+use Rattle.std.specs.Prelude.{◌≡◌, ◌≢◌, ℕ, Bool, true, false, ◌||◌, List, [], ◌∷◌, ◌++◌, map, IsUtf8, ◌⊎◌, ⊤}
 use Rattle.std.specs.List.{list_all}
 use Rattle.hcl_token.specs.declared.kind.Kind.{Kind}
 use Rattle.hcl_token.specs.declared.kind.Kind.TheVariants.{Mark, LineEnd, LineComment, QuoteClose, QuoteLit, InterpOpen, DirectiveOpen, HereClose, HereLit}
@@ -23,7 +23,7 @@ EndsLine (p ∷ ps) last = (p.gap ≡ []) × (p.kind ≡ LineEnd)
 
 -- the next token is of another kind
 abbrev pub IsOther : Kind → List Pair → Type 0
-IsOther kind [] = Unit {0}
+IsOther kind [] = ⊤
 IsOther kind (p ∷ ps) = p.kind ≢ kind
 
 -- what a token of the kind asks of those behind it, beside its spelling: a comment goes on to the end of its line, and no two literals stand side by side
@@ -31,7 +31,7 @@ abbrev pub Behind : Kind → List Pair → List ℕ → Type 0
 Behind LineComment ps last = EndsLine ps last
 Behind QuoteLit ps last = IsOther QuoteLit ps
 Behind HereLit ps last = IsOther HereLit ps
-Behind kind ps last = Unit {0}
+Behind kind ps last = ⊤
 
 -- From these modes on, each gap can stand in its mode, each token is a lexeme of its mode with its neighbour behind it, and the modes that are left are these.
 -- So a `}` has the kind that its mode asks for; a comment that ends in CR has no LF alone behind it; text that ends in `$` or `%` has no opening behind it
@@ -57,12 +57,12 @@ pub record Follows (pairs : List Pair) (last : List ℕ) (left : List Mode) : Ty
 
 -- a token of the kind, so spelt, does not join with the one behind it, if no gap stands between them
 abbrev pub IsApart : Kind → List ℕ → List Pair → Type 0
-IsApart kind spelling [] = Unit {0}
+IsApart kind spelling [] = ⊤
 IsApart kind spelling (q ∷ qs) = q.gap ≡ [] → joins_with kind spelling q.kind q.spelling ≡ false
 
 -- no empty gap stands between two tokens that join
 abbrev pub AreApart : List Pair → Type 0
-AreApart [] = Unit {0}
+AreApart [] = ⊤
 AreApart (p ∷ ps) = IsApart p.kind p.spelling ps × AreApart ps
 
 -- ---- the same tokens with other gaps
@@ -82,15 +82,15 @@ has_no_gap HereLit = true
 has_no_gap kind = false
 
 -- comments and closing lines have none behind them
-abbrev pub shuts_gap : Kind → Bool
-shuts_gap LineComment = true
-shuts_gap HereClose = true
-shuts_gap kind = false
+abbrev pub has_no_gap_behind : Kind → Bool
+has_no_gap_behind LineComment = true
+has_no_gap_behind HereClose = true
+has_no_gap_behind kind = false
 
 -- Each gap is of blanks, and empty where the kinds beside it ask for that; the first stands behind a token that does, or not.
 abbrev pub AreGaps : Bool → List Pair → List ℕ → Type 0
-AreGaps shut [] last = (list_all is_blank last ≡ true) × (shut ≡ true → last ≡ [])
-AreGaps shut (p ∷ ps) last =
+AreGaps must_be_empty [] last = (list_all is_blank last ≡ true) × (must_be_empty ≡ true → last ≡ [])
+AreGaps must_be_empty (p ∷ ps) last =
     (list_all is_blank p.gap ≡ true)
-    × ((shut || has_no_gap p.kind) ≡ true → p.gap ≡ [])
-    × AreGaps (shuts_gap p.kind) ps last
+    × ((must_be_empty || has_no_gap p.kind) ≡ true → p.gap ≡ [])
+    × AreGaps (has_no_gap_behind p.kind) ps last

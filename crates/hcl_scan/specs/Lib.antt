@@ -3,13 +3,7 @@ pub mod Closing
 pub mod Cut
 pub mod Fault
 pub mod Follows
-pub mod Front
-pub mod HereNext
+pub mod Inner
 pub mod Lexeme
-pub mod Markers
 pub mod Modes
-pub mod Next
-pub mod Openings
-pub mod Progress
-pub mod RunLength
 pub mod Runs

@@ -1,6 +1,6 @@
 -- Runs of units. A unit is told by its length: how many bytes of a text the unit at its front has, 0 where there is none.
 -- It may ask whether a line begins there.
-use Rattle.std.specs.Prelude.{◌≡◌, ℕ, ◌<◌, ◌==◌, Bool, List, [], ◌∷◌, ◌++◌, length, if◌then◌else◌}
+use Rattle.std.specs.Prelude.{◌≡◌, ℕ, ◌<◌, ◌==◌, Bool, List, [], ◌∷◌, ◌++◌, length, if◌then◌else◌, ⊤}
 use Rattle.std.specs.List.{concat}
 
 abbrev pub UnitLength : Type 0
@@ -13,7 +13,7 @@ line_behind fresh (b ∷ t) = line_behind (b == 10) t
 
 -- these are units one behind the other, with rest behind them
 abbrev pub AreUnits : UnitLength → Bool → List (List ℕ) → List ℕ → Type 0
-AreUnits unit fresh [] rest = Unit {0}
+AreUnits unit fresh [] rest = ⊤
 AreUnits unit fresh (u ∷ us) rest =
     (0 < length u)
     × (unit fresh (u ++ (concat us ++ rest)) ≡ length u)

@@ -4,12 +4,12 @@ ghost use Rattle.std.specs.Prelude.{◌≡◌, ◌∷◌, ◌+◌, ◌<◌, ◌�
 ghost use Rattle.std.specs.Char.{len_utf8};
 ghost use Rattle.std.specs.Str.{chars};
 ghost use Rattle.hcl_scan.specs.Characters.{starts, continues};
-ghost use Rattle.hcl_scan.specs.Front.{begins_word, continue_length, identifier};
+ghost use Rattle.hcl_scan.specs.Inner.Front.{begins_word, continue_length, identifier};
 
-use hcl_token::kind::Kind;
+use hcl_token::Kind;
 use unicode_ident::{is_xid_continue, is_xid_start};
 
-/// The character at a place.
+// The character at a place.
 fn char_at(text: &str, at: usize) -> char
     requires within { at < length text.now }
     requires utf8 { IsUtf8 (drop at text.now) }

@@ -1,12 +1,12 @@
 //! Cuts a text of the HCL native syntax into tokens.
 //!
-//! `scan` answers the cut of a text or its fault, and `Scanned` lends the tokens. That a text has one cut or one fault
-//! is what `laws` says, and `writing` what can be said of a text that is written token by token.
+//! `scan` answers the cut of a text or its fault, and `Scanned` lends the tokens. That a text has one cut or one fault,
+//! and what can be said of a text that is written token by token, is what `laws` says.
 #![tactic(auto)]
 
 mod bytes;
 mod cut;
-pub mod error;
+mod error;
 mod here;
 mod ident;
 pub mod laws;
@@ -14,8 +14,12 @@ mod mode;
 mod number;
 mod operator;
 mod runs;
-pub mod scanned;
+mod scanned;
+mod token;
+
+pub use error::ScanFault;
+pub use hcl_token::{Item, Kind, MAX_TEXT, Place};
+pub use scanned::{Scanned, scan};
+
 #[cfg(test)]
 mod tests;
-mod token;
-pub mod writing;

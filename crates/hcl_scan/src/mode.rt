@@ -5,10 +5,10 @@ ghost use Rattle.std.specs.List.{prefix_len};
 ghost use Rattle.hcl_scan.specs.Modes.{mode_of, is_braces, in_sequence, begins_line, marker_of, after};
 ghost use Rattle.hcl_scan.specs.Runs.{line_behind};
 ghost use Rattle.hcl_scan.specs.Fault.{places_after, innermost};
-ghost use Rattle.hcl_scan.specs.Openings.{mode_view, modes_of, places_of, with_line, with_line_in, is_in_line};
+ghost use Rattle.hcl_scan.specs.Inner.Openings.{mode_view, modes_of, places_of, with_line, with_line_in, is_in_line};
 
 use crate::bytes::{byte, part};
-use hcl_token::kind::Kind;
+use hcl_token::Kind;
 use std::alloc::AllocError;
 
 /// How the text at a place is read.
@@ -43,7 +43,7 @@ pub fn mode_of<'t>(openings: &[Opening<'t>]) -> Mode<'t>
     }
 }
 
-/// Directly in a template sequence, or in braces of it.
+// Directly in a template sequence, or in braces of it.
 fn in_sequence(mode: Mode<'_>) -> bool
     ensures { result ≡ in_sequence (mode_view mode.entry) }
 {
@@ -53,7 +53,7 @@ fn in_sequence(mode: Mode<'_>) -> bool
     }
 }
 
-/// Behind a `{` in a template sequence.
+// Behind a `{` in a template sequence.
 fn is_braces(mode: Mode<'_>) -> bool
     ensures { result ≡ is_braces (mode_view mode.entry) }
 {
@@ -63,7 +63,7 @@ fn is_braces(mode: Mode<'_>) -> bool
     }
 }
 
-/// Whether a line of the heredoc begins here.
+// Whether a line of the heredoc begins here.
 fn begins_line(mode: Mode<'_>) -> bool
     ensures { result ≡ begins_line (mode_view mode.entry) }
 {
@@ -73,7 +73,7 @@ fn begins_line(mode: Mode<'_>) -> bool
     }
 }
 
-/// The heredoc, at a place where a line of it begins or not.
+// The heredoc, at a place where a line of it begins or not.
 fn with_line<'t>(mode: Mode<'t>, fresh: bool) -> Mode<'t>
     ensures { mode_view result ≡ with_line fresh (mode_view mode.entry) }
 {
@@ -83,7 +83,7 @@ fn with_line<'t>(mode: Mode<'t>, fresh: bool) -> Mode<'t>
     }
 }
 
-/// Whether a line begins behind a text, where one begins before it or not.
+// Whether a line begins behind a text, where one begins before it or not.
 fn line_behind(fresh: bool, text: &[u8]) -> bool
     ensures { result ≡ line_behind fresh text.now }
 {
@@ -94,7 +94,7 @@ fn line_behind(fresh: bool, text: &[u8]) -> bool
     }
 }
 
-/// The marker that the opening of a heredoc names.
+// The marker that the opening of a heredoc names.
 fn marker_of(spelling: &[u8]) -> &[u8]
     ensures { result.now ≡ marker_of spelling.now }
 {
@@ -106,14 +106,14 @@ fn marker_of(spelling: &[u8]) -> &[u8]
     }
 }
 
-/// Neither LF nor CR.
+// Neither LF nor CR.
 fn is_in_line(b: u8) -> bool
     ensures { result ≡ is_in_line b }
 {
     !((b == b'\n') | (b == b'\r'))
 }
 
-/// The first LF or CR from a place on.
+// The first LF or CR from a place on.
 fn marker_end(text: &[u8], from: usize) -> usize
     requires { from ≤ length text.now }
     ensures value { result ≡ from + prefix_len is_in_line (drop from text.now) }
@@ -126,7 +126,7 @@ fn marker_end(text: &[u8], from: usize) -> usize
     at
 }
 
-/// One opening more.
+// One opening more.
 #[tactic(auto, using(crate::proofs::OpeningLemmas::opening_lemmas))]
 fn push<'t>(openings: &mut Vec<Opening<'t>>, at: usize, mode: Mode<'t>) -> Result<(), AllocError>
     ensures modes { OnOk result (modes_of openings.new.items ≡ mode_view mode.entry ∷ modes_of openings.old.items) }
@@ -136,7 +136,7 @@ fn push<'t>(openings: &mut Vec<Opening<'t>>, at: usize, mode: Mode<'t>) -> Resul
     Ok(())
 }
 
-/// The innermost opening is closed.
+// The innermost opening is closed.
 #[tactic(auto, using(crate::proofs::OpeningLemmas::opening_lemmas))]
 fn pop<'t>(openings: &mut Vec<Opening<'t>>)
     ensures modes { modes_of openings.new.items ≡ drop 1 (modes_of openings.old.items) }
@@ -145,7 +145,7 @@ fn pop<'t>(openings: &mut Vec<Opening<'t>>)
     let _ = openings.pop();
 }
 
-/// The innermost opening, if it is a heredoc, goes on where a line of it begins or not.
+// The innermost opening, if it is a heredoc, goes on where a line of it begins or not.
 #[tactic(auto, using(crate::proofs::OpeningLemmas::opening_lemmas))]
 fn read_on<'t>(openings: &mut Vec<Opening<'t>>, fresh: bool) -> Result<(), AllocError>
     ensures modes { OnOk result (modes_of openings.new.items ≡ with_line_in fresh (modes_of openings.old.items)) }

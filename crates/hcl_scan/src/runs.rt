@@ -5,7 +5,7 @@ ghost use Rattle.std.specs.Char.{is_ascii_hexdigit};
 ghost use Rattle.hcl_scan.specs.Characters.{begins_line_end, is_sigil, sigil_length};
 ghost use Rattle.hcl_scan.specs.Lexeme.{comment_unit, inline_unit, quote_unit, is_simple_escape, has_four_hex, escape_length};
 ghost use Rattle.hcl_scan.specs.Runs.{UnitLength};
-ghost use Rattle.hcl_scan.specs.RunLength.{run_length};
+ghost use Rattle.hcl_scan.specs.Inner.RunLength.{run_length};
 
 use crate::bytes::{begins_line_end, byte};
 
@@ -13,7 +13,7 @@ use crate::bytes::{begins_line_end, byte};
 pub trait Unit {
     ghost len: { Self → UnitLength };
 
-    /// How many bytes the unit at the place has, 0 where there is none; `fresh` says whether a line begins there.
+    // How many bytes the unit at the place has, 0 where there is none; `fresh` says whether a line begins there.
     fn len_at(&self, text: &[u8], at: usize, fresh: bool) -> usize
         requires { at < length text.now }
         ensures value { result ≡ len self.now fresh (drop at text.now) }
@@ -93,7 +93,7 @@ fn has_eight_hex(text: &[u8], at: usize) -> bool
     has_four_hex(text, at) && has_four_hex(text, at + 4)
 }
 
-/// How many bytes the escape behind a `\` has, 0 where there is none.
+// How many bytes the escape behind a `\` has, 0 where there is none.
 fn escape_len(text: &[u8], at: usize) -> usize
     requires { at ≤ length text.now }
     ensures value { result ≡ escape_length (drop at text.now) }

@@ -1,18 +1,15 @@
 //! A text with its cut.
 
-ghost use Rattle.std.specs.Prelude.{◌≡◌, ◌<◌, ◌↔◌, [], Some, IsTrue, IsUtf8, length, IfOk, IfErr, ◌⊎◌};
+ghost use Rattle.std.specs.Prelude.{◌≡◌, ◌<◌, ◌≤◌, ◌↔◌, [], Some, IsTrue, IsUtf8, length, IfOk, IfErr, ◌⊎◌};
 ghost use Rattle.hcl_token.specs.CutText.{CutText, AreUtf8, kind_of, spelling_of, gap_of, clusters_of, item_of, joins_of};
 ghost use Rattle.hcl_token.specs.Place.{place_of};
-ghost use Rattle.hcl_scan.specs.Cut.{IsCut};
+ghost use Rattle.hcl_scan.specs.Cut.{IsCut, MAX_TEXT};
 ghost use Rattle.hcl_scan.specs.Fault.{IsFault};
 ghost use Rattle.hcl_scan.specs.declared.error.ScanFault.TheVariants.{Memory};
 
 use crate::cut::cut_of;
 use crate::error::ScanFault;
-use hcl_token::item::Item;
-use hcl_token::kind::Kind;
-use hcl_token::place::Place;
-use hcl_token::tokens::Tokens;
+use hcl_token::{Item, Kind, Place, Tokens};
 use std::alloc::Global;
 use std::marker::Model;
 
@@ -40,7 +37,7 @@ impl<'t> Model for Scanned<'t> {
 pub fn scan<'t>(alloc: Global, text: &'t [u8]) -> Result<Scanned<'t>, ScanFault>
     ensures text { IfOk result (λ s. s.text ≡ text.now) }
     ensures cut { IfOk result (λ s. IsCut text.now s.pairs s.last) }
-    ensures fault { IfErr result (λ e. (e ≡ Memory) ⊎ IsFault text.now e) }
+    ensures fault { IfErr result (λ e. ((e ≡ Memory) × (length text.now ≤ MAX_TEXT) × IsUtf8 text.now) ⊎ IsFault text.now e) }
 {
     let (items, last_at) = cut_of(alloc, text)?;
     let tokens = Tokens::new(alloc, text, items, last_at)?;

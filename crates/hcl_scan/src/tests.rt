@@ -1,15 +1,11 @@
 //! What the scanner answers on examples.
 
-use crate::error::ScanFault;
-use crate::scanned::{Scanned, scan};
-use hcl_token::item::Item;
-use hcl_token::kind::Kind;
-use hcl_token::place::Place;
+use crate::{Item, Kind, Place, ScanFault, Scanned, scan};
 use std::alloc::Global;
 use std::process::Abort;
 use std::test::Fail;
 
-/// The tokens of the text are these.
+// The tokens of the text are these.
 fn tokens_are(
     rt: &impl Abort,
     alloc: Global,
@@ -27,7 +23,7 @@ fn tokens_are(
     Ok(())
 }
 
-/// The text has this fault.
+// The text has this fault.
 fn fault_is(rt: &impl Abort, alloc: Global, text: &[u8], want: ScanFault) {
     match scan(alloc, text) {
         Ok(_) => assert!(rt; false, "{want:?}"),
@@ -35,8 +31,8 @@ fn fault_is(rt: &impl Abort, alloc: Global, text: &[u8], want: ScanFault) {
     }
 }
 
-/// The gaps and the tokens, one behind the other.
-fn joined(alloc: Global, scanned: &Scanned<'_>) -> Result<Vec<u8>, Fail> {
+// The gaps and the tokens, one behind the other.
+fn whole_text(alloc: Global, scanned: &Scanned<'_>) -> Result<Vec<u8>, Fail> {
     let mut text = Vec::new(alloc);
     for i in 0..scanned.len() {
         text.extend_from_slice(scanned.gap(i))?;
@@ -46,11 +42,11 @@ fn joined(alloc: Global, scanned: &Scanned<'_>) -> Result<Vec<u8>, Fail> {
     Ok(text)
 }
 
-/// The text has a cut that gives it back, or a fault, but not for want of memory.
+// The text has a cut that gives it back, or a fault, but not for want of memory.
 fn cut_or_fault(rt: &impl Abort, alloc: Global, text: &[u8]) -> Result<(), Fail> {
     match scan(alloc, text) {
         Ok(scanned) => {
-            let back = joined(alloc, &scanned)?;
+            let back = whole_text(alloc, &scanned)?;
             assert!(rt; back.as_slice() == text);
         }
         Err(fault) => assert!(rt; fault != ScanFault::Memory),
@@ -343,7 +339,7 @@ fn faults(rt: HostRuntime) {
 
 #[test]
 fn the_longest_text(rt: HostRuntime) -> Result<(), Fail> {
-    let mut text = Vec::with_capacity(rt.alloc(), 16_777_217)?;
+    let mut text = Vec::with_capacity(rt.alloc(), 16_777_218)?;
     text.push(b'#')?;
     for _ in 0..16_777_215_u32 {
         text.push(b'x')?;
@@ -351,21 +347,62 @@ fn the_longest_text(rt: HostRuntime) -> Result<(), Fail> {
     tokens_are(&rt, rt.alloc(), &text, &[(Kind::LineComment, &text)])?;
     text.push(b'x')?;
     fault_is(&rt, rt.alloc(), &text, ScanFault::TooLong);
+    text.push(b'\xff')?;
+    fault_is(&rt, rt.alloc(), &text, ScanFault::TooLong);
     Ok(())
 }
 
+// Twenty thousand lines of fifteen tokens each.
+#[test]
+fn many_lines(rt: HostRuntime) -> Result<(), Fail> {
+    let mut text = Vec::new(rt.alloc());
+    for _ in 0..20_000_u32 {
+        text.extend_from_slice("\u{e9} = [1, 2, 3, 4, 5,]\n".as_bytes())?;
+    }
+    let scanned = scan(rt.alloc(), &text)?;
+    assert_eq!(rt; scanned.len(), 300_000);
+    for i in 0..20_000 {
+        let first = i * 15;
+        let last = first + 14;
+        assert!(rt; last < scanned.len());
+        assert!(rt; scanned.kind(first) == Kind::Identifier);
+        let line = i + 1;
+        assert!(rt;
+            scanned.place_of(first) == Place { line, column: 1 },
+            "line {i}"
+        );
+        assert!(rt; scanned.kind(last) == Kind::LineEnd);
+        assert!(rt;
+            scanned.place_of(last) == Place { line, column: 21 },
+            "line {i}"
+        );
+    }
+    Ok(())
+}
+
+// Strings inside each other: each opens with two tokens of three bytes, and closes with two of two.
 #[test]
 fn deep_nesting(rt: HostRuntime) -> Result<(), Fail> {
     let mut text = Vec::new(rt.alloc());
-    for _ in 0..1000_u32 {
+    for _ in 0..2500_u32 {
         text.extend_from_slice(b"\"${")?;
     }
+    fault_is(&rt, rt.alloc(), &text, ScanFault::OpenTemplate { at: 7498 });
     text.extend_from_slice(b"\"x\"")?;
-    for _ in 0..1000_u32 {
+    for _ in 0..2500_u32 {
         text.extend_from_slice(b"}\"")?;
     }
     let scanned = scan(rt.alloc(), &text)?;
-    assert_eq!(rt; scanned.len(), 4003);
+    assert_eq!(rt; scanned.len(), 10_003);
+    assert!(rt; scanned.kind(4999) == Kind::InterpOpen);
+    assert!(rt; scanned.kind(5001) == Kind::QuoteLit);
+    assert!(rt; scanned.kind(5003) == Kind::SeqClose);
+    assert!(rt; scanned.kind(10_002) == Kind::QuoteClose);
+    let place = Place {
+        line: 1,
+        column: 12_503,
+    };
+    assert!(rt; scanned.place_of(10_002) == place);
     Ok(())
 }
 

@@ -1,8 +1,8 @@
 //! The token at a place.
 
 ghost use Rattle.std.specs.Prelude.{◌≡◌, ◌+◌, ◌<◌, ◌≤◌, length, drop, IsUtf8};
-ghost use Rattle.hcl_scan.specs.Next.{inline_comment, punctuation, here_or_less, expression_token, quoted_token, gap_length, token};
-ghost use Rattle.hcl_scan.specs.Openings.{mode_view};
+ghost use Rattle.hcl_scan.specs.Inner.Next.{inline_comment, punctuation, here_or_less, expression_token, quoted_token, gap_length, token};
+ghost use Rattle.hcl_scan.specs.Inner.Openings.{mode_view};
 
 use crate::bytes::{blanks_end, byte, digits_end};
 use crate::here::{begins_intro, begins_opening, here_open, here_token, opening};
@@ -11,9 +11,9 @@ use crate::mode::Mode;
 use crate::number::number_len;
 use crate::operator::operator;
 use crate::runs::{CommentUnit, InlineUnit, QuoteUnit, run_end};
-use hcl_token::kind::Kind;
+use hcl_token::Kind;
 
-/// The comment whose `/*` stands before the place.
+// The comment whose `/*` stands before the place.
 fn inline_comment(text: &[u8], body: usize) -> Option<(Kind, usize)>
     requires { body ≤ length text.now }
     ensures { result ≡ inline_comment (drop body text.now) }
@@ -26,7 +26,7 @@ fn inline_comment(text: &[u8], body: usize) -> Option<(Kind, usize)>
     }
 }
 
-/// The token that begins with neither a letter nor a digit. A `}` closes a template sequence where `closes` says so.
+// The token that begins with neither a letter nor a digit. A `}` closes a template sequence where `closes` says so.
 fn punctuation(text: &[u8], at: usize, closes: bool) -> Option<(Kind, usize)>
     requires { at < length text.now }
     ensures { result ≡ punctuation closes (drop at text.now) }
@@ -73,7 +73,7 @@ fn punctuation(text: &[u8], at: usize, closes: bool) -> Option<(Kind, usize)>
     }
 }
 
-/// The token outside of literal text. A `}` closes a template sequence where `closes` says so.
+// The token outside of literal text. A `}` closes a template sequence where `closes` says so.
 fn expression_token(text: &str, at: usize, closes: bool) -> Option<(Kind, usize)>
     requires within { at < length text.now }
     requires utf8 { IsUtf8 (drop at text.now) }
@@ -92,7 +92,7 @@ fn expression_token(text: &str, at: usize, closes: bool) -> Option<(Kind, usize)
     }
 }
 
-/// Where `<<` opens no heredoc, its first byte is an operator.
+// Where `<<` opens no heredoc, its first byte is an operator.
 fn here_or_less(found: Option<(Kind, usize)>) -> Option<(Kind, usize)>
     ensures { result ≡ here_or_less found }
 {
@@ -102,7 +102,7 @@ fn here_or_less(found: Option<(Kind, usize)>) -> Option<(Kind, usize)>
     }
 }
 
-/// The token in quoted text.
+// The token in quoted text.
 fn quoted_token(text: &[u8], at: usize) -> Option<(Kind, usize)>
     requires { at < length text.now }
     ensures { result ≡ quoted_token (drop at text.now) }

@@ -20,7 +20,7 @@ use Rattle.unicode_segmentation.specs.Grapheme.{break_by_pair, joins_conjunct, j
 use Rattle.unicode_segmentation.specs.Segments.{cut, segments}
 use Rattle.unicode_segmentation.proofs.SegmentsLemmas.{length-segments}
 use Rattle.hcl_token.specs.Place.{clusters}
-use Rattle.hcl_token.specs.Plain.{is_plain}
+use Rattle.hcl_token.specs.Inner.Plain.{is_plain}
 
 abbrev is_simple : GraphemeClusterBreak → Bool
 is_simple Control = true

@@ -5,10 +5,10 @@ use Rattle.std.proofs.lemmas.Bool.{ltb-true}
 use Rattle.std.proofs.lemmas.Bool.Decides.{nat_tests}
 use Rattle.std.proofs.lemmas.List.Folds.{drop_split}
 use Rattle.hcl_token.specs.declared.item.Item.{Item}
-use Rattle.hcl_token.specs.Tokens.{Pair, joining}
+use Rattle.hcl_token.specs.Tokens.{Pair, whole_text}
 use Rattle.hcl_token.specs.Items.{pair_at, pairs_of, InOrder}
 use Rattle.hcl_token.specs.CutText.{AreUtf8, item_behind}
-use Rattle.hcl_token.specs.Milestones.{offset, IsOrdered}
+use Rattle.hcl_token.specs.Inner.Milestones.{offset, IsOrdered}
 
 pub order-le : (items : List Item) (from last : ℕ) → InOrder from items last → from ≤ last
 order-le [] from last o = omega arith
@@ -95,10 +95,10 @@ pub utf8-slice : (text : List ℕ) (items : List Item) (from to : ℕ) → AreUt
 utf8-slice text items from to u = utf8-take text (drop from items) (to - from) (utf8-drop text items from u)
 
 -- the gaps and the tokens make the text
-pub joined-from : (text : List ℕ) (items : List Item) (from last : ℕ) → InOrder from items last → joining (pairs_of text items) (drop last text) ≡ drop from text
-joined-from text [] from last o = ap (λ n. drop n text) (sym o)
-joined-from text (x ∷ items) from last o =
-    let rest = joined-from text items x.stop last o.3 in
+pub text_is-from : (text : List ℕ) (items : List Item) (from last : ℕ) → InOrder from items last → whole_text (pairs_of text items) (drop last text) ≡ drop from text
+text_is-from text [] from last o = ap (λ n. drop n text) (sym o)
+text_is-from text (x ∷ items) from last o =
+    let rest = text_is-from text items x.stop last o.3 in
     let spelling : drop x.start text ≡ slice_range text x.start x.stop ++ drop x.stop text = drop_split text x.start x.stop o.2 in
     let gap : drop x.gap_at text ≡ slice_range text x.gap_at x.start ++ drop x.start text = drop_split text x.gap_at x.start (omega arith) in
     ap (λ (r : List ℕ). slice_range text x.gap_at x.start ++ (slice_range text x.start x.stop ++ r)) rest
@@ -106,17 +106,17 @@ joined-from text (x ∷ items) from last o =
     ∙ sym gap
     ∙ ap (λ n. drop n text) o.0
 
-pub joining-append : (pairs : List Pair) (last : List ℕ) → joining pairs last ≡ joining pairs [] ++ last
-joining-append [] last = refl
-joining-append (p ∷ pairs) last =
-    ap (λ (r : List ℕ). p.gap ++ (p.spelling ++ r)) (joining-append pairs last)
-    ∙ ap (λ (r : List ℕ). p.gap ++ r) (sym (append_assoc p.spelling (joining pairs []) last))
-    ∙ sym (append_assoc p.gap (p.spelling ++ joining pairs []) last)
+pub whole_text-append : (pairs : List Pair) (last : List ℕ) → whole_text pairs last ≡ whole_text pairs [] ++ last
+whole_text-append [] last = refl
+whole_text-append (p ∷ pairs) last =
+    ap (λ (r : List ℕ). p.gap ++ (p.spelling ++ r)) (whole_text-append pairs last)
+    ∙ ap (λ (r : List ℕ). p.gap ++ r) (sym (append_assoc p.spelling (whole_text pairs []) last))
+    ∙ sym (append_assoc p.gap (p.spelling ++ whole_text pairs []) last)
 
-pub joined-slice : (text : List ℕ) (items : List Item) (from to : ℕ) → InOrder from items to → joining (pairs_of text items) [] ≡ slice_range text from to
-joined-slice text items from to o =
-    append_cancel_right (joining (pairs_of text items) []) (slice_range text from to) (drop to text)
-    (sym (joining-append (pairs_of text items) (drop to text)) ∙ joined-from text items from to o ∙ drop_split text from to (order-le items from to o))
+pub text_is-slice : (text : List ℕ) (items : List Item) (from to : ℕ) → InOrder from items to → whole_text (pairs_of text items) [] ≡ slice_range text from to
+text_is-slice text items from to o =
+    append_cancel_right (whole_text (pairs_of text items) []) (slice_range text from to) (drop to text)
+    (sym (whole_text-append (pairs_of text items) (drop to text)) ∙ text_is-from text items from to o ∙ drop_split text from to (order-le items from to o))
 
 pub length-range : (text : List ℕ) (from to : ℕ) → from ≤ to → to ≤ length text → length (slice_range text from to) ≡ to - from
 length-range text from to le within = length-take-le (to - from) (drop from text) (omega (arith, length-drop from text))
@@ -147,10 +147,10 @@ item_at text items last i item d o h e =
     }
 
 -- what stands before item i, and the item by the lengths of that
-pub joined-before : (text : List ℕ) (items : List Item) (last i : ℕ) → InOrder 0 items last → joining (take i (pairs_of text items)) [] ≡ slice_range text 0 (offset items last i)
-joined-before text items last i o =
-    ap (λ (ps : List Pair). joining ps []) (take-map (pair_at text) i items)
-    ∙ joined-slice text (take i items) 0 (offset items last i) (order-take items 0 last i o)
+pub text_is-before : (text : List ℕ) (items : List Item) (last i : ℕ) → InOrder 0 items last → whole_text (take i (pairs_of text items)) [] ≡ slice_range text 0 (offset items last i)
+text_is-before text items last i o =
+    ap (λ (ps : List Pair). whole_text ps []) (take-map (pair_at text) i items)
+    ∙ text_is-slice text (take i items) 0 (offset items last i) (order-take items 0 last i o)
 
 same_item : (item : Item) (gap_at start stop : ℕ) → item.gap_at ≡ gap_at → item.start ≡ start → item.stop ≡ stop
     → let other : Item = record { gap_at = gap_at; start = start; stop = stop; kind = item.kind } in item ≡ other
@@ -166,15 +166,15 @@ item_is text items last i item o k =
     let before : List Pair = take i (pairs_of text items) in
     let gap : List ℕ = slice_range text item.gap_at item.start in
     let spelling : List ℕ = slice_range text item.start item.stop in
-    let front : length (joining before []) ≡ item.gap_at =
-    ap length (joined-before text items last i o.order) ∙ length-range text 0 (offset items last i) (omega arith) (omega (arith, k.begins, k.gap, k.spelling, k.within))
+    let front : length (whole_text before []) ≡ item.gap_at =
+    ap length (text_is-before text items last i o.order) ∙ length-range text 0 (offset items last i) (omega arith) (omega (arith, k.begins, k.gap, k.spelling, k.within))
     ∙ omega (arith, k.begins) in
     let gap_len : length gap ≡ item.start - item.gap_at = length-range text item.gap_at item.start k.gap (omega (arith, k.spelling, k.within)) in
     let spelling_len : length spelling ≡ item.stop - item.start = length-range text item.start item.stop k.spelling k.within in
-    let with_gap : length (joining before gap) ≡ item.start =
-    ap length (joining-append before gap) ∙ length-append (joining before []) gap ∙ omega (arith, front, gap_len, k.gap) in
-    let with_token : length (joining before (gap ++ spelling)) ≡ item.stop =
-    ap length (joining-append before (gap ++ spelling)) ∙ length-append (joining before []) (gap ++ spelling)
+    let with_gap : length (whole_text before gap) ≡ item.start =
+    ap length (whole_text-append before gap) ∙ length-append (whole_text before []) gap ∙ omega (arith, front, gap_len, k.gap) in
+    let with_token : length (whole_text before (gap ++ spelling)) ≡ item.stop =
+    ap length (whole_text-append before (gap ++ spelling)) ∙ length-append (whole_text before []) (gap ++ spelling)
     ∙ omega (arith, front, gap_len, spelling_len, k.gap, k.spelling, length-append gap spelling) in
     same_item item _ _ _ (sym front) (sym with_gap) (sym with_token)
 

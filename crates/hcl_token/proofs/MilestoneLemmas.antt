@@ -7,13 +7,13 @@ use Rattle.std.proofs.lemmas.List.Sums.{count_by-le-length}
 use Rattle.hcl_token.specs.declared.item.Item.{Item}
 use Rattle.hcl_token.specs.declared.milestone.Milestone.{Milestone}
 use Rattle.hcl_token.specs.declared.place.Place.{Place}
-use Rattle.hcl_token.specs.Tokens.{Pair, joining}
+use Rattle.hcl_token.specs.Tokens.{Pair, whole_text}
 use Rattle.hcl_token.specs.Items.{pair_at, pairs_of}
 use Rattle.hcl_token.specs.Place.{clusters, is_lf, is_mark, last_line}
-use Rattle.hcl_token.specs.Milestones.{AreMilestones, IsMilestone, IsOrdered, IsReached, IsStretch, after_piece, after_pair, after_pairs, front, has_mark, milestone_place, offset}
-use Rattle.hcl_token.specs.Plain.{is_plain}
+use Rattle.hcl_token.specs.Inner.Milestones.{AreMilestones, IsMilestone, IsOrdered, IsReached, IsStretch, after_piece, after_pair, after_pairs, first_place, has_mark, milestone_place, offset}
+use Rattle.hcl_token.specs.Inner.Plain.{is_plain}
 use Rattle.hcl_token.proofs.ClusterLemmas.{clusters-le}
-use Rattle.hcl_token.proofs.ItemLemmas.{joined-slice, length-range, offset-le, order-le, order-slice, utf8-slice}
+use Rattle.hcl_token.proofs.ItemLemmas.{text_is-slice, length-range, offset-le, order-le, order-slice, utf8-slice}
 use Rattle.hcl_token.proofs.LineLemmas.{any_from_count, shorter_last_line, utf8_last_line}
 use Rattle.hcl_token.proofs.PlaceLemmas.{column-none, column-some}
 use Rattle.hcl_token.proofs.StretchLemmas.{after_pairs-slice, plain_stretch, stretch_others}
@@ -65,25 +65,25 @@ stretch_of text items last from to at o le reached = record {
   reached = reached;
 }
 
-pub front_reached : (text : List ℕ) (items : List Item) (last n : ℕ) → IsOrdered text items last → IsReached (after_pairs front (take n (pairs_of text items))) (offset items last n)
+pub front_reached : (text : List ℕ) (items : List Item) (last n : ℕ) → IsOrdered text items last → IsReached (after_pairs first_place (take n (pairs_of text items))) (offset items last n)
 front_reached text items last n o =
-    let begin : IsReached front (offset items last 0) = record { line = omega arith; column = omega arith } in
-    let s = stretch_of text items last 0 n front o (omega arith) begin in
+    let begin : IsReached first_place (offset items last 0) = record { line = omega arith; column = omega arith } in
+    let s = stretch_of text items last 0 n first_place o (omega arith) begin in
     let all : n - 0 ≡ n = omega arith in
     let same : pairs_of text (slice_range items 0 n) ≡ take n (pairs_of text items) = ap (λ k. pairs_of text (take k items)) all ∙ sym (take-map (pair_at text) n items) in
-    subst (λ (ps : List Pair). IsReached (after_pairs front ps) (offset items last n)) same
-    (stretch_reached text (slice_range items 0 n) (offset items last 0) (offset items last n) front s)
+    subst (λ (ps : List Pair). IsReached (after_pairs first_place ps) (offset items last n)) same
+    (stretch_reached text (slice_range items 0 n) (offset items last 0) (offset items last n) first_place s)
 
 -- the milestones up to item `from`, and the place there
-pub record IsStored (text : List ℕ) (items : List Item) (stones : List Milestone) (from : ℕ) (at : Place) : Type 0 where
+pub record IsStored (text : List ℕ) (items : List Item) (milestones : List Milestone) (from : ℕ) (at : Place) : Type 0 where
   pub within : from ≤ length items
-  pub filled : from ≤ 16 * length stones
-  pub even : from < length items → from ≡ 16 * length stones
-  pub right : (k : ℕ) → k < length stones → IsMilestone (pairs_of text items) stones k
-  pub at_from : at ≡ after_pairs front (take from (pairs_of text items))
+  pub filled : from ≤ 16 * length milestones
+  pub even : from < length items → from ≡ 16 * length milestones
+  pub right : (k : ℕ) → k < length milestones → IsMilestone (pairs_of text items) milestones k
+  pub at_from : at ≡ after_pairs first_place (take from (pairs_of text items))
 
-pub stored_reached : (text : List ℕ) (items : List Item) (last : ℕ) (stones : List Milestone) (from : ℕ) (at : Place) → IsOrdered text items last → IsStored text items stones from at → IsReached at (offset items last from)
-stored_reached text items last stones from at o s =
+pub stored_reached : (text : List ℕ) (items : List Item) (last : ℕ) (milestones : List Milestone) (from : ℕ) (at : Place) → IsOrdered text items last → IsStored text items milestones from at → IsReached at (offset items last from)
+stored_reached text items last milestones from at o s =
     subst (λ (p : Place). IsReached p (offset items last from)) (sym s.at_from) (front_reached text items last from o)
 
 -- a place within a text fits 32 bits
@@ -92,33 +92,33 @@ reached_fits at items text last from o r =
     let le = offset-le items 0 last from o.order in
     (omega (arith, r.line, le, o.within, o.short), omega (arith, r.column, le, o.within, o.short))
 
-pub stored_step : (text : List ℕ) (items : List Item) (stones more : List Milestone) (from to : ℕ) (at behind : Place) (stone : Milestone)
-    → IsStored text items stones from at → from < length items → to ≡ min (length items) (from + 16) → more ≡ stones ++ stone ∷ [] → milestone_place stone ≡ at
+pub stored_step : (text : List ℕ) (items : List Item) (milestones more : List Milestone) (from to : ℕ) (at behind : Place) (milestone : Milestone)
+    → IsStored text items milestones from at → from < length items → to ≡ min (length items) (from + 16) → more ≡ milestones ++ milestone ∷ [] → milestone_place milestone ≡ at
     → behind ≡ after_pairs at (pairs_of text (slice_range items from to)) → IsStored text items more to behind
-stored_step text items stones more from to at behind stone s h to_is more_is stone_is behind_is =
+stored_step text items milestones more from to at behind milestone s h to_is more_is stone_is behind_is =
     let pairs : List Pair = pairs_of text items in
-    let size : length more ≡ length stones + 1 = ap length more_is ∙ length-append stones (stone ∷ []) in
-    let old : (k : ℕ) → k < length stones → IsMilestone pairs more k =
-    λ k inside d. ap (λ (l : List Milestone). milestone_place (get_or l k d)) more_is ∙ ap milestone_place (get_or_append_left stones (stone ∷ []) d k inside) ∙ s.right k inside d in
-    let new : (k : ℕ) → length stones ≡ k → IsMilestone pairs more k =
+    let size : length more ≡ length milestones + 1 = ap length more_is ∙ length-append milestones (milestone ∷ []) in
+    let old : (k : ℕ) → k < length milestones → IsMilestone pairs more k =
+    λ k inside d. ap (λ (l : List Milestone). milestone_place (get_or l k d)) more_is ∙ ap milestone_place (get_or_append_left milestones (milestone ∷ []) d k inside) ∙ s.right k inside d in
+    let new : (k : ℕ) → length milestones ≡ k → IsMilestone pairs more k =
     λ k is d.
     let same : from ≡ 16 * k = omega (arith, s.even h) in
-    ap (λ (l : List Milestone). milestone_place (get_or l k d)) more_is ∙ ap milestone_place (get_or_push stones stone d k is)
-    ∙ stone_is ∙ s.at_from ∙ ap (λ n. after_pairs front (take n pairs)) same in
+    ap (λ (l : List Milestone). milestone_place (get_or l k d)) more_is ∙ ap milestone_place (get_or_push milestones milestone d k is)
+    ∙ stone_is ∙ s.at_from ∙ ap (λ n. after_pairs first_place (take n pairs)) same in
     let end : from + (to - from) ≡ to = omega arith in
     record {
       within = omega arith;
       filled = omega (arith, size, s.even h);
       even = λ inside. omega (arith, size, s.even h);
-      right = λ k inside. elim (cases_lt k (length stones)) [ inl less ↦ old k less | inr not_less ↦ new k (omega (arith, size)) ];
+      right = λ k inside. elim (cases_lt k (length milestones)) [ inl less ↦ old k less | inr not_less ↦ new k (omega (arith, size)) ];
       at_from = behind_is
           ∙ ap (λ (p : Place). after_pairs p (pairs_of text (slice_range items from to))) s.at_from
-          ∙ after_pairs-slice text items front from (to - from)
-          ∙ ap (λ n. after_pairs front (take n pairs)) end;
+          ∙ after_pairs-slice text items first_place from (to - from)
+          ∙ ap (λ n. after_pairs first_place (take n pairs)) end;
     }
 
-pub stored_end : (text : List ℕ) (items : List Item) (stones : List Milestone) (from : ℕ) (at : Place) → IsStored text items stones from at → length items ≤ from → AreMilestones (pairs_of text items) stones
-stored_end text items stones from at s h = record {
+pub stored_end : (text : List ℕ) (items : List Item) (milestones : List Milestone) (from : ℕ) (at : Place) → IsStored text items milestones from at → length items ≤ from → AreMilestones (pairs_of text items) milestones
+stored_end text items milestones from at s h = record {
   right = s.right;
   enough = omega (arith, s.filled, length-map items (pair_at text));
 }
@@ -132,19 +132,19 @@ stretch_length text items from to at s =
 pub plain_part : (text : List ℕ) (items : List Item) (from to : ℕ) (at : Place) (bytes : List ℕ) → IsStretch text items from to at → bytes ≡ slice_range text from to
     → is_plain bytes ≡ true → has_mark items ≡ false → after_piece at bytes ≡ after_pairs at (pairs_of text items)
 plain_part text items from to at bytes s is plain none =
-    let joined : bytes ≡ joining (pairs_of text items) [] = is ∙ sym (joined-slice text items from to s.order) in
-    ap (after_piece at) joined ∙ sym (plain_stretch text items at (ap is_plain (sym joined) ∙ plain) none)
+    let text_is : bytes ≡ whole_text (pairs_of text items) [] = is ∙ sym (text_is-slice text items from to s.order) in
+    ap (after_piece at) text_is ∙ sym (plain_stretch text items at (ap is_plain (sym text_is) ∙ plain) none)
 
 -- the milestone before item i
-pub milestone_at : (text : List ℕ) (items : List Item) (stones : List Milestone) (i : ℕ) (d : Milestone) → AreMilestones (pairs_of text items) stones → i < length items
-    → (i / 16 < length stones) × (milestone_place (get_or stones (i / 16) d) ≡ after_pairs front (take (i / 16 * 16) (pairs_of text items)))
-milestone_at text items stones i d m h =
-    let inside : i / 16 < length stones = omega (arith, m.enough, length-map items (pair_at text)) in
-    (inside, m.right (i / 16) inside d ∙ ap (λ n. after_pairs front (take n (pairs_of text items))) (omega arith))
+pub milestone_at : (text : List ℕ) (items : List Item) (milestones : List Milestone) (i : ℕ) (d : Milestone) → AreMilestones (pairs_of text items) milestones → i < length items
+    → (i / 16 < length milestones) × (milestone_place (get_or milestones (i / 16) d) ≡ after_pairs first_place (take (i / 16 * 16) (pairs_of text items)))
+milestone_at text items milestones i d m h =
+    let inside : i / 16 < length milestones = omega (arith, m.enough, length-map items (pair_at text)) in
+    (inside, m.right (i / 16) inside d ∙ ap (λ n. after_pairs first_place (take n (pairs_of text items))) (omega arith))
 
-pub stored_none : (text : List ℕ) (items : List Item) (stones : List Milestone) → stones ≡ [] → IsStored text items stones 0 front
-stored_none text items stones none =
-    let size : length stones ≡ 0 = ap length none in
+pub stored_none : (text : List ℕ) (items : List Item) (milestones : List Milestone) → milestones ≡ [] → IsStored text items milestones 0 first_place
+stored_none text items milestones none =
+    let size : length milestones ≡ 0 = ap length none in
     record {
       within = omega arith;
       filled = omega arith;

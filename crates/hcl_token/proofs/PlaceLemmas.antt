@@ -7,8 +7,8 @@ use Rattle.std.proofs.lemmas.List.Sums.{sum_by-cons}
 use Rattle.hcl_token.specs.declared.place.Place.{Place}
 use Rattle.hcl_token.specs.Tokens.{Pair}
 use Rattle.hcl_token.specs.Place.{clusters, is_lf, is_mark, counted, pieces_before, last_line, last_line_pieces, place_of}
-use Rattle.hcl_token.specs.Plain.{is_plain}
-use Rattle.hcl_token.specs.Milestones.{after_piece, after_pair, after_pairs, front}
+use Rattle.hcl_token.specs.Inner.Plain.{is_plain}
+use Rattle.hcl_token.specs.Inner.Milestones.{after_piece, after_pair, after_pairs, first_place}
 use Rattle.hcl_token.proofs.ClusterLemmas.{clusters-plain, clusters-append}
 use Rattle.hcl_token.proofs.LineLemmas.{count-append, count_none, count_some, last_line-none, last_line-append_some, last_line-append_none, any-append_none}
 
@@ -56,11 +56,11 @@ last_line_pieces-none (piece ∷ pieces) h =
     rw parts.1 (ap (λ (x : List ℕ). x ∷ pieces) (last_line-none piece parts.0))
 
 -- from the front of the text on
-column-front : (pieces : List (List ℕ)) → (after_pieces front pieces).column ≡ 1 + sum_by clusters (last_line_pieces pieces)
+column-front : (pieces : List (List ℕ)) → (after_pieces first_place pieces).column ≡ 1 + sum_by clusters (last_line_pieces pieces)
 column-front pieces =
-    elim (list_any is_lf (concat pieces)) as (λ v. list_any is_lf (concat pieces) ≡ v → (after_pieces front pieces).column ≡ 1 + sum_by clusters (last_line_pieces pieces)) [
-      | true ↦ λ e. column-pieces_some front pieces e
-      | false ↦ λ e. column-pieces_none front pieces e ∙ ap (λ x. 1 + sum_by clusters x) (sym (last_line_pieces-none pieces e))
+    elim (list_any is_lf (concat pieces)) as (λ v. list_any is_lf (concat pieces) ≡ v → (after_pieces first_place pieces).column ≡ 1 + sum_by clusters (last_line_pieces pieces)) [
+      | true ↦ λ e. column-pieces_some first_place pieces e
+      | false ↦ λ e. column-pieces_none first_place pieces e ∙ ap (λ x. 1 + sum_by clusters x) (sym (last_line_pieces-none pieces e))
     ] refl
 
 -- an empty piece leaves the place as it is
@@ -83,10 +83,10 @@ after_pairs-pieces at (q ∷ pairs) (suc i) p h =
     after_pairs-pieces (after_pair at q) pairs i p h ∙ ap (λ (x : Place). after_pieces x (pieces_before pairs i)) (after_pair-pieces at q)
 
 -- behind the gap of a token, from the front on, is its place
-pub place_found : (pairs : List Pair) (i : ℕ) (p : Pair) → slice_get pairs i ≡ Some p → after_piece (after_pairs front (take i pairs)) p.gap ≡ place_of pairs i
+pub place_found : (pairs : List Pair) (i : ℕ) (p : Pair) → slice_get pairs i ≡ Some p → after_piece (after_pairs first_place (take i pairs)) p.gap ≡ place_of pairs i
 place_found pairs i p h =
     let pieces : List (List ℕ) = pieces_before pairs i in
-    after_pairs-pieces front pairs i p h ∙ place_is _ _ _ _ (line-pieces front pieces) (column-front pieces)
+    after_pairs-pieces first_place pairs i p h ∙ place_is _ _ _ _ (line-pieces first_place pieces) (column-front pieces)
 
 pub plain_last_line : (t : List ℕ) → is_plain t ≡ true → is_plain (last_line t) ≡ true
 plain_last_line [] h = refl

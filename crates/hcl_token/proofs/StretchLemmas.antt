@@ -4,11 +4,11 @@ use Rattle.std.proofs.lemmas.Bool.{and_parts, or_parts}
 use Rattle.std.proofs.lemmas.List.{drop_more, drop_all, take-map}
 use Rattle.hcl_token.specs.declared.item.Item.{Item}
 use Rattle.hcl_token.specs.declared.place.Place.{Place}
-use Rattle.hcl_token.specs.Tokens.{joining}
+use Rattle.hcl_token.specs.Tokens.{whole_text}
 use Rattle.hcl_token.specs.Items.{pair_at, pairs_of}
 use Rattle.hcl_token.specs.Place.{is_mark}
-use Rattle.hcl_token.specs.Plain.{is_plain}
-use Rattle.hcl_token.specs.Milestones.{IsReached, IsStretch, after_piece, after_pair, after_pairs, has_mark}
+use Rattle.hcl_token.specs.Inner.Plain.{is_plain}
+use Rattle.hcl_token.specs.Inner.Milestones.{IsReached, IsStretch, after_piece, after_pair, after_pairs, has_mark}
 use Rattle.hcl_token.proofs.ClusterLemmas.{plain-append}
 use Rattle.hcl_token.proofs.ItemLemmas.{order-le}
 use Rattle.hcl_token.proofs.PlaceLemmas.{after_piece-nil, after_piece-append}
@@ -60,13 +60,13 @@ along_end text items start i at h a =
     sym (ap (λ (l : List Item). after_pairs at (pairs_of text l)) (drop_all i items h)) ∙ a.value
 
 -- plain text without a byte order mark is as one piece
-pub plain_stretch : (text : List ℕ) (items : List Item) (at : Place) → is_plain (joining (pairs_of text items) []) ≡ true → has_mark items ≡ false
-    → after_pairs at (pairs_of text items) ≡ after_piece at (joining (pairs_of text items) [])
+pub plain_stretch : (text : List ℕ) (items : List Item) (at : Place) → is_plain (whole_text (pairs_of text items) []) ≡ true → has_mark items ≡ false
+    → after_pairs at (pairs_of text items) ≡ after_piece at (whole_text (pairs_of text items) [])
 plain_stretch text [] at plain none = sym (after_piece-nil at)
 plain_stretch text (x ∷ items) at plain none =
     let gap : List ℕ = slice_range text x.gap_at x.start in
     let spelling : List ℕ = slice_range text x.start x.stop in
-    let rest : List ℕ = joining (pairs_of text items) [] in
+    let rest : List ℕ = whole_text (pairs_of text items) [] in
     let marks = or_parts (is_mark x.kind) (has_mark items) none in
     let first = and_parts (is_plain gap) (is_plain (spelling ++ rest)) (sym (plain-append gap (spelling ++ rest)) ∙ plain) in
     let second = and_parts (is_plain spelling) (is_plain rest) (sym (plain-append spelling rest) ∙ first.1) in

@@ -1,10 +1,9 @@
 -- A text with its tokens, as callers see it.
-use Rattle.std.specs.Prelude.{ℕ, Bool, List, [], ◌∷◌, ◌++◌, length, take, drop, slice_get, Option, IsUtf8}
+use Rattle.std.specs.Prelude.{ℕ, Bool, List, [], ◌∷◌, ◌++◌, length, take, slice_get, Option, IsUtf8, ⊤}
 use Rattle.std.specs.Option.{option_map, option_and_then}
 use Rattle.hcl_token.specs.declared.item.Item.{Item}
 use Rattle.hcl_token.specs.declared.kind.Kind.{Kind}
-use Rattle.hcl_token.specs.Tokens.{Pair, joining}
-use Rattle.hcl_token.specs.Items.{pairs_of}
+use Rattle.hcl_token.specs.Tokens.{Pair, whole_text}
 use Rattle.hcl_token.specs.Joins.{joins_with}
 use Rattle.hcl_token.specs.Place.{clusters}
 
@@ -14,12 +13,9 @@ pub record CutText : Type 0 where
   pub pairs : List Pair
   pub last : List ℕ
 
-abbrev pub cut_text : List ℕ → List Item → ℕ → CutText
-cut_text text items last_at = record { text = text; pairs = pairs_of text items; last = drop last_at text }
-
 -- each gap and each spelling is UTF-8
 abbrev pub AreUtf8 : List Pair → Type 0
-AreUtf8 [] = Unit {0}
+AreUtf8 [] = ⊤
 AreUtf8 (p ∷ ps) = IsUtf8 p.gap × IsUtf8 p.spelling × AreUtf8 ps
 
 abbrev pub kind_of : List Pair → ℕ → Option Kind
@@ -37,9 +33,9 @@ clusters_of pairs i = option_map (λ (p : Pair). clusters p.spelling) (slice_get
 -- where a pair stands behind others: each place is the length of what stands before it
 abbrev pub item_behind : List Pair → Pair → Item
 item_behind before p = record {
-  gap_at = length (joining before []);
-  start = length (joining before p.gap);
-  stop = length (joining before (p.gap ++ p.spelling));
+  gap_at = length (whole_text before []);
+  start = length (whole_text before p.gap);
+  stop = length (whole_text before (p.gap ++ p.spelling));
   kind = p.kind;
 }
 

@@ -1,7 +1,6 @@
 pub mod CutText
+pub mod Inner
 pub mod Items
 pub mod Joins
-pub mod Milestones
 pub mod Place
-pub mod Plain
 pub mod Tokens

@@ -9,6 +9,6 @@ pub record Pair : Type 0 where
   pub spelling : List ℕ
 
 -- the text that the pairs and a last gap make, one behind the other
-abbrev pub joining : List Pair → List ℕ → List ℕ
-joining [] last = last
-joining (p ∷ ps) last = p.gap ++ (p.spelling ++ joining ps last)
+abbrev pub whole_text : List Pair → List ℕ → List ℕ
+whole_text [] last = last
+whole_text (p ∷ ps) last = p.gap ++ (p.spelling ++ whole_text ps last)

@@ -1,12 +1,20 @@
 //! Tokens of the HCL native syntax: their kinds, where they stand in a text, and what gap stands before each.
 #![tactic(auto)]
 
-pub mod clusters;
-pub mod item;
-pub mod joins;
-pub mod kind;
+mod graphemes;
+mod item;
+mod join_table;
+mod kind;
 mod milestone;
-pub mod place;
+mod place;
+mod tokens;
+
+pub use graphemes::clusters;
+pub use item::Item;
+pub use join_table::joins;
+pub use kind::Kind;
+pub use place::Place;
+pub use tokens::{MAX_TEXT, Tokens};
+
 #[cfg(test)]
 mod tests;
-pub mod tokens;

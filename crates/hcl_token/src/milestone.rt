@@ -2,17 +2,17 @@
 
 ghost use Rattle.std.specs.Prelude.{◌≡◌, ℕ, ◌+◌, ◌^◌, ◌<◌, ◌≤◌, [], ◌∷◌, length, slice_range, count_by, IsUtf8, IfOk};
 ghost use Rattle.hcl_token.specs.Items.{pair_at, pairs_of};
-ghost use Rattle.hcl_token.specs.Milestones.{AreMilestones, IsKept, IsOrdered, IsReached, IsStretch, after_pair, after_piece, after_pairs, has_mark, milestone_place, offset};
+ghost use Rattle.hcl_token.specs.Inner.Milestones.{AreMilestones, IsKept, IsOrdered, IsReached, IsStretch, after_pair, after_piece, after_pairs, has_mark, milestone_place, offset};
 ghost use Rattle.hcl_token.specs.Place.{is_lf, is_mark, last_line, place_of};
 
-use crate::clusters::{clusters, is_plain};
+use crate::graphemes::{clusters, is_plain};
 use crate::item::Item;
 use crate::kind::Kind;
 use crate::place::Place;
 use memchr::memrchr;
 use std::alloc::{AllocError, Global};
 
-/// How many tokens apart the places are that are kept.
+// How many tokens apart the places are that are kept.
 const SPACING: usize = 16;
 
 /// The place of the gap before a token; a text is so short that 32 bits hold its lines and columns.
@@ -78,7 +78,7 @@ fn last_line(piece: &[u8]) -> &[u8]
     }
 }
 
-/// The place behind a piece of text.
+// The place behind a piece of text.
 fn after_piece(at: Place, piece: &[u8]) -> Place
     requires utf8 { IsUtf8 piece.now }
     requires line { at.line + length piece.now < 2 ^ 32 }
@@ -99,7 +99,7 @@ fn after_piece(at: Place, piece: &[u8]) -> Place
     }
 }
 
-/// The place behind a gap and its token.
+// The place behind a gap and its token.
 fn after_item(text: &[u8], item: Item, at: Place) -> Place
     requires { IsStretch text.now (item ∷ []) item.gap_at item.stop at }
     ensures value { result ≡ after_pair at (pair_at text.now item) }
@@ -113,7 +113,7 @@ fn after_item(text: &[u8], item: Item, at: Place) -> Place
     }
 }
 
-/// The place behind items, one after the other.
+// The place behind items, one after the other.
 fn after_each(text: &[u8], items: &[Item], at: Place) -> Place
     requires { (from to : ℕ) × IsStretch text.now items.now from to at }
     ensures { result ≡ after_pairs at (pairs_of text.now items.now) }
@@ -125,8 +125,8 @@ fn after_each(text: &[u8], items: &[Item], at: Place) -> Place
     place
 }
 
-/// The place behind items that take the bytes between two offsets. Where all of these are ASCII without CR, they are one
-/// piece.
+// The place behind items that take the bytes between two offsets. Where all of these are ASCII without CR, they are one
+// piece.
 fn after_items(text: &[u8], items: &[Item], from: u32, to: u32, at: Place) -> Place
     requires { IsStretch text.now items.now from to at }
     ensures value { result ≡ after_pairs at (pairs_of text.now items.now) }
@@ -140,7 +140,7 @@ fn after_items(text: &[u8], items: &[Item], from: u32, to: u32, at: Place) -> Pl
     }
 }
 
-/// Where the gap of an item begins, or the gap behind the last item.
+// Where the gap of an item begins, or the gap behind the last item.
 fn offset(items: &[Item], last_at: u32, i: usize) -> u32
     ensures { result ≡ offset items.now last_at i }
 {
@@ -158,13 +158,13 @@ pub(crate) fn milestones(
     last_at: u32,
 ) -> Result<Vec<Milestone>, AllocError>
     requires { IsOrdered text.now items.now last_at }
-    ensures { IfOk result (λ stones. AreMilestones (pairs_of text.now items.now) stones.items) }
+    ensures { IfOk result (λ milestones. AreMilestones (pairs_of text.now items.now) milestones.items) }
 {
-    let mut stones = Vec::with_capacity(alloc, items.len() / SPACING + 1)?;
+    let mut milestones = Vec::with_capacity(alloc, items.len() / SPACING + 1)?;
     let mut at = Place { line: 1, column: 1 };
     let mut from = 0;
     while from < items.len() {
-        stones.push(Milestone {
+        milestones.push(Milestone {
             line: at.line as u32,
             column: at.column as u32,
         })?;
@@ -179,7 +179,7 @@ pub(crate) fn milestones(
         );
         from = to;
     }
-    Ok(stones)
+    Ok(milestones)
 }
 
 /// The place of a token, from the milestone before it on.
@@ -187,17 +187,17 @@ pub(crate) fn place_at(
     text: &[u8],
     items: &[Item],
     last_at: u32,
-    stones: &[Milestone],
+    milestones: &[Milestone],
     i: usize,
 ) -> Place
-    requires kept { IsKept text.now items.now last_at stones.now }
+    requires kept { IsKept text.now items.now last_at milestones.now }
     requires within { i < length items.now }
     ensures { result ≡ place_of (pairs_of text.now items.now) i }
 {
     let from = i / SPACING * SPACING;
     let item = items[i];
     let stretch = stretch(items, from, i);
-    let place = stones[i / SPACING].place();
+    let place = milestones[i / SPACING].place();
     let at = after_items(
         text,
         stretch,

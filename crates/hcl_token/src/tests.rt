@@ -2,27 +2,22 @@
 
 ghost use Rattle.std.specs.Prelude.{◌≡◌, ◌≤◌, length, slice_range, IsUtf8};
 
-use crate::clusters::clusters;
-use crate::item::Item;
-use crate::joins::joins;
-use crate::kind::Kind;
-use crate::place::Place;
-use crate::tokens::Tokens;
+use crate::{Item, Kind, MAX_TEXT, Place, Tokens, clusters, joins};
 use std::alloc::{AllocError, Global};
 use std::process::Abort;
 use std::test::Fail;
 
-/// A gap, and the kind and the spelling of the token behind it.
+// A gap, and the kind and the spelling of the token behind it.
 type Part<'p> = (&'p str, Kind, &'p str);
 
-/// Where a piece ends that stands in the text at a place.
+// Where a piece ends that stands in the text at a place.
 fn end(rt: &impl Abort, text: &[u8], at: u32, piece: &str) -> u32
     ensures ordered { at ≤ result }
     ensures within { result ≤ length text.now }
     ensures utf8 { IsUtf8 (slice_range text.now at result) }
 {
     let from = at as usize;
-    assert!(rt; text.len() <= 16_777_216);
+    assert!(rt; text.len() <= MAX_TEXT);
     assert!(rt; from <= text.len());
     assert!(rt; piece.len() <= text.len() - from);
     let to = from + piece.len();
@@ -51,7 +46,7 @@ fn item(rt: &impl Abort, text: &[u8], at: u32, part: Part<'_>) -> Item
     }
 }
 
-/// The tokens of a text that begins with the parts.
+// The tokens of a text that begins with the parts.
 fn tokens<'t>(
     rt: &impl Abort,
     alloc: Global,
@@ -65,12 +60,12 @@ fn tokens<'t>(
         at = next.stop;
         items.push(next)?;
     }
-    assert!(rt; text.len() <= 16_777_216);
+    assert!(rt; text.len() <= MAX_TEXT);
     Tokens::new(alloc, text, items, at as usize)
 }
 
-/// The parts, one behind the other.
-fn joined(alloc: Global, parts: &[Part<'_>]) -> Result<String, AllocError> {
+// The parts, one behind the other.
+fn whole_text(alloc: Global, parts: &[Part<'_>]) -> Result<String, AllocError> {
     let mut text = String::new(alloc);
     for part in parts {
         text.push_str(part.0)?;
@@ -84,7 +79,7 @@ fn check_places(
     parts: &[Part<'_>],
     want: &[(usize, usize)],
 ) -> Result<(), AllocError> {
-    let text = joined(rt.alloc(), parts)?;
+    let text = whole_text(rt.alloc(), parts)?;
     let tokens = tokens(rt, rt.alloc(), text.as_bytes(), parts)?;
     assert_eq!(rt; tokens.len(), want.len());
     for (i, (line, column)) in want.iter().enumerate() {
@@ -132,7 +127,7 @@ fn lines_and_columns(rt: HostRuntime) -> Result<(), Fail> {
     Ok(())
 }
 
-/// Forty tokens alike, each with the gap before it, on one line or each on its own.
+// Twenty thousand tokens alike, each with the gap before it, on one line.
 #[test]
 fn far_along(rt: HostRuntime) -> Result<(), Fail> {
     let table = [
@@ -143,11 +138,11 @@ fn far_along(rt: HostRuntime) -> Result<(), Fail> {
         ("", Kind::InlineComment, "/*\r*/", 5, 1),
     ];
     for (gap, kind, spelling, width, first) in table {
-        let parts = vec![in rt.alloc(); (gap, kind, spelling); 40]?;
-        let text = joined(rt.alloc(), &parts)?;
+        let parts = vec![in rt.alloc(); (gap, kind, spelling); 20_000]?;
+        let text = whole_text(rt.alloc(), &parts)?;
         let tokens = tokens(&rt, rt.alloc(), text.as_bytes(), &parts)?;
-        assert_eq!(rt; tokens.len(), 40);
-        for i in 0..40 {
+        assert_eq!(rt; tokens.len(), 20_000);
+        for i in 0..20_000 {
             assert!(rt; i < tokens.len());
             let place = tokens.place_of(i);
             assert_eq!(rt; place.line, 1);
@@ -158,7 +153,7 @@ fn far_along(rt: HostRuntime) -> Result<(), Fail> {
     Ok(())
 }
 
-/// Names of two clusters, each on a line of its own, behind a byte order mark.
+// Names of two clusters, each on a line of its own, behind a byte order mark.
 #[test]
 fn many_lines(rt: HostRuntime) -> Result<(), Fail> {
     for name in ["ab", "\u{e9}f"] {
@@ -168,7 +163,7 @@ fn many_lines(rt: HostRuntime) -> Result<(), Fail> {
             parts.push((" ", Kind::Identifier, name))?;
             parts.push(("", Kind::LineEnd, "\n"))?;
         }
-        let text = joined(rt.alloc(), &parts)?;
+        let text = whole_text(rt.alloc(), &parts)?;
         let tokens = tokens(&rt, rt.alloc(), text.as_bytes(), &parts)?;
         assert_eq!(rt; tokens.len(), 41);
         for i in 1..41 {

@@ -1,20 +1,24 @@
 //! A text with its tokens.
 
 ghost use Rattle.std.specs.Prelude.{◌≡◌, ◌<◌, ◌≤◌, ◌↔◌, [], length, drop, IsTrue, IsUtf8, Some, IfOk};
-ghost use Rattle.hcl_token.specs.CutText.{CutText, AreUtf8, cut_text, kind_of, spelling_of, gap_of, clusters_of, item_of, joins_of};
-ghost use Rattle.hcl_token.specs.Items.{InOrder, pairs_of};
-ghost use Rattle.hcl_token.specs.Milestones.{IsKept};
+ghost use Rattle.hcl_token.specs.declared.tokens.TheConstants.{MAX_TEXT};
+ghost use Rattle.hcl_token.specs.CutText.{CutText, AreUtf8, kind_of, spelling_of, gap_of, clusters_of, item_of, joins_of};
+ghost use Rattle.hcl_token.specs.Items.{InOrder, cut_text, pairs_of};
+ghost use Rattle.hcl_token.specs.Inner.Milestones.{IsKept};
 ghost use Rattle.hcl_token.specs.Place.{place_of};
-ghost use Rattle.hcl_token.specs.Tokens.{joining};
+ghost use Rattle.hcl_token.specs.Tokens.{whole_text};
 
-use crate::clusters::clusters;
+use crate::graphemes::clusters;
 use crate::item::Item;
-use crate::joins::joins;
+use crate::join_table::joins;
 use crate::kind::Kind;
 use crate::milestone::{Milestone, milestones, part, place_at};
 use crate::place::Place;
 use std::alloc::{AllocError, Global};
 use std::marker::Model;
+
+/// The greatest number of bytes of a text.
+pub const MAX_TEXT: usize = 16_777_216;
 
 /// A text with its tokens, each with the gap before it, and the gap behind the last.
 ///
@@ -24,7 +28,7 @@ pub struct Tokens<'t> {
     text: &'t [u8],
     items: Vec<Item>,
     last_at: u32,
-    stones: Vec<Milestone>,
+    milestones: Vec<Milestone>,
 }
 
 impl<'t> Model for Tokens<'t> {
@@ -32,7 +36,7 @@ impl<'t> Model for Tokens<'t> {
 
     ghost view = { λ t. cut_text t.text.now t.items.items t.last_at };
 
-    ghost invariant = { λ t. IsKept t.text.now t.items.items t.last_at t.stones.items };
+    ghost invariant = { λ t. IsKept t.text.now t.items.items t.last_at t.milestones.items };
 }
 
 impl<'t> Tokens<'t> {
@@ -46,27 +50,27 @@ impl<'t> Tokens<'t> {
     ) -> Result<Tokens<'t>, AllocError>
         requires order { InOrder 0 items.items last_at }
         requires within { last_at ≤ length text.now }
-        requires short { length text.now ≤ 16777216 }
+        requires short { length text.now ≤ MAX_TEXT }
         requires utf8 { AreUtf8 (pairs_of text.now items.items) }
         ensures text { IfOk result (λ t. t.text ≡ text.now) }
         ensures pairs { IfOk result (λ t. t.pairs ≡ pairs_of text.now items.items) }
         ensures last { IfOk result (λ t. t.last ≡ drop last_at text.now) }
     {
         let last_at = last_at as u32;
-        let stones = milestones(alloc, text, &items, last_at)?;
+        let milestones = milestones(alloc, text, &items, last_at)?;
         Ok(Tokens {
             text,
             items,
             last_at,
-            stones,
+            milestones,
         })
     }
 
     /// The text: the gaps and the tokens, one behind the other.
     pub fn text(&self) -> &'t [u8]
         ensures text { result.now ≡ self.now.text }
-        ensures joined { self.now.text ≡ joining self.now.pairs self.now.last }
-        ensures short { length self.now.text ≤ 16777216 }
+        ensures whole { self.now.text ≡ whole_text self.now.pairs self.now.last }
+        ensures short { length self.now.text ≤ MAX_TEXT }
         ensures utf8 { AreUtf8 self.now.pairs }
     {
         self.text
@@ -157,6 +161,6 @@ impl<'t> Tokens<'t> {
         requires { i < length self.now.pairs }
         ensures { result ≡ place_of self.now.pairs i }
     {
-        place_at(self.text, &self.items, self.last_at, &self.stones, i)
+        place_at(self.text, &self.items, self.last_at, &self.milestones, i)
     }
 }

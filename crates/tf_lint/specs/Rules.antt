@@ -17,10 +17,15 @@ name_of DocumentedVariables = codes "terraform_documented_variables"
 name_of DocumentedOutputs = codes "terraform_documented_outputs"
 
 abbrev pub severity_of : Rule → Severity
+severity_of CommentSyntax = Warning
+severity_of DeprecatedIndex = Warning
+severity_of DeprecatedInterpolation = Warning
+severity_of EmptyListEquality = Warning
+severity_of DeprecatedLookup = Warning
 severity_of NamingConvention = Notice
+severity_of TypedVariables = Warning
 severity_of DocumentedVariables = Notice
 severity_of DocumentedOutputs = Notice
-severity_of _ = Warning
 
 abbrev pub label_of : Severity → List ℕ
 label_of Warning = codes "Warning"

@@ -15,8 +15,8 @@ use crate::fault::LintFault;
 use crate::issue::Issue;
 use crate::rule::Rule;
 use edit_record::Edit;
-use hcl_scan::scanned::Scanned;
-use hcl_token::kind::Kind;
+use hcl_scan::Scanned;
+use hcl_token::Kind;
 use std::alloc::Global;
 
 const TEXT: &str = "Single line comments should begin with #";

@@ -3,14 +3,16 @@
 ghost use Rattle.std.specs.Prelude.{◌≡◌, ◌<◌, ◌≤◌, ◌⊎◌, length, IfOk, IfErr};
 ghost use Rattle.edit_record.specs.Pieces.{Turns, entries};
 ghost use Rattle.tf_lint.specs.Fixes.{fix_edits, fixed_text};
+ghost use Rattle.hcl_scan.specs.Cut.{MAX_TEXT};
 ghost use Rattle.tf_lint.specs.Taken.{taken_issues};
 ghost use Rattle.tf_lint.specs.declared.fault.LintFault.TheVariants.{TooLong, Memory};
 
 use crate::comment_syntax::{comment_edits, count_comments};
 use crate::fault::LintFault;
 use crate::rule::Rule;
+use edit_record::laws::{pieces_make, pieces_turn};
 use edit_record::{Edit, Edits};
-use hcl_scan::scanned::Scanned;
+use hcl_scan::Scanned;
 use std::alloc::Global;
 
 /// The edits that mend the issues which one step of the rule takes. They turn the text into the fixed text, and there are
@@ -20,10 +22,12 @@ use std::alloc::Global;
 pub fn fix_step(alloc: Global, scanned: &Scanned<'_>, rule: Rule) -> Result<Edits, LintFault>
     ensures edits { IfOk result (λ edits. edits ≡ fix_edits rule scanned.now) }
     ensures turns { IfOk result (λ edits. Turns edits scanned.now.text (fixed_text rule scanned.now)) }
-    ensures short { IfOk result (λ edits. length (fixed_text rule scanned.now) ≤ 16777216) }
-    ensures err { IfErr result (λ e. (e ≡ Memory) ⊎ ((e ≡ TooLong) × (16777216 < length (fixed_text rule scanned.now)))) }
+    ensures short { IfOk result (λ edits. length (fixed_text rule scanned.now) ≤ MAX_TEXT) }
+    ensures err { IfErr result (λ e. (e ≡ Memory) ⊎ ((e ≡ TooLong) × (MAX_TEXT < length (fixed_text rule scanned.now)))) }
 {
     let edits = step_edits(alloc, scanned, rule)?;
+    pieces_make();
+    pieces_turn();
     match Edits::make(scanned.text().len(), edits) {
         Ok(edits) => Ok(edits),
         Err(_) => Err(LintFault::TooLong),
@@ -36,7 +40,14 @@ fn step_edits(alloc: Global, scanned: &Scanned<'_>, rule: Rule) -> Result<Vec<Ed
 {
     match rule {
         Rule::CommentSyntax => comment_edits(alloc, scanned),
-        _ => Ok(Vec::new(alloc)),
+        Rule::DeprecatedIndex
+        | Rule::DeprecatedInterpolation
+        | Rule::EmptyListEquality
+        | Rule::DeprecatedLookup
+        | Rule::NamingConvention
+        | Rule::TypedVariables
+        | Rule::DocumentedVariables
+        | Rule::DocumentedOutputs => Ok(Vec::new(alloc)),
     }
 }
 
@@ -46,6 +57,13 @@ pub fn taken(scanned: &Scanned<'_>, rule: Rule) -> usize
 {
     match rule {
         Rule::CommentSyntax => count_comments(scanned),
-        _ => 0,
+        Rule::DeprecatedIndex
+        | Rule::DeprecatedInterpolation
+        | Rule::EmptyListEquality
+        | Rule::DeprecatedLookup
+        | Rule::NamingConvention
+        | Rule::TypedVariables
+        | Rule::DocumentedVariables
+        | Rule::DocumentedOutputs => 0,
     }
 }

@@ -2,11 +2,20 @@
 #![tactic(auto)]
 
 mod comment_syntax;
-pub mod fault;
-pub mod fixing;
-pub mod issue;
-pub mod issues;
-pub mod rule;
-pub mod rule_set;
+mod fault;
+mod finding;
+mod fixing;
+mod issue;
+mod rule;
+mod rule_set;
+
+pub use fault::LintFault;
+pub use finding::issues;
+pub use fixing::{fix_step, taken};
+pub use hcl_token::Place;
+pub use issue::Issue;
+pub use rule::{Rule, Severity};
+pub use rule_set::RuleSet;
+
 #[cfg(test)]
 mod tests;

@@ -91,7 +91,12 @@ impl Rule {
             Rule::NamingConvention | Rule::DocumentedVariables | Rule::DocumentedOutputs => {
                 Severity::Notice
             }
-            _ => Severity::Warning,
+            Rule::CommentSyntax
+            | Rule::DeprecatedIndex
+            | Rule::DeprecatedInterpolation
+            | Rule::EmptyListEquality
+            | Rule::DeprecatedLookup
+            | Rule::TypedVariables => Severity::Warning,
         }
     }
 }

@@ -1,12 +1,9 @@
-use crate::fault::LintFault;
-use crate::fixing::{fix_step, taken};
-use crate::issue::Issue;
-use crate::issues::issues;
-use crate::rule::{Rule, Severity};
-use crate::rule_set::RuleSet;
+//! Rules, issues and the steps of fixes.
+
+use crate::{Issue, LintFault, Rule, RuleSet, Severity, fix_step, issues, taken};
 use edit_record::Change;
-use hcl_scan::scanned::scan;
-use hcl_token::place::Place;
+use hcl_scan::scan;
+use hcl_token::Place;
 use std::test::Fail;
 
 const RULES: [(Rule, &str); 9] = [

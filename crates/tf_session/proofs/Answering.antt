@@ -3,7 +3,7 @@ use Rattle.std.proofs.Common.{◌≡◌, ◌∙◌, ◌≤◌, ◌<◌, ◌⊎�
 use Rattle.hcl_token.specs.Tokens.{Pair}
 use Rattle.hcl_token.specs.CutText.{CutText}
 use Rattle.hcl_scan.specs.declared.error.ScanFault.{ScanFault}
-use Rattle.hcl_scan.specs.Cut.{IsCut}
+use Rattle.hcl_scan.specs.Cut.{IsCut, MAX_TEXT}
 use Rattle.hcl_scan.specs.Fault.{IsFault}
 use Rattle.edit_record.specs.Pieces.{EditList}
 use Rattle.tf_lint.specs.declared.rule.Rule.{Rule}
@@ -11,14 +11,13 @@ use Rattle.tf_lint.specs.declared.rule_set.RuleSet.{RuleSet}
 use Rattle.tf_lint.specs.RuleSets.{has_rule}
 use Rattle.tf_lint.specs.Issues.{issues_of}
 use Rattle.tf_lint.specs.Fixes.{fixed_text}
-use Rattle.tf_session.specs.declared.taking.TheConstants.{TEXT_LIMIT}
 use Rattle.tf_session.specs.declared.command.Command.{Command}
 use Rattle.tf_session.specs.declared.command.Command.TheVariants.{Fix, Revert}
 use Rattle.tf_session.specs.declared.command.Done.{Done}
 use Rattle.tf_session.specs.declared.command.Fault.{Fault}
 use Rattle.tf_session.specs.declared.command.Fault.TheVariants.{Scan, FixBroken, TooLong, NoRecord, Refused, Memory}
 use Rattle.tf_session.specs.Fixing.{Reads, Steps, step_before, StepBreaks, StepThen, RunSteps, fix_order, IsOneList, Made, Fixes, FixMakes}
-use Rattle.tf_session.specs.Machine.{Under, Stack, Puts, TakesOff}
+use Rattle.tf_session.specs.Machine.{Under, Stack, PutsOn, TakesOff}
 use Rattle.tf_session.specs.OneAnswer.{OneAnswer}
 
 abbrev pub OneCut : Type 0
@@ -37,7 +36,7 @@ one_list len (first ∷ second ∷ more) e f p q = absurd p
 
 -- the two ways in which a step can't be done
 broken_how : (rule : Rule) (cut : CutText) (f : Fault) → StepBreaks rule cut f
-    → ((f ≡ TooLong) × (TEXT_LIMIT < length (fixed_text rule cut))) ⊎ ((f ≡ FixBroken rule) × (length (fixed_text rule cut) ≤ TEXT_LIMIT))
+    → ((f ≡ TooLong) × (MAX_TEXT < length (fixed_text rule cut))) ⊎ ((f ≡ FixBroken rule) × (length (fixed_text rule cut) ≤ MAX_TEXT))
 broken_how rule cut (Scan fault) w = absurd w
 broken_how rule cut (FixBroken broken) w = inr (ap (λ (r : Rule). FixBroken r) w.0, w.1)
 broken_how rule cut TooLong w = inl (refl, w)
@@ -53,7 +52,7 @@ same_break rule cut f g v w =
     ]
 
 put_same : (command : Command) (answer : Result Made Fault) (old : Stack) (reply other : Result Done Fault) (new another : Stack)
-    → Puts command answer old reply new → Puts command answer old other another → (reply ≡ other) × (new ≡ another)
+    → PutsOn command answer old reply new → PutsOn command answer old other another → (reply ≡ other) × (new ≡ another)
 put_same command (Ok made) old reply other new another p q = (p.0 ∙ sym q.0, p.1 ∙ sym q.1)
 put_same command (Err fault) old reply other new another p q = (p.0 ∙ sym q.0, p.1 ∙ sym q.1)
 
@@ -82,7 +81,7 @@ module _ (one_cut : OneCut) (no_cut : NoCutWithFault) (one_fault : OneFault) whe
       ∙ ap (λ (x : List Pair). let r : CutText = record { text = b.text; pairs = x; last = a.last } in r) h.0
       ∙ ap (λ (x : List ℕ). let r : CutText = record { text = b.text; pairs = b.pairs; last = x } in r) h.1
 
-  not_broken : (rule : Rule) (cut next : CutText) (f : Fault) → length (fixed_text rule cut) ≤ TEXT_LIMIT → Reads (fixed_text rule cut) next → StepBreaks rule cut f → ⊥
+  not_broken : (rule : Rule) (cut next : CutText) (f : Fault) → length (fixed_text rule cut) ≤ MAX_TEXT → Reads (fixed_text rule cut) next → StepBreaks rule cut f → ⊥
   not_broken rule cut next (Scan fault) short reads w = w
   not_broken rule cut next (FixBroken broken) short reads w = no_cut (fixed_text rule cut) w.2.0 next.pairs next.last w.2.1 reads.1
   not_broken rule cut next TooLong short reads w = omega (arith, short, w)
@@ -167,5 +166,5 @@ module _ (one_cut : OneCut) (no_cut : NoCutWithFault) (one_fault : OneFault) whe
   pub one_answer : OneAnswer
   one_answer (Fix rules) old reply other new another p q =
       let same = same_makes rules old.top q.0 p.0 q.1 p.1 in
-      put_same (Fix rules) p.0 old reply other new another p.2 (subst (λ (a : Result Made Fault). Puts (Fix rules) a old other another) same q.2)
+      put_same (Fix rules) p.0 old reply other new another p.2 (subst (λ (a : Result Made Fault). PutsOn (Fix rules) a old other another) same q.2)
   one_answer Revert old reply other new another p q = take_same old.top old.below reply other new another p q

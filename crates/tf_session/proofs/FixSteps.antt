@@ -2,7 +2,7 @@
 use Rattle.std.proofs.Common.{◌≡◌, ◌∙◌, ◌≤◌, ◌⊎◌, ℕ, List, [], length, true, false, refl, sym, ap, subst, inl, inr, arith}
 use Rattle.std.proofs.lemmas.Slice.Eq.{bytes_eq-Decides}
 use Rattle.hcl_token.specs.CutText.{CutText}
-use Rattle.hcl_scan.specs.Cut.{IsCut}
+use Rattle.hcl_scan.specs.Cut.{IsCut, MAX_TEXT}
 use Rattle.edit_record.specs.Pieces.{EditList}
 use Rattle.tf_lint.specs.declared.rule.Rule.TheVariants.{CommentSyntax}
 use Rattle.tf_lint.specs.declared.rule_set.RuleSet.{RuleSet}
@@ -10,7 +10,6 @@ use Rattle.tf_lint.specs.RuleSets.{has_rule}
 use Rattle.tf_lint.specs.Issues.{issues_of}
 use Rattle.tf_lint.specs.Taken.{taken_issues}
 use Rattle.tf_lint.specs.Fixes.{fix_edits, fixed_text}
-use Rattle.tf_session.specs.declared.taking.TheConstants.{TEXT_LIMIT}
 use Rattle.tf_session.specs.declared.command.Command.TheVariants.{Fix}
 use Rattle.tf_session.specs.declared.command.Fault.{Fault}
 use Rattle.tf_session.specs.declared.command.Fault.TheVariants.{FixBroken, Memory}
@@ -38,7 +37,7 @@ not_chosen rules text cut left reads none counted = record {
 
 -- the step leaves the text as it was
 pub same_again : (rules : RuleSet) (text new : List ℕ) (cut : CutText) (count left : ℕ) → Reads text cut → has_rule rules CommentSyntax ≡ true
-    → new ≡ fixed_text CommentSyntax cut → length (fixed_text CommentSyntax cut) ≤ TEXT_LIMIT → new ≡ text → count ≡ length (taken_issues CommentSyntax cut.pairs)
+    → new ≡ fixed_text CommentSyntax cut → length (fixed_text CommentSyntax cut) ≤ MAX_TEXT → new ≡ text → count ≡ length (taken_issues CommentSyntax cut.pairs)
     → left ≡ length (issues_of rules cut.pairs) → Fixes rules text (record { text = text; edits = record { old_len = length text; entries = [] }; fixed = count; left = left })
 same_again rules text new cut count left reads chosen made short same taken counted =
     let stays : cut.text ≡ fixed_text CommentSyntax cut = reads.0 ∙ sym same ∙ made in
@@ -58,7 +57,7 @@ same_again rules text new cut count left reads chosen made short same taken coun
 
 -- the step makes another text, which can be read
 pub changed : (rules : RuleSet) (text new : List ℕ) (edits : EditList) (cut next : CutText) (count left : ℕ) → Reads text cut → has_rule rules CommentSyntax ≡ true
-    → new ≡ fixed_text CommentSyntax cut → edits ≡ fix_edits CommentSyntax cut → length (fixed_text CommentSyntax cut) ≤ TEXT_LIMIT → differ text new ≡ true → Reads new next
+    → new ≡ fixed_text CommentSyntax cut → edits ≡ fix_edits CommentSyntax cut → length (fixed_text CommentSyntax cut) ≤ MAX_TEXT → differ text new ≡ true → Reads new next
     → count ≡ length (taken_issues CommentSyntax cut.pairs) → left ≡ length (issues_of rules next.pairs) → Fixes rules text (record { text = new; edits = edits; fixed = count; left = left })
 changed rules text new edits cut next count left reads chosen made listed short other read taken counted =
     let differs : differ cut.text (fixed_text CommentSyntax cut) ≡ true = ap (λ (t : List ℕ). differ t (fixed_text CommentSyntax cut)) reads.0 ∙ ap (λ (t : List ℕ). differ text t) (sym made) ∙ other in
@@ -77,8 +76,8 @@ changed rules text new edits cut next count left reads chosen made listed short 
 
 -- the step can't be done: its text can't be read
 pub unread : (rules : RuleSet) (text new : List ℕ) (cut : CutText) (fault : Fault) → Reads text cut → has_rule rules CommentSyntax ≡ true → new ≡ fixed_text CommentSyntax cut
-    → length (fixed_text CommentSyntax cut) ≤ TEXT_LIMIT → (fault ≡ Memory) ⊎ ((fault ≡ FixBroken CommentSyntax) × IsUnread new) → RefusesText (Fix rules) text fault
-unread rules text new cut fault reads chosen made short (inl memory) = rw memory tt
+    → length (fixed_text CommentSyntax cut) ≤ MAX_TEXT → (fault ≡ Memory) ⊎ ((fault ≡ FixBroken CommentSyntax) × IsUnread new) → RefusesText (Fix rules) text fault
+unread rules text new cut fault reads chosen made short (inl memory) = rw memory (reads.1.short, reads.1.utf8)
 unread rules text new cut fault reads chosen made short (inr broken) =
     rw broken.0 (cut, reads, rw chosen (inl (refl, short, subst IsUnread made broken.1)))
 

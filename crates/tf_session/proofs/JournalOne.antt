@@ -1,13 +1,11 @@
 -- The records of a journal, one after another, turn the text at the bottom of the stack into its top; so squashed they are one list that does.
-use Rattle.std.proofs.Common.{◌≡◌, ◌∙◌, ℕ, List, [], ◌∷◌, ◌++◌, length, refl, sym, ap, subst, arith}
+use Rattle.std.proofs.Common.{◌≡◌, ◌∙◌, ℕ, List, [], ◌∷◌, ◌++◌, refl, sym, ap, subst}
 use Rattle.std.proofs.lemmas.List.{map_push}
 use Rattle.edit_record.specs.Journal.{Entered}
-use Rattle.edit_record.specs.Laws.{goes_from_turns}
-use Rattle.edit_record.specs.Made.{new_len}
+use Rattle.edit_record.specs.Made.{HaveLengths}
 use Rattle.edit_record.specs.Many.{TurnsAll}
 use Rattle.edit_record.specs.Pieces.{EditList, Turns}
-use Rattle.edit_record.specs.Turning.{lengths}
-use Rattle.edit_squash.proofs.Groupings.{squash_as_one}
+use Rattle.edit_squash.specs.Grouping.{SquashAsOne}
 use Rattle.tf_session.specs.JournalLaws.{lists_of, BecomeOne, JournalIsOne}
 use Rattle.tf_session.specs.Machine.{Under, only}
 use Rattle.tf_session.specs.Records.{Stands}
@@ -41,26 +39,27 @@ split (d ∷ cs) c ds t v all =
     let s = split cs c ds all.0 v all.2 in
     record { u = s.u; w = s.w; front = (all.0, all.1, s.front); here = s.here; back = s.back }
 
-new_length : (e : EditList) (t u : List ℕ) → Turns e t u → new_len e ≡ length u
-new_length e t u h =
-    let sums = lengths 0 e.entries t u (goes_from_turns e t u h) in
-    let old = h.len in
-    omega (arith, sums, old)
+-- what the laws of edits and of squashing say of all lists
+abbrev pub TurnLengths : Type 0
+TurnLengths = (e : EditList) (t u : List ℕ) → Turns e t u → HaveLengths e t u
 
-become_one : (text top : List ℕ) (first : EditList) (others : List EditList) → TurnsAll Turns (first ∷ others) text top → BecomeOne text top first others
-become_one text top first others all = record {
+abbrev pub SquashesAreOne : Type 0
+SquashesAreOne = (first : EditList) (others : List EditList) → SquashAsOne first others
+
+become_one : TurnLengths → SquashesAreOne → (text top : List ℕ) (first : EditList) (others : List EditList) → TurnsAll Turns (first ∷ others) text top → BecomeOne text top first others
+become_one lengths squash_as_one text top first others all = record {
   goes_on = λ before next behind so_far same squashed.
       let whole = subst (λ (cs : List EditList). TurnsAll Turns (first ∷ cs) text top) same all in
       let s = split (first ∷ before) next behind text top whole in
       let before_it = ((squash_as_one first before).alike so_far squashed text s.u).1 s.front in
-      (new_length so_far text s.u before_it ∙ s.here.len, (text, s.u, s.w, before_it, s.here));
+      (sym (lengths so_far text s.u before_it).1 ∙ s.here.len, (text, s.u, s.w, before_it, s.here));
   turns = λ one squashed. ((squash_as_one first others).alike one squashed text top).1 all;
 }
 
-pub journal_is_one : JournalIsOne
-journal_is_one text commands replies end records run stands first others same =
+pub journal_is_one : TurnLengths → SquashesAreOne → JournalIsOne
+journal_is_one lengths squash_as_one text commands replies end records run stands first others same =
     let ran = refused_do_not_count (only text) end commands replies run in
     let lowest = same_bottoms (only text) end (served commands replies) (given replies) ran in
     let all = stands_turn records end.top end.below stands in
     let from_text = subst (λ (t : List ℕ). TurnsAll Turns (lists_of records) t end.top) lowest all in
-    become_one text end.top first others (subst (λ (cs : List EditList). TurnsAll Turns cs text end.top) same from_text)
+    become_one lengths squash_as_one text end.top first others (subst (λ (cs : List EditList). TurnsAll Turns cs text end.top) same from_text)

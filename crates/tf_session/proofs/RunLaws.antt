@@ -5,7 +5,7 @@ use Rattle.tf_session.specs.declared.command.Command.TheVariants.{Fix, Revert}
 use Rattle.tf_session.specs.declared.command.Done.{Done}
 use Rattle.tf_session.specs.declared.command.Fault.{Fault}
 use Rattle.tf_session.specs.Fixing.{Made, differ}
-use Rattle.tf_session.specs.Machine.{Under, Stack, only, put_on, Puts, TakesOff, is_memory, MayWant, Serves}
+use Rattle.tf_session.specs.Machine.{Under, Stack, only, put_on, PutsOn, TakesOff, is_memory, MayWant, Serves}
 use Rattle.tf_session.specs.RunLaws.{served, given, ServesAll, RefusedDoNotCount, texts_of, reverted, RevertsTakeOff, RevertsGiveTheFirst}
 
 by_memory : (b : Bool) (old mid new : Stack) (command : Command) (commands : List Command) (reply : Result Done Fault) (replies : List (Result Done Fault)) → is_memory reply ≡ b
@@ -56,7 +56,7 @@ taken_off : (top : List ℕ) (below : List Under) (reply : Result Done Fault) (m
 taken_off top [] reply mid h = ap (λ (s : Stack). bottom s.top s.below) h.1
 taken_off top (under ∷ rest) reply mid h = ap (λ (s : Stack). bottom s.top s.below) h.1
 
-answered : (command : Command) (answer : Result Made Fault) (old mid : Stack) (reply : Result Done Fault) → Puts command answer old reply mid → bottom mid.top mid.below ≡ bottom old.top old.below
+answered : (command : Command) (answer : Result Made Fault) (old mid : Stack) (reply : Result Done Fault) → PutsOn command answer old reply mid → bottom mid.top mid.below ≡ bottom old.top old.below
 answered command (Ok made) old mid reply h = put_cases (differ old.top made.text) command made.text old mid refl h.1
 answered command (Err fault) old mid reply h = ap (λ (s : Stack). bottom s.top s.below) h.1
 

@@ -2,16 +2,16 @@
 use Rattle.std.proofs.Common.{◌≡◌, ◌∙◌, ℕ, List, [], ◌∷◌, ◌++◌, Bool, true, false, MatchBool, IfOk, IfErr, OnErr, Result, Ok, Err, ap, sym, refl, subst}
 use Rattle.std.proofs.lemmas.Slice.Eq.{bytes_eq-Decides}
 use Rattle.std.proofs.lemmas.Bool.{not-false}
-use Rattle.edit_record.specs.Journal.{Entered, record_turns, record_backward, record_undoes}
+use Rattle.edit_record.specs.Journal.{Entered, record_turns}
 use Rattle.tf_session.specs.declared.command.Command.{Command}
 use Rattle.tf_session.specs.declared.command.Command.TheVariants.{Fix, Revert}
 use Rattle.tf_session.specs.declared.command.Done.{Done}
 use Rattle.tf_session.specs.declared.command.Fault.{Fault}
 use Rattle.tf_session.specs.declared.command.Fault.TheVariants.{Scan, FixBroken, TooLong, NoRecord, Refused, Memory}
 use Rattle.tf_session.specs.Fixing.{Made, differ}
-use Rattle.tf_session.specs.Makes.{Makes, is_memory_fault}
-use Rattle.tf_session.specs.Machine.{Under, Stack, done, Puts, Serves, Step, Run}
-use Rattle.tf_session.specs.Records.{Stands, Adds, TakesLast, DoesStep, RefusesTake, RefusesStep}
+use Rattle.tf_session.specs.Makes.{Makes, IsText, is_memory_fault}
+use Rattle.tf_session.specs.Machine.{Under, Stack, done, PutsOn, Serves, ServesOrWants, Run}
+use Rattle.tf_session.specs.Records.{Stands, AddsRecordOf, TakesLast, DoesStep, RefusesTake, RefusesStep}
 use Rattle.tf_session.proofs.Lists.{not_nil, same_last}
 
 abbrev stack : List ℕ → List Under → Stack
@@ -22,13 +22,13 @@ same_texts : (t u : List ℕ) → differ t u ≡ false → t ≡ u
 same_texts t u h = (bytes_eq-Decides t u).0 (not-false _ h)
 
 -- a text that a command made was put on, and the records stand for the stack
-abbrev Puts_on : Command → Made → List ℕ → List Under → Done → List ℕ → List Entered → Type 0
-Puts_on command made t below d u ks =
-    (n : Stack) × Puts command (Ok made) (stack t below) (Ok d) n × (u ≡ n.top) × Stands ks n.top n.below
+abbrev PutsStanding : Command → Made → List ℕ → List Under → Done → List ℕ → List Entered → Type 0
+PutsStanding command made t below d u ks =
+    (n : Stack) × PutsOn command (Ok made) (stack t below) (Ok d) n × (u ≡ n.top) × Stands ks n.top n.below
 
 put_cases : (b : Bool) (command : Command) (made : Made) (t : List ℕ) (below : List Under) (js : List Entered) (d : Done) (u : List ℕ) (ks : List Entered)
-    → differ t made.text ≡ b → u ≡ made.text → d ≡ done (differ t made.text) made.fixed made.left → Adds b command t made js ks → Stands js t below
-    → Puts_on command made t below d u ks
+    → differ t made.text ≡ b → u ≡ made.text → d ≡ done (differ t made.text) made.fixed made.left → AddsRecordOf b command t made js ks → Stands js t below
+    → PutsStanding command made t below d u ks
 put_cases true command made t below js d u ks e um dd a st = (
   stack made.text ((record { text = t; command = command }) ∷ below),
   (ap (λ (x : Done). Ok x) dd, rw e refl),
@@ -52,9 +52,7 @@ took t (under ∷ rest) js d u ks p st =
     let earlier = st.0 in
     let lasts = same_last ks earlier p.0 st.1 (sym p.1 ∙ st.2) in
     let turns : record_turns p.0 under.text t = subst (λ (r : Entered). record_turns r under.text t) (sym lasts.1) st.3.turns in
-    let there : record_backward p.0 t ≡ Ok u = (record_undoes p.0 u t).1 p.2 in
-    let back : record_backward p.0 t ≡ Ok under.text = (record_undoes p.0 under.text t).1 turns in
-    let same : u ≡ under.text = cc in
+    let same : u ≡ under.text = sym (p.2.1 under.text turns) in
     let changed : differ u t ≡ true = ap (λ (x : List ℕ). differ x t) same ∙ st.4 in (
       stack under.text rest,
       (ap (λ (x : Done). Ok x) (p.3 ∙ ap (λ (b : Bool). done b 0 0) changed), refl),
@@ -69,37 +67,34 @@ did (Fix rules) t below js d u ks p st =
     (h.0, (Ok made, p.1, h.1), h.2, h.3)
 did Revert t below js d u ks p st = took t below js d u ks p st
 
-refused_take : (t : List ℕ) (below : List Under) (js : List Entered) (e : Fault) → RefusesTake t js e → Stands js t below → Step Revert (stack t below) (Err e) (stack t below)
+refused_take : (t : List ℕ) (below : List Under) (js : List Entered) (e : Fault) → RefusesTake t js e → Stands js t below → ServesOrWants Revert (stack t below) (Err e) (stack t below)
 refused_take t below js (Scan fault) p st = absurd p
 refused_take t below js (FixBroken rule) p st = absurd p
 refused_take t below js TooLong p st = absurd p
 refused_take t [] js NoRecord p st = (refl, refl)
 refused_take t (under ∷ rest) js NoRecord p st = absurd (not_nil st.0 st.1 (sym st.2 ∙ p))
-refused_take t [] js (Refused refused) p st = absurd (not_nil p.0 p.1 (sym p.2 ∙ st))
+refused_take t [] js (Refused refused) p st = absurd (not_nil p.1.0 p.0 (sym p.1.1 ∙ st))
 refused_take t (under ∷ rest) js (Refused refused) p st =
-    let lasts = same_last p.0 st.0 p.1 st.1 (sym p.2 ∙ st.2) in
-    let turns : record_turns p.1 under.text t = subst (λ (r : Entered). record_turns r under.text t) (sym lasts.1) st.3.turns in
-    let back : record_backward p.1 t ≡ Ok under.text = (record_undoes p.1 under.text t).1 turns in
-    let not_back : record_backward p.1 t ≡ Err refused = p.3 in
-    absurd cc
-refused_take t [] js Memory p st = absurd (p st)
+    let lasts = same_last p.1.0 st.0 p.0 st.1 (sym p.1.1 ∙ st.2) in
+    absurd (p.3 under.text (subst (λ (r : Entered). record_turns r under.text t) (sym lasts.1) st.3.turns))
+refused_take t [] js Memory p st = absurd (not_nil p.1.0 p.0 (sym p.1.1 ∙ st))
 refused_take t (under ∷ rest) js Memory p st = (λ e. cc, refl)
 
-refused_fix : (command : Command) (s : Stack) (e : Fault) → (Makes command s.top (Err e) → Serves command s (Err e) s) → MatchBool (is_memory_fault e) (Unit {0}) (Makes command s.top (Err e)) → MatchBool (is_memory_fault e) (Unit {0} × (s ≡ s)) (Serves command s (Err e) s)
+refused_fix : (command : Command) (s : Stack) (e : Fault) → (Makes command s.top (Err e) → Serves command s (Err e) s) → MatchBool (is_memory_fault e) (IsText s.top) (Makes command s.top (Err e)) → MatchBool (is_memory_fault e) (IsText s.top × (s ≡ s)) (Serves command s (Err e) s)
 refused_fix command s (Scan fault) f h = f h
 refused_fix command s (FixBroken rule) f h = f h
 refused_fix command s TooLong f h = f h
 refused_fix command s NoRecord f h = f h
 refused_fix command s (Refused refused) f h = f h
-refused_fix command s Memory f h = (tt, refl)
+refused_fix command s Memory f h = (h, refl)
 
-pub refused : (command : Command) (t : List ℕ) (below : List Under) (js : List Entered) (e : Fault) → RefusesStep command t js e → Stands js t below → Step command (stack t below) (Err e) (stack t below)
+pub refused : (command : Command) (t : List ℕ) (below : List Under) (js : List Entered) (e : Fault) → RefusesStep command t js e → Stands js t below → ServesOrWants command (stack t below) (Err e) (stack t below)
 refused (Fix rules) t below js e p st = refused_fix (Fix rules) (stack t below) e (λ h. (Err e, h, (refl, refl))) p
 refused Revert t below js e p st = refused_take t below js e p st
 
 -- a run goes on by one command
-pub run_more : (old mid new : Stack) (cs : List Command) (rs : List (Result Done Fault)) (c : Command) (r : Result Done Fault) → Run old cs rs mid → Step c mid r new → Run old (cs ++ c ∷ []) (rs ++ r ∷ []) new
-run_more old mid new [] [] c r h st = (new, subst (λ (x : Stack). Step c x r new) h st, refl)
+pub run_more : (old mid new : Stack) (cs : List Command) (rs : List (Result Done Fault)) (c : Command) (r : Result Done Fault) → Run old cs rs mid → ServesOrWants c mid r new → Run old (cs ++ c ∷ []) (rs ++ r ∷ []) new
+run_more old mid new [] [] c r h st = (new, subst (λ (x : Stack). ServesOrWants c x r new) h st, refl)
 run_more old mid new [] (x ∷ rs) c r h st = absurd h
 run_more old mid new (x ∷ cs) [] c r h st = absurd h
 run_more old mid new (x ∷ cs) (y ∷ rs) c r h st = (h.0, h.1, run_more h.0 mid new cs rs c r h.2 st)

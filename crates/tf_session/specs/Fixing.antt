@@ -3,7 +3,7 @@ use Rattle.std.specs.Prelude.{◌≡◌, ◌≤◌, ◌<◌, ◌+◌, ◌⊎◌,
 use Rattle.std.specs.Str.{bytes_eq}
 use Rattle.hcl_token.specs.CutText.{CutText}
 use Rattle.hcl_scan.specs.declared.error.ScanFault.{ScanFault}
-use Rattle.hcl_scan.specs.Cut.{IsCut}
+use Rattle.hcl_scan.specs.Cut.{IsCut, MAX_TEXT}
 use Rattle.hcl_scan.specs.Fault.{IsFault}
 use Rattle.edit_record.specs.Pieces.{EditList}
 use Rattle.tf_lint.specs.declared.rule.Rule.{Rule}
@@ -13,7 +13,6 @@ use Rattle.tf_lint.specs.RuleSets.{has_rule}
 use Rattle.tf_lint.specs.Issues.{issues_of}
 use Rattle.tf_lint.specs.Taken.{taken_issues}
 use Rattle.tf_lint.specs.Fixes.{fix_edits, fixed_text}
-use Rattle.tf_session.specs.declared.taking.TheConstants.{TEXT_LIMIT}
 use Rattle.tf_session.specs.declared.command.Fault.{Fault}
 use Rattle.tf_session.specs.declared.command.Fault.TheVariants.{Scan, FixBroken, TooLong, NoRecord, Refused, Memory}
 
@@ -52,8 +51,8 @@ step_before rule cut more = record {
 -- The step of the rule can't be done: its text is over the limit, or can't be read.
 abbrev pub StepBreaks : Rule → CutText → Fault → Type 0
 StepBreaks rule cut (Scan fault) = ⊥
-StepBreaks rule cut (FixBroken broken) = (broken ≡ rule) × (length (fixed_text rule cut) ≤ TEXT_LIMIT) × IsUnread (fixed_text rule cut)
-StepBreaks rule cut TooLong = TEXT_LIMIT < length (fixed_text rule cut)
+StepBreaks rule cut (FixBroken broken) = (broken ≡ rule) × (length (fixed_text rule cut) ≤ MAX_TEXT) × IsUnread (fixed_text rule cut)
+StepBreaks rule cut TooLong = MAX_TEXT < length (fixed_text rule cut)
 StepBreaks rule cut NoRecord = ⊥
 StepBreaks rule cut (Refused refused) = ⊥
 StepBreaks rule cut Memory = ⊥
@@ -61,11 +60,11 @@ StepBreaks rule cut Memory = ⊥
 -- the step of the rule, and then the others over its text; the first that can't be done ends all
 abbrev pub StepThen : Rule → CutText → (CutText → Result Steps Fault → Type 0) → Result Steps Fault → Type 0
 StepThen rule cut Others (Ok steps) =
-    (length (fixed_text rule cut) ≤ TEXT_LIMIT) × (next : CutText) × (more : Steps) × Reads (fixed_text rule cut) next
+    (length (fixed_text rule cut) ≤ MAX_TEXT) × (next : CutText) × (more : Steps) × Reads (fixed_text rule cut) next
     × Others next (Ok more) × (steps ≡ step_before rule cut more)
 StepThen rule cut Others (Err fault) =
     StepBreaks rule cut fault
-    ⊎ ((length (fixed_text rule cut) ≤ TEXT_LIMIT) × (next : CutText) × Reads (fixed_text rule cut) next × Others next (Err fault))
+    ⊎ ((length (fixed_text rule cut) ≤ MAX_TEXT) × (next : CutText) × Reads (fixed_text rule cut) next × Others next (Err fault))
 
 -- the steps of these rules, as far as they are in the set
 abbrev pub RunSteps : RuleSet → List Rule → CutText → Result Steps Fault → Type 0

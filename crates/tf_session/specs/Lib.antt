@@ -1,4 +1,3 @@
-pub mod Told
 pub mod Streams
 pub mod Faults
 pub mod Lines

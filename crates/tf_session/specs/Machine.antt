@@ -1,13 +1,13 @@
 -- The machine: a stack of whole texts. A fix puts the stated replacement on top, where it differs, and a revert takes the
 -- top off. There is no record and no place in it.
-use Rattle.std.specs.Prelude.{◌≡◌, ℕ, Bool, true, false, List, [], ◌∷◌, Result, Ok, Err, if◌then◌else◌, MatchBool}
+use Rattle.std.specs.Prelude.{◌≡◌, ◌≢◌, ℕ, Bool, true, false, List, [], ◌∷◌, Result, Ok, Err, if◌then◌else◌, MatchBool}
 use Rattle.tf_session.specs.declared.command.Command.{Command}
 use Rattle.tf_session.specs.declared.command.Command.TheVariants.{Fix, Revert}
 use Rattle.tf_session.specs.declared.command.Done.{Done}
 use Rattle.tf_session.specs.declared.command.Fault.{Fault}
 use Rattle.tf_session.specs.declared.command.Fault.TheVariants.{NoRecord}
 use Rattle.tf_session.specs.Fixing.{Made, differ}
-use Rattle.tf_session.specs.Makes.{Makes, is_memory_fault}
+use Rattle.tf_session.specs.Makes.{Makes, IsText, is_memory_fault}
 
 -- a text, and the command that put the next one on it
 pub record Under : Type 0 where
@@ -31,10 +31,10 @@ abbrev pub done : Bool → ℕ → ℕ → Done
 done changed fixed left = record { changed = changed; fixed = fixed; left = left }
 
 -- A command that makes a text puts it on, and one that refuses the top changes nothing.
-abbrev pub Puts : Command → Result Made Fault → Stack → Result Done Fault → Stack → Type 0
-Puts command (Ok made) old reply new =
+abbrev pub PutsOn : Command → Result Made Fault → Stack → Result Done Fault → Stack → Type 0
+PutsOn command (Ok made) old reply new =
     (reply ≡ Ok (done (differ old.top made.text) made.fixed made.left)) × (new ≡ put_on command made.text old)
-Puts command (Err fault) old reply new = (reply ≡ Err fault) × (new ≡ old)
+PutsOn command (Err fault) old reply new = (reply ≡ Err fault) × (new ≡ old)
 
 -- The top is taken off, unless it is the only text.
 abbrev pub TakesOff : List ℕ → List Under → Result Done Fault → Stack → Type 0
@@ -43,7 +43,7 @@ TakesOff top (under ∷ rest) reply new = (reply ≡ Ok (done true 0 0)) × (new
 
 -- one command over a stack, its reply, and the stack that it leaves
 abbrev pub Serves : Command → Stack → Result Done Fault → Stack → Type 0
-Serves (Fix rules) old reply new = (answer : Result Made Fault) × Makes (Fix rules) old.top answer × Puts (Fix rules) answer old reply new
+Serves (Fix rules) old reply new = (answer : Result Made Fault) × Makes (Fix rules) old.top answer × PutsOn (Fix rules) answer old reply new
 Serves Revert old reply new = TakesOff old.top old.below reply new
 
 -- whether a growth was refused inside the command
@@ -51,14 +51,14 @@ abbrev pub is_memory : Result Done Fault → Bool
 is_memory (Ok d) = false
 is_memory (Err fault) = is_memory_fault fault
 
--- Revert of the only text takes no memory.
+-- A fix takes memory only for a text that it looks into, and a revert only where there is something below.
 abbrev pub MayWant : Command → Stack → Type 0
-MayWant (Fix rules) s = Unit {0}
-MayWant Revert s = s.below ≡ [] → ⊥
+MayWant (Fix rules) s = IsText s.top
+MayWant Revert s = s.below ≢ []
 
 -- One command where growths may be refused: then its reply is Memory, and it changes nothing.
-abbrev pub Step : Command → Stack → Result Done Fault → Stack → Type 0
-Step command old reply new =
+abbrev pub ServesOrWants : Command → Stack → Result Done Fault → Stack → Type 0
+ServesOrWants command old reply new =
     MatchBool (is_memory reply) (MayWant command old × (new ≡ old)) (Serves command old reply new)
 
 -- Each command has its reply, in order. One whose reply is Memory might as well not be in the list.
@@ -66,4 +66,4 @@ abbrev pub Run : Stack → List Command → List (Result Done Fault) → Stack �
 Run old [] [] new = new ≡ old
 Run old [] (reply ∷ replies) new = ⊥
 Run old (command ∷ commands) [] new = ⊥
-Run old (command ∷ commands) (reply ∷ replies) new = (mid : Stack) × Step command old reply mid × Run mid commands replies new
+Run old (command ∷ commands) (reply ∷ replies) new = (mid : Stack) × ServesOrWants command old reply mid × Run mid commands replies new

@@ -1,5 +1,6 @@
 -- What a command makes of a text.
-use Rattle.std.specs.Prelude.{ℕ, Bool, true, false, List, Result, MatchBool, Err}
+use Rattle.std.specs.Prelude.{ℕ, ◌≤◌, Bool, true, false, List, length, Result, MatchBool, Err, IsUtf8}
+use Rattle.hcl_scan.specs.Cut.{MAX_TEXT}
 use Rattle.tf_session.specs.declared.command.Command.{Command}
 use Rattle.tf_session.specs.declared.command.Command.TheVariants.{Fix, Revert}
 use Rattle.tf_session.specs.declared.command.Fault.{Fault}
@@ -20,6 +21,10 @@ is_memory_fault NoRecord = false
 is_memory_fault (Refused refused) = false
 is_memory_fault Memory = true
 
--- why a command refuses a text; a growth that was refused says nothing of the text
+-- a text that is looked into: before that no memory is taken
+abbrev pub IsText : List ℕ → Type 0
+IsText text = (length text ≤ MAX_TEXT) × IsUtf8 text
+
+-- why a command refuses a text: it can't make another of it, or a growth was refused while it looked into it
 abbrev pub RefusesText : Command → List ℕ → Fault → Type 0
-RefusesText command text fault = MatchBool (is_memory_fault fault) (Unit {0}) (Makes command text (Err fault))
+RefusesText command text fault = MatchBool (is_memory_fault fault) (IsText text) (Makes command text (Err fault))

@@ -1,7 +1,9 @@
 -- What the journal of a session says, in terms of the stack of whole texts.
-use Rattle.std.specs.Prelude.{◌≡◌, ◌≢◌, ℕ, Bool, true, false, List, [], ◌∷◌, ◌++◌, Ok, Err}
+use Rattle.std.specs.Prelude.{◌≡◌, ℕ, Bool, true, false, List, [], ◌∷◌, ◌++◌, Ok, Err}
 use Rattle.edit_record.specs.declared.record.Word.{Word}
 use Rattle.edit_record.specs.Pieces.{EditList}
+use Rattle.edit_record.specs.Refusals.{HasLen}
+use Rattle.edit_record.specs.declared.direction.Direction.TheVariants.{Backward}
 use Rattle.edit_record.specs.Journal.{Entered, record_turns, record_backward}
 use Rattle.tf_session.specs.declared.command.Command.{Command}
 use Rattle.tf_session.specs.declared.command.Command.TheVariants.{Fix, Revert}
@@ -41,31 +43,40 @@ AddsRecord true word edits js ks = ks ≡ js ++ (record { word = word; edits = e
 AddsRecord false word edits js ks = ks ≡ js
 
 -- a text that differs is put on with one record more, and one that doesn't with none
-abbrev pub Adds : Bool → Command → List ℕ → Made → List Entered → List Entered → Type 0
-Adds true command t made js ks = (r : Entered) × (ks ≡ js ++ r ∷ []) × IsRecordOf command t made.text r
-Adds false command t made js ks = ks ≡ js
+abbrev pub AddsRecordOf : Bool → Command → List ℕ → Made → List Entered → List Entered → Type 0
+AddsRecordOf true command t made js ks = (r : Entered) × (ks ≡ js ++ r ∷ []) × IsRecordOf command t made.text r
+AddsRecordOf false command t made js ks = ks ≡ js
 
-abbrev pub PutsMade : Command → Made → List ℕ → List Entered → Done → List ℕ → List Entered → Type 0
-PutsMade command made t js d u ks =
-    (u ≡ made.text) × (d ≡ done (differ t made.text) made.fixed made.left) × Adds (differ t made.text) command t made js ks
+abbrev pub PutsInPlace : Command → Made → List ℕ → List Entered → Done → List ℕ → List Entered → Type 0
+PutsInPlace command made t js d u ks =
+    (u ≡ made.text) × (d ≡ done (differ t made.text) made.fixed made.left) × AddsRecordOf (differ t made.text) command t made js ks
+
+-- u is the one text that the record turns into t
+abbrev pub IsOnlyBefore : Entered → List ℕ → List ℕ → Type 0
+IsOnlyBefore r u t = record_turns r u t × ((v : List ℕ) → record_turns r v t → v ≡ u)
 
 -- the last record is undone and taken off
 abbrev pub TakesLast : List ℕ → List Entered → Done → List ℕ → List Entered → Type 0
-TakesLast t js d u ks = (r : Entered) × (js ≡ ks ++ r ∷ []) × record_turns r u t × (d ≡ done (differ u t) 0 0)
+TakesLast t js d u ks = (r : Entered) × (js ≡ ks ++ r ∷ []) × IsOnlyBefore r u t × (d ≡ done (differ u t) 0 0)
 
 -- what a command that succeeds does
 abbrev pub DoesStep : Command → List ℕ → List Entered → Done → List ℕ → List Entered → Type 0
-DoesStep (Fix rules) t js d u ks = (made : Made) × Makes (Fix rules) t (Ok made) × PutsMade (Fix rules) made t js d u ks
+DoesStep (Fix rules) t js d u ks = (made : Made) × Makes (Fix rules) t (Ok made) × PutsInPlace (Fix rules) made t js d u ks
 DoesStep Revert t js d u ks = TakesLast t js d u ks
 
--- why a revert is refused: there is no record, or the last one does not stand in the text
+-- this is the last record
+abbrev pub IsLast : List Entered → Entered → Type 0
+IsLast js r = (earlier : List Entered) × (js ≡ earlier ++ r ∷ [])
+
+-- Why a revert is refused: there is no record, or the last one does not stand in the text, so that it turns no text into this one.
+-- Memory is taken only where the text has the length that the last record asks for.
 abbrev pub RefusesTake : List ℕ → List Entered → Fault → Type 0
 RefusesTake t js (Scan fault) = ⊥
 RefusesTake t js (FixBroken rule) = ⊥
 RefusesTake t js TooLong = ⊥
 RefusesTake t js NoRecord = js ≡ []
-RefusesTake t js (Refused refused) = (earlier : List Entered) × (r : Entered) × (js ≡ earlier ++ r ∷ []) × (record_backward r t ≡ Err refused)
-RefusesTake t js Memory = js ≢ []
+RefusesTake t js (Refused refused) = (r : Entered) × IsLast js r × (record_backward r t ≡ Err refused) × ((v : List ℕ) → ¬ (record_turns r v t))
+RefusesTake t js Memory = (r : Entered) × IsLast js r × HasLen Backward r.edits t
 
 -- why a command is refused
 abbrev pub RefusesStep : Command → List ℕ → List Entered → Fault → Type 0

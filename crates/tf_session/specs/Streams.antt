@@ -1,34 +1,29 @@
--- What a refused call has taken from a reader, or given to a writer. The words `Consumes` and `Appends`
--- of the standard library speak of the bytes that a reader has left and a writer holds, where these are known.
-use Rattle.std.specs.Prelude.{◌≡◌, ◌≤◌, ◌+◌, ℕ, Bool, true, false, List, length, take, Option}
-use Rattle.std.specs.Io.KnownBytes.{Consumes, Appends, IsAtEnd}
-use Rattle.tf_session.specs.declared.taking.TheConstants.{TEXT_LIMIT}
+-- Whole texts from a source and to a target, and what was taken and put at each fault.
+use Rattle.std.specs.Prelude.{◌≡◌, ℕ, Bool, true, false, List}
+use Rattle.hcl_scan.specs.Cut.{MAX_TEXT}
+use Rattle.tf_stream.specs.Streams.{Source, Target, TakesAll, TakenAtFault, PutsFront}
+use Rattle.tf_stream.specs.declared.fault.TakeFault.{TakeFault}
 use Rattle.tf_session.specs.declared.fault.RunFault.{RunFault}
 use Rattle.tf_session.specs.declared.fault.RunFault.TheVariants.{Memory, Read, Write, Endless}
 use Rattle.tf_session.specs.declared.fault.Part.{Part}
 
--- the reader lost at most so many bytes, from the front
-abbrev pub TakesAtMost : Option (List ℕ) → Option (List ℕ) → ℕ → Type 0
-TakesAtMost old new most = (bytes : List ℕ) × Consumes old new bytes × (length bytes ≤ most)
+-- this text is all that the source had
+abbrev pub TakesText : Source → List ℕ → Type 0
+TakesText source text = TakesAll MAX_TEXT source text
 
--- What a call that takes at most `limit` bytes took, at each fault: Endless comes only past the limit, after
--- exactly one byte more; a read fails before that; what was read may find no memory; and there is no other fault.
-abbrev pub TakenAtFault : ℕ → RunFault → Option (List ℕ) → Option (List ℕ) → Type 0
-TakenAtFault limit Memory old new = TakesAtMost old new (limit + 1)
-TakenAtFault limit Read old new = TakesAtMost old new limit
-TakenAtFault limit Endless old new = (bytes : List ℕ) × Consumes old new bytes × (length bytes ≡ limit + 1)
-TakenAtFault limit _ old new = ⊥
+-- why there is no text, and what was taken of the source
+abbrev pub NotTaken : RunFault → Source → Type 0
+NotTaken Memory source = TakenAtFault MAX_TEXT TakeFault.Memory source
+NotTaken Read source = TakenAtFault MAX_TEXT TakeFault.Read source
+NotTaken Endless source = TakenAtFault MAX_TEXT TakeFault.Endless source
+NotTaken _ source = ⊥
 
--- The fault is Write at this part, and the writer holds just the sent bytes more, which the bytes begin with.
-abbrev pub SentAtFault : Part → RunFault → Option (List ℕ) → Option (List ℕ) → List ℕ → Type 0
-SentAtFault part (Write named sent) old new bytes = (named ≡ part) × (sent ≤ length bytes) × Appends old new (take sent bytes)
-SentAtFault part _ old new bytes = ⊥
+-- the fault is Write at this part, and just the bytes that it says were sent went to the target
+abbrev pub NotPut : Part → RunFault → Target → List ℕ → Type 0
+NotPut part (Write named sent) target bytes = (named ≡ part) × PutsFront sent target bytes
+NotPut part _ target bytes = ⊥
 
 -- whether a write failed, or a flush
 abbrev pub is_write : RunFault → Bool
 is_write (Write part sent) = true
 is_write _ = false
-
--- all that a reader had left is this text, and it is within the limit
-abbrev pub TakesWhole : Option (List ℕ) → Option (List ℕ) → List ℕ → Type 0
-TakesWhole old new text = Consumes old new text × IsAtEnd new × (length text ≤ TEXT_LIMIT)

@@ -1,10 +1,10 @@
+//! What a session is asked, and what it answers.
+
 ghost use Rattle.std.specs.Prelude.{◌≡◌};
 
 use edit_record::Refused;
-use hcl_scan::error::ScanFault;
-use tf_lint::fault::LintFault;
-use tf_lint::rule::Rule;
-use tf_lint::rule_set::RuleSet;
+use hcl_scan::ScanFault;
+use tf_lint::{LintFault, Rule, RuleSet};
 use thiserror::Error;
 
 /// What a session is asked to do.
@@ -51,9 +51,9 @@ pub enum Fault {
 }
 
 impl From<ScanFault> for Fault {
-    ghost use Rattle.tf_session.specs.Faults.{fault_of};
+    ghost use Rattle.tf_session.specs.Faults.{fault_of_scan};
 
-    ghost from_gives = { λ fault given. given ≡ fault_of fault };
+    ghost from_gives = { λ fault given. given ≡ fault_of_scan fault };
 
     fn from(fault: ScanFault) -> Self {
         match fault {
@@ -72,6 +72,19 @@ impl From<LintFault> for Fault {
         match fault {
             LintFault::TooLong => Fault::TooLong,
             LintFault::Memory => Fault::Memory,
+        }
+    }
+}
+
+impl From<Refused> for Fault {
+    ghost use Rattle.tf_session.specs.Faults.{fault_of_refused};
+
+    ghost from_gives = { λ refused given. given ≡ fault_of_refused refused };
+
+    fn from(refused: Refused) -> Self {
+        match refused {
+            Refused::Memory => Fault::Memory,
+            refused => Fault::Refused(refused),
         }
     }
 }

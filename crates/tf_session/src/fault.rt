@@ -1,10 +1,13 @@
+//! Why a call over readers and writers was refused.
+
 ghost use Rattle.std.specs.Prelude.{◌≡◌};
 
 use crate::command::Fault;
 use edit_record::Refused;
-use hcl_scan::error::ScanFault;
+use hcl_scan::ScanFault;
 use std::alloc::{AllocError, AllocFailed};
-use tf_lint::rule::Rule;
+use tf_lint::{LintFault, Rule};
+use tf_stream::TakeFault;
 use thiserror::Error;
 
 /// What a writer was given.
@@ -69,22 +72,43 @@ impl<T: Drop> From<AllocFailed<T>> for RunFault {
 }
 
 impl From<ScanFault> for RunFault {
-    ghost use Rattle.tf_session.specs.Faults.{run_fault_of};
+    ghost use Rattle.tf_session.specs.Faults.{fault_of_scan, run_fault_of};
 
-    ghost from_gives = { λ fault given. given ≡ run_fault_of fault };
+    ghost from_gives = { λ fault given. given ≡ run_fault_of (fault_of_scan fault) };
 
     fn from(fault: ScanFault) -> Self {
+        RunFault::from(Fault::from(fault))
+    }
+}
+
+impl From<LintFault> for RunFault {
+    ghost use Rattle.tf_session.specs.Faults.{fault_of_lint, run_fault_of};
+
+    ghost from_gives = { λ fault given. given ≡ run_fault_of (fault_of_lint fault) };
+
+    fn from(fault: LintFault) -> Self {
+        RunFault::from(Fault::from(fault))
+    }
+}
+
+impl From<TakeFault> for RunFault {
+    ghost use Rattle.tf_session.specs.Faults.{run_fault_of_take};
+
+    ghost from_gives = { λ fault given. given ≡ run_fault_of_take fault };
+
+    fn from(fault: TakeFault) -> Self {
         match fault {
-            ScanFault::Memory => RunFault::Memory,
-            fault => RunFault::Scan(fault),
+            TakeFault::Read => RunFault::Read,
+            TakeFault::Endless => RunFault::Endless,
+            TakeFault::Memory => RunFault::Memory,
         }
     }
 }
 
 impl From<Fault> for RunFault {
-    ghost use Rattle.tf_session.specs.Faults.{run_fault_of_step};
+    ghost use Rattle.tf_session.specs.Faults.{run_fault_of};
 
-    ghost from_gives = { λ fault given. given ≡ run_fault_of_step fault };
+    ghost from_gives = { λ fault given. given ≡ run_fault_of fault };
 
     fn from(fault: Fault) -> Self {
         match fault {

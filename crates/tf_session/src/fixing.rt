@@ -1,8 +1,8 @@
 //! What a fix makes of a text.
 
-ghost use Rattle.std.specs.Prelude.{◌≡◌, ◌≤◌, ◌⊎◌, true, Ok, length, IfOk, IfErr, IfSome};
+ghost use Rattle.std.specs.Prelude.{◌≡◌, ◌≢◌, ◌≤◌, ◌⊎◌, true, Ok, length, IfOk, IfErr, IfSome};
 ghost use Rattle.hcl_token.specs.CutText.{CutText};
-ghost use Rattle.hcl_scan.specs.Cut.{IsCut};
+ghost use Rattle.hcl_scan.specs.Cut.{IsCut, MAX_TEXT};
 ghost use Rattle.edit_record.specs.Pieces.{Turns};
 ghost use Rattle.tf_lint.specs.Fixes.{fix_edits, fixed_text};
 ghost use Rattle.tf_lint.specs.Issues.{issues_of};
@@ -13,14 +13,11 @@ ghost use Rattle.tf_session.specs.declared.command.Command.{Command};
 ghost use Rattle.tf_session.specs.declared.command.Command.TheVariants.{Fix};
 
 use crate::command::Fault;
+use edit_record::laws::apply_is_exact;
 use edit_record::{Change as _, Edits};
-use hcl_scan::error::ScanFault;
-use hcl_scan::scanned::{Scanned, scan};
+use hcl_scan::{ScanFault, Scanned, scan};
 use std::alloc::Global;
-use tf_lint::fixing::{fix_step, taken};
-use tf_lint::issues::issues;
-use tf_lint::rule::Rule;
-use tf_lint::rule_set::RuleSet;
+use tf_lint::{Rule, RuleSet, fix_step, issues, taken};
 
 /// A new text, and the edits that lead to it.
 #[derive(Drop)]
@@ -80,13 +77,14 @@ fn step_change(alloc: Global, scanned: &Scanned<'_>, rule: Rule) -> Result<Chang
     ensures text { IfOk result (λ change. change.text.items ≡ fixed_text rule scanned.now) }
     ensures edits { IfOk result (λ change. change.edits ≡ fix_edits rule scanned.now) }
     ensures turns { IfOk result (λ change. Turns change.edits scanned.now.text change.text.items) }
-    ensures short { IfOk result (λ change. length (fixed_text rule scanned.now) ≤ 16777216) }
+    ensures short { IfOk result (λ change. length (fixed_text rule scanned.now) ≤ MAX_TEXT) }
     ensures fault { IfErr result (λ fault. (fault ≡ Fault.Memory) ⊎ ((fault ≡ Fault.TooLong) × StepBreaks rule scanned.now fault)) }
 {
     let edits = fix_step(alloc, scanned, rule)?;
+    apply_is_exact(&edits);
     match edits.apply(alloc, scanned.text()) {
         Ok(text) => Ok(Change { text, edits }),
-        Err(_) => Err(Fault::Memory),
+        Err(refused) => Err(Fault::from(refused)),
     }
 }
 
@@ -101,10 +99,9 @@ fn issues_left(alloc: Global, text: &[u8], rule: Rule, rules: RuleSet) -> Result
     }
 }
 
-// A text that a fix made and that can't be read.
+// Why a text that a fix made has no tokens.
 fn broken(fault: ScanFault, rule: Rule) -> Fault
-    ensures memory { fault ≡ ScanFault.Memory → result ≡ Fault.Memory }
-    ensures other { (result ≡ Fault.Memory) ⊎ (result ≡ Fault.FixBroken rule) }
+    ensures { ((fault ≡ ScanFault.Memory) × (result ≡ Fault.Memory)) ⊎ ((fault ≢ ScanFault.Memory) × (result ≡ Fault.FixBroken rule)) }
 {
     match fault {
         ScanFault::Memory => Fault::Memory,
@@ -116,8 +113,6 @@ fn count_issues(alloc: Global, scanned: &Scanned<'_>, rules: RuleSet) -> Result<
     ensures counted { IfOk result (λ count. count ≡ length (issues_of rules scanned.now.pairs)) }
     ensures fault { IfErr result (λ fault. fault ≡ Fault.Memory) }
 {
-    match issues(alloc, scanned, rules) {
-        Ok(found) => Ok(found.len()),
-        Err(_) => Err(Fault::Memory),
-    }
+    let found = issues(alloc, scanned, rules)?;
+    Ok(found.len())
 }

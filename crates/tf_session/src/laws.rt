@@ -4,6 +4,10 @@ ghost use Rattle.tf_session.specs.OneAnswer.{OneAnswer};
 ghost use Rattle.tf_session.specs.JournalLaws.{JournalIsOne};
 ghost use Rattle.tf_session.specs.RunLaws.{RefusedDoNotCount, RevertsTakeOff, RevertsGiveTheFirst};
 
+use edit_record::laws::turned_texts_have_the_lengths;
+use edit_squash::laws::squash_all_is_one;
+use hcl_scan::laws::{no_cut_with_fault, one_cut, one_fault};
+
 /// A command that met a refused growth might as well not be in the list.
 pub fn refused_commands_do_not_count()
     ensures { RefusedDoNotCount }
@@ -23,13 +27,16 @@ pub fn reverts_give_the_first_text()
 pub fn each_command_has_one_answer()
     ensures { OneAnswer }
 {
-    hcl_scan::laws::one_cut();
-    hcl_scan::laws::no_cut_with_fault();
-    hcl_scan::laws::one_fault();
+    one_cut();
+    no_cut_with_fault();
+    one_fault();
 }
 
 /// The records of the journal of any run, squashed from the first on, are one list of edits, which turns the first text into the
 /// last: on the way no list is refused but for want of memory.
 pub fn journal_squashes_to_one()
     ensures { JournalIsOne }
-{}
+{
+    turned_texts_have_the_lengths();
+    squash_all_is_one();
+}

@@ -1,31 +1,27 @@
 //! Sessions over a Terraform text, and whole texts from readers and to writers.
+//!
+//! A `Session` is a text with the journal of the commands that changed it; `run` does several commands. The streams read a whole
+//! text, work on it, and write what comes of it. `laws` says what holds of whole runs.
 #![tactic(auto)]
 
 mod command;
 mod fault;
 mod fixing;
-mod laws;
+pub mod laws;
 mod linting;
-mod putting;
 mod running;
 mod session;
 mod streaming;
-mod taking;
-mod told;
+mod texts;
 
 pub use command::{Command, Done, Fault, Reply};
+pub use edit_record::{Journal, Refused};
 pub use fault::{Part, RunFault};
-pub use laws::{
-    each_command_has_one_answer, journal_squashes_to_one, refused_commands_do_not_count,
-    reverts_give_the_first_text, reverts_take_off_the_last,
-};
+pub use hcl_scan::ScanFault;
 pub use linting::lint_stream;
-pub use putting::put_text;
 pub use running::run;
 pub use session::Session;
 pub use streaming::step_stream;
-pub use taking::{TEXT_LIMIT, take_text};
-pub use told::Told;
-
-#[cfg(test)]
-mod tests;
+pub use texts::{put_journal, put_text, take_text};
+pub use tf_lint::{Rule, RuleSet};
+pub use tf_stream::Told;

@@ -1,20 +1,20 @@
+//! Whole texts linted from a reader to a writer.
+
 ghost use Rattle.std.specs.Prelude.{◌≡◌, ◌↔◌, ◌+◌, ℕ, List, true, false, length, IfOk, IfErr, IsErrOf, IsErrAnd};
 ghost use Rattle.tf_lint.specs.Issues.{reports};
 ghost use Rattle.tf_lint.specs.Reports.{Report};
-ghost use Rattle.tf_session.specs.Told.{inner_of, has_failed};
+ghost use Rattle.tf_stream.specs.Told.{has_failed};
+ghost use Rattle.tf_stream.specs.Streams.{from, into};
 ghost use Rattle.tf_session.specs.Lines.{lines_of, HasIssues, Lints, LintsAtFault, LinesRefused};
 ghost use Rattle.tf_session.specs.Streams.{is_write};
 
 use crate::fault::RunFault;
-use crate::putting::put_text;
-use crate::taking::take_text;
-use crate::told::Told;
-use hcl_scan::scanned::scan;
+use crate::texts::{put_text, take_text};
+use hcl_scan::scan;
 use std::alloc::{AllocError, Global};
 use std::io::{Read, Write};
-use tf_lint::issue::Issue;
-use tf_lint::issues::issues;
-use tf_lint::rule_set::RuleSet;
+use tf_lint::{Issue, RuleSet, issues};
+use tf_stream::Told;
 
 /// Writes a line for each issue that the rules find in the text, each followed by LF, and answers their number.
 ///
@@ -28,8 +28,8 @@ pub fn lint_stream<R: Read, W: Write>(
 ) -> Result<usize, RunFault>
     requires text_fresh { has_failed text.old ≡ false }
     requires out_fresh { has_failed out.old ≡ false }
-    ensures lines { IfOk result (λ count. Lints name.now rules count (R.remaining (inner_of text.old)) (R.remaining (inner_of text.new)) (W.contents (inner_of out.old)) (W.contents (inner_of out.new))) }
-    ensures fault { IfErr result (λ fault. LintsAtFault name.now rules fault (R.remaining (inner_of text.old)) (R.remaining (inner_of text.new)) (W.contents (inner_of out.old)) (W.contents (inner_of out.new))) }
+    ensures lines { IfOk result (λ count. Lints name.now rules count (from R.remaining text.old text.new) (into W.contents out.old out.new)) }
+    ensures fault { IfErr result (λ fault. LintsAtFault name.now rules fault (from R.remaining text.old text.new) (into W.contents out.old out.new)) }
     ensures read { IsErrOf result RunFault.Read ↔ has_failed text.new ≡ true }
     ensures write { IsErrAnd result (λ fault. is_write fault ≡ true) ↔ has_failed out.new ≡ true }
 {
@@ -50,10 +50,7 @@ fn issue_lines(
     ensures fault { IfErr result (LinesRefused text.now) }
 {
     let scanned = scan(alloc, text)?;
-    let found = match issues(alloc, &scanned, rules) {
-        Ok(found) => found,
-        Err(_) => return Err(RunFault::Memory),
-    };
+    let found = issues(alloc, &scanned, rules)?;
     let lines = joined_lines(alloc, name, found.as_slice())?;
     Ok((lines, found.len()))
 }

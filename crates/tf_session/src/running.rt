@@ -1,3 +1,5 @@
+//! Commands one after another.
+
 ghost use Rattle.std.specs.Prelude.{◌≡◌, IfOk};
 ghost use Rattle.tf_session.specs.Session.{text_of, records_of};
 ghost use Rattle.tf_session.specs.Machine.{Stack, only, Run};

@@ -1,3 +1,5 @@
+//! A text with the journal of what changed it.
+
 ghost use Rattle.std.specs.Prelude.{◌≡◌, true, IfOk, IfErr, IfSome, OnErr};
 ghost use Rattle.tf_session.specs.Fixing.{differ};
 ghost use Rattle.tf_session.specs.Machine.{done};
@@ -7,7 +9,8 @@ ghost use Rattle.tf_session.specs.Records.{DoesStep, RefusesStep, AddsRecord, Ta
 
 use crate::command::{Command, Done, Fault, Reply};
 use crate::fixing::{Change, Fixed, fix_text};
-use edit_record::{Change as _, Journal, Record, Refused, Word};
+use edit_record::laws::undo_is_exact;
+use edit_record::{Change as _, Journal, Record, Word};
 use std::alloc::Global;
 
 /// A text, and the journal of the commands that changed it.
@@ -96,6 +99,7 @@ impl Session {
         let Some(record) = self.journal.records().last() else {
             return Err(Fault::NoRecord);
         };
+        undo_is_exact(record);
         match record.undo(alloc, self.text.as_slice()) {
             Ok(text) => {
                 let changed = text.as_slice() != self.text.as_slice();
@@ -107,8 +111,7 @@ impl Session {
                     left: 0,
                 })
             }
-            Err(Refused::Memory) => Err(Fault::Memory),
-            Err(refused) => Err(Fault::Refused(refused)),
+            Err(refused) => Err(Fault::from(refused)),
         }
     }
 }

@@ -1,18 +1,20 @@
+//! One command over a whole text, from a reader to a writer.
+
 ghost use Rattle.std.specs.Prelude.{◌≡◌, ◌↔◌, true, false, IfOk, IfErr, IsErrOf, IsErrAnd};
-ghost use Rattle.tf_session.specs.Told.{inner_of, has_failed};
+ghost use Rattle.tf_stream.specs.Told.{has_failed};
+ghost use Rattle.tf_stream.specs.Streams.{from, into};
 ghost use Rattle.tf_session.specs.Session.{text_of, records_of};
 ghost use Rattle.tf_session.specs.Streams.{is_write};
 ghost use Rattle.tf_session.specs.Streaming.{StepsThrough, StepsAtFault};
 
 use crate::command::{Command, Done};
 use crate::fault::RunFault;
-use crate::putting::put_text;
 use crate::session::Session;
-use crate::taking::take_text;
-use crate::told::Told;
+use crate::texts::{put_text, take_text};
 use edit_record::Journal;
 use std::alloc::Global;
 use std::io::{Read, Write};
+use tf_stream::Told;
 
 /// One command over the whole text of a reader, with no journal. The new text, changed or not, goes to the writer.
 ///
@@ -25,8 +27,8 @@ pub fn step_stream<R: Read, W: Write>(
 ) -> Result<(Session, Done), RunFault>
     requires text_fresh { has_failed text.old ≡ false }
     requires out_fresh { has_failed out.old ≡ false }
-    ensures done { IfOk result (λ made. StepsThrough command made.1 (text_of made.0) (records_of made.0) (R.remaining (inner_of text.old)) (R.remaining (inner_of text.new)) (W.contents (inner_of out.old)) (W.contents (inner_of out.new))) }
-    ensures fault { IfErr result (λ fault. StepsAtFault command fault (R.remaining (inner_of text.old)) (R.remaining (inner_of text.new)) (W.contents (inner_of out.old)) (W.contents (inner_of out.new))) }
+    ensures done { IfOk result (λ made. StepsThrough command made.1 (text_of made.0) (records_of made.0) (from R.remaining text.old text.new) (into W.contents out.old out.new)) }
+    ensures fault { IfErr result (λ fault. StepsAtFault command fault (from R.remaining text.old text.new) (into W.contents out.old out.new)) }
     ensures read { IsErrOf result RunFault.Read ↔ has_failed text.new ≡ true }
     ensures write { IsErrAnd result (λ fault. is_write fault ≡ true) ↔ has_failed out.new ≡ true }
 {

@@ -4,8 +4,7 @@ use std::alloc::Global;
 use std::fs;
 use std::io::{Read, Write};
 use std::rt::Files;
-use tf_lint::rule_set::RuleSet;
-use tf_session::{Command, RunFault, Told, lint_stream, step_stream};
+use tf_session::{Command, RuleSet, RunFault, Told, lint_stream, step_stream};
 
 /// The name of standard input, on the command line and in reports.
 pub const STANDARD_INPUT: &str = "-";

@@ -1,3 +1,5 @@
+//! The program from its words to its status, over files and streams in memory.
+
 use crate::work;
 use std::fs;
 use std::io::{self, Read, Write};
@@ -129,8 +131,13 @@ fn fixes_standard_input(rt: HostRuntime) -> Result<(), Fail> {
 }
 
 /// Words that ask for nothing, and the line on standard error.
-const MISUSED: [(&[&str], &str); 6] = [
+const MISUSED: [(&[&str], &str); 8] = [
     (&["lint", "-", "a.tf"], "tfk: - stands alone\n"),
+    (&["lint", "a.tf", "b.tf", "-"], "tfk: - stands alone\n"),
+    (
+        &["lint", "a.tf", "b.tf", "c.tf", "-", "d.tf"],
+        "tfk: - stands alone\n",
+    ),
     (&["lint", "-", "-"], "tfk: - stands alone\n"),
     (&["fix", "a.tf", "-"], "tfk: - stands alone\n"),
     (&["fix", "a.tf"], "tfk: only - is taken here\n"),
@@ -194,14 +201,17 @@ fn a_fault_on_one_file_does_not_stop_the_next(rt: HostRuntime) -> Result<(), Fai
         b"",
         (0, "", ""),
     )?;
+    // two faults before a file that is linted
     let words = [
         "lint",
         "tfk_lints_files/open.tf",
-        "tfk_lints_files/clean.tf",
+        "tfk_lints_files/absent.tf",
         "tfk_lints_files/main.tf",
+        "tfk_lints_files/clean.tf",
     ];
-    let fault = "tfk: tfk_lints_files/open.tf: byte 4: string is not closed\n";
-    check(&rt, &rt, &words, b"", (1, line, fault))?;
+    let told =
+        "tfk: tfk_lints_files/open.tf: byte 4: string is not closed\ntfk: tfk_lints_files/absent.tf: cannot read\n";
+    check(&rt, &rt, &words, b"", (1, line, told))?;
     let folder_is_no_file = "tfk: tfk_lints_files: cannot read\n";
     check(
         &rt,

@@ -6,8 +6,7 @@ use crate::outcome::Outcome;
 use std::alloc::Global;
 use std::io::{Read, Write};
 use std::rt::Files;
-use tf_lint::rule_set::RuleSet;
-use tf_session::{RunFault, Told, put_text};
+use tf_session::{RuleSet, RunFault, Told, put_text};
 
 /// Does what the words ask (they are those behind the program's name), and answers the exit status: 1 if there was any
 /// fault, else 2 if an issue is left, else 0. Reports go to the output, faults to `faults`.

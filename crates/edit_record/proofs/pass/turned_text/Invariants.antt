@@ -1,12 +1,13 @@
 use Rattle.std.proofs.Common.{◌≡◌, drop, length}
 use Rattle.edit_record.specs.Pieces.{entries}
 use Rattle.edit_record.specs.Made.{ArePlaced}
-use Rattle.edit_record.specs.Walk.{walk, behind, Room}
+use Rattle.edit_record.specs.Inner.Walk.{walk, behind}
+use Rattle.edit_record.proofs.Placed.{Room}
 use Rattle.edit_record.proofs.pass.turned_text.Given as goal
 
 abbrev pub invariant-loop-i : goal.invariant-loop-i
 invariant-loop-i l = record {
-  told : behind l.out.items (walk l.back l.i l.old_end (entries (drop l.i l.edits)) l.rest) ≡ walk l.back 0 0 (entries l.edits) l.text;
+  told : behind l.out.items (walk l.direction l.i l.old_end (entries (drop l.i l.edits)) l.rest) ≡ walk l.direction 0 0 (entries l.edits) l.text;
   placed : ArePlaced l.old_len l.old_end (entries (drop l.i l.edits));
-  room : Room l.back l.old_len l.old_end (length l.rest) (entries (drop l.i l.edits));
+  room : Room l.direction l.old_len l.old_end (length l.rest) (entries (drop l.i l.edits));
 }

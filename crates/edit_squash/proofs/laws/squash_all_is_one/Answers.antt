@@ -2,4 +2,4 @@ use Rattle.edit_squash.proofs.Groupings.{squash_as_one}
 use Rattle.edit_squash.proofs.laws.squash_all_is_one.Goals as goal
 
 pub returns : goal.returns
-returns c = squash_as_one c.args.first.now
+returns c = squash_as_one

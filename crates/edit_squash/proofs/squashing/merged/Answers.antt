@@ -5,8 +5,8 @@ use Rattle.edit_record.specs.declared.edit.Edit.{Edit}
 use Rattle.edit_record.specs.Pieces.{Entry, EditList, entry, entries}
 use Rattle.edit_record.specs.Made.{AreEdits, new_len}
 use Rattle.edit_squash.specs.Squash.{Contradiction}
-use Rattle.edit_squash.specs.MergeState.{state}
-use Rattle.edit_squash.specs.Merge.{State, meeting, readied, took}
+use Rattle.edit_squash.specs.Inner.MergeState.{state}
+use Rattle.edit_squash.specs.Inner.Merge.{State, meeting, readied, took}
 use Rattle.edit_squash.proofs.Merged.{Kept, Progress, progress_start, ready_for, takes_one, goes_on, contradicts, one_taken, ends_well}
 use Rattle.edit_squash.proofs.squashing.merged.Goals as goal
 

@@ -5,9 +5,10 @@ use Rattle.hcl_scan.specs.declared.mode.Opening.{Opening}
 use Rattle.hcl_scan.specs.Modes.{Mode, mode_of, after}
 use Rattle.hcl_scan.specs.Modes.Mode.{Expression}
 use Rattle.hcl_scan.specs.Fault.{Stops, innermost}
-use Rattle.hcl_scan.specs.Markers.{HasMarker}
-use Rattle.hcl_scan.specs.Openings.{mode_view, modes_of, places_of}
-use Rattle.hcl_scan.specs.Progress.{IsCutTo, front_items}
+use Rattle.hcl_scan.specs.Inner.Markers.{HasMarker}
+use Rattle.hcl_scan.specs.Inner.Openings.{mode_view, modes_of, places_of}
+use Rattle.hcl_scan.specs.Inner.MarkItem.{front_items}
+use Rattle.hcl_scan.proofs.CutTo.{IsCutTo}
 use Rattle.hcl_scan.proofs.FrontLemmas.{started}
 use Rattle.hcl_scan.proofs.OpeningLemmas.{none_open}
 use Rattle.hcl_scan.proofs.Steps.{marker_cut, gap_at, one_more, finished, stopped}

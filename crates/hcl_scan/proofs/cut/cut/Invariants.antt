@@ -1,6 +1,6 @@
 use Rattle.std.proofs.Common.{◌-◌, length}
-use Rattle.hcl_scan.specs.Openings.{modes_of, places_of}
-use Rattle.hcl_scan.specs.Progress.{IsCutTo}
+use Rattle.hcl_scan.specs.Inner.Openings.{modes_of, places_of}
+use Rattle.hcl_scan.proofs.CutTo.{IsCutTo}
 use Rattle.hcl_scan.proofs.cut.cut.Given as goal
 
 -- the text up to the place is cut

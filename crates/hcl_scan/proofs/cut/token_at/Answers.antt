@@ -1,5 +1,5 @@
 use Rattle.std.proofs.Common.{sym}
-use Rattle.hcl_scan.specs.Openings.{mode_view}
+use Rattle.hcl_scan.specs.Inner.Openings.{mode_view}
 use Rattle.hcl_scan.proofs.Steps.{token_end, token_within}
 use Rattle.hcl_scan.proofs.cut.token_at.Goals as goal
 

@@ -1,5 +1,5 @@
 use Rattle.std.proofs.Common.{◌+◌, drop, sym, ap, ◌∙◌, arith}
-use Rattle.hcl_scan.specs.HereNext.{named}
+use Rattle.hcl_scan.specs.Inner.HereNext.{named}
 use Rattle.hcl_scan.proofs.HerePlaces.{identifier_none, identifier_fits}
 use Rattle.hcl_scan.proofs.here.named.Goals as goal
 

@@ -1,6 +1,6 @@
 use Rattle.std.proofs.Common.{arith, ◌≡◌, drop, ap}
 use Rattle.std.specs.Str.{chars}
-use Rattle.hcl_scan.specs.Next.{continue_length}
+use Rattle.hcl_scan.specs.Inner.Next.{continue_length}
 use Rattle.hcl_scan.proofs.IdentLemmas.{chars_end, continue_length_ascii}
 use Rattle.hcl_scan.proofs.ident.continue_end.Goals as goal
 

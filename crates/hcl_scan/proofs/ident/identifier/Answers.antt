@@ -1,7 +1,7 @@
 use Rattle.std.proofs.Common.{◌≡◌, ◌+◌, ◌-◌, Some, ap, sym, ◌∙◌, arith, drop}
 use Rattle.std.specs.Str.{chars}
 use Rattle.hcl_token.specs.declared.kind.Kind.TheVariants.{Identifier}
-use Rattle.hcl_scan.specs.Next.{continue_length}
+use Rattle.hcl_scan.specs.Inner.Next.{continue_length}
 use Rattle.hcl_scan.proofs.IdentLemmas.{chars_ascii, identifier_ascii}
 use Rattle.hcl_scan.proofs.ident.identifier.Goals as goal
 

@@ -1,6 +1,6 @@
 use Rattle.std.proofs.Common.{length, ◌-◌, ◌≡◌, ◌+◌, ◌≤◌, drop}
 use Rattle.std.specs.List.{prefix_len}
-use Rattle.hcl_scan.specs.Openings.{is_in_line}
+use Rattle.hcl_scan.specs.Inner.Openings.{is_in_line}
 use Rattle.hcl_scan.proofs.mode.marker_end.Given as goal
 
 abbrev pub invariant-loop-at : goal.invariant-loop-at

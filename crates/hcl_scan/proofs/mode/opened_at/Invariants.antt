@@ -1,6 +1,6 @@
 use Rattle.std.proofs.Common.{◌≡◌, ◌≤◌, take, length}
 use Rattle.hcl_scan.specs.Fault.{innermost}
-use Rattle.hcl_scan.specs.Openings.{modes_of, places_of}
+use Rattle.hcl_scan.specs.Inner.Openings.{modes_of, places_of}
 use Rattle.hcl_scan.proofs.mode.opened_at.Given as goal
 
 -- the openings from i on are braces

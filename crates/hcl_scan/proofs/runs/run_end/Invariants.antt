@@ -1,5 +1,5 @@
 use Rattle.std.proofs.Common.{length, ◌-◌, ◌≡◌, ◌+◌, ◌≤◌, drop}
-use Rattle.hcl_scan.specs.RunLength.{run_length}
+use Rattle.hcl_scan.specs.Inner.RunLength.{run_length}
 use Rattle.hcl_scan.proofs.runs.run_end.Given as goal
 
 abbrev pub invariant-loop-at : goal.invariant-loop-at

@@ -1,6 +1,6 @@
 use Rattle.std.proofs.Common.{sym, ap, ◌∙◌, Some}
 use Rattle.hcl_token.specs.declared.kind.Kind.TheVariants.{Number}
-use Rattle.hcl_scan.specs.Next.{here_or_less}
+use Rattle.hcl_scan.specs.Inner.Next.{here_or_less}
 use Rattle.hcl_scan.proofs.TokenLemmas.{token_of_word, token_of_number, token_of_opening, token_of_punctuation}
 use Rattle.hcl_scan.proofs.token.expression_token.Goals as goal
 

@@ -1,7 +1,7 @@
 use Rattle.std.proofs.Common.{not, length, sym, ap, subst, ◌∙◌, arith}
 use Rattle.std.proofs.lemmas.Bool.{and_parts, not-true}
 use Rattle.hcl_token.specs.declared.place.Place.{Place}
-use Rattle.hcl_token.specs.Milestones.{IsReached}
+use Rattle.hcl_token.specs.Inner.Milestones.{IsReached}
 use Rattle.hcl_token.proofs.ClusterLemmas.{plain_utf8}
 use Rattle.hcl_token.proofs.ItemLemmas.{order-le}
 use Rattle.hcl_token.proofs.MilestoneLemmas.{plain_part, stretch_reached, stretch_length}

@@ -1,12 +1,12 @@
 use Rattle.std.proofs.Common.{List, refl, ap, ◌∙◌, arith}
 use Rattle.hcl_token.specs.declared.item.Item.{Item}
 use Rattle.hcl_token.specs.Items.{pairs_of}
-use Rattle.hcl_token.specs.Milestones.{after_pairs}
+use Rattle.hcl_token.specs.Inner.Milestones.{after_pairs}
 use Rattle.hcl_token.proofs.MilestoneLemmas.{reached_fits, stored_reached, stored_none, stored_step, stored_end, stretch_of}
 use Rattle.hcl_token.proofs.milestone.milestones.Goals as goal
 
 pub loop-from-init : goal.loop-from-init
-loop-from-init c = stored_none c.args.text.now c.args.items.now c.in_ok-stones.stones.items c.in_ok-stones.ensures.items
+loop-from-init c = stored_none c.args.text.now c.args.items.now c.in_ok-milestones.milestones.items c.in_ok-milestones.ensures.items
 
 pub overflow_cast-at : goal.overflow_cast-at
 overflow_cast-at c =
@@ -26,10 +26,10 @@ after_items-at-requires c =
 
 pub loop-from-preserved : goal.loop-from-preserved
 loop-from-preserved c =
-    stored_step c.args.text.now c.args.items.now c.loop-from.stones.items c.push.new.self.items c.loop-from.from c.min-to.result c.loop-from.at c.after_items-at.result
+    stored_step c.args.text.now c.args.items.now c.loop-from.milestones.items c.push.new.self.items c.loop-from.from c.min-to.result c.loop-from.at c.after_items-at.result
     (record { line = c.loop-from.at.line; column = c.loop-from.at.column })
     c.loop-from.invariant c.loop-from-test.true c.min-to.ensures c.in_ok-push.ensures.items refl
     (c.after_items-at.ensures.value ∙ ap (λ (l : List Item). after_pairs c.loop-from.at (pairs_of c.args.text.now l)) c.stretch-stretch.ensures)
 
 pub returns : goal.returns
-returns c = stored_end c.args.text.now c.args.items.now c.loop-from.stones.items c.loop-from.from c.loop-from.at c.loop-from.invariant c.loop-from-test.false
+returns c = stored_end c.args.text.now c.args.items.now c.loop-from.milestones.items c.loop-from.from c.loop-from.at c.loop-from.invariant c.loop-from-test.false

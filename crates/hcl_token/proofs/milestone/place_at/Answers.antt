@@ -3,7 +3,7 @@ use Rattle.hcl_token.specs.declared.kind.Kind.TheVariants.{Mark}
 use Rattle.hcl_token.specs.declared.item.Item.{Item}
 use Rattle.hcl_token.specs.declared.place.Place.{Place}
 use Rattle.hcl_token.specs.Items.{pair_at, pairs_of}
-use Rattle.hcl_token.specs.Milestones.{IsReached, after_pairs, after_piece, front, offset}
+use Rattle.hcl_token.specs.Inner.Milestones.{IsReached, after_pairs, after_piece, first_place, offset}
 use Rattle.hcl_token.proofs.ItemLemmas.{item_at, length-range}
 use Rattle.hcl_token.proofs.PlaceLemmas.{place_found}
 use Rattle.hcl_token.proofs.StretchLemmas.{after_pairs-slice}
@@ -21,8 +21,8 @@ after_items-at-requires c =
     let o = c.requires.kept.ordered in
     let known = item_at text items c.args.last_at c.args.i (get_or c.args.items.now c.args.i none) none o c.requires.within refl in
     let from : ℕ = c.args.i / 16 * 16 in
-    let stone = c.place-place.ensures ∙ (milestone_at text items c.args.stones.now c.args.i _ c.requires.kept.milestones c.requires.within).1 in
-    let reached : IsReached c.place-place.result (offset items c.args.last_at from) = subst (λ (p : Place). IsReached p (offset items c.args.last_at from)) (sym stone) (front_reached text items c.args.last_at from o) in
+    let milestone = c.place-place.ensures ∙ (milestone_at text items c.args.milestones.now c.args.i _ c.requires.kept.placed c.requires.within).1 in
+    let reached : IsReached c.place-place.result (offset items c.args.last_at from) = subst (λ (p : Place). IsReached p (offset items c.args.last_at from)) (sym milestone) (front_reached text items c.args.last_at from o) in
     let s = stretch_of text items c.args.last_at from c.args.i c.place-place.result o (omega arith) reached in
     rw (c.stretch-stretch.ensures, c.offset.ensures, known.begins) s
 
@@ -59,14 +59,14 @@ returns c =
     let items = c.args.items.now in
     let known = item_at text items c.args.last_at c.args.i (get_or c.args.items.now c.args.i none) none c.requires.kept.ordered c.requires.within refl in
     let from : ℕ = c.args.i / 16 * 16 in
-    let stone = c.place-place.ensures ∙ (milestone_at text items c.args.stones.now c.args.i _ c.requires.kept.milestones c.requires.within).1 in
+    let milestone = c.place-place.ensures ∙ (milestone_at text items c.args.milestones.now c.args.i _ c.requires.kept.placed c.requires.within).1 in
     let end : from + (c.args.i - from) ≡ c.args.i = omega arith in
-    let before : c.after_items-at.result ≡ after_pairs front (take c.args.i (pairs_of text items)) =
+    let before : c.after_items-at.result ≡ after_pairs first_place (take c.args.i (pairs_of text items)) =
     c.after_items-at.ensures.value
     ∙ ap (λ (l : List Item). after_pairs c.place-place.result (pairs_of text l)) c.stretch-stretch.ensures
-    ∙ ap (λ (p : Place). after_pairs p (pairs_of text (slice_range items from c.args.i))) stone
-    ∙ after_pairs-slice text items front from (c.args.i - from)
-    ∙ ap (λ n. after_pairs front (take n (pairs_of text items))) end in
+    ∙ ap (λ (p : Place). after_pairs p (pairs_of text (slice_range items from c.args.i))) milestone
+    ∙ after_pairs-slice text items first_place from (c.args.i - from)
+    ∙ ap (λ n. after_pairs first_place (take n (pairs_of text items))) end in
     c.after_piece.ensures.value
     ∙ ap (after_piece c.after_items-at.result) c.part.ensures
     ∙ ap (λ (p : Place). after_piece p (slice_range text (get_or items c.args.i none).gap_at (get_or items c.args.i none).start)) before

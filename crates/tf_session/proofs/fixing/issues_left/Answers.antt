@@ -4,7 +4,7 @@ use Rattle.tf_session.proofs.fixing.issues_left.Goals as goal
 
 pub returns-in-Err-clause-fault : goal.returns-in-Err-clause-fault
 returns-in-Err-clause-fault c =
-    elim c.in-Err.ensures.fault [
-      | inl memory ↦ inl (c.broken.ensures.memory memory)
-      | inr unread ↦ elim c.broken.ensures.other [ inl memory ↦ inl memory | inr named ↦ inr (named, (c.in-Err.fault, unread)) ]
+    elim c.broken.ensures [
+      | inl wanted ↦ inl wanted.1
+      | inr named ↦ elim c.in-Err.ensures.fault [ inl memory ↦ absurd (named.0 memory.0) | inr unread ↦ inr (named.1, (c.in-Err.fault, unread)) ]
     ]

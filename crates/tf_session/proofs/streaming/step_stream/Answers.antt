@@ -6,4 +6,4 @@ use Rattle.tf_session.proofs.streaming.step_stream.Goals as goal
 
 pub returns-in-Err-clause-fault : goal.returns-in-Err-clause-fault
 returns-in-Err-clause-fault g c =
-    sent c.args.command c.in-Err.fault _ _ _ _ c.in_ok-bytes.bytes.items c.in_ok-done.done (text_of c.step.new.self) (records_of c.step.new.self) (search rules) (search rules) (search rules)
+    sent c.args.command c.in-Err.fault _ _ c.in_ok-bytes.bytes.items c.in_ok-done.done (text_of c.step.new.self) (records_of c.step.new.self) (search rules) (search rules) (search rules)

@@ -1,7 +1,7 @@
 use Rattle.std.proofs.Common.{sym, ◌∙◌, ap, length, min}
 use Rattle.edit_record.specs.Pieces.{entries}
-use Rattle.edit_squash.specs.Merge.{State}
-use Rattle.edit_squash.specs.MergeState.{state}
+use Rattle.edit_squash.specs.Inner.Merge.{State}
+use Rattle.edit_squash.specs.Inner.MergeState.{state}
 use Rattle.edit_squash.proofs.Soundness.{apart_first, apart_second, sound_closed}
 use Rattle.edit_squash.proofs.merge.Merge.ready.Goals as goal
 

@@ -1,0 +1,18 @@
+-- The state in the code.
+use Rattle.edit_squash.specs.declared.merge.Merge.{Merge}
+use Rattle.edit_record.specs.Pieces.{entries}
+use Rattle.edit_squash.specs.Inner.Merge.{State}
+
+abbrev pub state : Merge → State
+state m = record {
+  out = entries m.out.items;
+  at = m.at;
+  removed = m.removed.items;
+  added = m.added.items;
+  first_left = m.first_left.now;
+  second_left = m.second_left.now;
+  first_end = m.first_end;
+  second_end = m.second_end;
+  has_first = m.has_first;
+  has_second = m.has_second;
+}

@@ -1,0 +1,35 @@
+-- What is found at the front of a text, as a kind and a number of bytes; identifiers, and the openings of template sequences.
+use Rattle.std.specs.Prelude.{ℕ, ◌+◌, Bool, ◌&&◌, ◌||◌, if◌then◌else◌, ◌==◌, nat_le, List, [], ◌∷◌, slice_index, Option, Some, None}
+use Rattle.std.specs.Char.{is_ascii_alphabetic, len_utf8}
+use Rattle.std.specs.Str.{chars}
+use Rattle.hcl_token.specs.declared.kind.Kind.{Kind}
+use Rattle.hcl_token.specs.declared.kind.Kind.TheVariants.{Identifier, InterpOpen, DirectiveOpen}
+use Rattle.hcl_scan.specs.Characters.{is_sigil, starts, continues}
+
+-- a kind and a number of bytes
+abbrev pub Found : Type 0
+Found = Option (Kind × ℕ)
+
+-- the bytes of the leading characters that continue an identifier
+abbrev pub continue_length : List ℕ → ℕ
+continue_length [] = 0
+continue_length (c ∷ cs) = if continues c then len_utf8 c + continue_length cs else 0
+
+abbrev pub identifier_of : List ℕ → Found
+identifier_of [] = None
+identifier_of (c ∷ cs) = if starts c then Some (Identifier, len_utf8 c + continue_length cs) else None
+
+abbrev pub identifier : List ℕ → Found
+identifier t = identifier_of (chars t)
+
+-- a letter, `_`, or the first byte of a character that is not ASCII
+abbrev pub begins_word : ℕ → Bool
+begins_word b = is_ascii_alphabetic b || b == 95 || nat_le 128 b
+
+-- `${` or `%{` stands at the front
+abbrev pub begins_opening : List ℕ → Bool
+begins_opening t = is_sigil (slice_index t 0) && slice_index t 1 == 123
+
+-- its kind, and its length with a `~`
+abbrev pub opening : List ℕ → Kind × ℕ
+opening t = (if slice_index t 0 == 36 then InterpOpen else DirectiveOpen, if slice_index t 2 == 126 then 3 else 2)

@@ -1,0 +1,13 @@
+-- The number of bytes of the longest run at the front of a text. `RunLemmas` of proofs/ shows that it is that.
+use Rattle.std.specs.Prelude.{ℕ, zero, suc, ◌-◌, ◌==◌, Bool, List, [], ◌∷◌, if◌then◌else◌}
+use Rattle.hcl_scan.specs.Runs.{UnitLength}
+
+-- where the first `skip` bytes belong to a unit already
+abbrev pub run_from : UnitLength → Bool → ℕ → List ℕ → ℕ
+run_from unit fresh skip [] = 0
+run_from unit fresh (suc skip) (b ∷ t) = suc (run_from unit (b == 10) skip t)
+run_from unit fresh zero (b ∷ t) =
+    if unit fresh (b ∷ t) == 0 then 0 else suc (run_from unit (b == 10) (unit fresh (b ∷ t) - 1) t)
+
+abbrev pub run_length : UnitLength → Bool → List ℕ → ℕ
+run_length unit fresh t = run_from unit fresh 0 t

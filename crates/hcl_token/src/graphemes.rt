@@ -1,0 +1,34 @@
+//! Grapheme clusters.
+
+ghost use Rattle.std.specs.Prelude.{◌≡◌, IsUtf8};
+ghost use Rattle.hcl_token.specs.Place.{clusters};
+ghost use Rattle.hcl_token.specs.Inner.Plain.{is_plain};
+
+use unicode_segmentation::UnicodeSegmentation;
+
+/// Whether a text is ASCII without CR, so that each byte is a cluster.
+pub(crate) fn is_plain(text: &[u8]) -> bool
+    ensures { result ≡ is_plain text.now }
+{
+    text.iter().all(|b| (*b < 128) & (*b != 13))
+}
+
+fn clusters_of_str(text: &str) -> usize
+    ensures { result ≡ clusters text.now }
+{
+    text.graphemes(true).count()
+}
+
+/// How many extended grapheme clusters a text in UTF-8 has (Unicode Standard Annex #29).
+pub fn clusters(text: &[u8]) -> usize
+    requires { IsUtf8 text.now }
+    ensures { result ≡ clusters text.now }
+{
+    if is_plain(text) {
+        return text.len();
+    }
+    match str::from_utf8(text) {
+        Ok(text) => clusters_of_str(text),
+        Err(_) => 0,
+    }
+}

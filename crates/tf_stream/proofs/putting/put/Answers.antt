@@ -1,0 +1,17 @@
+-- A write goes on where the writes before it ended.
+use Rattle.std.proofs.Common.{◌∙◌, ◌<◌, arith, length-drop}
+use Rattle.std.proofs.Math.Seq.{take-add}
+use Rattle.std.proofs.lemmas.List.{take_rest}
+use Rattle.std.proofs.KnownBytes.{Appends-trans}
+use Rattle.tf_stream.proofs.putting.put.Goals as goal
+
+pub loop-sent-preserved : goal.loop-sent-preserved
+loop-sent-preserved g c =
+    let some : 0 < c.in-Ok.n = omega arith in
+    let bytes = simp take_rest at c.in-Ok.ensures.bytes in
+    let bound = simp take_rest at c.in-Ok.ensures.bound in
+    record {
+      within = omega (arith, bound, length-drop c.loop-sent.sent c.args.bytes.now);
+      held = rw take-add (Appends-trans _ _ _ _ _ c.loop-sent.invariant.held bytes);
+      fresh = c.in-Ok.ensures.told.0 some ∙ c.loop-sent.invariant.fresh;
+    }

@@ -1,0 +1,19 @@
+-- What a clause reads of a `Told`, and what a call through it leaves.
+use Rattle.std.specs.Prelude.{◌≡◌, ◌<◌, ℕ, Bool, true, List, length, Result, MatchResult}
+use Rattle.tf_stream.specs.declared.told.Told.{Told}
+
+-- the reader or writer inside
+abbrev pub inner_of : {T : Type 0} → Told T → T
+inner_of t = t.inner
+
+-- whether a call failed, or a write took nothing
+abbrev pub has_failed : {T : Type 0} → Told T → Bool
+has_failed t = t.failed
+
+-- a call that failed is kept, and one that did not changes nothing
+abbrev pub Tells : {X : Type 0} {E : Type 0} → Bool → Bool → Result X E → Type 0
+Tells old new r = MatchResult r (λ _. new ≡ old) (λ _. new ≡ true)
+
+-- the same, and a write that took none of some bytes is kept too
+abbrev pub TellsWrite : {E : Type 0} → Bool → Bool → Result ℕ E → List ℕ → Type 0
+TellsWrite old new r buf = MatchResult r (λ n. (0 < n → new ≡ old) × (length buf ≡ 0 → new ≡ old) × (n ≡ 0 → 0 < length buf → new ≡ true)) (λ _. new ≡ true)

@@ -1,0 +1,24 @@
+//! Why bytes were not taken from a reader, or not put to a writer.
+
+use thiserror::Error;
+
+/// Why the bytes of a reader were not taken.
+#[derive(Clone, Copy, Debug, PartialEq, Eq, Error)]
+pub enum TakeFault {
+    /// A read failed, whatever its error.
+    #[error("cannot read")]
+    Read,
+    /// The reader has more bytes than the limit allows.
+    #[error("text or journal is too long")]
+    Endless,
+    /// A growth was refused.
+    #[error("out of memory")]
+    Memory,
+}
+
+/// A write or a flush failed, or a write took nothing, after `sent` bytes went out.
+#[derive(Clone, Copy, Debug, PartialEq, Eq, Error)]
+#[error("cannot write, {sent} bytes sent")]
+pub struct PutFault {
+    pub sent: usize,
+}
