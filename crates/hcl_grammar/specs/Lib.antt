@@ -1,0 +1,7 @@
+pub mod Tokens
+pub mod Operators
+pub mod Nodes
+pub mod Lines
+pub mod Grammar
+pub mod Bodies
+pub mod Pure

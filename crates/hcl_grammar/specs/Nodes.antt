@@ -1,0 +1,103 @@
+-- The nodes of a tree, each made of what its production has. `first` and `past`: the number of its first token, and the one past its last.
+use Rattle.std.specs.Prelude.{ℕ, Bool, List, [], ◌∷◌, Option}
+use Rattle.hcl_grammar.specs.declared.tree.Attribute.{Attribute}
+use Rattle.hcl_grammar.specs.declared.tree.Block.{roll-Block}
+use Rattle.hcl_grammar.specs.declared.tree.Body.{Body, roll-Body}
+use Rattle.hcl_grammar.specs.declared.tree.Call.{roll-Call}
+use Rattle.hcl_grammar.specs.declared.tree.Content.{Content}
+use Rattle.hcl_grammar.specs.declared.tree.Elem.{Elem, roll-Elem}
+use Rattle.hcl_grammar.specs.declared.tree.Expr.{Expr, roll-Expr}
+use Rattle.hcl_grammar.specs.declared.tree.ForDirective.{roll-ForDirective}
+use Rattle.hcl_grammar.specs.declared.tree.ForObject.{roll-ForObject}
+use Rattle.hcl_grammar.specs.declared.tree.ForTuple.{roll-ForTuple}
+use Rattle.hcl_grammar.specs.declared.tree.Form.{Form}
+use Rattle.hcl_grammar.specs.declared.tree.Form.TheVariants as form
+use Rattle.hcl_grammar.specs.declared.tree.IfDirective.{roll-IfDirective}
+use Rattle.hcl_grammar.specs.declared.tree.Intro.{Intro, roll-Intro}
+use Rattle.hcl_grammar.specs.declared.tree.Label.{Label}
+use Rattle.hcl_grammar.specs.declared.tree.Link.{Link, roll-Link}
+use Rattle.hcl_grammar.specs.declared.tree.Member.{Member}
+use Rattle.hcl_grammar.specs.declared.tree.Member.TheVariants as member
+use Rattle.hcl_grammar.specs.declared.tree.Operator.{Operator}
+use Rattle.hcl_grammar.specs.declared.tree.Part.{Part}
+use Rattle.hcl_grammar.specs.declared.tree.Part.TheVariants as part
+use Rattle.hcl_grammar.specs.declared.tree.Shape.{Shape}
+use Rattle.hcl_grammar.specs.declared.tree.Shape.TheVariants as shape
+use Rattle.hcl_grammar.specs.declared.tree.Tail.{Tail}
+use Rattle.hcl_grammar.specs.declared.tree.Template.{Template, roll-Template}
+use Rattle.hcl_grammar.specs.declared.tree.Term.{Term, roll-Term}
+use Rattle.hcl_grammar.specs.declared.tree.Tree.{Tree}
+
+-- an expression
+unfoldable pub expr : ℕ → ℕ → Form → Expr
+expr first past x = roll-Expr (record { first = first; past = past; form = x })
+
+-- a term
+unfoldable pub term : ℕ → ℕ → Shape → Term
+term first past x = roll-Term (record { first = first; past = past; shape = x })
+
+-- an operator of a chain, and the operand behind it
+unfoldable pub link : Operator → Expr → Link
+link op x = roll-Link (record { operator = op; operand = x })
+
+-- an element of an object
+unfoldable pub elem : Expr → Expr → Elem
+elem key value = roll-Elem (record { key = key; value = value })
+
+-- an operand, with operators of one level behind it, if there are any
+abbrev pub chain : ℕ → ℕ → Expr → List Link → Expr
+chain first past head [] = head
+chain first past head (x ∷ xs) = expr first past (form.Chain head (x ∷ xs))
+
+-- a term, with its tails, if there are any
+abbrev pub tailed : ℕ → ℕ → Term → List Tail → Expr
+tailed first past head [] = expr first past (form.Plain head)
+tailed first past head (x ∷ xs) = expr first past (form.Tailed head (x ∷ xs))
+
+-- a call: the numbers of its names, its arguments, and whether `...` stands behind the last
+unfoldable pub call : List ℕ → List Expr → Bool → Shape
+call names arguments spread = shape.Call (roll-Call (record { names = names; arguments = arguments; spread = spread }))
+
+-- what begins a `for`: the numbers of its names, and what is gone through
+unfoldable pub intro : ℕ → ℕ → ℕ → Option ℕ → Expr → Intro
+intro first past name second source = roll-Intro (record { first = first; past = past; name = name; second = second; source = source })
+
+-- a `for` in brackets, perhaps with a filter
+unfoldable pub for_tuple : Intro → Expr → Option Expr → Shape
+for_tuple i value filter = shape.ForTuple (roll-ForTuple (record { intro = i; value = value; filter = filter }))
+
+-- a `for` in braces; whether `...` stands behind its value; perhaps with a filter
+unfoldable pub for_object : Intro → Expr → Expr → Bool → Option Expr → Shape
+for_object i key value grouped filter = shape.ForObject (roll-ForObject (record { intro = i; key = key; value = value; grouped = grouped; filter = filter }))
+
+-- a template, by its parts
+unfoldable pub template : ℕ → ℕ → List Part → Template
+template first past parts = roll-Template (record { first = first; past = past; parts = parts })
+
+-- an `if` directive, perhaps with an `else`
+unfoldable pub if_part : ℕ → ℕ → Expr → Template → Option Template → Part
+if_part first past condition met unmet = part.If (roll-IfDirective (record { first = first; past = past; condition = condition; met = met; unmet = unmet }))
+
+-- a `for` directive
+unfoldable pub for_part : ℕ → ℕ → Intro → Template → Part
+for_part first past i body = part.For (roll-ForDirective (record { first = first; past = past; intro = i; body = body }))
+
+-- an attribute, whose first token is its name
+unfoldable pub attribute : ℕ → ℕ → Expr → Attribute
+attribute first past value = record { first = first; past = past; name = first; value = value }
+
+-- a label, and the number of its text's token
+unfoldable pub label : ℕ → ℕ → Option ℕ → Label
+label first past name = record { first = first; past = past; name = name }
+
+-- a block, whose first token is its word
+unfoldable pub block : ℕ → ℕ → List Label → Content → Member
+block first past labels content = member.Block (roll-Block (record { first = first; past = past; word = first; labels = labels; content = content }))
+
+-- a body, by its attributes and blocks
+unfoldable pub body : ℕ → ℕ → List Member → Body
+body first past members = roll-Body (record { first = first; past = past; members = members })
+
+-- the tree of a whole text, whose first token is token 0
+unfoldable pub tree : ℕ → Body → Tree
+tree past body = record { first = 0; past = past; body = body }

@@ -1,0 +1,15 @@
+//! The syntax tree of a text, and the grammar of the HCL native syntax: which tree stands over which tokens.
+#![tactic(auto)]
+
+pub mod error;
+pub mod goal;
+pub mod tree;
+
+pub use error::TokenFault;
+pub use goal::Goal;
+pub use plain_tree::{Boxed, Items};
+pub use tree::{
+    Attribute, Block, Body, Call, Content, Elem, Expr, ForDirective, ForObject, ForTuple, Form,
+    IfDirective, Intro, Label, Link, Member, Operator, Part, Prefix, Shape, Tail, Template, Term,
+    Tree,
+};

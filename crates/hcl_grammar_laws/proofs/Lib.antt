@@ -1,0 +1,17 @@
+pub mod Steps
+pub mod Ahead
+pub mod Spans
+pub mod Firsts
+pub mod Lines
+pub mod Complete
+pub mod BodyComplete
+pub mod Inverts
+pub mod Sound
+pub mod BodySound
+pub mod Whole
+pub mod Neat
+pub mod Placed
+pub mod Restart
+pub mod RestartBodies
+pub mod Own
+pub mod Climb

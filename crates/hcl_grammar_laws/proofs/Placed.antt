@@ -1,0 +1,52 @@
+-- Each node has the number of its first token and the place behind its last.
+use Rattle.std.proofs.Common.{◌≡◌, ℕ, ◌≤◌, Bool, true, List, refl}
+use Rattle.hcl_grammar.specs.declared.tree.Expr.{Expr}
+use Rattle.hcl_grammar.specs.declared.tree.Intro.{Intro}
+use Rattle.hcl_grammar.specs.declared.tree.Term.{Term}
+use Rattle.hcl_grammar.specs.declared.tree.Tree.{Tree}
+use Rattle.hcl_grammar.specs.Bodies.{IsFile}
+use Rattle.hcl_grammar.specs.Grammar.{IsExpr, plain, conditional, IsLevel, lowest, level, no_links, linked, IsUnary, prefixed, post, no_tails, tails, IsTerm, number, identifier, call, tuple, object, for_tuple, for_object, quoted, heredoc, parens, IsIntro, intro}
+use Rattle.hcl_grammar.specs.Nodes as node
+use Rattle.hcl_grammar.specs.Tokens.{Token, start}
+use Rattle.hcl_grammar_laws.proofs.BodyComplete.{file_answers}
+use Rattle.hcl_grammar_laws.proofs.BodySound.{file_derived}
+use Rattle.hcl_grammar_laws.proofs.Whole.{found_at}
+
+module _ {ts : List Token} where
+  pub placed_term : {d : ℕ} {m : Bool} {e : Term} {i j : ℕ} → IsTerm ts d m e i j → (e.first ≡ start ts m i) × (e.past ≡ j)
+  unfolding node.term
+  placed_term (number p) = (refl, refl)
+  placed_term (identifier p q r) = (refl, refl)
+  placed_term (call p ns q xs) = (refl, refl)
+  placed_term (tuple p n xs) = (refl, refl)
+  placed_term (object p n l xs) = (refl, refl)
+  placed_term (for_tuple p x c e f) = (refl, refl)
+  placed_term (for_object p x c e a v s f) = (refl, refl)
+  placed_term (quoted p ps q) = (refl, refl)
+  placed_term (heredoc p ps q) = (refl, refl)
+  placed_term (parens p e q) = (refl, refl)
+
+  pub placed_unary : {d : ℕ} {m : Bool} {e : Expr} {i j : ℕ} → IsUnary ts d m e i j → (e.first ≡ start ts m i) × (e.past ≡ j)
+  unfolding node.expr
+  placed_unary (prefixed p o x) = (refl, refl)
+  placed_unary (post p no_tails) = (refl, refl)
+  placed_unary (post p (tails x xs)) = (refl, refl)
+
+  pub placed_level : {d : ℕ} {m : Bool} {n : ℕ} {e : Expr} {i j : ℕ} → IsLevel ts d m n e i j → (e.first ≡ start ts m i) × (e.past ≡ j)
+  unfolding node.expr
+  placed_level (lowest p) = placed_unary p
+  placed_level (level p no_links) = placed_level p
+  placed_level (level p (linked q o x xs)) = (refl, refl)
+
+  pub placed_expr : {d : ℕ} {m : Bool} {e : Expr} {i j : ℕ} → IsExpr ts d m e i j → (e.first ≡ start ts m i) × (e.past ≡ j)
+  unfolding node.expr
+  placed_expr (plain p) = placed_level p
+  placed_expr (conditional c q x s y) = (refl, refl)
+
+  pub placed_intro : {d : ℕ} {e : Intro} {i j : ℕ} → IsIntro ts d e i j → (e.first ≡ start ts true i) × (e.past ≡ j)
+  unfolding node.intro
+  placed_intro (intro w p s v e) = (refl, refl)
+
+-- what nests no deeper than some number nests no deeper than a greater one
+pub weaken : (ts : List Token) (d e : ℕ) (t : Tree) → d ≤ e → IsFile ts d t → IsFile ts e t
+weaken ts d e t l w = let a = file_answers ts e d t w in file_derived ts e t a.0 (found_at l a.1)

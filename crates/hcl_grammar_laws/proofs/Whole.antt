@@ -1,0 +1,59 @@
+-- What a parser of whole texts ensures that answers the pure one.
+use Rattle.std.proofs.Common.{◌≡◌, ◌≢◌, ℕ, ◌+◌, ◌≤◌, List, Result, Ok, Err, MatchResult, IfOk, refl, sym, ◌∙◌, arith}
+use Rattle.hcl_grammar.specs.declared.error.TokenFault.{TokenFault}
+use Rattle.hcl_grammar.specs.declared.error.TokenFault.TheVariants.{Syntax, TooDeep, Memory}
+use Rattle.hcl_grammar.specs.declared.tree.Tree.{Tree}
+use Rattle.hcl_grammar.specs.Bodies.{IsFile}
+use Rattle.hcl_grammar.specs.Pure.BodyParser.{file}
+use Rattle.hcl_grammar.specs.Pure.Faults.{IsMemory, IsMemoryOrDeep}
+use Rattle.hcl_grammar.specs.Pure.Reading.{Outcome, Reads}
+use Rattle.hcl_grammar.specs.Tokens.{Token}
+use Rattle.hcl_grammar_laws.proofs.BodyComplete.{file_answers}
+use Rattle.hcl_grammar_laws.proofs.BodySound.{file_derived}
+use Rattle.hcl_grammar_laws.proofs.Inverts.{done, along}
+use Rattle.hcl_grammar_laws.proofs.Steps.{Answers, found, deep}
+
+deep_or : {A : Type 0} {d b : ℕ} {e : A} {j : ℕ} {o : Outcome A} (r : Result A TokenFault) (new : ℕ) → Answers d b e j o → Reads o r new → MatchResult r (λ x. x ≡ e) IsMemoryOrDeep
+deep_or {e} (Ok x) new found h = along (λ y _. y ≡ e) h refl
+deep_or (Ok x) new (deep l) h = absurd (cc)
+deep_or (Err Memory) new a h = tt
+deep_or (Err (TooDeep at)) new a h = tt
+deep_or (Err (Syntax at)) new found h = let no : Syntax at ≢ Memory = (λ same. cc) in let eq = h no in absurd (cc)
+deep_or (Err (Syntax at)) new (deep l) h = let no : Syntax at ≢ Memory = (λ same. cc) in let eq = h no in absurd (cc)
+
+found_or : {A : Type 0} {d b : ℕ} {e : A} {j : ℕ} {o : Outcome A} (r : Result A TokenFault) (new : ℕ) → d ≤ b → Answers d b e j o → Reads o r new → MatchResult r (λ x. x ≡ e) IsMemory
+found_or r new s (deep l) h = absurd (omega arith)
+found_or {e} (Ok x) new s found h = along (λ y _. y ≡ e) h refl
+found_or (Err Memory) new s found h = tt
+found_or (Err (TooDeep at)) new s found h = let no : TooDeep at ≢ Memory = (λ same. cc) in let eq = h no in absurd (cc)
+found_or (Err (Syntax at)) new s found h = let no : Syntax at ≢ Memory = (λ same. cc) in let eq = h no in absurd (cc)
+
+module _ (ts : List Token) (b : ℕ) (r : Result Tree TokenFault) (new : ℕ) (h : Reads (file ts b 0) r new) where
+  -- the tree is derived
+  pub derived : IfOk r (λ t. IsFile ts b t)
+  derived = go r h
+    where
+      go : (r : Result Tree TokenFault) → Reads (file ts b 0) r new → IfOk r (λ t. IsFile ts b t)
+      go (Ok t) h = file_derived ts b t new h
+      go (Err f) h = tt
+
+  -- each tree that is derived is found, unless memory fails
+  pub only : (t : Tree) → IsFile ts b t → MatchResult r (λ x. x ≡ t) IsMemory
+  only t w = found_or r new (omega arith) (file_answers ts b b t w).1 h
+
+  -- at whatever nesting: it is found, or that is the fault
+  pub deeper_only : (d : ℕ) (t : Tree) → IsFile ts d t → MatchResult r (λ x. x ≡ t) IsMemoryOrDeep
+  deeper_only d t w = deep_or r new (file_answers ts b d t w).1 h
+
+-- over some tokens stands one tree at most
+pub found_at : {A : Type 0} {d b : ℕ} {x : A} {j : ℕ} {o : Outcome A} → d ≤ b → Answers d b x j o → o ≡ done x j
+found_at l found = refl
+found_at l (deep h) = absurd (omega arith)
+
+pub one_tree : (ts : List Token) (d e : ℕ) (t u : Tree) → IsFile ts d t → IsFile ts e u → t ≡ u
+one_tree ts d e t u x y =
+    let p = file_answers ts (d + e) d t x in
+    let q = file_answers ts (d + e) e u y in
+    let f = found_at {b = d + e} (omega arith) p.1 in
+    let g = found_at {b = d + e} (omega arith) q.1 in
+    along (λ x _. t ≡ x) (sym f ∙ g) refl

@@ -1,0 +1,39 @@
+//! What holds of the grammar. Each law is the contract of a function that does nothing.
+
+ghost use Rattle.hcl_grammar_laws.specs.Glue.{NoGlue};
+ghost use Rattle.hcl_grammar_laws.specs.Nesting.{NestingIsABound};
+ghost use Rattle.hcl_grammar_laws.specs.OneTree.{OneTree};
+ghost use Rattle.hcl_grammar_laws.specs.OwnTokens.{EachOwnTokens};
+ghost use Rattle.hcl_grammar_laws.specs.Pure.Answering.{FileAnswers};
+ghost use Rattle.hcl_grammar_laws.specs.Pure.Climbing.{Climbing};
+
+/// Over the same tokens stands one tree at most.
+pub fn one_tree()
+    ensures { OneTree }
+{}
+
+/// What nests no deeper than a number nests no deeper than a greater one.
+pub fn nesting_is_a_bound()
+    ensures { NestingIsABound }
+{}
+
+/// Where the grammar is followed, `<` does not stand beside `<`, `.` beside `.` or a legacy index, nor a number beside a
+/// name that begins with `e` or `E`.
+pub fn no_glue()
+    ensures { NoGlue }
+{}
+
+/// Each node of a tree stands over the tokens from its `first` up to its `past`, without those that are dropped.
+pub fn each_own_tokens()
+    ensures { EachOwnTokens }
+{}
+
+/// For a parser: an answer that is the pure parser's, memory aside, is the tree that is derived, or the fault.
+pub fn file_answers()
+    ensures { FileAnswers }
+{}
+
+/// For a parser: one look behind an operand tells which levels of operators have anything there.
+pub fn climbing()
+    ensures { Climbing }
+{}

@@ -1,0 +1,4 @@
+pub mod Longer
+pub mod Rows
+pub mod Apart
+pub mod OneParse

@@ -1,0 +1,4 @@
+//! Texts that parse: their tokens follow the grammar of the HCL native syntax.
+#![tactic(auto)]
+
+pub mod laws;
