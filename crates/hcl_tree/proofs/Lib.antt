@@ -1,0 +1,4 @@
+pub mod Behind
+pub mod Others
+pub mod Places
+pub mod Turns

@@ -1,0 +1,28 @@
+//! The parser of the HCL native syntax: the tree of a text, if it parses.
+//!
+//! `parse` answers the one tree of a text that is cut into tokens. Which texts parse, and which tree is theirs, is what
+//! `hcl_grammar` and `hcl_parses` say.
+#![tactic(auto)]
+
+mod bodies;
+mod cursor;
+mod error;
+mod expr;
+mod grammar;
+mod inner;
+mod labels;
+mod levels;
+mod lines;
+mod names;
+mod nodes;
+mod operators;
+mod parsing;
+mod span;
+mod tails;
+mod templates;
+mod terms;
+
+pub use error::ParseFault;
+pub use hcl_grammar::tree;
+pub use hcl_grammar::tree::{Attribute, Block, Body, Expr, Template, Term, Tree};
+pub use parsing::{MAX_NESTING, parse};

@@ -1,0 +1,283 @@
+//! The nodes of a tree, each made by one function.
+//!
+//! `first` is the number of a node's first token, `past` the number past its last.
+
+ghost use Rattle.std.specs.Prelude.{◌≡◌, IfOk};
+ghost use Rattle.hcl_grammar.specs.declared.tree.Part.TheVariants as part;
+ghost use Rattle.hcl_grammar.specs.declared.tree.Tail.TheVariants as tail;
+ghost use Rattle.hcl_grammar.specs.Nodes as nodes;
+
+use hcl_grammar::tree::{
+    Attribute, Block, Body, Call, Content, Elem, Expr, ForDirective, ForObject, ForTuple, Form,
+    IfDirective, Intro, Label, Link, Member, Operator, Part, Shape, Tail, Template, Term, Tree,
+};
+use plain_tree::{Boxed, Items};
+use std::alloc::{AllocError, Global};
+
+/// An expression.
+#[tactic(auto, unfolding(hcl_grammar::specs::Nodes::expr))]
+pub fn expr(first: usize, past: usize, form: Form) -> Expr
+    ensures { result ≡ nodes.expr first past form }
+{
+    Expr { first, past, form }
+}
+
+/// A term.
+#[tactic(auto, unfolding(hcl_grammar::specs::Nodes::term))]
+pub fn term(first: usize, past: usize, shape: Shape) -> Term
+    ensures { result ≡ nodes.term first past shape }
+{
+    Term { first, past, shape }
+}
+
+/// An operator, and the operand behind it.
+#[tactic(auto, unfolding(hcl_grammar::specs::Nodes::link))]
+pub fn link(operator: Operator, operand: Expr) -> Link
+    ensures { result ≡ nodes.link operator operand }
+{
+    Link { operator, operand }
+}
+
+/// A key of an object and its value.
+#[tactic(auto, unfolding(hcl_grammar::specs::Nodes::elem))]
+pub fn elem(key: Expr, value: Expr) -> Elem
+    ensures { result ≡ nodes.elem key value }
+{
+    Elem { key, value }
+}
+
+/// An operand with the operators behind it; with none, the operand alone.
+pub fn chain(
+    alloc: Global,
+    first: usize,
+    past: usize,
+    head: Expr,
+    links: Items<Link>,
+) -> Result<Expr, AllocError>
+    ensures { IfOk result (λ e. e ≡ nodes.chain first past head links) }
+{
+    if links.is_empty() {
+        Ok(head)
+    } else {
+        Ok(expr(first, past, Form::Chain(Boxed::new(alloc, head)?, links)))
+    }
+}
+
+/// A term with the tails behind it; with none, the term alone.
+pub fn tailed(
+    alloc: Global,
+    first: usize,
+    past: usize,
+    head: Term,
+    tails: Items<Tail>,
+) -> Result<Expr, AllocError>
+    ensures { IfOk result (λ e. e ≡ nodes.tailed first past head tails) }
+{
+    if tails.is_empty() {
+        Ok(expr(first, past, Form::Plain(head)))
+    } else {
+        Ok(expr(first, past, Form::Tailed(Boxed::new(alloc, head)?, tails)))
+    }
+}
+
+/// An index in brackets.
+pub fn index(alloc: Global, key: Expr) -> Result<Tail, AllocError>
+    ensures { IfOk result (λ t. t ≡ tail.Index key) }
+{
+    Ok(Tail::Index(Boxed::new(alloc, key)?))
+}
+
+/// A call of a function.
+#[tactic(auto, unfolding(hcl_grammar::specs::Nodes::call))]
+pub fn call(
+    alloc: Global,
+    names: Items<usize>,
+    arguments: Items<Expr>,
+    spread: bool,
+) -> Result<Shape, AllocError>
+    ensures { IfOk result (λ s. s ≡ nodes.call names arguments spread) }
+{
+    let call = Call {
+        names,
+        arguments,
+        spread,
+    };
+    Ok(Shape::Call(Boxed::new(alloc, call)?))
+}
+
+/// What a `for` begins with.
+#[tactic(auto, unfolding(hcl_grammar::specs::Nodes::intro))]
+pub fn intro(first: usize, past: usize, name: usize, second: Option<usize>, source: Expr) -> Intro
+    ensures { result ≡ nodes.intro first past name second source }
+{
+    Intro {
+        first,
+        past,
+        name,
+        second,
+        source,
+    }
+}
+
+/// A `for` in brackets.
+#[tactic(auto, unfolding(hcl_grammar::specs::Nodes::for_tuple))]
+pub fn for_tuple(
+    alloc: Global,
+    intro: Intro,
+    value: Expr,
+    filter: Option<Boxed<Expr>>,
+) -> Result<Shape, AllocError>
+    ensures { IfOk result (λ s. s ≡ nodes.for_tuple intro value filter) }
+{
+    let comprehension = ForTuple {
+        intro,
+        value,
+        filter,
+    };
+    Ok(Shape::ForTuple(Boxed::new(alloc, comprehension)?))
+}
+
+/// A `for` in braces.
+#[tactic(auto, unfolding(hcl_grammar::specs::Nodes::for_object))]
+pub fn for_object(
+    alloc: Global,
+    intro: Intro,
+    key: Expr,
+    value: Expr,
+    grouped: bool,
+    filter: Option<Boxed<Expr>>,
+) -> Result<Shape, AllocError>
+    ensures { IfOk result (λ s. s ≡ nodes.for_object intro key value grouped filter) }
+{
+    let comprehension = ForObject {
+        intro,
+        key,
+        value,
+        grouped,
+        filter,
+    };
+    Ok(Shape::ForObject(Boxed::new(alloc, comprehension)?))
+}
+
+/// The parts of a template.
+#[tactic(auto, unfolding(hcl_grammar::specs::Nodes::template))]
+pub fn template(first: usize, past: usize, parts: Items<Part>) -> Template
+    ensures { result ≡ nodes.template first past parts }
+{
+    Template { first, past, parts }
+}
+
+/// An interpolation.
+pub fn interp(alloc: Global, value: Expr) -> Result<Part, AllocError>
+    ensures { IfOk result (λ p. p ≡ part.Interp value) }
+{
+    Ok(Part::Interp(Boxed::new(alloc, value)?))
+}
+
+/// An `if` directive.
+#[tactic(auto, unfolding(hcl_grammar::specs::Nodes::if_part))]
+pub fn if_part(
+    alloc: Global,
+    first: usize,
+    past: usize,
+    condition: Expr,
+    met: Template,
+    unmet: Option<Template>,
+) -> Result<Part, AllocError>
+    ensures { IfOk result (λ p. p ≡ nodes.if_part first past condition met unmet) }
+{
+    let directive = IfDirective {
+        first,
+        past,
+        condition,
+        met,
+        unmet,
+    };
+    Ok(Part::If(Boxed::new(alloc, directive)?))
+}
+
+/// A `for` directive.
+#[tactic(auto, unfolding(hcl_grammar::specs::Nodes::for_part))]
+pub fn for_part(
+    alloc: Global,
+    first: usize,
+    past: usize,
+    intro: Intro,
+    body: Template,
+) -> Result<Part, AllocError>
+    ensures { IfOk result (λ p. p ≡ nodes.for_part first past intro body) }
+{
+    let directive = ForDirective {
+        first,
+        past,
+        intro,
+        body,
+    };
+    Ok(Part::For(Boxed::new(alloc, directive)?))
+}
+
+/// An attribute, whose first token is its name.
+#[tactic(auto, unfolding(hcl_grammar::specs::Nodes::attribute))]
+pub fn attribute(first: usize, past: usize, value: Expr) -> Attribute
+    ensures { result ≡ nodes.attribute first past value }
+{
+    Attribute {
+        first,
+        past,
+        name: first,
+        value,
+    }
+}
+
+/// A label of a block.
+#[tactic(auto, unfolding(hcl_grammar::specs::Nodes::label))]
+pub fn label(first: usize, past: usize, name: Option<usize>) -> Label
+    ensures { result ≡ nodes.label first past name }
+{
+    Label { first, past, name }
+}
+
+/// A block, whose first token is its word.
+#[tactic(auto, unfolding(hcl_grammar::specs::Nodes::block))]
+pub fn block(
+    alloc: Global,
+    first: usize,
+    past: usize,
+    labels: Items<Label>,
+    content: Content,
+) -> Result<Member, AllocError>
+    ensures { IfOk result (λ m. m ≡ nodes.block first past labels content) }
+{
+    let block = Block {
+        first,
+        past,
+        word: first,
+        labels,
+        content,
+    };
+    Ok(Member::Block(Boxed::new(alloc, block)?))
+}
+
+/// The members of a body.
+#[tactic(auto, unfolding(hcl_grammar::specs::Nodes::body))]
+pub fn body(first: usize, past: usize, members: Items<Member>) -> Body
+    ensures { result ≡ nodes.body first past members }
+{
+    Body {
+        first,
+        past,
+        members,
+    }
+}
+
+/// The tree of a whole text of so many tokens.
+#[tactic(auto, unfolding(hcl_grammar::specs::Nodes::tree))]
+pub fn tree(past: usize, body: Body) -> Tree
+    ensures { result ≡ nodes.tree past body }
+{
+    Tree {
+        first: 0,
+        past,
+        body,
+    }
+}

@@ -1,0 +1,87 @@
+//! The tree of a text.
+//!
+//! HCL native syntax specification, Structural Elements.
+
+ghost use Rattle.std.specs.Prelude.{◌≡◌, ℕ, IfOk, MatchResult};
+ghost use Rattle.hcl_grammar.specs.Bodies.{IsFile};
+ghost use Rattle.hcl_grammar.specs.Pure.BodyParser as spec;
+ghost use Rattle.hcl_grammar.specs.Pure.Reading.{Reads};
+ghost use Rattle.hcl_grammar.specs.declared.tree.Tree as tree;
+ghost use Rattle.hcl_parses.specs.Parses.{Parses};
+ghost use Rattle.hcl_scan.specs.Follows.{tokens_of};
+ghost use Rattle.hcl_tree.specs.Faults.{IsMemory, IsMemoryOrDeep, start_of, in_bytes};
+
+use crate::bodies::{ended, members};
+use crate::error::ParseFault;
+use crate::{cursor, nodes, span};
+use hcl_grammar::error::TokenFault;
+use hcl_grammar::tree::Tree;
+use hcl_scan::Scanned;
+use hcl_token::Kind;
+use std::alloc::Global;
+
+/// How many constructs may stand in one another.
+pub const MAX_NESTING: usize = 100;
+
+/// The tree over all the tokens.
+#[tactic(auto, unfolding(hcl_grammar::specs::Pure::BodyParser::file))]
+fn file(alloc: Global, scanned: &Scanned<'_>, at: &mut usize) -> Result<Tree, TokenFault>
+    ensures { Reads (spec.file (tokens_of scanned.now.pairs) MAX_NESTING at.old) result at.new }
+{
+    let _is_mark = cursor::eat(scanned, false, Kind::Mark, at);
+    let from = *at;
+    let members = members(alloc, scanned, MAX_NESTING, at)?;
+    let to = *at;
+    let _is_comment = cursor::eat(scanned, false, Kind::LineComment, at);
+    ended(scanned, at)?;
+    let first = span::first_of(scanned, false, from, to);
+    Ok(nodes::tree(scanned.len(), nodes::body(first, to, members)))
+}
+
+/// The byte where a token begins; the length of the text, if there is none.
+fn start_of(scanned: &Scanned<'_>, number: usize) -> usize
+    ensures { result ≡ start_of scanned.now number }
+{
+    if number < scanned.len() {
+        scanned.item(number).start as usize
+    } else {
+        scanned.text().len()
+    }
+}
+
+/// A fault by the number of its token, as one by its byte.
+fn in_bytes(scanned: &Scanned<'_>, fault: TokenFault) -> ParseFault
+    ensures { result ≡ in_bytes scanned.now fault }
+{
+    match fault {
+        TokenFault::Syntax(number) => ParseFault::Syntax {
+            at: start_of(scanned, number),
+        },
+        TokenFault::TooDeep(number) => ParseFault::TooDeep {
+            at: start_of(scanned, number),
+        },
+        TokenFault::Memory => ParseFault::Memory,
+    }
+}
+
+/// The tree of a text, if it parses: if its tokens follow the grammar, with at most 100 constructs in one another.
+///
+/// Each node has the numbers of its first token and past its last. The text is read once, from left to right.
+pub fn parse(alloc: Global, scanned: &Scanned<'_>) -> Result<Tree, ParseFault>
+    // The text parses, and this is its tree.
+    ensures parses { IfOk result (λ t. Parses scanned.now.text t) }
+    ensures derived { IfOk result (λ t. IsFile (tokens_of scanned.now.pairs) MAX_NESTING t) }
+    // A text that parses is not refused, unless memory runs out.
+    ensures only { (t : tree.Tree) → Parses scanned.now.text t → MatchResult result (λ x. x ≡ t) IsMemory }
+    // Where the tokens follow the grammar with more constructs in one another, the fault is that.
+    ensures deeper { (d : ℕ) (t : tree.Tree) → IsFile (tokens_of scanned.now.pairs) d t → MatchResult result (λ x. x ≡ t) IsMemoryOrDeep }
+{
+    hcl_grammar_laws::laws::file_answers();
+    hcl_scan::laws::one_cut();
+    let _count = scanned.len();
+    let mut at = 0;
+    match file(alloc, scanned, &mut at) {
+        Ok(tree) => Ok(tree),
+        Err(fault) => Err(in_bytes(scanned, fault)),
+    }
+}

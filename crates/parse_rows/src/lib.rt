@@ -1,0 +1,5 @@
+//! Tests of the parser on whole texts.
+#![tactic(auto)]
+
+#[cfg(test)]
+mod tests;
