@@ -1,0 +1,76 @@
+//! What holds of the layouts of texts. Each law is the contract of a function that does nothing.
+
+ghost use Rattle.hcl_format.specs.LayoutLaws.{LayoutFits, LayoutIsCut, LaidOutIsText, OneLayout, LayoutParses, LayoutKeepsTokens, LayoutIsLaidOut, LayoutOfLayout};
+
+/// The gaps of a layout can stand between the tokens, and none is empty between two that join.
+pub fn layout_fits()
+    ensures { LayoutFits }
+{
+    hcl_scan::laws::cut_follows();
+    hcl_scan::laws::gaps_of();
+    hcl_layout::laws::lines_have_all_tokens();
+}
+
+/// A layout within the limit is cut into the same tokens, with the gaps of the layout.
+pub fn layout_is_cut()
+    ensures { LayoutIsCut }
+{
+    layout_fits();
+    hcl_scan::laws::cut_follows();
+    hcl_scan::laws::other_gaps();
+    hcl_scan::laws::writes_back();
+    hcl_layout::laws::keeps_tokens();
+}
+
+/// The gaps are those of the layout exactly where the layout is the text.
+pub fn laid_out_is_text()
+    ensures { LaidOutIsText }
+{
+    layout_is_cut();
+    hcl_scan::laws::one_cut();
+}
+
+/// A text has one layout at most.
+pub fn one_layout()
+    ensures { OneLayout }
+{
+    hcl_scan::laws::one_cut();
+}
+
+/// The layout of a text that parses, if it is within the limit, parses to the same tree.
+pub fn layout_parses()
+    ensures { LayoutParses }
+{
+    layout_is_cut();
+    hcl_scan::laws::one_cut();
+    hcl_layout::laws::keeps_tokens();
+    hcl_parses::laws::parsed_apart();
+}
+
+/// It has the same tokens.
+pub fn layout_keeps_tokens()
+    ensures { LayoutKeepsTokens }
+{
+    layout_is_cut();
+    hcl_scan::laws::one_cut();
+    hcl_layout::laws::keeps_tokens();
+    hcl_parses::laws::parsed_apart();
+}
+
+/// It is its own layout.
+pub fn layout_is_laid_out()
+    ensures { LayoutIsLaidOut }
+{
+    layout_is_cut();
+    hcl_scan::laws::one_cut();
+    hcl_layout::laws::own_layout();
+    hcl_parses::laws::parsed_apart();
+}
+
+/// To lay it out again changes nothing.
+pub fn layout_of_layout()
+    ensures { LayoutOfLayout }
+{
+    layout_is_laid_out();
+    one_layout();
+}

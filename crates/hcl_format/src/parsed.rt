@@ -1,0 +1,51 @@
+//! The layout of a text with its tree.
+
+ghost use Rattle.std.specs.Prelude.{◌≡◌, ◌⊎◌, ◌↔◌, IsTrue, IfOk, IfErr};
+ghost use Rattle.hcl_scan.specs.Follows.{tokens_of};
+ghost use Rattle.hcl_grammar.specs.Bodies.{IsFile};
+ghost use Rattle.hcl_parses.specs.Parses.{MAX_NESTING};
+ghost use Rattle.hcl_layout.specs.Layout.{layout_edits};
+ghost use Rattle.hcl_layout.specs.declared.fault.LayoutFault.TheVariants.{TooLong, Memory};
+ghost use Rattle.hcl_format.specs.Layouts.{IsLayout, IsTooLong, LaysOut};
+
+use crate::laws;
+use edit_record::Edits;
+use hcl_grammar::Tree;
+use hcl_layout::LayoutFault;
+use hcl_scan::Scanned;
+use std::alloc::Global;
+
+/// The edits that lay out a text, over which this tree stands: exactly the gaps that differ, each from the whole old one to the
+/// whole new one. What they make has the same tokens, comments and line ends among them, parses to the same tree, and is its own
+/// layout.
+///
+/// It is refused where the layout has more than 16,777,216 bytes, and else only for want of memory.
+///
+/// Terraform style conventions.
+pub fn layout(alloc: Global, scanned: &Scanned<'_>, tree: &Tree) -> Result<Edits, LayoutFault>
+    requires { IsFile (tokens_of scanned.now.pairs) MAX_NESTING tree.now }
+    ensures edits { IfOk result (λ edits. LaysOut edits scanned.now.text tree.now) }
+    ensures exact { IfOk result (λ edits. edits ≡ layout_edits scanned.now) }
+    ensures err { IfErr result (λ e. (e ≡ Memory) ⊎ ((e ≡ TooLong) × IsTooLong scanned.now.text)) }
+{
+    laws::layout_parses();
+    laws::layout_keeps_tokens();
+    laws::layout_is_laid_out();
+    let _text = scanned.text();
+    hcl_layout::layout(alloc, scanned)
+}
+
+/// Whether a text, over which this tree stands, is its own layout.
+///
+/// It is refused where `layout` is.
+pub fn is_laid_out(alloc: Global, scanned: &Scanned<'_>, tree: &Tree) -> Result<bool, LayoutFault>
+    requires { IsFile (tokens_of scanned.now.pairs) MAX_NESTING tree.now }
+    ensures answer { IfOk result (λ yes. IsTrue yes ↔ IsLayout scanned.now.text scanned.now.text) }
+    ensures err { IfErr result (λ e. (e ≡ Memory) ⊎ ((e ≡ TooLong) × IsTooLong scanned.now.text)) }
+{
+    laws::laid_out_is_text();
+    laws::one_layout();
+    hcl_parses::laws::parsed_apart();
+    let _text = scanned.text();
+    hcl_layout::is_laid_out(alloc, scanned)
+}

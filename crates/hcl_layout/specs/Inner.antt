@@ -1,0 +1,3 @@
+-- Definitions for proofs.
+pub mod Near
+pub mod Stages
