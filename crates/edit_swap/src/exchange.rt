@@ -1,0 +1,138 @@
+//! Two lists of edits on the way to the other order: the state between two steps, and the steps.
+ghost use Rattle.std.specs.Prelude.{◌≡◌, ◌↔◌, ◌+◌, ◌-◌, ◌^◌, ◌<◌, ◌≤◌, length, IfOk, IsTrue};
+ghost use Rattle.edit_record.specs.Pieces.{entry, entries};
+ghost use Rattle.edit_swap.specs.Inner.Exchange.{moved, first_goes, second_goes, went_first, went_second, IsFair, start};
+ghost use Rattle.edit_swap.specs.Inner.ExchangePlace.{place};
+
+use edit_record::Edit;
+use std::alloc::{AllocError, Global};
+
+/// Two lists of edits on the way to the other order.
+#[derive(Drop)]
+pub(crate) struct Exchange {
+    old_at: usize,
+    mid_at: usize,
+    other_at: usize,
+    seconds: Vec<Edit>,
+    firsts: Vec<Edit>,
+}
+
+/// The edit behind another place.
+fn moved(alloc: Global, edit: &Edit, from: usize, to: usize) -> Result<Edit, AllocError>
+    requires later { from ≤ edit.now.at }
+    requires fits { to + (edit.now.at - from) < 2 ^ 64 }
+    ensures { IfOk result (λ e. entry e ≡ moved from (entry edit.now) to) }
+{
+    Ok(Edit {
+        at: to + (edit.at - from),
+        removed: Vec::from_slice(alloc, &edit.removed)?,
+        added: Vec::from_slice(alloc, &edit.added)?,
+    })
+}
+
+impl Exchange {
+    pub(crate) fn new(alloc: Global) -> Self
+        ensures { place result ≡ start }
+    {
+        Exchange {
+            old_at: 0,
+            mid_at: 0,
+            other_at: 0,
+            seconds: Vec::new(alloc),
+            firsts: Vec::new(alloc),
+        }
+    }
+
+    /// The next edit of the first list ends before the next one of the second begins.
+    pub(crate) fn first_goes(&self, xs: &[Edit], ys: &[Edit]) -> bool
+        requires { IsFair (place self.now) (entries xs.now) (entries ys.now) }
+        ensures { result ≡ first_goes (place self.now) (entries xs.now) (entries ys.now) }
+    {
+        match (xs, ys) {
+            ([], _) => false,
+            ([_, ..], []) => true,
+            ([x, ..], [y, ..]) => {
+                x.added.len() < (y.at - self.mid_at).saturating_sub(x.at - self.old_at)
+            }
+        }
+    }
+
+    /// The next edit of the second list ends before the next one of the first begins.
+    pub(crate) fn second_goes(&self, xs: &[Edit], ys: &[Edit]) -> bool
+        requires { IsFair (place self.now) (entries xs.now) (entries ys.now) }
+        ensures { result ≡ second_goes (place self.now) (entries xs.now) (entries ys.now) }
+    {
+        match (xs, ys) {
+            (_, []) => false,
+            ([], [_, ..]) => true,
+            ([x, ..], [y, ..]) => {
+                y.removed.len() < (x.at - self.old_at).saturating_sub(y.at - self.mid_at)
+            }
+        }
+    }
+
+    /// Takes the next edit of the first list, and answers what is left of it.
+    pub(crate) fn take_first<'a>(
+        &mut self,
+        alloc: Global,
+        xs: &'a [Edit],
+        ys: &[Edit],
+    ) -> Result<&'a [Edit], AllocError>
+        requires { IsFair (place self.old) (entries xs.now) (entries ys.now) }
+        ensures { IfOk result (λ left. (place self.new, entries left.now) ≡ went_first (place self.old) (entries xs.now) (entries ys.now)) }
+    {
+        match xs {
+            [] => Ok(xs),
+            [x, left @ ..] => {
+                let gap = x.at - self.old_at;
+                let edit = moved(alloc, x, self.old_at, self.other_at)?;
+                self.firsts.push(edit)?;
+                self.old_at = x.at + x.removed.len();
+                self.mid_at = self.mid_at + gap + x.added.len();
+                self.other_at = self.other_at + gap + x.removed.len();
+                Ok(left)
+            }
+        }
+    }
+
+    /// Takes the next edit of the second list, and answers what is left of it.
+    pub(crate) fn take_second<'a>(
+        &mut self,
+        alloc: Global,
+        xs: &[Edit],
+        ys: &'a [Edit],
+    ) -> Result<&'a [Edit], AllocError>
+        requires { IsFair (place self.old) (entries xs.now) (entries ys.now) }
+        ensures { IfOk result (λ left. (place self.new, entries left.now) ≡ went_second (place self.old) (entries xs.now) (entries ys.now)) }
+    {
+        match ys {
+            [] => Ok(ys),
+            [y, left @ ..] => {
+                let gap = y.at - self.mid_at;
+                let edit = moved(alloc, y, self.mid_at, self.old_at)?;
+                self.seconds.push(edit)?;
+                self.old_at = self.old_at + gap + y.removed.len();
+                self.mid_at = y.at + y.removed.len();
+                self.other_at = self.other_at + gap + y.added.len();
+                Ok(left)
+            }
+        }
+    }
+
+    /// The length of the text between in the other order, once both lists are done.
+    pub(crate) fn other_len(&self, old_len: usize) -> usize
+        requires within { self.now.old_at ≤ old_len }
+        requires small { old_len + self.now.other_at < 2 ^ 64 }
+        ensures { result ≡ old_len - self.now.old_at + self.now.other_at }
+    {
+        old_len - self.old_at + self.other_at
+    }
+
+    /// The edits in the other order: those of the second list, and those of the first.
+    pub(crate) fn into_edits(self) -> (Vec<Edit>, Vec<Edit>)
+        ensures seconds { result.0.items ≡ self.seconds.items }
+        ensures firsts { result.1.items ≡ self.firsts.items }
+    {
+        (self.seconds, self.firsts)
+    }
+}

@@ -1,0 +1,11 @@
+pub mod Choices
+pub mod Many
+pub mod Numbers
+pub mod Fields
+pub mod Making
+pub mod Records
+pub mod Growing
+pub mod Steps
+pub mod Journals
+pub mod LawsOfText
+pub mod Putting

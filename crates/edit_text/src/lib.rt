@@ -1,0 +1,18 @@
+//! The text of a journal: how it is written to a file, and read from one.
+//!
+//! The format is this project's own. Version 2 is written; version 1, in which a record was a row of steps, is still
+//! read, and becomes version 2. Places and lengths count bytes from 0.
+#![tactic(auto)]
+
+mod fault;
+pub mod laws;
+mod parts;
+mod reading;
+mod writing;
+
+pub use fault::RecordFault;
+pub use reading::decode;
+pub use writing::{encode, encoded_len};
+
+#[cfg(test)]
+mod tests;
