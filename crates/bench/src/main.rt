@@ -1,15 +1,18 @@
-//! How long scanning and editing take: to be read by people, compared with nothing.
+//! How long scanning, parsing, laying out and editing take: to be read by people, compared with nothing.
 //!
-//! `bench scan FILE` scans a file several times; `bench edits` applies, undoes and squashes many edits of a long text.
+//! `bench scan FILE` scans a file several times, `bench parse FILE` scans and parses it, `bench layout FILE` lays it out;
+//! `bench edits` applies, undoes and squashes many edits of a long text.
 #![tactic(auto)]
 
 mod editing;
+mod laying;
+mod parsing;
 mod scanning;
 
 use anyhow::Result;
 use std::env;
 
-const USAGE: &str = "usage: bench scan FILE | bench edits";
+const USAGE: &str = "usage: bench scan FILE | bench parse FILE | bench layout FILE | bench edits";
 
 fn main(rt: HostRuntime) -> Result<()> {
     let words: Vec<String> = env::args(&rt)?.collect(rt.alloc())?;
@@ -17,6 +20,8 @@ fn main(rt: HostRuntime) -> Result<()> {
     let name = words.get(2).map(|word| word.as_str());
     match (command, name) {
         (Some("scan"), Some(name)) => scanning::run(&rt, name),
+        (Some("parse"), Some(name)) => parsing::run(&rt, name),
+        (Some("layout"), Some(name)) => laying::run(&rt, name),
         (Some("edits"), None) => editing::run(&rt),
         _ => {
             println!(rt; "{USAGE}")?;
