@@ -12,6 +12,9 @@ pub mod Whole
 pub mod Neat
 pub mod Placed
 pub mod Restart
+pub mod Opens
 pub mod RestartBodies
 pub mod Own
+pub mod Standing
+pub mod EachNode
 pub mod Climb

@@ -1,13 +1,11 @@
 -- Parts of templates, labels and members by themselves, from their first tokens on.
-use Rattle.std.proofs.Common.{◌<◌, ◌==◌, ◌≡◌, ℕ, zero, suc, Bool, true, false, List, [], ◌∷◌, slice_get, Option, Some, None, refl, sym, ap, ◌∙◌, subst, inl, inr, arith, rules}
+use Rattle.std.proofs.Common.{◌<◌, ◌==◌, ◌≡◌, ℕ, zero, suc, Bool, true, false, List, [], ◌∷◌, slice_get, Option, Some, None, refl, sym, ap, ◌∙◌, subst, inl, inr, arith}
 use Rattle.std.proofs.lemmas.Bool.Decides.{eqb_tells}
 use Rattle.hcl_token.specs.declared.kind.Kind.{Kind}
 use Rattle.hcl_token.specs.declared.kind.Kind.TheVariants as k
 use Rattle.hcl_grammar.specs.declared.tree.Attribute.{Attribute}
 use Rattle.hcl_grammar.specs.declared.tree.Block.{Block}
-use Rattle.hcl_grammar.specs.declared.tree.Content.TheOpen.{Member-F}
 use Rattle.hcl_grammar.specs.declared.tree.Content.TheVariants as content
-use Rattle.hcl_grammar.specs.declared.tree.Content.TheViews.{the_lemmas}
 use Rattle.hcl_grammar.specs.declared.tree.Expr.{Expr}
 use Rattle.hcl_grammar.specs.declared.tree.Intro.{Intro}
 use Rattle.hcl_grammar.specs.declared.tree.Label.{Label}
@@ -20,6 +18,7 @@ use Rattle.hcl_grammar.specs.Lines.{At, Word, IsLine, line_end, comment, IsEol, 
 use Rattle.hcl_grammar.specs.Nodes as node
 use Rattle.hcl_grammar.specs.Tokens.{Token, start, token, after, first_of, for_word, if_word}
 use Rattle.hcl_grammar_laws.proofs.Complete.{nat-same}
+use Rattle.hcl_grammar_laws.proofs.Opens.{open_attribute, open_block}
 use Rattle.hcl_grammar_laws.proofs.Placed.{placed_intro}
 use Rattle.hcl_grammar_laws.proofs.Restart.{moved, behind, start-at}
 use Rattle.hcl_grammar_laws.proofs.Spans.{Takes, Spans, step, loose, both, ahead, span_part, span_parts, span_expr, span_line, span_eol, span_labels, span_on_line, span_members}
@@ -49,22 +48,16 @@ empty ts m i = rw (nat-same i) refl
 comes : (ts : List Token) (m : Bool) (t : Kind) (i : ℕ) → At ts m t i → Comes ts m i
 comes ts m t i h = record { kind = t; is = h }
 
-some_is : {A : Type 0} {x y : A} → Some x ≡ Some y → x ≡ y
+pub some_is : {A : Type 0} {x y : A} → Some x ≡ Some y → x ≡ y
 some_is e = cc
 
-open_attribute : (x : Attribute) → out-Member (member.Attribute x) ≡ Member-F.Attribute x
-open_attribute x = search (rules, the_lemmas)
-
-open_block : (x : Block) → out-Member (member.Block x) ≡ Member-F.Block x
-open_block x = search (rules, the_lemmas)
-
-attribute_is : {x y : Attribute} → member.Attribute x ≡ member.Attribute y → x ≡ y
+pub attribute_is : {x y : Attribute} → member.Attribute x ≡ member.Attribute y → x ≡ y
 attribute_is {x} {y} e = let f = sym (open_attribute x) ∙ ap out-Member e ∙ open_attribute y in cc
 
-block_is : {x y : Block} → member.Block x ≡ member.Block y → x ≡ y
+pub block_is : {x y : Block} → member.Block x ≡ member.Block y → x ≡ y
 block_is {x} {y} e = let f = sym (open_block x) ∙ ap out-Member e ∙ open_block y in cc
 
-other_member : (x : Attribute) (y : Block) → member.Attribute x ≡ member.Block y → ⊥
+pub other_member : (x : Attribute) (y : Block) → member.Attribute x ≡ member.Block y → ⊥
 other_member x y e = let f = sym (open_attribute x) ∙ ap out-Member e ∙ open_block y in absurd (cc)
 
 module _ {ts : List Token} where

@@ -1,5 +1,5 @@
 pub mod OneTree
 pub mod Nesting
-pub mod OwnTokens
+pub mod EachNode
 pub mod Glue
 pub mod Pure

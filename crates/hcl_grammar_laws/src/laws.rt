@@ -1,9 +1,9 @@
 //! What holds of the grammar. Each law is the contract of a function that does nothing.
 
+ghost use Rattle.hcl_grammar_laws.specs.EachNode.{EachNode};
 ghost use Rattle.hcl_grammar_laws.specs.Glue.{NoGlue};
 ghost use Rattle.hcl_grammar_laws.specs.Nesting.{NestingIsABound};
 ghost use Rattle.hcl_grammar_laws.specs.OneTree.{OneTree};
-ghost use Rattle.hcl_grammar_laws.specs.OwnTokens.{EachOwnTokens};
 ghost use Rattle.hcl_grammar_laws.specs.Pure.Answering.{FileAnswers};
 ghost use Rattle.hcl_grammar_laws.specs.Pure.Climbing.{Climbing};
 
@@ -23,9 +23,10 @@ pub fn no_glue()
     ensures { NoGlue }
 {}
 
-/// Each node of a tree stands over the tokens from its `first` up to its `past`, without those that are dropped.
-pub fn each_own_tokens()
-    ensures { EachOwnTokens }
+/// Each node that stands in the tree of a list of tokens is derived by those from its `first` up to its `past`, without
+/// those that are dropped.
+pub fn each_node_over_its_tokens()
+    ensures { EachNode }
 {}
 
 /// For a parser: an answer that is the pure parser's, memory aside, is the tree that is derived, or the fault.
