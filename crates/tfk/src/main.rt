@@ -3,7 +3,6 @@
 
 mod command_line;
 mod files;
-mod journals;
 mod outcome;
 mod worker;
 
