@@ -1,6 +1,8 @@
 //! Readers and writers that fail, and the tests over them.
 
 mod at_size;
+mod journals;
+mod layouts;
 mod linting;
 mod memory;
 mod sessions;

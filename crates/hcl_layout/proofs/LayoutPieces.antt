@@ -7,6 +7,7 @@ use Rattle.std.proofs.lemmas.Slice.Eq.{bytes_eq-Decides}
 use Rattle.edit_record.specs.Pieces.{Entry, EditList, Piece, Turns, old_text, new_text, changes_from}
 use Rattle.edit_record.specs.Pieces.Piece.{Kept, Changed}
 use Rattle.edit_record.specs.Made.{made}
+use Rattle.edit_record.specs.Pieced.{AreChanges, PiecesMake}
 use Rattle.edit_record.specs.declared.edits.TheConstants.{MAX_TEXT}
 use Rattle.edit_record.specs.declared.edit.BadEdits.{BadEdits}
 use Rattle.edit_record.specs.declared.edit.BadEdits.TheVariants.{TooLong}
@@ -16,8 +17,6 @@ use Rattle.hcl_token.specs.Tokens.{Pair, whole_text}
 use Rattle.hcl_token.specs.Place.{is_mark}
 use Rattle.hcl_layout.specs.Layout.{gap_piece, pieces, laid_out, laid_out_body, layout_text, layout_edits}
 use Rattle.hcl_layout.specs.Inner.Stages.{unchanged}
-use Rattle.edit_record.specs.Pieced.{AreChanges}
-use Rattle.edit_record.proofs.PieceLemmas.{pieces_make}
 use Rattle.hcl_layout.proofs.TokensKept.{SameTokens, body_tokens, body_again}
 
 pub same_is : (old new : List ℕ) → bytes_eq old new ≡ true → old ≡ new
@@ -62,6 +61,10 @@ pieces_new (p ∷ ps) [] last h = absurd h
 pieces_new (p ∷ ps) (q ∷ qs) last h =
     gap_new p.gap q.gap (Kept p.spelling ∷ pieces ps qs last) ∙ ap₂ (λ (s : List ℕ) (t : List ℕ). q.gap ++ (s ++ t)) (sym h.1) (pieces_new ps qs last h.2)
 
+-- what `make` answers of the pieces of a text
+abbrev pub PiecesAreMade : Type 0
+PiecesAreMade = (ps : List Piece) → AreChanges ps → length (old_text ps) ≤ MAX_TEXT → PiecesMake ps
+
 -- ---- the layout of a text
 
 laid_tokens_if : (p : Pair) (ps : List Pair) (b : Bool) → SameTokens (if b then p ∷ laid_out_body ps else laid_out_body (p ∷ ps)) (p ∷ ps)
@@ -98,23 +101,23 @@ layout_turns cut is = record {
 IsMade : (old new : List ℕ) (es : List Entry) → Type 0
 IsMade old new es = made (length old) es ≡ (if nat_lt MAX_TEXT (length new) then Err TooLong else Ok (record { old_len = length old; entries = es }))
 
-made_from : (ps : List Piece) (old new : List ℕ) → AreChanges ps → old_text ps ≡ old → new_text ps ≡ new → length (old_text ps) ≤ MAX_TEXT → IsMade old new (changes_from 0 ps)
+made_from : PiecesAreMade → (ps : List Piece) (old new : List ℕ) → AreChanges ps → old_text ps ≡ old → new_text ps ≡ new → length (old_text ps) ≤ MAX_TEXT → IsMade old new (changes_from 0 ps)
 unfolding IsMade
-made_from ps old new are o n short =
+made_from pieces_make ps old new are o n short =
     let whole : IsMade (old_text ps) (new_text ps) (changes_from 0 ps) = pieces_make ps are short in
     let P : List ℕ → Type 0 = λ t. IsMade t (new_text ps) (changes_from 0 ps) in
     let Q : List ℕ → Type 0 = λ t. IsMade old t (changes_from 0 ps) in
     subst Q n (subst P o whole)
 
 -- what `make` answers about the edits of the layout
-pub layout_made : (cut : CutText) → IsCut cut.text cut.pairs cut.last
+pub layout_made : PiecesAreMade → (cut : CutText) → IsCut cut.text cut.pairs cut.last
     → made (length cut.text) (layout_edits cut).entries ≡ (if nat_lt MAX_TEXT (length (layout_text cut)) then Err TooLong else Ok (layout_edits cut))
 unfolding IsMade
-layout_made cut is =
+layout_made pieces_make cut is =
     let ps : List Piece = pieces cut.pairs (laid_out cut.pairs) cut.last in
     let old : old_text ps ≡ cut.text = pieces_old cut.pairs (laid_out cut.pairs) cut.last (laid_tokens cut.pairs) ∙ sym is.cuts.text_is in
     let short : length (old_text ps) ≤ MAX_TEXT = omega (arith, ap length old, is.short) in
-    made_from ps cut.text (layout_text cut) (pieces_change cut.pairs (laid_out cut.pairs) cut.last (laid_tokens cut.pairs)) old (pieces_new cut.pairs (laid_out cut.pairs) cut.last (laid_tokens cut.pairs)) short
+    made_from pieces_make ps cut.text (layout_text cut) (pieces_change cut.pairs (laid_out cut.pairs) cut.last (laid_tokens cut.pairs)) old (pieces_new cut.pairs (laid_out cut.pairs) cut.last (laid_tokens cut.pairs)) short
 
 -- ---- what is told of calls
 
@@ -123,9 +126,9 @@ answer_if : (over : Bool) (list : EditList) (answer : Result EditList BadEdits) 
 answer_if true list answer k is same = rw same (ltb-true MAX_TEXT k is)
 answer_if false list answer k is same = rw same refl
 
-pub made_list : (cut : CutText) (answer : Result EditList BadEdits) → IsCut cut.text cut.pairs cut.last → made (length cut.text) (layout_edits cut).entries ≡ answer
+pub made_list : PiecesAreMade → (cut : CutText) (answer : Result EditList BadEdits) → IsCut cut.text cut.pairs cut.last → made (length cut.text) (layout_edits cut).entries ≡ answer
     → elim answer as (λ r. Type 0) [ Ok e ↦ e ≡ layout_edits cut | Err e ↦ MAX_TEXT < length (layout_text cut) ]
-made_list cut answer is same = answer_if (nat_lt MAX_TEXT (length (layout_text cut))) (layout_edits cut) answer (length (layout_text cut)) refl (sym same ∙ layout_made cut is)
+made_list pieces_make cut answer is same = answer_if (nat_lt MAX_TEXT (length (layout_text cut))) (layout_edits cut) answer (length (layout_text cut)) refl (sym same ∙ layout_made pieces_make cut is)
 
 -- what is read of the call of `make`
 pub read_made : (text read : List ℕ) (es given : List Entry) (answer other : Result EditList BadEdits)

@@ -1,6 +1,6 @@
 -- What alignment means: in lines one behind the other, what begins the cells stands in one column.
 -- Terraform style conventions (aligned equals signs on consecutive lines).
-use Rattle.std.specs.Prelude.{◌≡◌, ℕ, zero, suc, ◌+◌, List, [], ◌∷◌, length, Option, Some, option_map}
+use Rattle.std.specs.Prelude.{◌≡◌, ℕ, zero, suc, ◌+◌, List, [], ◌∷◌, length, Option, Some, option_map, ⊤}
 use Rattle.hcl_token.specs.Tokens.{Pair}
 use Rattle.hcl_token.specs.Place.{clusters}
 use Rattle.hcl_layout.specs.Lines.{Line}
@@ -18,10 +18,10 @@ column cell line = option_map (λ n. column_at n line.pairs) (cell line)
 -- if there are two columns, they are one
 abbrev pub SameColumn : Option ℕ → Option ℕ → Type 0
 SameColumn (Some c) (Some d) = c ≡ d
-SameColumn c d = Unit {0}
+SameColumn c d = ⊤
 
 -- of each line and the one behind it, if both have the cell, the cells begin in one column
 abbrev pub AreAligned : (Line → Option ℕ) → List Line → Type 0
-AreAligned cell [] = Unit {0}
-AreAligned cell (x ∷ []) = Unit {0}
+AreAligned cell [] = ⊤
+AreAligned cell (x ∷ []) = ⊤
 AreAligned cell (x ∷ y ∷ lines) = SameColumn (column cell x) (column cell y) × AreAligned cell (y ∷ lines)

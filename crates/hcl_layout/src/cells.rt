@@ -1,6 +1,7 @@
 //! Cells that stand in columns.
 
 ghost use Rattle.std.specs.Prelude.{take, [], ◌∷◌, Some, slice_get, ◌≡◌, ◌==◌, ◌&&◌, ◌+◌, ◌-◌, ◌*◌, ◌<◌, ◌≤◌, ◌^◌, length, drop, slice_range, option_map, OnOk, IfOk, IfSome};
+ghost use Rattle.hcl_scan.specs.Cut.{MAX_TEXT};
 ghost use Rattle.std.specs.List.{list_any};
 ghost use Rattle.hcl_token.specs.Place.{is_lf};
 ghost use Rattle.hcl_token.specs.Tokens.{Pair};
@@ -82,7 +83,7 @@ fn first_later(scanned: &Scanned<'_>, cell: Cell, at: usize, past: usize) -> Opt
 fn is_balanced(scanned: &Scanned<'_>, at: usize, past: usize) -> bool
     requires ordered { at ≤ past }
     requires within { past ≤ length scanned.now.pairs }
-    requires few { length scanned.now.pairs ≤ 16777216 }
+    requires few { length scanned.now.pairs ≤ MAX_TEXT }
     ensures { result ≡ is_balanced (slice_range scanned.now.pairs at past) }
 {
     openings(scanned, at, past) == closings(scanned, at, past)
@@ -92,7 +93,7 @@ fn is_balanced(scanned: &Scanned<'_>, at: usize, past: usize) -> bool
 fn counts(scanned: &Scanned<'_>, cell: Cell, i: usize, past: usize) -> bool
     requires ordered { i ≤ past }
     requires within { past ≤ length scanned.now.pairs }
-    requires few { length scanned.now.pairs ≤ 16777216 }
+    requires few { length scanned.now.pairs ≤ MAX_TEXT }
     ensures { result ≡ cell_counts cell (slice_range scanned.now.pairs i past) }
 {
     match cell {
@@ -105,7 +106,7 @@ fn counts(scanned: &Scanned<'_>, cell: Cell, i: usize, past: usize) -> bool
 fn cell_of(scanned: &Scanned<'_>, cell: Cell, at: usize, past: usize, frozen: bool) -> Option<usize>
     requires ordered { at < past }
     requires within { past ≤ length scanned.now.pairs }
-    requires few { length scanned.now.pairs ≤ 16777216 }
+    requires few { length scanned.now.pairs ≤ MAX_TEXT }
     ensures cell { result ≡ option_map (λ n. at + n) (cell_of cell (record { frozen = frozen; pairs = slice_range scanned.now.pairs at past })) }
     ensures inside { IfSome result (λ i. (at < i) × (i < past)) }
 {
@@ -159,7 +160,7 @@ fn cell_start(
     requires same { length gaps.now ≡ length scanned.now.pairs }
     requires ordered { at < past }
     requires within { past ≤ length scanned.now.pairs }
-    requires few { length scanned.now.pairs ≤ 16777216 }
+    requires few { length scanned.now.pairs ≤ MAX_TEXT }
     requires narrow { AreWithin 1073741824 (width_before (cell_of cell) (record { frozen = frozen; pairs = slice_range (with_gaps gaps.now scanned.now.pairs) at past }) ∷ []) }
     ensures width { width_in result ≡ width_before (cell_of cell) (record { frozen = frozen; pairs = slice_range (with_gaps gaps.now scanned.now.pairs) at past }) }
     ensures token { token_in result ≡ option_map (λ n. at + n) (cell_of cell (record { frozen = frozen; pairs = slice_range (with_gaps gaps.now scanned.now.pairs) at past })) }
@@ -183,7 +184,7 @@ fn cell_starts(
     first: usize,
 ) -> Result<Vec<Option<CellStart>>, AllocError>
     requires same { length gaps.now ≡ length scanned.now.pairs }
-    requires few { length scanned.now.pairs ≤ 16777216 }
+    requires few { length scanned.now.pairs ≤ MAX_TEXT }
     requires within { first ≤ length scanned.now.pairs }
     requires narrow { AreWithin 1073741824 (widths (cell_of cell) (lines_from 0 (drop first (with_gaps gaps.now scanned.now.pairs)))) }
     ensures widths { IfOk result (λ starts. widths_of starts.items ≡ widths (cell_of cell) (lines_from 0 (drop first (with_gaps gaps.now scanned.now.pairs)))) }
@@ -272,7 +273,7 @@ pub(crate) fn align(
     first: usize,
 ) -> Result<(), AllocError>
     requires same { length gaps.old.items ≡ length scanned.now.pairs }
-    requires few { length scanned.now.pairs ≤ 16777216 }
+    requires few { length scanned.now.pairs ≤ MAX_TEXT }
     requires within { first ≤ length scanned.now.pairs }
     requires narrow { AreWithin 1073741824 (widths (cell_of cell) (lines_from 0 (drop first (with_gaps gaps.old.items scanned.now.pairs)))) }
     ensures moved { OnOk result (drop first (with_gaps gaps.new.items scanned.now.pairs) ≡ pairs_in (aligned (cell_of cell) (lines_from 0 (drop first (with_gaps gaps.old.items scanned.now.pairs))))) }

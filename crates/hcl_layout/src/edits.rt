@@ -1,6 +1,7 @@
 //! The edits that give a text its new gaps.
 
 ghost use Rattle.std.specs.Prelude.{◌≡◌, ◌+◌, ◌*◌, ◌<◌, ◌≤◌, ◌++◌, [], ◌∷◌, Some, length, take, replicate, slice_get, slice_index, slice_index_or, nat_lt, IfOk, OnOk};
+ghost use Rattle.hcl_scan.specs.Cut.{MAX_TEXT};
 ghost use Rattle.std.specs.Str.{bytes_eq};
 ghost use Rattle.std.specs.Option.{option_map};
 ghost use Rattle.hcl_token.specs.Tokens.{Pair, whole_text};
@@ -12,10 +13,8 @@ ghost use Rattle.hcl_layout.specs.Inner.Stages.{unchanged, gap_meant, with_gaps}
 use crate::cells::gap_len;
 use crate::setting::KEPT;
 use edit_record::Edit;
-use hcl_scan::Scanned;
+use hcl_scan::{MAX_TEXT, Scanned};
 use std::alloc::{AllocError, Global};
-
-const LIMIT: usize = 16_777_216;
 
 /// Whether a gap is that many spaces.
 fn is_spaces(gap: &[u8], len: u32) -> bool
@@ -45,12 +44,12 @@ fn stays(gap: &[u8], new: u32) -> bool
 /// Whether the text with its new gaps has more than 16,777,216 bytes.
 pub(crate) fn is_too_long(scanned: &Scanned<'_>, gaps: &[u32]) -> bool
     requires { length gaps.now ≡ length scanned.now.pairs }
-    ensures { result ≡ nat_lt 16777216 (length (whole_text (with_gaps gaps.now scanned.now.pairs) [])) }
+    ensures { result ≡ nat_lt MAX_TEXT (length (whole_text (with_gaps gaps.now scanned.now.pairs) [])) }
 {
     let mut total = 0;
     for i in 0..scanned.len() {
         let token = gap_len(scanned, gaps, i).saturating_add(scanned.spelling(i).len());
-        if token > LIMIT - total {
+        if token > MAX_TEXT - total {
             return true;
         }
         total += token;

@@ -1,6 +1,7 @@
 //! How far lines are indented.
 
 ghost use Rattle.std.specs.Prelude.{◌≡◌, ◌∷◌, ◌+◌, ◌-◌, nat_lt, if◌then◌else◌, OnOk, ◌<◌, ◌≤◌, length, reverse, slice_range};
+ghost use Rattle.hcl_scan.specs.Cut.{MAX_TEXT};
 ghost use Rattle.hcl_layout.specs.Indent.{is_opening, is_closing, openings, closings};
 ghost use Rattle.hcl_layout.specs.Inner.Stages.{close, open_at};
 
@@ -34,7 +35,7 @@ fn is_closing(kind: Kind) -> bool
 pub(crate) fn openings(scanned: &Scanned<'_>, from: usize, to: usize) -> u32
     requires ordered { from ≤ to }
     requires within { to ≤ length scanned.now.pairs }
-    requires few { length scanned.now.pairs ≤ 16777216 }
+    requires few { length scanned.now.pairs ≤ MAX_TEXT }
     ensures value { result ≡ openings (slice_range scanned.now.pairs from to) }
     ensures small { result + from ≤ to }
 {
@@ -51,7 +52,7 @@ pub(crate) fn openings(scanned: &Scanned<'_>, from: usize, to: usize) -> u32
 pub(crate) fn closings(scanned: &Scanned<'_>, from: usize, to: usize) -> u32
     requires ordered { from ≤ to }
     requires within { to ≤ length scanned.now.pairs }
-    requires few { length scanned.now.pairs ≤ 16777216 }
+    requires few { length scanned.now.pairs ≤ MAX_TEXT }
     ensures value { result ≡ closings (slice_range scanned.now.pairs from to) }
     ensures small { result + from ≤ to }
 {

@@ -1,6 +1,7 @@
 //! Lines.
 
 ghost use Rattle.std.specs.Prelude.{◌≡◌, ◌+◌, ◌<◌, ◌≤◌, length};
+ghost use Rattle.hcl_scan.specs.Cut.{MAX_TEXT};
 ghost use Rattle.hcl_layout.specs.Lines.{heredocs_after, ends_line};
 ghost use Rattle.hcl_layout.specs.Inner.Stages.{SplitsLine};
 
@@ -33,7 +34,7 @@ fn ends_line(held: usize, kind: Kind) -> bool
 /// line begins in a heredoc.
 pub(crate) fn line_end(scanned: &Scanned<'_>, at: usize, frozen: bool) -> (usize, bool)
     requires within { at < length scanned.now.pairs }
-    requires few { length scanned.now.pairs ≤ 16777216 }
+    requires few { length scanned.now.pairs ≤ MAX_TEXT }
     ensures { SplitsLine scanned.now.pairs at frozen result.0 result.1 }
 {
     let mut held = usize::from(frozen);

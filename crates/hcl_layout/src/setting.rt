@@ -1,6 +1,7 @@
 //! Indents and spaces: the gaps of the lines before cells are moved.
 
 ghost use Rattle.std.specs.Prelude.{◌≡◌, ◌+◌, ◌*◌, ◌<◌, ◌≤◌, ◌++◌, [], take, drop, length, replicate, slice_range, if◌then◌else◌, OnOk, IfOk};
+ghost use Rattle.hcl_scan.specs.Cut.{MAX_TEXT};
 ghost use Rattle.hcl_layout.specs.Kinds.{is_line_end};
 ghost use Rattle.hcl_layout.specs.Lines.{lines_from};
 ghost use Rattle.hcl_layout.specs.Inner.Near.{near};
@@ -29,7 +30,7 @@ fn keep_line(gaps: &mut Vec<u32>, count: usize) -> Result<(), AllocError>
 }
 
 fn first_len(kind: Kind, level: u32) -> u32
-    requires { level ≤ 16777216 }
+    requires { level ≤ MAX_TEXT }
     ensures { result ≡ (if is_line_end kind then 0 else 2 * level) }
 {
     if is_line_end(kind) { 0 } else { 2 * level }
@@ -46,7 +47,7 @@ fn space_line(
 ) -> Result<(), AllocError>
     requires ordered { at < past }
     requires within { past ≤ length scanned.now.pairs }
-    requires level { level ≤ 16777216 }
+    requires level { level ≤ MAX_TEXT }
     ensures { OnOk result (gaps.new.items ≡ gaps.old.items ++ line_lens level (near before) (slice_range scanned.now.pairs at past)) }
 {
     gaps.push(first_len(scanned.kind(at), level))?;
@@ -70,7 +71,7 @@ fn set_line(
 ) -> Result<(), AllocError>
     requires ordered { at < past }
     requires within { past ≤ length scanned.now.pairs }
-    requires level { level ≤ 16777216 }
+    requires level { level ≤ MAX_TEXT }
     ensures { OnOk result (gaps.new.items ≡ gaps.old.items ++ set_lens level (near before) (record { frozen = frozen; pairs = slice_range scanned.now.pairs at past })) }
 {
     if frozen {
@@ -100,7 +101,7 @@ fn set_lines(
     gaps: &mut Vec<u32>,
     first: usize,
 ) -> Result<(), AllocError>
-    requires few { length scanned.now.pairs ≤ 16777216 }
+    requires few { length scanned.now.pairs ≤ MAX_TEXT }
     requires within { first ≤ length scanned.now.pairs }
     ensures { OnOk result (gaps.new.items ≡ gaps.old.items ++ all_lens [] [] (lines_from 0 (drop first scanned.now.pairs))) }
 {
@@ -139,7 +140,7 @@ pub(crate) fn set_gaps(
     scanned: &Scanned<'_>,
     first: usize,
 ) -> Result<Vec<u32>, AllocError>
-    requires few { length scanned.now.pairs ≤ 16777216 }
+    requires few { length scanned.now.pairs ≤ MAX_TEXT }
     requires within { first ≤ length scanned.now.pairs }
     ensures gaps { IfOk result (λ gaps. gaps.items ≡ replicate first KEPT ++ all_lens [] [] (lines_from 0 (drop first scanned.now.pairs))) }
 {

@@ -3,7 +3,7 @@
 ghost use Rattle.std.specs.Prelude.{◌≡◌, ◌<◌, ◌≤◌, ◌⊎◌, ◌↔◌, [], length, nat_lt, IsTrue, IfOk, IfErr, MatchBool};
 ghost use Rattle.edit_record.specs.Pieces.{Turns, entries};
 ghost use Rattle.hcl_token.specs.CutText.{AreUtf8};
-ghost use Rattle.hcl_scan.specs.Cut.{IsCut};
+ghost use Rattle.hcl_scan.specs.Cut.{IsCut, MAX_TEXT};
 ghost use Rattle.hcl_layout.specs.Layout.{laid_out, layout_text, layout_edits, IsLaidOut};
 ghost use Rattle.hcl_layout.specs.Inner.Stages.{with_gaps};
 ghost use Rattle.hcl_layout.specs.declared.fault.LayoutFault.TheVariants.{TooLong, Memory};
@@ -21,8 +21,8 @@ fn short_gaps(alloc: Global, scanned: &Scanned<'_>) -> Result<Vec<u32>, LayoutFa
     requires utf8 { AreUtf8 scanned.now.pairs }
     ensures laid_out { IfOk result (λ gaps. with_gaps gaps.items scanned.now.pairs ≡ laid_out scanned.now.pairs) }
     ensures same { IfOk result (λ gaps. length gaps.items ≡ length scanned.now.pairs) }
-    ensures short { IfOk result (λ gaps. length (layout_text scanned.now) ≤ 16777216) }
-    ensures err { IfErr result (λ e. (e ≡ Memory) ⊎ ((e ≡ TooLong) × (16777216 < length (layout_text scanned.now)))) }
+    ensures short { IfOk result (λ gaps. length (layout_text scanned.now) ≤ MAX_TEXT) }
+    ensures err { IfErr result (λ e. (e ≡ Memory) ⊎ ((e ≡ TooLong) × (MAX_TEXT < length (layout_text scanned.now)))) }
 {
     let gaps = laid_gaps(alloc, scanned)?;
     if is_too_long(scanned, &gaps) {
@@ -36,8 +36,8 @@ fn edits_of(alloc: Global, scanned: &Scanned<'_>) -> Result<Vec<Edit>, LayoutFau
     requires cut { IsCut scanned.now.text scanned.now.pairs scanned.now.last }
     requires utf8 { AreUtf8 scanned.now.pairs }
     ensures ok { IfOk result (λ edits. entries edits.items ≡ (layout_edits scanned.now).entries) }
-    ensures short { IfOk result (λ edits. length (layout_text scanned.now) ≤ 16777216) }
-    ensures err { IfErr result (λ e. (e ≡ Memory) ⊎ ((e ≡ TooLong) × (16777216 < length (layout_text scanned.now)))) }
+    ensures short { IfOk result (λ edits. length (layout_text scanned.now) ≤ MAX_TEXT) }
+    ensures err { IfErr result (λ e. (e ≡ Memory) ⊎ ((e ≡ TooLong) × (MAX_TEXT < length (layout_text scanned.now)))) }
 {
     let gaps = short_gaps(alloc, scanned)?;
     Ok(gap_edits(alloc, scanned, &gaps)?)
@@ -52,11 +52,12 @@ fn edits_of(alloc: Global, scanned: &Scanned<'_>) -> Result<Vec<Edit>, LayoutFau
 pub fn layout(alloc: Global, scanned: &Scanned<'_>) -> Result<Edits, LayoutFault>
     ensures edits { IfOk result (λ edits. edits ≡ layout_edits scanned.now) }
     ensures turns { IfOk result (λ edits. Turns edits scanned.now.text (layout_text scanned.now)) }
-    ensures short { IfOk result (λ edits. length (layout_text scanned.now) ≤ 16777216) }
-    ensures err { IfErr result (λ e. (e ≡ Memory) ⊎ ((e ≡ TooLong) × (16777216 < length (layout_text scanned.now)))) }
+    ensures short { IfOk result (λ edits. length (layout_text scanned.now) ≤ MAX_TEXT) }
+    ensures err { IfErr result (λ e. (e ≡ Memory) ⊎ ((e ≡ TooLong) × (MAX_TEXT < length (layout_text scanned.now)))) }
 {
     let text = scanned.text();
     let edits = edits_of(alloc, scanned)?;
+    edit_record::laws::pieces_make();
     match Edits::make(text.len(), edits) {
         Ok(edits) => Ok(edits),
         Err(_) => unreachable!(),
@@ -68,8 +69,8 @@ pub fn layout(alloc: Global, scanned: &Scanned<'_>) -> Result<Edits, LayoutFault
 /// It is refused where `layout` is.
 pub fn is_laid_out(alloc: Global, scanned: &Scanned<'_>) -> Result<bool, LayoutFault>
     ensures answer { IfOk result (λ yes. IsTrue yes ↔ IsLaidOut scanned.now) }
-    ensures short { IfOk result (λ yes. length (layout_text scanned.now) ≤ 16777216) }
-    ensures err { IfErr result (λ e. (e ≡ Memory) ⊎ ((e ≡ TooLong) × (16777216 < length (layout_text scanned.now)))) }
+    ensures short { IfOk result (λ yes. length (layout_text scanned.now) ≤ MAX_TEXT) }
+    ensures err { IfErr result (λ e. (e ≡ Memory) ⊎ ((e ≡ TooLong) × (MAX_TEXT < length (layout_text scanned.now)))) }
 {
     let _text = scanned.text();
     let gaps = short_gaps(alloc, scanned)?;

@@ -13,7 +13,8 @@ use Rattle.tf_lint.specs.Fixes.{fix_edits, fixed_text}
 use Rattle.tf_session.specs.declared.command.Command.TheVariants.{Fix}
 use Rattle.tf_session.specs.declared.command.Fault.{Fault}
 use Rattle.tf_session.specs.declared.command.Fault.TheVariants.{FixBroken, Memory}
-use Rattle.tf_session.specs.Fixing.{differ, Reads, IsUnread, no_steps, step_before, Fixes}
+use Rattle.tf_session.specs.Reading.{Reads, IsUnread}
+use Rattle.tf_session.specs.Fixing.{differ, no_steps, step_before, Fixes}
 use Rattle.tf_session.specs.Makes.{RefusesText}
 
 same_text : (t u : List ℕ) → t ≡ u → differ t u ≡ false
@@ -41,7 +42,7 @@ pub same_again : (rules : RuleSet) (text new : List ℕ) (cut : CutText) (count 
     → left ≡ length (issues_of rules cut.pairs) → Fixes rules text (record { text = text; edits = record { old_len = length text; entries = [] }; fixed = count; left = left })
 same_again rules text new cut count left reads chosen made short same taken counted =
     let stays : cut.text ≡ fixed_text CommentSyntax cut = reads.0 ∙ sym same ∙ made in
-    let again : Reads (fixed_text CommentSyntax cut) cut = (stays, subst (λ (t : List ℕ). IsCut t cut.pairs cut.last) (sym reads.0 ∙ stays) reads.1) in
+    let again : Reads (fixed_text CommentSyntax cut) cut = subst (λ (t : List ℕ). Reads t cut) (sym reads.0 ∙ stays) reads in
     record {
       cut = cut;
       reads = reads;
@@ -65,7 +66,7 @@ changed rules text new edits cut next count left reads chosen made listed short 
       cut = cut;
       reads = reads;
       steps = step_before CommentSyntax cut (no_steps next.text);
-      runs = rw chosen (short, next, no_steps next.text, (read.0 ∙ made, subst (λ (t : List ℕ). IsCut t next.pairs next.last) made read.1), refl, refl);
+      runs = rw chosen (short, next, no_steps next.text, subst (λ (t : List ℕ). Reads t next) made read, refl, refl);
       text_is = sym read.0;
       edits_are = rw differs listed;
       fixed_is = omega (arith, taken);
@@ -82,5 +83,5 @@ unread rules text new cut fault reads chosen made short (inr broken) =
     rw broken.0 (cut, reads, rw chosen (inl (refl, short, subst IsUnread made broken.1)))
 
 -- a text that was lent is read as the text itself
-pub reads_lent : (lent text : List ℕ) (cut : CutText) → lent ≡ text → cut.text ≡ lent → IsCut lent cut.pairs cut.last → Reads text cut
-reads_lent lent text cut same e is_cut = (e ∙ same, subst (λ (t : List ℕ). IsCut t cut.pairs cut.last) same is_cut)
+pub reads_lent : (lent text : List ℕ) (cut : CutText) → lent ≡ text → Reads lent cut → Reads text cut
+reads_lent lent text cut same reads = subst (λ (t : List ℕ). Reads t cut) same reads

@@ -4,5 +4,9 @@ pub mod LineLists
 pub mod RunLaws
 pub mod Sending
 pub mod FixSteps
+pub mod Laying
+pub mod FmtAgain
+pub mod Putting
 pub mod Answering
 pub mod JournalOne
+pub mod Unread

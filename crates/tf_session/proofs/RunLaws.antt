@@ -1,7 +1,7 @@
 -- By induction on the run, on the number of reverts, and on the commands.
 use Rattle.std.proofs.Common.{◌≡◌, ◌∙◌, ◌≤◌, ℕ, zero, suc, List, [], ◌∷◌, length, drop, replicate, map, Bool, true, false, MatchBool, Result, Ok, Err, refl, ap, subst, arith}
 use Rattle.tf_session.specs.declared.command.Command.{Command}
-use Rattle.tf_session.specs.declared.command.Command.TheVariants.{Fix, Revert}
+use Rattle.tf_session.specs.declared.command.Command.TheVariants.{Fmt, Fix, Revert}
 use Rattle.tf_session.specs.declared.command.Done.{Done}
 use Rattle.tf_session.specs.declared.command.Fault.{Fault}
 use Rattle.tf_session.specs.Fixing.{Made, differ}
@@ -62,6 +62,7 @@ answered command (Err fault) old mid reply h = ap (λ (s : Stack). bottom s.top 
 
 -- no command touches the text that was there first
 same_bottom : (command : Command) (old mid : Stack) (reply : Result Done Fault) → Serves command old reply mid → bottom mid.top mid.below ≡ bottom old.top old.below
+same_bottom Fmt old mid reply h = answered Fmt h.0 old mid reply h.2
 same_bottom (Fix rules) old mid reply h = answered (Fix rules) h.0 old mid reply h.2
 same_bottom Revert old mid reply h = taken_off old.top old.below reply mid h
 

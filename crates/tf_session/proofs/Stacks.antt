@@ -4,10 +4,10 @@ use Rattle.std.proofs.lemmas.Slice.Eq.{bytes_eq-Decides}
 use Rattle.std.proofs.lemmas.Bool.{not-false}
 use Rattle.edit_record.specs.Journal.{Entered, record_turns}
 use Rattle.tf_session.specs.declared.command.Command.{Command}
-use Rattle.tf_session.specs.declared.command.Command.TheVariants.{Fix, Revert}
+use Rattle.tf_session.specs.declared.command.Command.TheVariants.{Fmt, Fix, Revert}
 use Rattle.tf_session.specs.declared.command.Done.{Done}
 use Rattle.tf_session.specs.declared.command.Fault.{Fault}
-use Rattle.tf_session.specs.declared.command.Fault.TheVariants.{Scan, FixBroken, TooLong, NoRecord, Refused, Memory}
+use Rattle.tf_session.specs.declared.command.Fault.TheVariants.{Scan, Parse, FixBroken, TooLong, NoRecord, Refused, Memory}
 use Rattle.tf_session.specs.Fixing.{Made, differ}
 use Rattle.tf_session.specs.Makes.{Makes, IsText, is_memory_fault}
 use Rattle.tf_session.specs.Machine.{Under, Stack, done, PutsOn, Serves, ServesOrWants, Run}
@@ -61,6 +61,10 @@ took t (under ∷ rest) js d u ks p st =
     )
 
 pub did : (command : Command) (t : List ℕ) (below : List Under) (js : List Entered) (d : Done) (u : List ℕ) (ks : List Entered) → DoesStep command t js d u ks → Stands js t below → Did command t below d u ks
+did Fmt t below js d u ks p st =
+    let made = p.0 in
+    let h = put_cases (differ t made.text) Fmt made t below js d u ks refl p.2.0 p.2.1 p.2.2 st in
+    (h.0, (Ok made, p.1, h.1), h.2, h.3)
 did (Fix rules) t below js d u ks p st =
     let made = p.0 in
     let h = put_cases (differ t made.text) (Fix rules) made t below js d u ks refl p.2.0 p.2.1 p.2.2 st in
@@ -69,6 +73,7 @@ did Revert t below js d u ks p st = took t below js d u ks p st
 
 refused_take : (t : List ℕ) (below : List Under) (js : List Entered) (e : Fault) → RefusesTake t js e → Stands js t below → ServesOrWants Revert (stack t below) (Err e) (stack t below)
 refused_take t below js (Scan fault) p st = absurd p
+refused_take t below js (Parse fault) p st = absurd p
 refused_take t below js (FixBroken rule) p st = absurd p
 refused_take t below js TooLong p st = absurd p
 refused_take t [] js NoRecord p st = (refl, refl)
@@ -80,16 +85,18 @@ refused_take t (under ∷ rest) js (Refused refused) p st =
 refused_take t [] js Memory p st = absurd (not_nil p.1.0 p.0 (sym p.1.1 ∙ st))
 refused_take t (under ∷ rest) js Memory p st = (λ e. cc, refl)
 
-refused_fix : (command : Command) (s : Stack) (e : Fault) → (Makes command s.top (Err e) → Serves command s (Err e) s) → MatchBool (is_memory_fault e) (IsText s.top) (Makes command s.top (Err e)) → MatchBool (is_memory_fault e) (IsText s.top × (s ≡ s)) (Serves command s (Err e) s)
-refused_fix command s (Scan fault) f h = f h
-refused_fix command s (FixBroken rule) f h = f h
-refused_fix command s TooLong f h = f h
-refused_fix command s NoRecord f h = f h
-refused_fix command s (Refused refused) f h = f h
-refused_fix command s Memory f h = (h, refl)
+refused_text : (command : Command) (s : Stack) (e : Fault) → (Makes command s.top (Err e) → Serves command s (Err e) s) → MatchBool (is_memory_fault e) (IsText s.top) (Makes command s.top (Err e)) → MatchBool (is_memory_fault e) (IsText s.top × (s ≡ s)) (Serves command s (Err e) s)
+refused_text command s (Scan fault) f h = f h
+refused_text command s (Parse fault) f h = f h
+refused_text command s (FixBroken rule) f h = f h
+refused_text command s TooLong f h = f h
+refused_text command s NoRecord f h = f h
+refused_text command s (Refused refused) f h = f h
+refused_text command s Memory f h = (h, refl)
 
 pub refused : (command : Command) (t : List ℕ) (below : List Under) (js : List Entered) (e : Fault) → RefusesStep command t js e → Stands js t below → ServesOrWants command (stack t below) (Err e) (stack t below)
-refused (Fix rules) t below js e p st = refused_fix (Fix rules) (stack t below) e (λ h. (Err e, h, (refl, refl))) p
+refused Fmt t below js e p st = refused_text Fmt (stack t below) e (λ h. (Err e, h, (refl, refl))) p
+refused (Fix rules) t below js e p st = refused_text (Fix rules) (stack t below) e (λ h. (Err e, h, (refl, refl))) p
 refused Revert t below js e p st = refused_take t below js e p st
 
 -- a run goes on by one command

@@ -1,7 +1,11 @@
 -- Faults of the layers below as those of a command and of a stream: want of memory is always one of their own.
 use Rattle.hcl_scan.specs.declared.error.ScanFault.{ScanFault}
 use Rattle.hcl_scan.specs.declared.error.ScanFault.TheVariants.{TooLong, NotUtf8, BadCharacter, BadEscape, OpenString, OpenTemplate, OpenHeredoc, OpenComment, Memory}
+use Rattle.hcl_tree.specs.declared.error.ParseFault.{ParseFault}
+use Rattle.hcl_layout.specs.declared.fault.LayoutFault.{LayoutFault}
 use Rattle.edit_record.specs.declared.change.Refused.{Refused}
+use Rattle.edit_text.specs.declared.fault.RecordFault.{RecordFault}
+use Rattle.edit_text.specs.declared.fault.RecordFault.TheVariants.{BadHead, BadNumber, CutShort, BadEdits, BadEnd, BadSteps}
 use Rattle.tf_lint.specs.declared.fault.LintFault.{LintFault}
 use Rattle.tf_stream.specs.declared.fault.TakeFault.{TakeFault}
 use Rattle.tf_session.specs.declared.command.Fault.{Fault}
@@ -18,6 +22,15 @@ fault_of_scan (OpenHeredoc at) = Fault.Scan (OpenHeredoc at)
 fault_of_scan (OpenComment at) = Fault.Scan (OpenComment at)
 fault_of_scan Memory = Fault.Memory
 
+abbrev pub fault_of_parse : ParseFault → Fault
+fault_of_parse (ParseFault.Syntax at) = Fault.Parse (ParseFault.Syntax at)
+fault_of_parse (ParseFault.TooDeep at) = Fault.Parse (ParseFault.TooDeep at)
+fault_of_parse ParseFault.Memory = Fault.Memory
+
+abbrev pub fault_of_layout : LayoutFault → Fault
+fault_of_layout LayoutFault.TooLong = Fault.TooLong
+fault_of_layout LayoutFault.Memory = Fault.Memory
+
 abbrev pub fault_of_lint : LintFault → Fault
 fault_of_lint LintFault.TooLong = Fault.TooLong
 fault_of_lint LintFault.Memory = Fault.Memory
@@ -29,6 +42,7 @@ fault_of_refused Refused.Memory = Fault.Memory
 
 abbrev pub run_fault_of : Fault → RunFault
 run_fault_of (Fault.Scan fault) = RunFault.Scan fault
+run_fault_of (Fault.Parse fault) = RunFault.Parse fault
 run_fault_of (Fault.FixBroken rule) = RunFault.FixBroken rule
 run_fault_of Fault.TooLong = RunFault.TooLong
 run_fault_of Fault.NoRecord = RunFault.NoRecord
@@ -39,3 +53,12 @@ abbrev pub run_fault_of_take : TakeFault → RunFault
 run_fault_of_take TakeFault.Read = RunFault.Read
 run_fault_of_take TakeFault.Endless = RunFault.Endless
 run_fault_of_take TakeFault.Memory = RunFault.Memory
+
+abbrev pub run_fault_of_record : RecordFault → RunFault
+run_fault_of_record (BadHead at) = RunFault.BadJournal (BadHead at)
+run_fault_of_record (BadNumber at) = RunFault.BadJournal (BadNumber at)
+run_fault_of_record (CutShort at) = RunFault.BadJournal (CutShort at)
+run_fault_of_record (BadEdits at) = RunFault.BadJournal (BadEdits at)
+run_fault_of_record (BadEnd at) = RunFault.BadJournal (BadEnd at)
+run_fault_of_record RecordFault.Memory = RunFault.Memory
+run_fault_of_record (BadSteps at) = RunFault.BadJournal (BadSteps at)

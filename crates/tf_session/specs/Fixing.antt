@@ -2,8 +2,7 @@
 use Rattle.std.specs.Prelude.{◌≡◌, ◌≤◌, ◌<◌, ◌+◌, ◌⊎◌, ℕ, Bool, List, [], ◌∷◌, length, Result, Ok, Err, not, if◌then◌else◌, MatchBool}
 use Rattle.std.specs.Str.{bytes_eq}
 use Rattle.hcl_token.specs.CutText.{CutText}
-use Rattle.hcl_scan.specs.declared.error.ScanFault.{ScanFault}
-use Rattle.hcl_scan.specs.Cut.{IsCut, MAX_TEXT}
+use Rattle.hcl_scan.specs.Cut.{MAX_TEXT}
 use Rattle.hcl_scan.specs.Fault.{IsFault}
 use Rattle.edit_record.specs.Pieces.{EditList}
 use Rattle.tf_lint.specs.declared.rule.Rule.{Rule}
@@ -14,18 +13,11 @@ use Rattle.tf_lint.specs.Issues.{issues_of}
 use Rattle.tf_lint.specs.Taken.{taken_issues}
 use Rattle.tf_lint.specs.Fixes.{fix_edits, fixed_text}
 use Rattle.tf_session.specs.declared.command.Fault.{Fault}
-use Rattle.tf_session.specs.declared.command.Fault.TheVariants.{Scan, FixBroken, TooLong, NoRecord, Refused, Memory}
+use Rattle.tf_session.specs.declared.command.Fault.TheVariants.{Scan, Parse, FixBroken, TooLong, NoRecord, Refused, Memory}
+use Rattle.tf_session.specs.Reading.{Reads, IsUnread, IsParseFault}
 
 abbrev pub differ : List ℕ → List ℕ → Bool
 differ t u = not (bytes_eq t u)
-
--- the text can be read, as this cut
-abbrev pub Reads : List ℕ → CutText → Type 0
-Reads text cut = (cut.text ≡ text) × IsCut text cut.pairs cut.last
-
--- the text can't be read
-abbrev pub IsUnread : List ℕ → Type 0
-IsUnread text = (fault : ScanFault) × IsFault text fault
 
 -- the rules that fix, in the order of their steps
 abbrev pub fix_order : List Rule
@@ -48,9 +40,10 @@ step_before rule cut more = record {
   fixed = length (taken_issues rule cut.pairs) + more.fixed;
 }
 
--- The step of the rule can't be done: its text is over the limit, or can't be read.
+-- The step of the rule can't be done: its text is over the limit, or does not parse.
 abbrev pub StepBreaks : Rule → CutText → Fault → Type 0
 StepBreaks rule cut (Scan fault) = ⊥
+StepBreaks rule cut (Parse fault) = ⊥
 StepBreaks rule cut (FixBroken broken) = (broken ≡ rule) × (length (fixed_text rule cut) ≤ MAX_TEXT) × IsUnread (fixed_text rule cut)
 StepBreaks rule cut TooLong = MAX_TEXT < length (fixed_text rule cut)
 StepBreaks rule cut NoRecord = ⊥
@@ -86,7 +79,7 @@ pub record Made : Type 0 where
   pub fixed : ℕ
   pub left : ℕ
 
--- what a fix by these rules makes of a text that can be read
+-- what a fix by these rules makes of a text that parses
 pub record Fixes (rules : RuleSet) (text : List ℕ) (made : Made) : Type 0 where
   pub cut : CutText
   pub reads : Reads text cut
@@ -107,6 +100,7 @@ FixBreaks rules text fault = (cut : CutText) × Reads text cut × RunSteps rules
 abbrev pub FixMakes : RuleSet → List ℕ → Result Made Fault → Type 0
 FixMakes rules text (Ok made) = Fixes rules text made
 FixMakes rules text (Err (Scan fault)) = IsFault text fault
+FixMakes rules text (Err (Parse fault)) = IsParseFault text fault
 FixMakes rules text (Err (FixBroken rule)) = FixBreaks rules text (FixBroken rule)
 FixMakes rules text (Err TooLong) = FixBreaks rules text TooLong
 FixMakes rules text (Err NoRecord) = ⊥

@@ -1,12 +1,15 @@
 pub mod Streams
 pub mod Faults
 pub mod Lines
+pub mod Reading
 pub mod Fixing
+pub mod Formatting
 pub mod Makes
 pub mod Machine
 pub mod Records
 pub mod RunLaws
 pub mod OneAnswer
+pub mod FmtLaws
 pub mod JournalLaws
 pub mod Session
 pub mod Fixed

@@ -1,8 +1,8 @@
--- The machine: a stack of whole texts. A fix puts the stated replacement on top, where it differs, and a revert takes the
--- top off. There is no record and no place in it.
+-- The machine: a stack of whole texts. A fmt puts the layout on top and a fix the stated replacement, where it differs, and a revert
+-- takes the top off. There is no record and no place in it.
 use Rattle.std.specs.Prelude.{◌≡◌, ◌≢◌, ℕ, Bool, true, false, List, [], ◌∷◌, Result, Ok, Err, if◌then◌else◌, MatchBool}
 use Rattle.tf_session.specs.declared.command.Command.{Command}
-use Rattle.tf_session.specs.declared.command.Command.TheVariants.{Fix, Revert}
+use Rattle.tf_session.specs.declared.command.Command.TheVariants.{Fmt, Fix, Revert}
 use Rattle.tf_session.specs.declared.command.Done.{Done}
 use Rattle.tf_session.specs.declared.command.Fault.{Fault}
 use Rattle.tf_session.specs.declared.command.Fault.TheVariants.{NoRecord}
@@ -43,6 +43,7 @@ TakesOff top (under ∷ rest) reply new = (reply ≡ Ok (done true 0 0)) × (new
 
 -- one command over a stack, its reply, and the stack that it leaves
 abbrev pub Serves : Command → Stack → Result Done Fault → Stack → Type 0
+Serves Fmt old reply new = (answer : Result Made Fault) × Makes Fmt old.top answer × PutsOn Fmt answer old reply new
 Serves (Fix rules) old reply new = (answer : Result Made Fault) × Makes (Fix rules) old.top answer × PutsOn (Fix rules) answer old reply new
 Serves Revert old reply new = TakesOff old.top old.below reply new
 
@@ -51,8 +52,9 @@ abbrev pub is_memory : Result Done Fault → Bool
 is_memory (Ok d) = false
 is_memory (Err fault) = is_memory_fault fault
 
--- A fix takes memory only for a text that it looks into, and a revert only where there is something below.
+-- A fmt or a fix takes memory only for a text that it looks into, and a revert only where there is something below.
 abbrev pub MayWant : Command → Stack → Type 0
+MayWant Fmt s = IsText s.top
 MayWant (Fix rules) s = IsText s.top
 MayWant Revert s = s.below ≢ []
 

@@ -1,20 +1,25 @@
 -- What a command makes of a text.
 use Rattle.std.specs.Prelude.{ℕ, ◌≤◌, Bool, true, false, List, length, Result, MatchBool, Err, IsUtf8}
 use Rattle.hcl_scan.specs.Cut.{MAX_TEXT}
+use Rattle.hcl_scan.specs.Fault.{IsFault}
 use Rattle.tf_session.specs.declared.command.Command.{Command}
-use Rattle.tf_session.specs.declared.command.Command.TheVariants.{Fix, Revert}
+use Rattle.tf_session.specs.declared.command.Command.TheVariants.{Fmt, Fix, Revert}
 use Rattle.tf_session.specs.declared.command.Fault.{Fault}
-use Rattle.tf_session.specs.declared.command.Fault.TheVariants.{Scan, FixBroken, TooLong, NoRecord, Refused, Memory}
+use Rattle.tf_session.specs.declared.command.Fault.TheVariants.{Scan, Parse, FixBroken, TooLong, NoRecord, Refused, Memory}
+use Rattle.tf_session.specs.Reading.{IsParseFault}
 use Rattle.tf_session.specs.Fixing.{Made, FixMakes}
+use Rattle.tf_session.specs.Formatting.{FmtMakes}
 
 -- a revert makes no text of the top
 abbrev pub Makes : Command → List ℕ → Result Made Fault → Type 0
+Makes Fmt text answer = FmtMakes text answer
 Makes (Fix rules) text answer = FixMakes rules text answer
 Makes Revert text answer = ⊥
 
 -- whether a growth was refused inside the command
 abbrev pub is_memory_fault : Fault → Bool
 is_memory_fault (Scan fault) = false
+is_memory_fault (Parse fault) = false
 is_memory_fault (FixBroken rule) = false
 is_memory_fault TooLong = false
 is_memory_fault NoRecord = false
@@ -24,6 +29,16 @@ is_memory_fault Memory = true
 -- a text that is looked into: before that no memory is taken
 abbrev pub IsText : List ℕ → Type 0
 IsText text = (length text ≤ MAX_TEXT) × IsUtf8 text
+
+-- why a text is not read: it has no tokens, it does not parse, or a growth was refused while it was looked into
+abbrev pub NotRead : List ℕ → Fault → Type 0
+NotRead text (Scan fault) = IsFault text fault
+NotRead text (Parse fault) = IsParseFault text fault
+NotRead text (FixBroken rule) = ⊥
+NotRead text TooLong = ⊥
+NotRead text NoRecord = ⊥
+NotRead text (Refused refused) = ⊥
+NotRead text Memory = IsText text
 
 -- why a command refuses a text: it can't make another of it, or a growth was refused while it looked into it
 abbrev pub RefusesText : Command → List ℕ → Fault → Type 0

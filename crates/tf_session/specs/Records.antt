@@ -6,16 +6,17 @@ use Rattle.edit_record.specs.Refusals.{HasLen}
 use Rattle.edit_record.specs.declared.direction.Direction.TheVariants.{Backward}
 use Rattle.edit_record.specs.Journal.{Entered, record_turns, record_backward}
 use Rattle.tf_session.specs.declared.command.Command.{Command}
-use Rattle.tf_session.specs.declared.command.Command.TheVariants.{Fix, Revert}
+use Rattle.tf_session.specs.declared.command.Command.TheVariants.{Fmt, Fix, Revert}
 use Rattle.tf_session.specs.declared.command.Done.{Done}
 use Rattle.tf_session.specs.declared.command.Fault.{Fault}
-use Rattle.tf_session.specs.declared.command.Fault.TheVariants.{Scan, FixBroken, TooLong, NoRecord, Refused, Memory}
+use Rattle.tf_session.specs.declared.command.Fault.TheVariants.{Scan, Parse, FixBroken, TooLong, NoRecord, Refused, Memory}
 use Rattle.tf_session.specs.Fixing.{Made, differ}
 use Rattle.tf_session.specs.Makes.{Makes, RefusesText}
 use Rattle.tf_session.specs.Machine.{Under, done}
 
 -- the word that the record of a command has; a revert has no record
 abbrev pub HasWord : Command → Word → Type 0
+HasWord Fmt word = word ≡ Word.Fmt
 HasWord (Fix rules) word = word ≡ Word.Fix
 HasWord Revert word = ⊥
 
@@ -61,6 +62,7 @@ TakesLast t js d u ks = (r : Entered) × (js ≡ ks ++ r ∷ []) × IsOnlyBefore
 
 -- what a command that succeeds does
 abbrev pub DoesStep : Command → List ℕ → List Entered → Done → List ℕ → List Entered → Type 0
+DoesStep Fmt t js d u ks = (made : Made) × Makes Fmt t (Ok made) × PutsInPlace Fmt made t js d u ks
 DoesStep (Fix rules) t js d u ks = (made : Made) × Makes (Fix rules) t (Ok made) × PutsInPlace (Fix rules) made t js d u ks
 DoesStep Revert t js d u ks = TakesLast t js d u ks
 
@@ -72,6 +74,7 @@ IsLast js r = (earlier : List Entered) × (js ≡ earlier ++ r ∷ [])
 -- Memory is taken only where the text has the length that the last record asks for.
 abbrev pub RefusesTake : List ℕ → List Entered → Fault → Type 0
 RefusesTake t js (Scan fault) = ⊥
+RefusesTake t js (Parse fault) = ⊥
 RefusesTake t js (FixBroken rule) = ⊥
 RefusesTake t js TooLong = ⊥
 RefusesTake t js NoRecord = js ≡ []
@@ -80,5 +83,6 @@ RefusesTake t js Memory = (r : Entered) × IsLast js r × HasLen Backward r.edit
 
 -- why a command is refused
 abbrev pub RefusesStep : Command → List ℕ → List Entered → Fault → Type 0
+RefusesStep Fmt t js fault = RefusesText Fmt t fault
 RefusesStep (Fix rules) t js fault = RefusesText (Fix rules) t fault
 RefusesStep Revert t js fault = RefusesTake t js fault

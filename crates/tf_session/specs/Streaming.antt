@@ -6,7 +6,7 @@ use Rattle.tf_session.specs.declared.command.Command.{Command}
 use Rattle.tf_session.specs.declared.command.Done.{Done}
 use Rattle.tf_session.specs.declared.command.Fault.{Fault}
 use Rattle.tf_session.specs.declared.fault.RunFault.{RunFault}
-use Rattle.tf_session.specs.declared.fault.RunFault.TheVariants.{Scan, FixBroken, TooLong, NoRecord, Refused, Memory, Read, Write, Endless}
+use Rattle.tf_session.specs.declared.fault.RunFault.TheVariants.{Scan, Parse, FixBroken, TooLong, NoRecord, Refused, Memory, Read, Write, Endless, BadJournal}
 use Rattle.tf_session.specs.declared.fault.Part.{Part}
 use Rattle.tf_session.specs.Streams.{TakesText, NotTaken, NotPut}
 use Rattle.tf_session.specs.Records.{DoesStep, RefusesStep}
@@ -24,6 +24,7 @@ RefusesWhole command fault source target =
 -- At a fault nothing went to the target, but that at Write some bytes of the new text did.
 abbrev pub StepsAtFault : Command → RunFault → Source → Target → Type 0
 StepsAtFault command (Scan fault) source target = RefusesWhole command (Fault.Scan fault) source target
+StepsAtFault command (Parse fault) source target = RefusesWhole command (Fault.Parse fault) source target
 StepsAtFault command (FixBroken rule) source target = RefusesWhole command (Fault.FixBroken rule) source target
 StepsAtFault command TooLong source target = RefusesWhole command Fault.TooLong source target
 StepsAtFault command NoRecord source target = RefusesWhole command Fault.NoRecord source target
@@ -34,3 +35,4 @@ StepsAtFault command (Write part sent) source target =
     (text : List ℕ) × (d : Done) × (new : List ℕ) × (records : List Entered) × TakesText source text
     × DoesStep command text [] d new records × NotPut Part.Text (Write part sent) target new
 StepsAtFault command Endless source target = NotTaken Endless source × Untouched target
+StepsAtFault command (BadJournal fault) source target = ⊥

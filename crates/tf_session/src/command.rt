@@ -3,13 +3,17 @@
 ghost use Rattle.std.specs.Prelude.{◌≡◌};
 
 use edit_record::Refused;
+use hcl_format::LayoutFault;
 use hcl_scan::ScanFault;
+use hcl_tree::ParseFault;
 use tf_lint::{LintFault, Rule, RuleSet};
 use thiserror::Error;
 
 /// What a session is asked to do.
 #[derive(Clone, Copy, Debug, PartialEq, Eq)]
 pub enum Command {
+    /// Lays the text out.
+    Fmt,
     /// Fixes what the rules of the set find, as far as it can be fixed.
     Fix(RuleSet),
     /// Takes back the last command that changed the text.
@@ -33,7 +37,10 @@ pub enum Fault {
     /// The text can't be cut into tokens.
     #[error(transparent)]
     Scan(ScanFault),
-    /// What the fix of the rule makes of the text can't be read any more.
+    /// The tokens do not follow the grammar, or more than 100 constructs stand in one another.
+    #[error(transparent)]
+    Parse(ParseFault),
+    /// What the fix of the rule makes of the text does not parse.
     #[error("fix of {} does not parse", .rule.name())]
     FixBroken { rule: Rule },
     /// The new text would have more than 16,777,216 bytes.
@@ -59,6 +66,32 @@ impl From<ScanFault> for Fault {
         match fault {
             ScanFault::Memory => Fault::Memory,
             fault => Fault::Scan(fault),
+        }
+    }
+}
+
+impl From<ParseFault> for Fault {
+    ghost use Rattle.tf_session.specs.Faults.{fault_of_parse};
+
+    ghost from_gives = { λ fault given. given ≡ fault_of_parse fault };
+
+    fn from(fault: ParseFault) -> Self {
+        match fault {
+            ParseFault::Memory => Fault::Memory,
+            fault => Fault::Parse(fault),
+        }
+    }
+}
+
+impl From<LayoutFault> for Fault {
+    ghost use Rattle.tf_session.specs.Faults.{fault_of_layout};
+
+    ghost from_gives = { λ fault given. given ≡ fault_of_layout fault };
+
+    fn from(fault: LayoutFault) -> Self {
+        match fault {
+            LayoutFault::TooLong => Fault::TooLong,
+            LayoutFault::Memory => Fault::Memory,
         }
     }
 }

@@ -4,7 +4,9 @@ ghost use Rattle.std.specs.Prelude.{◌≡◌};
 
 use crate::command::Fault;
 use edit_record::Refused;
+use edit_text::RecordFault;
 use hcl_scan::ScanFault;
+use hcl_tree::ParseFault;
 use std::alloc::{AllocError, AllocFailed};
 use tf_lint::{LintFault, Rule};
 use tf_stream::TakeFault;
@@ -25,7 +27,10 @@ pub enum RunFault {
     /// The text can't be cut into tokens.
     #[error(transparent)]
     Scan(ScanFault),
-    /// What the fix of the rule makes of the text can't be read any more.
+    /// The tokens do not follow the grammar, or more than 100 constructs stand in one another.
+    #[error(transparent)]
+    Parse(ParseFault),
+    /// What the fix of the rule makes of the text does not parse.
     #[error("fix of {} does not parse", .rule.name())]
     FixBroken { rule: Rule },
     /// The new text would have more than 16,777,216 bytes.
@@ -49,6 +54,9 @@ pub enum RunFault {
     /// The reader has more bytes than the limit allows.
     #[error("text or journal is too long")]
     Endless,
+    /// What was read for a journal is the text of none.
+    #[error("journal: {0}")]
+    BadJournal(RecordFault),
 }
 
 impl From<AllocError> for RunFault {
@@ -105,6 +113,19 @@ impl From<TakeFault> for RunFault {
     }
 }
 
+impl From<RecordFault> for RunFault {
+    ghost use Rattle.tf_session.specs.Faults.{run_fault_of_record};
+
+    ghost from_gives = { λ fault given. given ≡ run_fault_of_record fault };
+
+    fn from(fault: RecordFault) -> Self {
+        match fault {
+            RecordFault::Memory => RunFault::Memory,
+            fault => RunFault::BadJournal(fault),
+        }
+    }
+}
+
 impl From<Fault> for RunFault {
     ghost use Rattle.tf_session.specs.Faults.{run_fault_of};
 
@@ -113,6 +134,7 @@ impl From<Fault> for RunFault {
     fn from(fault: Fault) -> Self {
         match fault {
             Fault::Scan(fault) => RunFault::Scan(fault),
+            Fault::Parse(fault) => RunFault::Parse(fault),
             Fault::FixBroken { rule } => RunFault::FixBroken { rule },
             Fault::TooLong => RunFault::TooLong,
             Fault::NoRecord => RunFault::NoRecord,

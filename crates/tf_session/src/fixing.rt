@@ -2,20 +2,23 @@
 
 ghost use Rattle.std.specs.Prelude.{◌≡◌, ◌≢◌, ◌≤◌, ◌⊎◌, true, Ok, length, IfOk, IfErr, IfSome};
 ghost use Rattle.hcl_token.specs.CutText.{CutText};
-ghost use Rattle.hcl_scan.specs.Cut.{IsCut, MAX_TEXT};
+ghost use Rattle.hcl_scan.specs.Cut.{MAX_TEXT};
 ghost use Rattle.edit_record.specs.Pieces.{Turns};
 ghost use Rattle.tf_lint.specs.Fixes.{fix_edits, fixed_text};
 ghost use Rattle.tf_lint.specs.Issues.{issues_of};
-ghost use Rattle.tf_session.specs.Fixing.{differ, IsUnread, StepBreaks};
+ghost use Rattle.tf_session.specs.Fixing.{differ, StepBreaks};
+ghost use Rattle.tf_session.specs.Reading.{Reads, IsUnread};
 ghost use Rattle.tf_session.specs.Makes.{Makes, RefusesText};
 ghost use Rattle.tf_session.specs.Fixed.{made_of};
 ghost use Rattle.tf_session.specs.declared.command.Command.{Command};
 ghost use Rattle.tf_session.specs.declared.command.Command.TheVariants.{Fix};
 
 use crate::command::Fault;
+use crate::reading::read_text;
 use edit_record::laws::apply_is_exact;
 use edit_record::{Change as _, Edits};
-use hcl_scan::{ScanFault, Scanned, scan};
+use hcl_scan::Scanned;
+use hcl_scan::laws::{no_cut_with_fault, one_cut};
 use std::alloc::Global;
 use tf_lint::{Rule, RuleSet, fix_step, issues, taken};
 
@@ -43,19 +46,19 @@ pub fn fix_text(alloc: Global, text: &[u8], rules: RuleSet) -> Result<Fixed, Fau
     ensures change { IfOk result (λ fixed. IfSome fixed.change (λ change. (differ text.now change.text.items ≡ true) × Turns change.edits text.now change.text.items)) }
     ensures fault { IfErr result (λ fault. RefusesText (Fix rules) text.now fault) }
 {
-    let scanned = scan(alloc, text)?;
+    let parsed = read_text(alloc, text)?;
     if !rules.has(Rule::CommentSyntax) {
-        let left = count_issues(alloc, &scanned, rules)?;
+        let left = count_issues(alloc, &parsed.scanned, rules)?;
         return Ok(Fixed {
             change: None,
             fixed: 0,
             left,
         });
     }
-    let fixed = taken(&scanned, Rule::CommentSyntax);
-    let change = step_change(alloc, &scanned, Rule::CommentSyntax)?;
+    let fixed = taken(&parsed.scanned, Rule::CommentSyntax);
+    let change = step_change(alloc, &parsed.scanned, Rule::CommentSyntax)?;
     if change.text.as_slice() == text {
-        let left = count_issues(alloc, &scanned, rules)?;
+        let left = count_issues(alloc, &parsed.scanned, rules)?;
         return Ok(Fixed {
             change: None,
             fixed,
@@ -90,21 +93,23 @@ fn step_change(alloc: Global, scanned: &Scanned<'_>, rule: Rule) -> Result<Chang
 
 // The number of issues that the text of the step of this rule has.
 fn issues_left(alloc: Global, text: &[u8], rule: Rule, rules: RuleSet) -> Result<usize, Fault>
-    ensures counted { IfOk result (λ count. (cut : CutText) × (cut.text ≡ text.now) × IsCut text.now cut.pairs cut.last × (count ≡ length (issues_of rules cut.pairs))) }
+    ensures counted { IfOk result (λ count. (cut : CutText) × Reads text.now cut × (count ≡ length (issues_of rules cut.pairs))) }
     ensures fault { IfErr result (λ fault. (fault ≡ Fault.Memory) ⊎ ((fault ≡ Fault.FixBroken rule) × IsUnread text.now)) }
 {
-    match scan(alloc, text) {
-        Ok(scanned) => count_issues(alloc, &scanned, rules),
+    no_cut_with_fault();
+    one_cut();
+    match read_text(alloc, text) {
+        Ok(parsed) => count_issues(alloc, &parsed.scanned, rules),
         Err(fault) => Err(broken(fault, rule)),
     }
 }
 
-// Why a text that a fix made has no tokens.
-fn broken(fault: ScanFault, rule: Rule) -> Fault
-    ensures { ((fault ≡ ScanFault.Memory) × (result ≡ Fault.Memory)) ⊎ ((fault ≢ ScanFault.Memory) × (result ≡ Fault.FixBroken rule)) }
+// Why a text that a fix made is not read.
+fn broken(fault: Fault, rule: Rule) -> Fault
+    ensures { ((fault ≡ Fault.Memory) × (result ≡ Fault.Memory)) ⊎ ((fault ≢ Fault.Memory) × (result ≡ Fault.FixBroken rule)) }
 {
     match fault {
-        ScanFault::Memory => Fault::Memory,
+        Fault::Memory => Fault::Memory,
         _ => Fault::FixBroken { rule },
     }
 }

@@ -1,11 +1,13 @@
 //! Laws of the machine that `run` stands for: functions that do nothing, for callers whose proofs want what their clauses say.
 
 ghost use Rattle.tf_session.specs.OneAnswer.{OneAnswer};
+ghost use Rattle.tf_session.specs.FmtLaws.{FmtKeepsTokens, FmtChangesOnce};
 ghost use Rattle.tf_session.specs.JournalLaws.{JournalIsOne};
 ghost use Rattle.tf_session.specs.RunLaws.{RefusedDoNotCount, RevertsTakeOff, RevertsGiveTheFirst};
 
 use edit_record::laws::turned_texts_have_the_lengths;
 use edit_squash::laws::squash_all_is_one;
+use hcl_format::laws::{layout_keeps_tokens, layout_of_layout, one_layout};
 use hcl_scan::laws::{no_cut_with_fault, one_cut, one_fault};
 
 /// A command that met a refused growth might as well not be in the list.
@@ -30,6 +32,21 @@ pub fn each_command_has_one_answer()
     one_cut();
     no_cut_with_fault();
     one_fault();
+    one_layout();
+}
+
+/// Where a fmt answers `Done`, the new text has the tokens of the old one, comments and line ends among them.
+pub fn fmt_keeps_tokens()
+    ensures { FmtKeepsTokens }
+{
+    layout_keeps_tokens();
+}
+
+/// A fmt after a fmt changes nothing.
+pub fn fmt_changes_once()
+    ensures { FmtChangesOnce }
+{
+    layout_of_layout();
 }
 
 /// The records of the journal of any run, squashed from the first on, are one list of edits, which turns the first text into the

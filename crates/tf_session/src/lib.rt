@@ -7,8 +7,10 @@
 mod command;
 mod fault;
 mod fixing;
+mod formatting;
 pub mod laws;
 mod linting;
+mod reading;
 mod running;
 mod session;
 mod streaming;
@@ -18,6 +20,7 @@ pub use command::{Command, Done, Fault, Reply};
 pub use edit_record::{Journal, Refused};
 pub use fault::{Part, RunFault};
 pub use hcl_scan::ScanFault;
+pub use hcl_tree::ParseFault;
 pub use linting::lint_stream;
 pub use running::run;
 pub use session::Session;

@@ -12,7 +12,7 @@ use std::alloc::{AllocError, Global};
 
 /// The commands in order, over a text with no journal, with one reply for each.
 ///
-/// Text and replies are those of a stack of whole texts, on which a fix puts the stated replacement and from which a revert
+/// Text and replies are those of a stack of whole texts, on which a fmt puts the layout, a fix the stated replacement, and from which a revert
 /// takes exactly the last; the journal has one record for each two neighbours. A command that met a refused growth answers
 /// `Memory` and might as well not be in the list.
 pub fn run(

@@ -9,6 +9,7 @@ ghost use Rattle.tf_session.specs.Records.{DoesStep, RefusesStep, AddsRecord, Ta
 
 use crate::command::{Command, Done, Fault, Reply};
 use crate::fixing::{Change, Fixed, fix_text};
+use crate::formatting::fmt_text;
 use edit_record::laws::undo_is_exact;
 use edit_record::{Change as _, Journal, Record, Word};
 use std::alloc::Global;
@@ -51,6 +52,10 @@ impl Session {
         ensures journal { OnErr result (records_of self.new ≡ records_of self.old) }
     {
         match command {
+            Command::Fmt => {
+                let laid = fmt_text(alloc, self.text.as_slice())?;
+                self.put_on(Word::Fmt, laid)
+            }
             Command::Fix(rules) => {
                 let fixed = fix_text(alloc, self.text.as_slice(), rules)?;
                 self.put_on(Word::Fix, fixed)

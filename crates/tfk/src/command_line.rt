@@ -3,11 +3,13 @@
 use clap::{Arg, ArgAction, ArgMatches, Command};
 use std::alloc::{AllocError, Global};
 
-const ABOUT: &str = "Lints Terraform files, and fixes what it finds";
+const ABOUT: &str = "Lints Terraform files, fixes what it finds, and takes fixes back";
 
 const PROGRAM: &str = "tfk";
 
 const AFTER_HELP: &str = "\
+A fix of FILE rewrites FILE and keeps what it did in the file FILE.tfundo beside it, which revert reads.
+
 Exit status:
   0  nothing to report
   1  a file or the command line has a fault, which standard error names
@@ -16,7 +18,9 @@ Exit status:
 Examples:
   tfk lint main.tf variables.tf    report the issues of two files
   tfk lint - < main.tf             report those of standard input
-  tfk fix - < main.tf > fixed.tf   write the text with its issues fixed";
+  tfk fix main.tf                  fix the issues of a file in place
+  tfk fix - < main.tf > fixed.tf   write the text with its issues fixed
+  tfk revert main.tf               take the last fix of a file back";
 
 const LINT_ABOUT: &str = "Reports the issues of each file";
 
@@ -24,24 +28,51 @@ const LINT_AFTER_HELP: &str = "\
 Each issue is a line on standard output:
   FILE:LINE:COLUMN: SEVERITY - what is wrong (rule)
 A file that cannot be read or scanned is named on standard error, and the others are still linted.
+Nothing is written to the files.
 
 Rules:
   terraform_comment_syntax    comments begin with #, not //
 
-Exit status: 0 no issue, 1 a fault, 2 an issue.";
+Exit status: 0 no issue, 1 a fault, 2 an issue.
+
+Example:
+  tfk lint main.tf variables.tf";
 
 const LINT_FILE_HELP: &str = "A file to read; - alone is standard input";
 
-const FIX_ABOUT: &str = "Writes a text with its issues fixed";
+const FIX_ABOUT: &str = "Fixes the issues of each file in place";
 
 const FIX_AFTER_HELP: &str = "\
-The text of standard input goes to standard output with all that can be fixed, changed or not.
-The issues that are left are lines on standard error, as those of `tfk lint`.
-Where the text cannot be fixed, nothing is written to standard output.
+Each FILE is rewritten with all fixed that can be. What was changed is written to FILE.tfundo first, behind what earlier
+commands wrote there; `tfk revert FILE` takes it back. Where nothing is to be fixed, neither file is written.
+The issues that are left are lines on standard output, as those of `tfk lint`.
+A file with a fault stays as it is and is named on standard error, and the others are still fixed.
 
-Exit status: 0 no issue left, 1 a fault, 2 an issue left.";
+With - the text of standard input goes to standard output, changed or not; the issues left are lines on standard
+error, and nothing is kept that could be taken back. Where the text cannot be fixed, nothing goes to standard output.
 
-const FIX_FILE_HELP: &str = "- for standard input; files are not rewritten yet";
+Exit status: 0 no issue left, 1 a fault, 2 an issue left.
+
+Examples:
+  tfk fix main.tf variables.tf
+  tfk fix - < main.tf > fixed.tf";
+
+const FIX_FILE_HELP: &str = "A file to rewrite; - alone is standard input";
+
+const REVERT_ABOUT: &str = "Takes back the last command that changed a file";
+
+const REVERT_AFTER_HELP: &str = "\
+FILE.tfundo tells what the commands on FILE changed. The last of them is undone in FILE, and taken out of FILE.tfundo, which
+is written first. Once more takes back the command before it, and so on to the first text.
+What was changed by hand since then may stand, as long as FILE has the same length and what the command had put in is
+still there; otherwise both files stay as they are.
+
+Exit status: 0 taken back, 1 a fault (`nothing to revert` is one).
+
+Example:
+  tfk revert main.tf";
+
+const REVERT_FILE_HELP: &str = "The file to take the last command back on";
 
 /// What is to be done, and to which files.
 #[derive(Debug, Drop)]
@@ -55,6 +86,7 @@ pub struct Task<'a> {
 pub enum Action {
     Lint,
     Fix,
+    Revert,
 }
 
 /// Why there is nothing to be done.
@@ -95,6 +127,16 @@ fn fix_command<'a>(alloc: Global) -> Result<Command<'a>, AllocError> {
         .arg(files_argument(alloc, FIX_FILE_HELP))
 }
 
+fn revert_command<'a>(alloc: Global) -> Result<Command<'a>, AllocError> {
+    let file = Arg::new(alloc, "FILE")
+        .help(REVERT_FILE_HELP)
+        .required(true);
+    Command::new(alloc, "revert")
+        .about(REVERT_ABOUT)
+        .after_help(REVERT_AFTER_HELP)
+        .arg(file)
+}
+
 fn whole_command<'a>(alloc: Global) -> Result<Command<'a>, AllocError> {
     Command::new(alloc, PROGRAM)
         .about(ABOUT)
@@ -102,7 +144,8 @@ fn whole_command<'a>(alloc: Global) -> Result<Command<'a>, AllocError> {
         .version("0.1.0")
         .subcommand_required(true)
         .subcommand(lint_command(alloc)?)?
-        .subcommand(fix_command(alloc)?)
+        .subcommand(fix_command(alloc)?)?
+        .subcommand(revert_command(alloc)?)
 }
 
 fn values<'a>(
@@ -124,11 +167,6 @@ fn has_dash_beside(files: &[&str]) -> bool {
     files.len() > 1 && files.iter().any(|name| *name == "-")
 }
 
-/// Whether a file other than `-` is named.
-fn has_file(files: &[&str]) -> bool {
-    files.iter().any(|name| *name != "-")
-}
-
 fn misuse(alloc: Global, text: &str) -> Stop {
     match String::from_str(alloc, text) {
         Ok(text) => Stop::Misuse(text),
@@ -136,25 +174,25 @@ fn misuse(alloc: Global, text: &str) -> Stop {
     }
 }
 
-/// The task of words that are right by themselves. A `-` beside another file is found first, then a file that is not
-/// taken yet.
+/// The task of words that are right by themselves. A `-` that does not stand alone, or that is to be reverted, is found here.
 fn task_of<'a>(alloc: Global, matches: &ArgMatches<'a>) -> Result<Task<'a>, Stop> {
     let Some((name, inner)) = matches.subcommand() else {
         return Err(misuse(alloc, "tfk: no command\n"));
     };
-    let action = if name == "fix" {
-        Action::Fix
-    } else {
-        Action::Lint
-    };
+    let action = action_of(name);
     let files = values(alloc, inner, "FILE")?;
-    if has_dash_beside(&files) {
+    if has_dash_beside(&files) || action == Action::Revert && files.contains(&"-") {
         return Err(misuse(alloc, "tfk: - stands alone\n"));
     }
-    if action == Action::Fix && has_file(&files) {
-        return Err(misuse(alloc, "tfk: only - is taken here\n"));
-    }
     Ok(Task { action, files })
+}
+
+fn action_of(name: &str) -> Action {
+    match name {
+        "fix" => Action::Fix,
+        "revert" => Action::Revert,
+        _ => Action::Lint,
+    }
 }
 
 /// The words behind the program's name, with that name before them, which `clap` shows in its texts.

@@ -1,5 +1,6 @@
 //! One file or standard stream.
 
+use crate::journals::command_file;
 use std::alloc::Global;
 use std::fs;
 use std::io::{Read, Write};
@@ -58,4 +59,24 @@ pub fn fix_input<I: Read, O: Write, F: Write>(
     )?;
     let mut fixed = session.text();
     lint_reader(alloc, STANDARD_INPUT, &mut fixed, left, rules)
+}
+
+/// Fixes a file in place, with its journal beside it, writes the lines of the issues left to the output, and answers how many
+/// are left.
+pub fn fix_file<R: Files, O: Write>(
+    rt: &R,
+    alloc: Global,
+    name: &str,
+    output: &mut O,
+    rules: RuleSet,
+) -> Result<usize, RunFault> {
+    let session = command_file(rt, alloc, name, Command::Fix(rules))?;
+    let mut fixed = session.text();
+    lint_reader(alloc, name, &mut fixed, output, rules)
+}
+
+/// Takes back the last command on a file.
+pub fn revert_file<R: Files>(rt: &R, alloc: Global, name: &str) -> Result<(), RunFault> {
+    command_file(rt, alloc, name, Command::Revert)?;
+    Ok(())
 }

@@ -3,6 +3,7 @@
 
 mod command_line;
 mod files;
+mod journals;
 mod outcome;
 mod worker;
 

@@ -1,5 +1,7 @@
 //! The program from its words to its status, over files and streams in memory.
 
+mod journals;
+
 use crate::work;
 use std::fs;
 use std::io::{self, Read, Write};
@@ -140,13 +142,20 @@ const MISUSED: [(&[&str], &str); 8] = [
     ),
     (&["lint", "-", "-"], "tfk: - stands alone\n"),
     (&["fix", "a.tf", "-"], "tfk: - stands alone\n"),
-    (&["fix", "a.tf"], "tfk: only - is taken here\n"),
-    (&["fix", "a.tf", "b.tf"], "tfk: only - is taken here\n"),
+    (&["revert", "-"], "tfk: - stands alone\n"),
+    (&["fix", "absent.tf"], "tfk: absent.tf: cannot read\n"),
     (&["lint", "absent.tf"], "tfk: absent.tf: cannot read\n"),
 ];
 
 /// Words that are no command.
-const UNKNOWN: [&[&str]; 4] = [&[], &["lint"], &["format", "-"], &["lint", "--fix", "-"]];
+const UNKNOWN: [&[&str]; 6] = [
+    &[],
+    &["lint"],
+    &["format", "-"],
+    &["lint", "--fix", "-"],
+    &["revert"],
+    &["revert", "a.tf", "b.tf"],
+];
 
 #[test]
 fn tells_faults_of_the_words(rt: HostRuntime) -> Result<(), Fail> {
@@ -167,7 +176,8 @@ fn help_goes_to_standard_output(rt: HostRuntime) -> Result<(), Fail> {
     for (words, part) in [
         (["--help"].as_slice(), "tfk lint main.tf"),
         (["lint", "--help"].as_slice(), "terraform_comment_syntax"),
-        (["fix", "--help"].as_slice(), "standard error"),
+        (["fix", "--help"].as_slice(), "FILE.tfundo"),
+        (["revert", "--help"].as_slice(), "tfk revert main.tf"),
         (["--version"].as_slice(), "tfk 0.1.0"),
     ] {
         let ran = answer_of(&rt, words, b"")?;

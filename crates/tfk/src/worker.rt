@@ -1,7 +1,7 @@
 //! The work that the words ask for.
 
 use crate::command_line::{Action, Stop, Task, task_from, words_of};
-use crate::files::{STANDARD_INPUT, fix_input, lint_file, lint_reader};
+use crate::files::{STANDARD_INPUT, fix_file, fix_input, lint_file, lint_reader, revert_file};
 use crate::outcome::Outcome;
 use std::alloc::Global;
 use std::io::{Read, Write};
@@ -81,7 +81,12 @@ fn work_on_file<R: Files, I: Read, O: Write, F: Write>(
 ) -> Result<usize, RunFault> {
     let rules = RuleSet::all();
     match action {
-        Action::Fix => fix_input(alloc, input, output, faults, rules),
+        Action::Fix if name == STANDARD_INPUT => fix_input(alloc, input, output, faults, rules),
+        Action::Fix => fix_file(rt, alloc, name, output, rules),
+        Action::Revert => {
+            revert_file(rt, alloc, name)?;
+            Ok(0)
+        }
         Action::Lint if name == STANDARD_INPUT => lint_reader(alloc, name, input, output, rules),
         Action::Lint => lint_file(rt, alloc, name, output, rules),
     }

@@ -102,6 +102,30 @@ fn all_lines_are_fixed_and_taken_back(rt: HostRuntime) -> Result<(), Fail> {
 }
 
 #[test]
+fn all_lines_are_laid_out_and_taken_back(rt: HostRuntime) -> Result<(), Fail> {
+    let old = repeated(rt.alloc(), b"a=1\n", LINES)?;
+    let new = repeated(rt.alloc(), b"a = 1\n", LINES)?;
+    let text = Vec::from_slice(rt.alloc(), old.as_slice())?;
+    let mut session = Session::start(text, Journal::empty(rt.alloc()));
+    for changed in [true, false] {
+        assert_eq!(rt;
+            session.step(rt.alloc(), Command::Fmt)?,
+            done(changed, 0, 0)
+        );
+        assert!(rt; session.text() == new.as_slice());
+    }
+    let records = session.journal().records();
+    assert_eq!(rt; records.len(), 1);
+    assert_eq!(rt; records[0].edits().edits().len(), 2 * LINES);
+    assert_eq!(rt;
+        session.step(rt.alloc(), Command::Revert)?,
+        done(true, 0, 0)
+    );
+    assert!(rt; session.text() == old.as_slice());
+    Ok(())
+}
+
+#[test]
 fn a_long_run_answers_each_command(rt: HostRuntime) -> Result<(), Fail> {
     let mut commands = Vec::new(rt.alloc());
     for _ in 0..500 {

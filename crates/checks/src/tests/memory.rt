@@ -90,6 +90,20 @@ fn steps(rt: &impl Abort, alloc: Global) {
     }
 }
 
+fn layouts(rt: &impl Abort, alloc: Global) {
+    let Ok(text) = Vec::from_slice(alloc, b"a=1\n") else {
+        return;
+    };
+    let mut session = Session::start(text, Journal::empty(alloc));
+    if replies(rt, session.step(alloc, Command::Fmt), true, 0) {
+        assert!(rt; session.text() == b"a = 1\n".as_slice());
+        assert_eq!(rt; session.journal().records().len(), 1);
+    } else {
+        assert!(rt; session.text() == b"a=1\n".as_slice());
+        assert!(rt; session.journal().records().is_empty());
+    }
+}
+
 fn runs(rt: &impl Abort, alloc: Global) {
     let Ok(text) = Vec::from_slice(alloc, OLD) else {
         return;
@@ -107,5 +121,6 @@ fn runs(rt: &impl Abort, alloc: Global) {
 fn a_refused_growth_changes_nothing(rt: HostRuntime) {
     streams(&rt, rt.alloc());
     steps(&rt, rt.alloc());
+    layouts(&rt, rt.alloc());
     runs(&rt, rt.alloc());
 }

@@ -5,7 +5,9 @@ ghost use Rattle.std.specs.Prelude.{Some};
 use edit_record::{Change, Edit, Edits, Journal, Record, Refused, Word};
 use std::alloc::Global;
 use std::test::Fail;
-use tf_session::{Command, Done, Fault, Rule, RuleSet, RunFault, ScanFault, Session, run};
+use tf_session::{
+    Command, Done, Fault, ParseFault, Rule, RuleSet, RunFault, ScanFault, Session, run,
+};
 
 const OLD: &[u8] = b"a = 1 // one\n";
 
@@ -231,6 +233,14 @@ fn the_faults_of_commands_print(rt: HostRuntime) -> Result<(), Fail> {
         (
             Fault::Scan(ScanFault::BadCharacter { at: 5 }),
             "byte 5: unexpected character",
+        ),
+        (
+            Fault::Parse(ParseFault::Syntax { at: 5 }),
+            "byte 5: syntax error",
+        ),
+        (
+            Fault::Parse(ParseFault::TooDeep { at: 104 }),
+            "byte 104: nested more than 100 deep",
         ),
         (
             Fault::FixBroken {

@@ -1,5 +1,5 @@
 -- What the code keeps of tokens and cells, as lists. For proofs: nothing here has to be believed.
-use Rattle.std.specs.Prelude.{ℕ, Bool, true, List, [], ◌∷◌, map, ◌<◌, Option, Some, None}
+use Rattle.std.specs.Prelude.{ℕ, Bool, true, List, [], ◌∷◌, map, ◌<◌, Option, Some, None, ⊤}
 use Rattle.hcl_token.specs.declared.kind.Kind.{Kind}
 use Rattle.hcl_layout.specs.Kinds.{is_equal, is_line_comment}
 use Rattle.hcl_layout.specs.Lines.{Line}
@@ -43,6 +43,6 @@ tokens_in starts = map token_in starts
 
 -- each cell begins at a token of so many
 abbrev pub AreInside : ℕ → List (Option CellStart) → Type 0
-AreInside count [] = Unit {0}
+AreInside count [] = ⊤
 AreInside count (None ∷ starts) = AreInside count starts
 AreInside count (Some p ∷ starts) = (p.token < count) × AreInside count starts

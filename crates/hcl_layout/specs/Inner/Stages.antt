@@ -1,5 +1,5 @@
 -- The layout as the code works it out, stage by stage. For proofs: nothing here has to be believed.
-use Rattle.std.specs.Prelude.{◌≡◌, ◌<◌, ◌≤◌, drop, slice_range, ℕ, suc, ◌+◌, ◌-◌, ◌*◌, ◌==◌, Bool, ◌&&◌, nat_lt, List, [], ◌∷◌, length, replicate, slice_get, slice_set, ◌||◌, ◌++◌, Option, Some, None, option_map, option_and_then, if◌then◌else◌}
+use Rattle.std.specs.Prelude.{◌≡◌, ◌<◌, ◌≤◌, drop, slice_range, ℕ, suc, ◌+◌, ◌-◌, ◌*◌, ◌==◌, Bool, ◌&&◌, nat_lt, List, [], ◌∷◌, length, replicate, slice_get, slice_set, ◌||◌, ◌++◌, Option, Some, None, option_map, option_and_then, if◌then◌else◌, ⊤}
 use Rattle.std.specs.Str.{bytes_eq}
 use Rattle.hcl_token.specs.declared.kind.Kind.{Kind}
 use Rattle.hcl_token.specs.Tokens.{Pair}
@@ -67,7 +67,7 @@ cell_gaps_below top (None ∷ ws) = None ∷ cell_gaps_below (greatest ws) ws
 
 -- the widths are at most this
 abbrev pub AreWithin : ℕ → List (Option ℕ) → Type 0
-AreWithin most [] = Unit {0}
+AreWithin most [] = ⊤
 AreWithin most (None ∷ ws) = AreWithin most ws
 AreWithin most (Some w ∷ ws) = (w ≤ most) × AreWithin most ws
 

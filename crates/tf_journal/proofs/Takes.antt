@@ -1,0 +1,81 @@
+-- A fix that changed the text is taken back over what it wrote.
+use Rattle.std.proofs.Common.{◌≡◌, ◌∙◌, ℕ, List, [], ◌∷◌, ◌++◌, Bool, true, Option, Some, None, ap, sym, refl, subst, inl}
+use Rattle.std.specs.Io.KnownBytes.{Appends, Consumes, IsAtEnd}
+use Rattle.edit_record.specs.Journal.{Entered, record_turns}
+use Rattle.edit_text.specs.Text.{IsText, IsJournal}
+use Rattle.tf_stream.specs.Streams.{Source, Target, Puts, TakesAll}
+use Rattle.tf_session.specs.declared.command.Command.{Command}
+use Rattle.tf_session.specs.declared.command.Command.TheVariants.{Fix, Revert}
+use Rattle.tf_session.specs.declared.command.Done.{Done}
+use Rattle.tf_session.specs.Fixing.{differ}
+use Rattle.tf_session.specs.Machine.{done}
+use Rattle.tf_session.specs.Records.{AddsRecordOf}
+use Rattle.tf_journal.specs.Journals.{Saves}
+use Rattle.tf_journal.specs.TakingBack.{ReadsBack, FixIsTakenBack}
+
+pub not_nil : {X : Type 0} (xs : List X) (x : X) → xs ++ x ∷ [] ≡ [] → ⊥
+not_nil [] x e = cc
+not_nil (y ∷ ys) x e = cc
+
+-- lists that are one, with a last member each, have the same members before it, and the same last one
+pub same_last : {X : Type 0} (xs ys : List X) (x y : X) → xs ++ x ∷ [] ≡ ys ++ y ∷ [] → (xs ≡ ys) × (x ≡ y)
+same_last [] [] x y e = (refl, cc)
+same_last [] (b ∷ ys) x y e = let t : ys ++ y ∷ [] ≡ [] = cc in absurd (not_nil ys y t)
+same_last (a ∷ xs) [] x y e = let t : xs ++ x ∷ [] ≡ [] = cc in absurd (not_nil xs x t)
+same_last (a ∷ xs) (b ∷ ys) x y e =
+    let t : xs ++ x ∷ [] ≡ ys ++ y ∷ [] = cc in
+    let h = same_last xs ys x y t in
+    let same : xs ≡ ys = h.0 in
+    let head : a ≡ b = cc in
+    (cc, h.1)
+
+no_more : (xs : List ℕ) → xs ++ [] ≡ xs
+no_more [] = refl
+no_more (x ∷ xs) = ap (λ (ys : List ℕ). x ∷ ys) (no_more xs)
+
+-- what was put to a writer that held nothing is what it holds
+pub held : (before after : Option (List ℕ)) (bytes kept : List ℕ) → before ≡ Some [] → after ≡ Some kept → Appends before after bytes → kept ≡ bytes
+held None after bytes kept b a p = cc
+held (Some xs) None bytes kept b a p = absurd p
+held (Some xs) (Some ys) bytes kept b a p =
+    let x : xs ≡ [] = cc in
+    let y : ys ≡ kept = cc in
+    sym y ∙ p ∙ ap (λ (z : List ℕ). z ++ bytes) x
+
+-- what was taken up to the end is what there was
+pub had : (before after : Option (List ℕ)) (bytes kept : List ℕ) → before ≡ Some kept → Consumes before after bytes → IsAtEnd after → kept ≡ bytes
+had None after bytes kept b p end = cc
+had (Some xs) None bytes kept b p end = absurd p
+had (Some xs) (Some ys) bytes kept b p end =
+    let x : xs ≡ kept = cc in
+    sym x ∙ p ∙ ap (λ (z : List ℕ). bytes ++ z) end ∙ no_more bytes
+
+-- what was put is what is taken by who reads it back
+pub same_bytes : (limit : ℕ) (target : Target) (source : Source) (put taken : List ℕ) → ReadsBack target source → Puts target put → TakesAll limit source taken → put ≡ taken
+same_bytes limit target source put taken back p t =
+    sym (held target.before target.after put back.bytes back.empty back.written p) ∙ had source.before source.after taken back.bytes back.read t.0 t.1
+
+pub fix_is_taken_back : ((text : List ℕ) (rs ss : List Entered) → IsJournal text rs → IsJournal text ss → rs ≡ ss) → FixIsTakenBack
+fix_is_taken_back one rules d again first second s changed goes t =
+    let (text, records, loads, new, new_records, does, saves) = s in
+    let (text2, records2, loads2, u, us, takes, saves2) = t in
+    let made = does.0 in
+    let differs : differ text made.text ≡ true = sym (ap (λ (x : Done). x.changed) does.2.1) ∙ changed in
+    let adds = subst (λ (b : Bool). AddsRecordOf b (Fix rules) text made records new_records) differs does.2.2 in
+    let same_text : new ≡ text2 = same_bytes _ first.text_out second.text_in new text2 goes.text saves.3 loads2.0 in
+    let same_journal : saves.0 ≡ loads2.1 = same_bytes _ first.journal_out second.journal_in saves.0 loads2.1 goes.journal saves.2 loads2.2 in
+    let written : IsJournal loads2.1 new_records = subst (λ (b : List ℕ). IsJournal b new_records) same_journal (inl saves.1.0) in
+    let same_records : records2 ≡ new_records = one loads2.1 records2 new_records loads2.3 written in
+    let lasts = same_last us records takes.0 adds.0 (sym takes.1 ∙ same_records ∙ adds.1) in
+    let above : made.text ≡ text2 = sym does.2.0 ∙ same_text in
+    let turns : record_turns adds.0 text text2 = subst (λ (x : List ℕ). record_turns adds.0 text x) above adds.2.turns in
+    let turns2 : record_turns takes.0 text text2 = subst (λ (r : Entered). record_turns r text text2) (sym lasts.1) turns in
+    let back : u ≡ text = sym (takes.2.1 text turns2) in
+    let changed2 : differ u text2 ≡ true = ap (λ (x : List ℕ). differ x text2) back ∙ ap (λ (x : List ℕ). differ text x) (sym above) ∙ differs in
+    let saved : Saves text us second.journal_out second.text_out = subst (λ (x : List ℕ). Saves x us second.journal_out second.text_out) back saves2 in (
+      text,
+      records,
+      loads,
+      subst (λ (rs : List Entered). Saves text rs second.journal_out second.text_out) lasts.0 saved,
+      takes.3 ∙ ap (λ (b : Bool). done b 0 0) changed2,
+    )

@@ -1,0 +1,15 @@
+//! Texts with their journals: read from two readers, worked on, and written to two writers, the journal first.
+//!
+//! Every reader and writer is handed over in a fresh `Told`, which keeps whether a call of it failed.
+#![tactic(auto)]
+
+pub mod laws;
+mod loading;
+mod saving;
+mod streaming;
+
+pub use edit_text::RecordFault;
+pub use loading::{MAX_JOURNAL, load};
+pub use saving::{journal_text, save};
+pub use streaming::{fix_stream, revert_stream};
+pub use tf_session::put_journal;

@@ -1,0 +1,69 @@
+//! What a fmt makes of a text.
+
+ghost use Rattle.std.specs.Prelude.{◌≡◌, ◌≤◌, ◌⊎◌, true, Ok, length, IfOk, IfErr, IfSome};
+ghost use Rattle.edit_record.specs.Pieces.{Turns};
+ghost use Rattle.hcl_format.specs.Layouts.{IsLayout, IsTooLong};
+ghost use Rattle.hcl_grammar.specs.Bodies.{IsFile};
+ghost use Rattle.hcl_layout.specs.Layout.{layout_edits};
+ghost use Rattle.hcl_parses.specs.Parses.{MAX_NESTING};
+ghost use Rattle.hcl_scan.specs.Cut.{MAX_TEXT};
+ghost use Rattle.hcl_scan.specs.Follows.{tokens_of};
+ghost use Rattle.tf_session.specs.Fixing.{differ};
+ghost use Rattle.tf_session.specs.Fixed.{made_of};
+ghost use Rattle.tf_session.specs.Makes.{Makes, RefusesText};
+ghost use Rattle.tf_session.specs.declared.command.Command.TheVariants.{Fmt};
+ghost use Rattle.tf_session.specs.declared.command.Fault.TheVariants.{TooLong, Memory};
+
+use crate::command::Fault;
+use crate::fixing::{Change, Fixed};
+use crate::reading::read_text;
+use edit_record::Change as _;
+use edit_record::laws::{apply_is_exact, sides_fix_each_other};
+use hcl_format::{laws, layout};
+use hcl_parses::laws::parsed_apart;
+use hcl_scan::Scanned;
+use hcl_tree::Tree;
+use std::alloc::Global;
+
+/// The text laid out.
+pub fn fmt_text(alloc: Global, text: &[u8]) -> Result<Fixed, Fault>
+    ensures made { IfOk result (λ fixed. Makes Fmt text.now (Ok (made_of text.now fixed))) }
+    ensures change { IfOk result (λ fixed. IfSome fixed.change (λ change. (differ text.now change.text.items ≡ true) × Turns change.edits text.now change.text.items)) }
+    ensures fault { IfErr result (λ fault. RefusesText Fmt text.now fault) }
+{
+    laws::laid_out_is_text();
+    laws::one_layout();
+    parsed_apart();
+    let parsed = read_text(alloc, text)?;
+    let change = layout_change(alloc, &parsed.scanned, &parsed.tree)?;
+    if change.text.as_slice() == text {
+        return Ok(Fixed {
+            change: None,
+            fixed: 0,
+            left: 0,
+        });
+    }
+    Ok(Fixed {
+        change: Some(change),
+        fixed: 0,
+        left: 0,
+    })
+}
+
+// The layout of a text with this tree.
+fn layout_change(alloc: Global, scanned: &Scanned<'_>, tree: &Tree) -> Result<Change, Fault>
+    requires { IsFile (tokens_of scanned.now.pairs) MAX_NESTING tree.now }
+    ensures layout { IfOk result (λ change. IsLayout scanned.now.text change.text.items) }
+    ensures short { IfOk result (λ change. length change.text.items ≤ MAX_TEXT) }
+    ensures edits { IfOk result (λ change. change.edits ≡ layout_edits scanned.now) }
+    ensures turns { IfOk result (λ change. Turns change.edits scanned.now.text change.text.items) }
+    ensures fault { IfErr result (λ fault. (fault ≡ Memory) ⊎ ((fault ≡ TooLong) × IsTooLong scanned.now.text)) }
+{
+    let edits = layout(alloc, scanned, tree)?;
+    apply_is_exact(&edits);
+    sides_fix_each_other(&edits);
+    match edits.apply(alloc, scanned.text()) {
+        Ok(text) => Ok(Change { text, edits }),
+        Err(refused) => Err(Fault::from(refused)),
+    }
+}
