@@ -8,7 +8,7 @@ use Rattle.edit_text.specs.Text.{record_text, journal_text, IsText, IsJournal}
 use Rattle.edit_text.specs.Decoding.{Decodes}
 use Rattle.edit_text.specs.declared.fault.RecordFault.{RecordFault}
 use Rattle.edit_text.specs.declared.fault.RecordFault.TheVariants.{BadHead, BadNumber, CutShort, BadEdits, BadEnd, BadSteps}
-use Rattle.tf_lint.specs.declared.rule_set.RuleSet.{RuleSet}
+use Rattle.tf_rule.specs.declared.rule_set.RuleSet.{RuleSet}
 use Rattle.tf_stream.specs.Streams.{Source, Target, TakenAtFault, Puts, TakesAll}
 use Rattle.tf_stream.specs.declared.fault.TakeFault.{TakeFault}
 use Rattle.tf_session.specs.declared.command.Command.{Command}

@@ -1,7 +1,7 @@
 -- A command is taken back over what it wrote.
 use Rattle.std.specs.Prelude.{◌≡◌, ℕ, Bool, true, false, List, [], Some}
 use Rattle.edit_record.specs.Journal.{Entered}
-use Rattle.tf_lint.specs.declared.rule_set.RuleSet.{RuleSet}
+use Rattle.tf_rule.specs.declared.rule_set.RuleSet.{RuleSet}
 use Rattle.tf_stream.specs.Streams.{Source, Target}
 use Rattle.tf_session.specs.declared.command.Command.{Command}
 use Rattle.tf_session.specs.declared.command.Command.TheVariants.{Fix, Revert}

@@ -8,7 +8,7 @@ use Rattle.std.specs.List.{flat_map}
 use Rattle.edit_record.specs.Pieces.{Piece, old_text, new_text, changes_from}
 use Rattle.edit_record.specs.Pieces.Piece.{Kept, Changed}
 use Rattle.hcl_token.specs.Tokens.{Pair, whole_text}
-use Rattle.tf_lint.specs.declared.rule.Rule.TheVariants.{CommentSyntax}
+use Rattle.tf_rule.specs.declared.rule.Rule.TheVariants.{CommentSyntax}
 use Rattle.tf_lint.specs.CommentSyntax.{is_line_comment, is_slash_comment, comment_issue}
 use Rattle.tf_lint.specs.Fixes.{mended_comment, has_issue_at, mended_comments, start_of, comment_edit, issue_edits}
 use Rattle.tf_lint.specs.Positions.{positions}

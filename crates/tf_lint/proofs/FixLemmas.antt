@@ -12,8 +12,8 @@ use Rattle.edit_record.specs.declared.edit.BadEdits.TheVariants.{TooLong}
 use Rattle.hcl_scan.specs.Cut.{IsCut}
 use Rattle.hcl_token.specs.CutText.{CutText}
 use Rattle.hcl_token.specs.Tokens.{whole_text}
-use Rattle.tf_lint.specs.declared.rule.Rule.{Rule}
-use Rattle.tf_lint.specs.declared.rule.Rule.TheVariants.{CommentSyntax, DeprecatedIndex, DeprecatedInterpolation, EmptyListEquality, DeprecatedLookup, NamingConvention, TypedVariables, DocumentedVariables, DocumentedOutputs}
+use Rattle.tf_rule.specs.declared.rule.Rule.{Rule}
+use Rattle.tf_rule.specs.declared.rule.Rule.TheVariants.{CommentSyntax, DeprecatedIndex, DeprecatedInterpolation, EmptyListEquality, DeprecatedLookup, NamingConvention, TypedVariables, DocumentedVariables, DocumentedOutputs}
 use Rattle.tf_lint.specs.Fixes.{fix_edits, fixed_text}
 use Rattle.tf_lint.proofs.CommentFixing.{comment_pieces, comment_changes, comment_old, comment_new, comment_entries, comment_edits_are}
 

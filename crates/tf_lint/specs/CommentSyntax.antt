@@ -4,7 +4,7 @@ use Rattle.hcl_token.specs.declared.kind.Kind.{Kind}
 use Rattle.hcl_token.specs.declared.kind.Kind.TheVariants.{LineComment}
 use Rattle.hcl_token.specs.Place.{place_of}
 use Rattle.hcl_token.specs.Tokens.{Pair}
-use Rattle.tf_lint.specs.declared.rule.Rule.TheVariants.{CommentSyntax}
+use Rattle.tf_rule.specs.declared.rule.Rule.TheVariants.{CommentSyntax}
 use Rattle.tf_lint.specs.Positions.{positions}
 use Rattle.tf_lint.specs.Reports.{Report}
 

@@ -4,8 +4,8 @@ use Rattle.std.specs.List.{flat_map}
 use Rattle.edit_record.specs.Pieces.{Entry, EditList}
 use Rattle.hcl_token.specs.CutText.{CutText, gap_of}
 use Rattle.hcl_token.specs.Tokens.{Pair, whole_text}
-use Rattle.tf_lint.specs.declared.rule.Rule.{Rule}
-use Rattle.tf_lint.specs.declared.rule.Rule.TheVariants.{CommentSyntax, DeprecatedIndex, DeprecatedInterpolation, EmptyListEquality, DeprecatedLookup, NamingConvention, TypedVariables, DocumentedVariables, DocumentedOutputs}
+use Rattle.tf_rule.specs.declared.rule.Rule.{Rule}
+use Rattle.tf_rule.specs.declared.rule.Rule.TheVariants.{CommentSyntax, DeprecatedIndex, DeprecatedInterpolation, EmptyListEquality, DeprecatedLookup, NamingConvention, TypedVariables, DocumentedVariables, DocumentedOutputs}
 use Rattle.tf_lint.specs.Reports.{Report}
 use Rattle.tf_lint.specs.Taken.{taken_issues}
 

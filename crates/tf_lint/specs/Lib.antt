@@ -3,6 +3,4 @@ pub mod Fixes
 pub mod Issues
 pub mod Positions
 pub mod Reports
-pub mod RuleSets
-pub mod Rules
 pub mod Taken

@@ -3,8 +3,8 @@ use Rattle.std.specs.Prelude.{ℕ, Bool, List, ◌++◌, codes, string_bytes}
 use Rattle.std.specs.Fmt.{decimal}
 use Rattle.hcl_token.specs.declared.place.Place.{Place}
 use Rattle.tf_lint.specs.declared.issue.Issue.{Issue}
-use Rattle.tf_lint.specs.declared.rule.Rule.{Rule}
-use Rattle.tf_lint.specs.Rules.{name_of, severity_of, label_of}
+use Rattle.tf_rule.specs.declared.rule.Rule.{Rule}
+use Rattle.tf_rule.specs.Rules.{name_of, severity_of, label_of}
 
 -- an issue, with its text as bytes
 pub record Report : Type 0 where

@@ -13,11 +13,11 @@ ghost use Rattle.tf_lint.specs.declared.fault.LintFault.TheVariants.{Memory};
 
 use crate::fault::LintFault;
 use crate::issue::Issue;
-use crate::rule::Rule;
 use edit_record::Edit;
 use hcl_scan::Scanned;
 use hcl_token::Kind;
 use std::alloc::Global;
+use tf_rule::Rule;
 
 const TEXT: &str = "Single line comments should begin with #";
 

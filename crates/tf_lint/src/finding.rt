@@ -7,10 +7,9 @@ ghost use Rattle.tf_lint.specs.declared.fault.LintFault.TheVariants.{Memory};
 use crate::comment_syntax::comment_issues;
 use crate::fault::LintFault;
 use crate::issue::Issue;
-use crate::rule::Rule;
-use crate::rule_set::RuleSet;
 use hcl_scan::Scanned;
 use std::alloc::Global;
+use tf_rule::{Rule, RuleSet};
 
 /// The issues of the rules in the set, by place. The only refusal is `Memory`.
 pub fn issues(alloc: Global, scanned: &Scanned<'_>, rules: RuleSet) -> Result<Vec<Issue>, LintFault>

@@ -9,11 +9,11 @@ ghost use Rattle.tf_lint.specs.declared.fault.LintFault.TheVariants.{TooLong, Me
 
 use crate::comment_syntax::{comment_edits, count_comments};
 use crate::fault::LintFault;
-use crate::rule::Rule;
 use edit_record::laws::{pieces_make, pieces_turn};
 use edit_record::{Edit, Edits};
 use hcl_scan::Scanned;
 use std::alloc::Global;
+use tf_rule::Rule;
 
 /// The edits that mend the issues which one step of the rule takes. They turn the text into the fixed text, and there are
 /// no others. `TooLong` where that would have more than 16,777,216 bytes; the only other refusal is `Memory`.

@@ -3,9 +3,9 @@
 ghost use Rattle.std.specs.Prelude.{◌≡◌, IfOk, string_bytes};
 ghost use Rattle.tf_lint.specs.Reports.{line_of, report};
 
-use crate::rule::Rule;
 use hcl_token::Place;
 use std::alloc::{AllocError, Global};
+use tf_rule::Rule;
 
 /// What a rule has found at some tokens of a text.
 #[derive(Debug, Drop)]

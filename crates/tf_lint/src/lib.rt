@@ -6,16 +6,13 @@ mod fault;
 mod finding;
 mod fixing;
 mod issue;
-mod rule;
-mod rule_set;
 
 pub use fault::LintFault;
 pub use finding::issues;
 pub use fixing::{fix_step, taken};
 pub use hcl_token::Place;
 pub use issue::Issue;
-pub use rule::{Rule, Severity};
-pub use rule_set::RuleSet;
+pub use tf_rule::{Rule, RuleSet, Severity};
 
 #[cfg(test)]
 mod tests;

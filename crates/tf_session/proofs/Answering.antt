@@ -8,9 +8,9 @@ use Rattle.hcl_scan.specs.declared.error.ScanFault.{ScanFault}
 use Rattle.hcl_scan.specs.Cut.{IsCut, MAX_TEXT}
 use Rattle.hcl_scan.specs.Fault.{IsFault}
 use Rattle.edit_record.specs.Pieces.{EditList}
-use Rattle.tf_lint.specs.declared.rule.Rule.{Rule}
-use Rattle.tf_lint.specs.declared.rule_set.RuleSet.{RuleSet}
-use Rattle.tf_lint.specs.RuleSets.{has_rule}
+use Rattle.tf_rule.specs.declared.rule.Rule.{Rule}
+use Rattle.tf_rule.specs.declared.rule_set.RuleSet.{RuleSet}
+use Rattle.tf_rule.specs.RuleSets.{has_rule}
 use Rattle.tf_lint.specs.Issues.{issues_of}
 use Rattle.tf_lint.specs.Fixes.{fixed_text}
 use Rattle.tf_session.specs.declared.command.Command.{Command}

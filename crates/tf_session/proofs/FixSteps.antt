@@ -4,9 +4,9 @@ use Rattle.std.proofs.lemmas.Slice.Eq.{bytes_eq-Decides}
 use Rattle.hcl_token.specs.CutText.{CutText}
 use Rattle.hcl_scan.specs.Cut.{IsCut, MAX_TEXT}
 use Rattle.edit_record.specs.Pieces.{EditList}
-use Rattle.tf_lint.specs.declared.rule.Rule.TheVariants.{CommentSyntax}
-use Rattle.tf_lint.specs.declared.rule_set.RuleSet.{RuleSet}
-use Rattle.tf_lint.specs.RuleSets.{has_rule}
+use Rattle.tf_rule.specs.declared.rule.Rule.TheVariants.{CommentSyntax}
+use Rattle.tf_rule.specs.declared.rule_set.RuleSet.{RuleSet}
+use Rattle.tf_rule.specs.RuleSets.{has_rule}
 use Rattle.tf_lint.specs.Issues.{issues_of}
 use Rattle.tf_lint.specs.Taken.{taken_issues}
 use Rattle.tf_lint.specs.Fixes.{fix_edits, fixed_text}

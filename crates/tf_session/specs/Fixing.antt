@@ -5,10 +5,10 @@ use Rattle.hcl_token.specs.CutText.{CutText}
 use Rattle.hcl_scan.specs.Cut.{MAX_TEXT}
 use Rattle.hcl_scan.specs.Fault.{IsFault}
 use Rattle.edit_record.specs.Pieces.{EditList}
-use Rattle.tf_lint.specs.declared.rule.Rule.{Rule}
-use Rattle.tf_lint.specs.declared.rule.Rule.TheVariants.{CommentSyntax}
-use Rattle.tf_lint.specs.declared.rule_set.RuleSet.{RuleSet}
-use Rattle.tf_lint.specs.RuleSets.{has_rule}
+use Rattle.tf_rule.specs.declared.rule.Rule.{Rule}
+use Rattle.tf_rule.specs.declared.rule.Rule.TheVariants.{CommentSyntax}
+use Rattle.tf_rule.specs.declared.rule_set.RuleSet.{RuleSet}
+use Rattle.tf_rule.specs.RuleSets.{has_rule}
 use Rattle.tf_lint.specs.Issues.{issues_of}
 use Rattle.tf_lint.specs.Taken.{taken_issues}
 use Rattle.tf_lint.specs.Fixes.{fix_edits, fixed_text}

@@ -3,7 +3,7 @@ use Rattle.std.specs.Prelude.{◌≡◌, ◌⊎◌, ℕ, List, [], ◌∷◌, �
 use Rattle.hcl_token.specs.Tokens.{Pair}
 use Rattle.hcl_scan.specs.Cut.{IsCut}
 use Rattle.hcl_scan.specs.Fault.{IsFault}
-use Rattle.tf_lint.specs.declared.rule_set.RuleSet.{RuleSet}
+use Rattle.tf_rule.specs.declared.rule_set.RuleSet.{RuleSet}
 use Rattle.tf_lint.specs.Issues.{issues_of}
 use Rattle.tf_lint.specs.Reports.{Report, line_of}
 use Rattle.tf_stream.specs.Streams.{Source, Target, Puts, Untouched}

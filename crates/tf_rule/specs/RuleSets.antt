@@ -1,8 +1,8 @@
 -- Sets of rules.
 use Rattle.std.specs.Prelude.{Bool}
-use Rattle.tf_lint.specs.declared.rule.Rule.{Rule}
-use Rattle.tf_lint.specs.declared.rule.Rule.TheVariants.{CommentSyntax, DeprecatedIndex, DeprecatedInterpolation, EmptyListEquality, DeprecatedLookup, NamingConvention, TypedVariables, DocumentedVariables, DocumentedOutputs}
-use Rattle.tf_lint.specs.declared.rule_set.RuleSet.{RuleSet}
+use Rattle.tf_rule.specs.declared.rule.Rule.{Rule}
+use Rattle.tf_rule.specs.declared.rule.Rule.TheVariants.{CommentSyntax, DeprecatedIndex, DeprecatedInterpolation, EmptyListEquality, DeprecatedLookup, NamingConvention, TypedVariables, DocumentedVariables, DocumentedOutputs}
+use Rattle.tf_rule.specs.declared.rule_set.RuleSet.{RuleSet}
 
 -- whether the rule is in the set
 abbrev pub has_rule : RuleSet → Rule → Bool

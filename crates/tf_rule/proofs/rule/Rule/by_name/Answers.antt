@@ -1,8 +1,8 @@
 use Rattle.std.proofs.Common.{◌≡◌, ℕ, List}
-use Rattle.tf_lint.specs.declared.rule.Rule.{Rule}
-use Rattle.tf_lint.specs.declared.rule.Rule.TheVariants.{CommentSyntax, DeprecatedIndex, DeprecatedInterpolation, EmptyListEquality, DeprecatedLookup, NamingConvention, TypedVariables, DocumentedVariables, DocumentedOutputs}
-use Rattle.tf_lint.specs.Rules.{name_of}
-use Rattle.tf_lint.proofs.rule.Rule.by_name.Goals as goal
+use Rattle.tf_rule.specs.declared.rule.Rule.{Rule}
+use Rattle.tf_rule.specs.declared.rule.Rule.TheVariants.{CommentSyntax, DeprecatedIndex, DeprecatedInterpolation, EmptyListEquality, DeprecatedLookup, NamingConvention, TypedVariables, DocumentedVariables, DocumentedOutputs}
+use Rattle.tf_rule.specs.Rules.{name_of}
+use Rattle.tf_rule.proofs.rule.Rule.by_name.Goals as goal
 
 -- a text that is the name of none of the nine rules is the name of no rule
 unnamed : (name : List ℕ)

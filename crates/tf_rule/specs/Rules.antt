@@ -1,9 +1,9 @@
 -- The names and severities of the rules. TFLint ruleset for the Terraform language.
 use Rattle.std.specs.Prelude.{ℕ, List, codes}
-use Rattle.tf_lint.specs.declared.rule.Rule.{Rule}
-use Rattle.tf_lint.specs.declared.rule.Rule.TheVariants.{CommentSyntax, DeprecatedIndex, DeprecatedInterpolation, EmptyListEquality, DeprecatedLookup, NamingConvention, TypedVariables, DocumentedVariables, DocumentedOutputs}
-use Rattle.tf_lint.specs.declared.rule.Severity.{Severity}
-use Rattle.tf_lint.specs.declared.rule.Severity.TheVariants.{Warning, Notice}
+use Rattle.tf_rule.specs.declared.rule.Rule.{Rule}
+use Rattle.tf_rule.specs.declared.rule.Rule.TheVariants.{CommentSyntax, DeprecatedIndex, DeprecatedInterpolation, EmptyListEquality, DeprecatedLookup, NamingConvention, TypedVariables, DocumentedVariables, DocumentedOutputs}
+use Rattle.tf_rule.specs.declared.rule.Severity.{Severity}
+use Rattle.tf_rule.specs.declared.rule.Severity.TheVariants.{Warning, Notice}
 
 abbrev pub name_of : Rule → List ℕ
 name_of CommentSyntax = codes "terraform_comment_syntax"

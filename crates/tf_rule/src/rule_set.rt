@@ -1,8 +1,8 @@
 //! Sets of rules.
 
 ghost use Rattle.std.specs.Prelude.{◌≡◌, ◌≢◌, true, false};
-ghost use Rattle.tf_lint.specs.declared.rule.Rule.{Rule};
-ghost use Rattle.tf_lint.specs.RuleSets.{has_rule};
+ghost use Rattle.tf_rule.specs.declared.rule.Rule.{Rule};
+ghost use Rattle.tf_rule.specs.RuleSets.{has_rule};
 
 use crate::rule::Rule;
 

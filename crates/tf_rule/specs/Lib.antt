@@ -1,0 +1,2 @@
+pub mod RuleSets
+pub mod Rules

@@ -1,0 +1,10 @@
+//! The rules, sets of rules, and what a rule finds in a text.
+#![tactic(auto)]
+
+mod finding;
+mod rule;
+mod rule_set;
+
+pub use finding::{Finding, Matter, Named};
+pub use rule::{Rule, Severity};
+pub use rule_set::RuleSet;
