@@ -1,2 +1,2 @@
 pub mod Faults
-pub mod Nests
+pub mod Inner

@@ -7,15 +7,17 @@ ghost use Rattle.hcl_grammar.specs.Pure.BodyParser as spec;
 ghost use Rattle.hcl_grammar.specs.Pure.Reading.{Reads};
 ghost use Rattle.hcl_grammar.specs.Tokens as tokens;
 ghost use Rattle.hcl_scan.specs.Follows.{tokens_of};
-ghost use Rattle.hcl_tree.specs.Nests.{NestsMembers};
+ghost use Rattle.hcl_tree.specs.Inner.Nests.{NestsMembers};
 
-use crate::expr::expr;
 use crate::labels::labels;
-use crate::lines::{inner_line, line};
-use crate::{cursor, grammar, nodes, span};
+use hcl_cursor::lines::{inner_line, line};
+use hcl_cursor::{cursor, span};
+use hcl_expr::expr::expr;
+use hcl_expr::grammar;
 use hcl_grammar::error::TokenFault;
 use hcl_grammar::goal::Goal;
 use hcl_grammar::tree::{Content, Member};
+use hcl_nodes::nodes;
 use hcl_scan::Scanned;
 use hcl_token::Kind;
 use plain_tree::Items;
@@ -113,7 +115,7 @@ impl<
     }
 
     /// What stands behind `{`: a line end and a body, or what stands on the line.
-    #[tactic(auto, using(crate::proofs::Turns::one_less_is), unfolding(hcl_grammar::specs::Pure::BodyParser::block_content))]
+    #[tactic(auto, using(hcl_cursor::proofs::Turns::one_less_is), unfolding(hcl_grammar::specs::Pure::BodyParser::block_content))]
     fn block_content(&self, at: &mut usize) -> Result<Content, TokenFault>
         requires { NestsMembers self.now.depth (F.pre self.now.members) (F.post self.now.members) }
         ensures { let ts = tokens_of self.now.scanned.now.pairs in Reads (spec.block_content ts self.now.depth (spec.deeper_members ts self.now.depth) at.old) result at.new }

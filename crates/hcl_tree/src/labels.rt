@@ -7,9 +7,10 @@ ghost use Rattle.hcl_grammar.specs.Pure.BodyParser as spec;
 ghost use Rattle.hcl_grammar.specs.Pure.Reading.{Reads};
 ghost use Rattle.hcl_scan.specs.Follows.{tokens_of};
 
-use crate::{cursor, nodes};
+use hcl_cursor::cursor;
 use hcl_grammar::error::TokenFault;
 use hcl_grammar::tree::Label;
+use hcl_nodes::nodes;
 use hcl_scan::Scanned;
 use hcl_token::Kind;
 use plain_tree::Items;

@@ -5,22 +5,9 @@
 #![tactic(auto)]
 
 mod bodies;
-mod cursor;
 mod error;
-mod expr;
-mod grammar;
-mod inner;
 mod labels;
-mod levels;
-mod lines;
-mod names;
-mod nodes;
-mod operators;
 mod parsing;
-mod span;
-mod tails;
-mod templates;
-mod terms;
 
 pub use error::ParseFault;
 pub use hcl_grammar::tree;

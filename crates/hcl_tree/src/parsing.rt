@@ -13,9 +13,10 @@ ghost use Rattle.hcl_tree.specs.Faults.{IsMemory, IsMemoryOrDeep, start_of, in_b
 
 use crate::bodies::{ended, members};
 use crate::error::ParseFault;
-use crate::{cursor, nodes, span};
+use hcl_cursor::{cursor, span};
 use hcl_grammar::error::TokenFault;
 use hcl_grammar::tree::Tree;
+use hcl_nodes::nodes;
 use hcl_scan::Scanned;
 use hcl_token::Kind;
 use std::alloc::Global;

@@ -2,7 +2,7 @@ use Rattle.std.proofs.Common.{rules, arith}
 use Rattle.std.proofs.lemmas.Grind.{common_steps}
 use Rattle.hcl_grammar.specs.Pure.BodyParser.{labels_from}
 use Rattle.hcl_scan.specs.Follows.{tokens_of}
-use Rattle.hcl_tree.proofs.Turns.{turn_left, none_left, refused}
+use Rattle.hcl_cursor.proofs.Turns.{turn_left, none_left, refused}
 use Rattle.hcl_tree.proofs.labels.labels.Goals as goal
 
 pub returns-in_err-label : goal.returns-in_err-label

@@ -2,7 +2,7 @@ use Rattle.std.proofs.Common.{rules, arith}
 use Rattle.std.proofs.lemmas.Grind.{common_steps}
 use Rattle.hcl_grammar.specs.Pure.BodyParser.{deeper_members, members_from}
 use Rattle.hcl_scan.specs.Follows.{tokens_of}
-use Rattle.hcl_tree.proofs.Turns.{turn_left, none_left, refused}
+use Rattle.hcl_cursor.proofs.Turns.{turn_left, none_left, refused}
 use Rattle.hcl_tree.proofs.bodies.Bodies.all.Goals as goal
 
 pub returns-in_err-member : goal.returns-in_err-member
