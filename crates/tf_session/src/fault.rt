@@ -5,11 +5,10 @@ ghost use Rattle.std.specs.Prelude.{◌≡◌};
 use crate::command::Fault;
 use edit_record::Refused;
 use edit_text::RecordFault;
-use hcl_format::LayoutFault;
 use hcl_scan::ScanFault;
 use hcl_tree::ParseFault;
 use std::alloc::{AllocError, AllocFailed};
-use tf_lint::{LintFault, Rule};
+use tf_lint::Rule;
 use tf_stream::TakeFault;
 use thiserror::Error;
 
@@ -77,36 +76,6 @@ impl<T: Drop> From<AllocFailed<T>> for RunFault {
 
     fn from(_: AllocFailed<T>) -> Self {
         RunFault::Memory
-    }
-}
-
-impl From<ScanFault> for RunFault {
-    ghost use Rattle.tf_session.specs.Faults.{fault_of_scan, run_fault_of};
-
-    ghost from_gives = { λ fault given. given ≡ run_fault_of (fault_of_scan fault) };
-
-    fn from(fault: ScanFault) -> Self {
-        RunFault::from(Fault::from(fault))
-    }
-}
-
-impl From<LintFault> for RunFault {
-    ghost use Rattle.tf_session.specs.Faults.{fault_of_lint, run_fault_of};
-
-    ghost from_gives = { λ fault given. given ≡ run_fault_of (fault_of_lint fault) };
-
-    fn from(fault: LintFault) -> Self {
-        RunFault::from(Fault::from(fault))
-    }
-}
-
-impl From<LayoutFault> for RunFault {
-    ghost use Rattle.tf_session.specs.Faults.{fault_of_layout, run_fault_of};
-
-    ghost from_gives = { λ fault given. given ≡ run_fault_of (fault_of_layout fault) };
-
-    fn from(fault: LayoutFault) -> Self {
-        RunFault::from(Fault::from(fault))
     }
 }
 
