@@ -1,14 +1,13 @@
 -- A revert over what a command wrote is refused for nothing that it reads.
-use Rattle.std.proofs.Common.{◌≡◌, ◌≢◌, ◌∙◌, ◌+◌, ◌≤◌, ◌<◌, ◌⊎◌, ℕ, List, [], ◌∷◌, ◌++◌, Bool, true, Option, Some, None, Err, length, length-append, arith, ap, sym, refl, subst, inl, inr}
-use Rattle.std.specs.Io.KnownBytes.{Consumes, IsAtEnd}
-use Rattle.std.specs.List.{flat_map}
+use Rattle.std.proofs.Common.{◌≡◌, ◌≢◌, ◌∙◌, ◌+◌, ◌≤◌, ℕ, List, [], ◌∷◌, ◌++◌, true, Option, Some, None, Err, length, length-append, arith, ap, sym, refl, subst, inl, inr}
+use Rattle.std.specs.Io.KnownBytes.{Consumes}
 use Rattle.hcl_scan.specs.Cut.{MAX_TEXT}
 use Rattle.edit_record.specs.Journal.{Entered, record_turns}
 use Rattle.edit_text.specs.Text.{record_text, journal_text, IsText, IsJournal}
 use Rattle.edit_text.specs.Decoding.{Decodes}
 use Rattle.edit_text.specs.declared.fault.RecordFault.{RecordFault}
 use Rattle.edit_text.specs.declared.fault.RecordFault.TheVariants.{BadHead, BadNumber, CutShort, BadEdits, BadEnd, BadSteps}
-use Rattle.tf_stream.specs.Streams.{Source, Target, TakenAtFault, Puts, TakesAll}
+use Rattle.tf_stream.specs.Streams.{Source, Target, TakenAtFault, Puts}
 use Rattle.tf_stream.specs.declared.fault.TakeFault.{TakeFault}
 use Rattle.tf_session.specs.declared.command.Command.{Command}
 use Rattle.tf_session.specs.declared.command.Command.TheVariants.{Revert}

@@ -5,6 +5,7 @@ ghost use Rattle.std.specs.Prelude.{◌≡◌};
 use crate::command::Fault;
 use edit_record::Refused;
 use edit_text::RecordFault;
+use hcl_format::LayoutFault;
 use hcl_scan::ScanFault;
 use hcl_tree::ParseFault;
 use std::alloc::{AllocError, AllocFailed};
@@ -95,6 +96,16 @@ impl From<LintFault> for RunFault {
     ghost from_gives = { λ fault given. given ≡ run_fault_of (fault_of_lint fault) };
 
     fn from(fault: LintFault) -> Self {
+        RunFault::from(Fault::from(fault))
+    }
+}
+
+impl From<LayoutFault> for RunFault {
+    ghost use Rattle.tf_session.specs.Faults.{fault_of_layout, run_fault_of};
+
+    ghost from_gives = { λ fault given. given ≡ run_fault_of (fault_of_layout fault) };
+
+    fn from(fault: LayoutFault) -> Self {
         RunFault::from(Fault::from(fault))
     }
 }
