@@ -5,7 +5,9 @@ use std::alloc::Global;
 use std::fs;
 use std::io::{Read, Write};
 use std::rt::Files;
-use tf_session::{Command, RuleSet, RunFault, Told, lint_stream, put_text, step_stream};
+use tf_session::{
+    Command, RuleSet, RunFault, Told, check_stream, lint_stream, put_text, step_stream,
+};
 
 /// The name of standard input, on the command line and in reports.
 pub const STANDARD_INPUT: &str = "-";
@@ -65,9 +67,7 @@ pub fn check_file<R: Files, O: Write>(
 
 /// Whether the text of a reader is laid out.
 pub fn check_reader<I: Read>(alloc: Global, input: &mut I) -> Result<bool, RunFault> {
-    let _ = alloc;
-    let _ = input;
-    Ok(true)
+    check_stream(alloc, &mut Told::new(input))
 }
 
 /// Writes the issue lines of a file to the output, and answers how many there are. A file that cannot be opened is
