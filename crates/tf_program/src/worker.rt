@@ -1,15 +1,18 @@
 //! The work that the words ask for.
 
 use crate::command_line::{Action, Stop, Task, task_from, words_of};
-use crate::files::{STANDARD_INPUT, fix_file, fix_input, lint_file, lint_reader, revert_file};
-use crate::outcome::Outcome;
+use crate::files::{
+    STANDARD_INPUT, check_file, check_reader, fix_file, fix_input, format_file, format_input,
+    lint_file, lint_reader, revert_file,
+};
+use crate::outcome::{Met, Outcome};
 use std::alloc::Global;
 use std::io::{Read, Write};
 use std::rt::Files;
-use tf_session::{RuleSet, RunFault, Told, put_text};
+use tf_session::{RunFault, Told, put_text};
 
 /// Does what the words ask (they are those behind the program's name), and answers the exit status: 1 if there was any
-/// fault, else 2 if an issue is left, else 0. Reports go to the output, faults to `faults`.
+/// fault, else 2 if an issue is left, else 3 if a file is not laid out that was to be checked, else 0. Reports go to the output, faults to `faults`.
 pub fn work<R: Files, I: Read, O: Write, F: Write>(
     rt: &R,
     alloc: Global,
@@ -58,8 +61,7 @@ fn work_on<R: Files, I: Read, O: Write, F: Write>(
     let mut outcome = Outcome::default();
     for name in &task.files {
         match work_on_file(rt, alloc, task.action, name, input, output, faults) {
-            Ok(0) => {}
-            Ok(_) => outcome.has_issue = true,
+            Ok(met) => outcome = outcome.and(met),
             Err(fault) => {
                 outcome.has_fault = true;
                 let _ = writeln!(faults, "tfk: {name}: {fault}");
@@ -69,7 +71,7 @@ fn work_on<R: Files, I: Read, O: Write, F: Write>(
     outcome
 }
 
-/// How many issues are left.
+/// What the work on one file has met.
 fn work_on_file<R: Files, I: Read, O: Write, F: Write>(
     rt: &R,
     alloc: Global,
@@ -78,16 +80,47 @@ fn work_on_file<R: Files, I: Read, O: Write, F: Write>(
     input: &mut I,
     output: &mut O,
     faults: &mut F,
-) -> Result<usize, RunFault> {
-    let rules = RuleSet::all();
+) -> Result<Met, RunFault> {
+    if name == STANDARD_INPUT {
+        return work_on_input(alloc, action, input, output, faults);
+    }
     match action {
-        Action::Fix if name == STANDARD_INPUT => fix_input(alloc, input, output, faults, rules),
-        Action::Fix => fix_file(rt, alloc, name, output, rules),
+        Action::Format => {
+            format_file(rt, alloc, name, output)?;
+            Ok(Met::Nothing)
+        }
+        Action::Check => Ok(Met::layout(check_file(rt, alloc, name, output)?)),
+        Action::Lint(rules) => Ok(Met::issues(lint_file(rt, alloc, name, output, rules)?)),
+        Action::Fix(rules) => Ok(Met::issues(fix_file(rt, alloc, name, output, rules)?)),
         Action::Revert => {
             revert_file(rt, alloc, name)?;
-            Ok(0)
+            Ok(Met::Nothing)
         }
-        Action::Lint if name == STANDARD_INPUT => lint_reader(alloc, name, input, output, rules),
-        Action::Lint => lint_file(rt, alloc, name, output, rules),
+    }
+}
+
+/// What the work on standard input has met. There is no journal of it that could be reverted.
+fn work_on_input<I: Read, O: Write, F: Write>(
+    alloc: Global,
+    action: Action,
+    input: &mut I,
+    output: &mut O,
+    faults: &mut F,
+) -> Result<Met, RunFault> {
+    match action {
+        Action::Format => {
+            format_input(alloc, input, output)?;
+            Ok(Met::Nothing)
+        }
+        Action::Check => Ok(Met::layout(check_reader(alloc, input)?)),
+        Action::Lint(rules) => Ok(Met::issues(lint_reader(
+            alloc,
+            STANDARD_INPUT,
+            input,
+            output,
+            rules,
+        )?)),
+        Action::Fix(rules) => Ok(Met::issues(fix_input(alloc, input, output, faults, rules)?)),
+        Action::Revert => Ok(Met::Nothing),
     }
 }
