@@ -2,6 +2,7 @@
 use Rattle.std.specs.Prelude.{◌≡◌, ℕ, ◌+◌, ◌<◌, ◌≤◌, nat_lt, nat_le, ◌==◌, not, ◌&&◌, ◌||◌, Bool, true, false, List, [], ◌∷◌, if◌then◌else◌}
 use Rattle.tf_rule.specs.declared.finding.Finding.{Finding}
 use Rattle.tf_rule.specs.declared.finding.Matter.{Matter}
+use Rattle.tf_rule.specs.declared.rule.Rule.{Rule}
 use Rattle.tf_rule.specs.declared.finding.Matter.TheVariants.{Slashes, LegacyIndex, Interpolation, Comparison, Lookup}
 
 -- whether the ranges that a fix needs stand in order in the tokens from number first up to past
@@ -20,6 +21,11 @@ is_sound count f = nat_lt f.first f.past && (nat_le f.past count && (not f.fixab
 -- the finding, if it is sound; those in the text's own tree are
 abbrev pub if_sound : ℕ → Finding → List Finding
 if_sound count f = if is_sound count f then f ∷ [] else []
+
+-- the finding of a rule at the tokens from number first up to past, if it is sound
+abbrev pub finding_at : ℕ → Rule → ℕ → ℕ → Bool → Matter → List Finding
+finding_at count rule first past fixable matter =
+    if_sound count (record { rule = rule; first = first; past = past; fixable = fixable; matter = matter })
 
 -- the same as facts on numbers: the ranges that a fix needs stand in order
 abbrev pub IsInOrder : ℕ → ℕ → Matter → Type 0
