@@ -20,22 +20,31 @@ pub fn answer(alloc: Global, row: &Row) -> Result<String> {
     }
 }
 
-/// The layout of a text, which is its own layout, and goes back to the text.
+/// The layout of a text, where it goes back to the text, is its own layout, and it is told whether the text is it.
 fn laid_out(alloc: Global, text: &[u8]) -> Result<String> {
     let scanned = scan(alloc, text)?;
     let edits = layout(alloc, &scanned)?;
     let made = edits.apply(alloc, text)?;
-    if edits.undo(alloc, &made)?.as_slice() != text {
-        return Err(anyhow!("the layout does not go back"));
+    let back = edits.undo(alloc, &made)?;
+    let is_told = is_laid_out(alloc, &scanned)? == (made.as_slice() == text);
+    let is_own = is_own_layout(alloc, &made)?;
+    said(alloc, &made, (back.as_slice() == text) & is_told & is_own)
+}
+
+fn is_own_layout(alloc: Global, text: &[u8]) -> Result<bool> {
+    let scanned = scan(alloc, text)?;
+    let edits = layout(alloc, &scanned)?;
+    let is_laid_out = is_laid_out(alloc, &scanned)?;
+    Ok(is_laid_out & edits.edits().is_empty())
+}
+
+/// The text, where all that is to hold of it does.
+pub fn said(alloc: Global, text: &[u8], holds: bool) -> Result<String> {
+    if holds {
+        Ok(String::from_str(alloc, from_utf8(text)?)?)
+    } else {
+        Err(anyhow!("what is to hold of the text does not"))
     }
-    if is_laid_out(alloc, &scanned)? != (made.as_slice() == text) {
-        return Err(anyhow!("it is not told whether the text is laid out"));
-    }
-    let scanned = scan(alloc, &made)?;
-    if !layout(alloc, &scanned)?.edits().is_empty() || !is_laid_out(alloc, &scanned)? {
-        return Err(anyhow!("the layout is not its own"));
-    }
-    Ok(String::from_str(alloc, from_utf8(&made)?)?)
 }
 
 /// For each edit its place, how many bytes it removes, and how many it adds.

@@ -1,12 +1,12 @@
 //! Rules, issues and the steps of fixes.
 
+use crate::layouts::said;
 use crate::row::Row;
 use anyhow::{Result, anyhow};
 use edit_record::Change;
 use hcl_scan::scan;
 use std::alloc::Global;
 use std::fmt::Write;
-use std::str::from_utf8;
 use tf_lint::{Issue, LintFault, Place, Rule, RuleSet, fix_step, issues, taken};
 
 const RULES: [Rule; 9] = [
@@ -28,6 +28,7 @@ pub fn answer(alloc: Global, row: &Row) -> Result<String> {
         "line" => line(alloc, row),
         "issues" => found(alloc, set_of(row.word(1)?)?, row.text(2)?),
         "fix" => fixed(alloc, rule_of(row.word(1)?)?, row.text(2)?),
+        "step" => counts(alloc, rule_of(row.word(1)?)?, row.text(2)?),
         _ => faults(alloc),
     }
 }
@@ -98,17 +99,20 @@ fn found(alloc: Global, rules: RuleSet, text: &[u8]) -> Result<String> {
     Ok(told)
 }
 
-/// How many issues the step takes, how many edits it makes, and the text that they make of this one, which goes back.
+/// The text with the edits of the step, which goes back.
 fn fixed(alloc: Global, rule: Rule, text: &[u8]) -> Result<String> {
-    let scanned = scan(alloc, text)?;
-    let edits = fix_step(alloc, &scanned, rule)?;
+    let edits = fix_step(alloc, &scan(alloc, text)?, rule)?;
     let fixed = edits.apply(alloc, text)?;
-    if edits.undo(alloc, &fixed)?.as_slice() != text {
-        return Err(anyhow!("the fix does not go back"));
-    }
-    let (taken, count) = (taken(&scanned, rule), edits.edits().len());
-    let fixed = from_utf8(&fixed)?;
-    Ok(format!(in alloc; "{taken} {count} {fixed}")?)
+    let back = edits.undo(alloc, &fixed)?;
+    said(alloc, &fixed, back.as_slice() == text)
+}
+
+/// How many issues the step takes, and how many edits it makes.
+fn counts(alloc: Global, rule: Rule, text: &[u8]) -> Result<String> {
+    let scanned = scan(alloc, text)?;
+    let taken = taken(&scanned, rule);
+    let count = fix_step(alloc, &scanned, rule)?.edits().len();
+    Ok(format!(in alloc; "{taken} {count}")?)
 }
 
 fn faults(alloc: Global) -> Result<String> {

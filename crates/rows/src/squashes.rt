@@ -34,14 +34,23 @@ fn three(alloc: Global, row: &Row) -> Result<String> {
     squash_is_one(&a, &b);
     squash_associates(&a, &b, &c);
     squash_all_is_one();
-    let left = squash(alloc, &squash(alloc, &a, &b)?, &c)?;
-    let right = squash(alloc, &a, &squash(alloc, &b, &c)?)?;
-    let left = spell(alloc, &left)?;
-    if left.as_str() == spell(alloc, &right)?.as_str() {
+    let left = from_left(alloc, &a, &b, &c)?;
+    let right = from_right(alloc, &a, &b, &c)?;
+    if left.as_str() == right.as_str() {
         Ok(left)
     } else {
         Err(anyhow!("the groupings differ"))
     }
+}
+
+fn from_left(alloc: Global, a: &Edits, b: &Edits, c: &Edits) -> Result<String> {
+    let both = squash(alloc, a, b)?;
+    spell(alloc, &squash(alloc, &both, c)?)
+}
+
+fn from_right(alloc: Global, a: &Edits, b: &Edits, c: &Edits) -> Result<String> {
+    let both = squash(alloc, b, c)?;
+    spell(alloc, &squash(alloc, a, &both)?)
 }
 
 /// So many records that turn one `ab` after the other into `xyb`, as one list.

@@ -26,9 +26,9 @@ fn swapped(alloc: Global, row: &Row, is_second: bool) -> Result<String> {
     let second = list_of(alloc, row.word(2)?)?;
     swap_is_one(&first, &second);
     match swap(alloc, &first, &second) {
-        Ok((before, after)) => {
-            let list = if is_second { before } else { after };
-            spell_as(alloc, &list, row.word(3)?)
+        Ok(lists) => {
+            let list = if is_second { &lists.0 } else { &lists.1 };
+            spell_as(alloc, list, row.word(3)?)
         }
         Err(fault) => Ok(format!(in alloc; "refused: {fault}")?),
     }

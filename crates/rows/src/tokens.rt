@@ -45,16 +45,19 @@ fn yes_or_no(alloc: Global, yes: bool) -> Result<String> {
 /// The tokens of a text, each with its kind.
 fn cut(alloc: Global, text: &[u8]) -> Result<String> {
     match scan(alloc, text) {
-        Ok(scanned) => {
-            let mut found = String::new(alloc);
-            for i in 0..scanned.len() {
-                let (kind, spelling) = (scanned.kind(i), from_utf8(scanned.spelling(i))?);
-                write!(found, "{kind:?}({spelling}) ")?;
-            }
-            Ok(found)
-        }
+        Ok(scanned) => kinds(alloc, &scanned),
         Err(fault) => Ok(format!(in alloc; "refused: {fault}")?),
     }
+}
+
+fn kinds(alloc: Global, scanned: &Scanned<'_>) -> Result<String> {
+    let mut found = String::new(alloc);
+    for i in 0..scanned.len() {
+        let kind = scanned.kind(i);
+        let spelling = from_utf8(scanned.spelling(i))?;
+        write!(found, "{kind:?}({spelling}) ")?;
+    }
+    Ok(found)
 }
 
 /// The gaps, the last one too.
