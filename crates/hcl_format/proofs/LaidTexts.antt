@@ -1,6 +1,6 @@
 -- Texts that parse, and their layouts.
-use Rattle.std.proofs.Common.{◌≡◌, ◌↔◌, ℕ, ◌<◌, ◌≤◌, Bool, List, [], length, refl, sym, ap, subst, ◌∙◌, ◌⊎◌, inl, inr}
-use Rattle.std.specs.Prelude.{Result, Ok, Err, IfOk, IfErr, IsTrue}
+use Rattle.std.proofs.Common.{◌≡◌, ◌↔◌, ℕ, ◌<◌, ◌≤◌, Bool, List, [], length, refl, sym, ap, subst, ◌∙◌, ◌⊎◌, inl, inr, arith}
+use Rattle.std.specs.Prelude.{Result, Ok, Err, IfOk, IfErr, OnOk, IsTrue}
 use Rattle.edit_record.specs.Pieces.{EditList, Turns}
 use Rattle.hcl_token.specs.CutText.{CutText}
 use Rattle.hcl_token.specs.Tokens.{Pair, whole_text}
@@ -87,6 +87,15 @@ answered is_text one parsed_apart cut t (Ok b) c w h =
 -- the layout is over the limit
 too_long : (cut : CutText) → IsCut cut.text cut.pairs cut.last → MAX_TEXT < length (layout_text cut) → IsTooLong cut.text
 too_long cut c long = record { new = layout_text cut; layout = layout_of cut c; long = long }
+
+-- what is answered is within the limit
+pub not_too_long : OneLayout → (A : Type 0) (cut : CutText) (r : Result A LayoutFault) → IsCut cut.text cut.pairs cut.last → IfOk r (λ x. length (layout_text cut) ≤ MAX_TEXT)
+    → OnOk r (¬ (IsTooLong cut.text))
+not_too_long one A cut (Err e) c short = tt
+not_too_long one A cut (Ok x) c short = λ long.
+    let same : long.new ≡ layout_text cut = one cut.text long.new (layout_text cut) long.layout (layout_of cut c) in
+    let over : MAX_TEXT < length (layout_text cut) = subst (λ (u : List ℕ). MAX_TEXT < length u) same long.long in
+    omega (arith, short, over)
 
 pub refused : (A : Type 0) (cut : CutText) (r : Result A LayoutFault) → IsCut cut.text cut.pairs cut.last → IfErr r (λ e. (e ≡ Memory) ⊎ ((e ≡ TooLong) × (MAX_TEXT < length (layout_text cut))))
     → IfErr r (λ e. (e ≡ Memory) ⊎ ((e ≡ TooLong) × IsTooLong cut.text))

@@ -1,6 +1,6 @@
 //! The layout of a text with its tree.
 
-ghost use Rattle.std.specs.Prelude.{◌≡◌, ◌⊎◌, ◌↔◌, IsTrue, IfOk, IfErr};
+ghost use Rattle.std.specs.Prelude.{◌≡◌, ◌⊎◌, ◌↔◌, IsTrue, IfOk, IfErr, OnOk};
 ghost use Rattle.hcl_scan.specs.Follows.{tokens_of};
 ghost use Rattle.hcl_grammar.specs.Bodies.{IsFile};
 ghost use Rattle.hcl_parses.specs.Parses.{MAX_NESTING};
@@ -37,10 +37,11 @@ pub fn layout(alloc: Global, scanned: &Scanned<'_>, tree: &Tree) -> Result<Edits
 
 /// Whether a text, over which this tree stands, is its own layout.
 ///
-/// It is refused where `layout` is.
+/// It is refused where `layout` is: there is no answer where the layout has more than 16,777,216 bytes.
 pub fn is_laid_out(alloc: Global, scanned: &Scanned<'_>, tree: &Tree) -> Result<bool, LayoutFault>
     requires { IsFile (tokens_of scanned.now.pairs) MAX_NESTING tree.now }
     ensures answer { IfOk result (λ yes. IsTrue yes ↔ IsLayout scanned.now.text scanned.now.text) }
+    ensures short { OnOk result (¬ (IsTooLong scanned.now.text)) }
     ensures err { IfErr result (λ e. (e ≡ Memory) ⊎ ((e ≡ TooLong) × IsTooLong scanned.now.text)) }
 {
     laws::laid_out_is_text();

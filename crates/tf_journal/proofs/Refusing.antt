@@ -1,5 +1,5 @@
 -- Why a stream is refused, from why one of its calls is.
-use Rattle.std.proofs.Common.{◌≡◌, ℕ, List, refl, inl, inr}
+use Rattle.std.proofs.Common.{ℕ, List, refl, inl, inr}
 use Rattle.edit_record.specs.Journal.{Entered}
 use Rattle.tf_stream.specs.Streams.{Source, Target, Untouched}
 use Rattle.tf_session.specs.declared.command.Command.{Command}

@@ -1,17 +1,18 @@
--- A fix that changed the text is taken back over what it wrote.
-use Rattle.std.proofs.Common.{◌≡◌, ◌∙◌, ℕ, List, [], ◌∷◌, ◌++◌, Bool, true, Option, Some, None, ap, sym, refl, subst, inl}
+-- A command that changed the text is taken back over what it wrote.
+use Rattle.std.proofs.Common.{◌≡◌, ◌≢◌, ◌∙◌, ◌≤◌, ℕ, length, List, [], ◌∷◌, ◌++◌, Bool, true, Option, Some, None, ap, sym, refl, subst, inl}
 use Rattle.std.specs.Io.KnownBytes.{Appends, Consumes, IsAtEnd}
+use Rattle.hcl_scan.specs.Cut.{MAX_TEXT}
 use Rattle.edit_record.specs.Journal.{Entered, record_turns}
-use Rattle.edit_text.specs.Text.{IsText, IsJournal}
+use Rattle.edit_text.specs.Text.{IsJournal}
 use Rattle.tf_stream.specs.Streams.{Source, Target, Puts, TakesAll}
 use Rattle.tf_session.specs.declared.command.Command.{Command}
-use Rattle.tf_session.specs.declared.command.Command.TheVariants.{Fix, Revert}
+use Rattle.tf_session.specs.declared.command.Command.TheVariants.{Fmt, Fix, Revert}
 use Rattle.tf_session.specs.declared.command.Done.{Done}
-use Rattle.tf_session.specs.Fixing.{differ}
+use Rattle.tf_session.specs.Fixing.{Made, differ}
 use Rattle.tf_session.specs.Machine.{done}
-use Rattle.tf_session.specs.Records.{AddsRecordOf}
+use Rattle.tf_session.specs.Records.{AddsRecordOf, DoesStep, PutsInPlace}
 use Rattle.tf_journal.specs.Journals.{Saves}
-use Rattle.tf_journal.specs.TakingBack.{ReadsBack, FixIsTakenBack}
+use Rattle.tf_journal.specs.TakingBack.{ReadsBack, CommandIsTakenBack}
 
 pub not_nil : {X : Type 0} (xs : List X) (x : X) → xs ++ x ∷ [] ≡ [] → ⊥
 not_nil [] x e = cc
@@ -55,23 +56,50 @@ pub same_bytes : (limit : ℕ) (target : Target) (source : Source) (put taken : 
 same_bytes limit target source put taken back p t =
     sym (held target.before target.after put back.bytes back.empty back.written p) ∙ had source.before source.after taken back.bytes back.read t.0 t.1
 
-pub fix_is_taken_back : ((text : List ℕ) (rs ss : List Entered) → IsJournal text rs → IsJournal text ss → rs ≡ ss) → FixIsTakenBack
-fix_is_taken_back one rules d again first second s changed goes t =
+-- ---- a command that changed the text
+
+-- what it put on: a text that differs, with one record more
+pub record Put (command : Command) (t : List ℕ) (js : List Entered) (u : List ℕ) (ks : List Entered) : Type 0 where
+  pub r : Entered
+  pub added : ks ≡ js ++ r ∷ []
+  pub turns : record_turns r t u
+  pub differs : differ t u ≡ true
+  pub short : length u ≤ MAX_TEXT
+
+pub put_in : (command : Command) (made : Made) (t : List ℕ) (js : List Entered) (d : Done) (u : List ℕ) (ks : List Entered) → length made.text ≤ MAX_TEXT
+    → PutsInPlace command made t js d u ks → d.changed ≡ true → Put command t js u ks
+put_in command made t js d u ks short p changed =
+    let differs : differ t made.text ≡ true = sym (ap (λ (x : Done). x.changed) p.1) ∙ changed in
+    let adds = subst (λ (b : Bool). AddsRecordOf b command t made js ks) differs p.2 in
+    let same : made.text ≡ u = sym p.0 in
+    record {
+      r = adds.0;
+      added = adds.1;
+      turns = subst (λ (x : List ℕ). record_turns adds.0 t x) same adds.2.turns;
+      differs = subst (λ (x : List ℕ). differ t x ≡ true) same differs;
+      short = subst (λ (x : List ℕ). length x ≤ MAX_TEXT) same short;
+    }
+
+pub put : (command : Command) (t : List ℕ) (js : List Entered) (d : Done) (u : List ℕ) (ks : List Entered) → command ≢ Revert
+    → DoesStep command t js d u ks → d.changed ≡ true → Put command t js u ks
+put Fmt t js d u ks other p changed = put_in Fmt p.0 t js d u ks p.1.short p.2 changed
+put (Fix rules) t js d u ks other p changed = put_in (Fix rules) p.0 t js d u ks p.1.new_reads.1.short p.2 changed
+put Revert t js d u ks other p changed = absurd (other refl)
+
+pub command_is_taken_back : ((text : List ℕ) (rs ss : List Entered) → IsJournal text rs → IsJournal text ss → rs ≡ ss) → CommandIsTakenBack
+command_is_taken_back one command d again first second other s changed goes t =
     let (text, records, loads, new, new_records, does, saves) = s in
     let (text2, records2, loads2, u, us, takes, saves2) = t in
-    let made = does.0 in
-    let differs : differ text made.text ≡ true = sym (ap (λ (x : Done). x.changed) does.2.1) ∙ changed in
-    let adds = subst (λ (b : Bool). AddsRecordOf b (Fix rules) text made records new_records) differs does.2.2 in
+    let p = put command text records d new new_records other does changed in
     let same_text : new ≡ text2 = same_bytes _ first.text_out second.text_in new text2 goes.text saves.3 loads2.0 in
     let same_journal : saves.0 ≡ loads2.1 = same_bytes _ first.journal_out second.journal_in saves.0 loads2.1 goes.journal saves.2 loads2.2 in
     let written : IsJournal loads2.1 new_records = subst (λ (b : List ℕ). IsJournal b new_records) same_journal (inl saves.1.0) in
     let same_records : records2 ≡ new_records = one loads2.1 records2 new_records loads2.3 written in
-    let lasts = same_last us records takes.0 adds.0 (sym takes.1 ∙ same_records ∙ adds.1) in
-    let above : made.text ≡ text2 = sym does.2.0 ∙ same_text in
-    let turns : record_turns adds.0 text text2 = subst (λ (x : List ℕ). record_turns adds.0 text x) above adds.2.turns in
+    let lasts = same_last us records takes.0 p.r (sym takes.1 ∙ same_records ∙ p.added) in
+    let turns : record_turns p.r text text2 = subst (λ (x : List ℕ). record_turns p.r text x) same_text p.turns in
     let turns2 : record_turns takes.0 text text2 = subst (λ (r : Entered). record_turns r text text2) (sym lasts.1) turns in
     let back : u ≡ text = sym (takes.2.1 text turns2) in
-    let changed2 : differ u text2 ≡ true = ap (λ (x : List ℕ). differ x text2) back ∙ ap (λ (x : List ℕ). differ text x) (sym above) ∙ differs in
+    let changed2 : differ u text2 ≡ true = ap (λ (x : List ℕ). differ x text2) back ∙ ap (λ (x : List ℕ). differ text x) (sym same_text) ∙ p.differs in
     let saved : Saves text us second.journal_out second.text_out = subst (λ (x : List ℕ). Saves x us second.journal_out second.text_out) back saves2 in (
       text,
       records,

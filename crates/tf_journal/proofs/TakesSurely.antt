@@ -1,30 +1,27 @@
--- A revert over what a fix wrote is refused for nothing that it reads.
-use Rattle.std.proofs.Common.{◌≡◌, ◌∙◌, ◌+◌, ◌≤◌, ◌<◌, ◌⊎◌, ℕ, List, [], ◌∷◌, ◌++◌, Bool, true, Option, Some, None, Err, length, length-append, arith, ap, sym, refl, subst, inl, inr}
-use Rattle.std.specs.Io.KnownBytes.{Consumes, IsAtEnd}
-use Rattle.std.specs.List.{flat_map}
+-- A revert over what a command wrote is refused for nothing that it reads.
+use Rattle.std.proofs.Common.{◌≡◌, ◌≢◌, ◌∙◌, ◌+◌, ◌≤◌, ℕ, List, [], ◌∷◌, ◌++◌, true, Option, Some, None, Err, length, length-append, arith, ap, sym, refl, subst, inl, inr}
+use Rattle.std.specs.Io.KnownBytes.{Consumes}
 use Rattle.hcl_scan.specs.Cut.{MAX_TEXT}
 use Rattle.edit_record.specs.Journal.{Entered, record_turns}
 use Rattle.edit_text.specs.Text.{record_text, journal_text, IsText, IsJournal}
 use Rattle.edit_text.specs.Decoding.{Decodes}
 use Rattle.edit_text.specs.declared.fault.RecordFault.{RecordFault}
 use Rattle.edit_text.specs.declared.fault.RecordFault.TheVariants.{BadHead, BadNumber, CutShort, BadEdits, BadEnd, BadSteps}
-use Rattle.tf_rule.specs.declared.rule_set.RuleSet.{RuleSet}
-use Rattle.tf_stream.specs.Streams.{Source, Target, TakenAtFault, Puts, TakesAll}
+use Rattle.tf_stream.specs.Streams.{Source, Target, TakenAtFault, Puts}
 use Rattle.tf_stream.specs.declared.fault.TakeFault.{TakeFault}
 use Rattle.tf_session.specs.declared.command.Command.{Command}
-use Rattle.tf_session.specs.declared.command.Command.TheVariants.{Fix, Revert}
+use Rattle.tf_session.specs.declared.command.Command.TheVariants.{Revert}
 use Rattle.tf_session.specs.declared.command.Done.{Done}
 use Rattle.tf_session.specs.declared.command.Fault.{Fault}
 use Rattle.tf_session.specs.declared.fault.Part.{Part}
 use Rattle.tf_session.specs.declared.fault.RunFault.{RunFault}
-use Rattle.tf_session.specs.declared.fault.RunFault.TheVariants.{Scan, FixBroken, TooLong, NoRecord, Refused, Memory, Read, Write, Endless, BadJournal}
+use Rattle.tf_session.specs.declared.fault.RunFault.TheVariants.{Scan, Parse, FixBroken, TooLong, NoRecord, Refused, Memory, Read, Write, Endless, BadJournal}
 use Rattle.tf_session.specs.Faults.{run_fault_of, run_fault_of_take, run_fault_of_record}
-use Rattle.tf_session.specs.Fixing.{differ}
-use Rattle.tf_session.specs.Records.{AddsRecordOf, RefusesStep, TakesLast}
+use Rattle.tf_session.specs.Records.{RefusesStep}
 use Rattle.tf_session.specs.Streams.{NotPut}
 use Rattle.tf_journal.specs.Journals.{MAX_JOURNAL, Loads, HasNoText, NotTaken, NotDecoded, NotSaved, NotStreamed}
-use Rattle.tf_journal.specs.TakingBack.{ReadsBack, StreamsOver, GoesOn, Ends, is_from_outside, FixCanBeTakenBack}
-use Rattle.tf_journal.proofs.Takes.{not_nil, same_last, held, had, same_bytes}
+use Rattle.tf_journal.specs.TakingBack.{ReadsBack, StreamsOver, GoesOn, Ends, is_from_outside, CommandCanBeTakenBack}
+use Rattle.tf_journal.proofs.Takes.{not_nil, same_last, held, same_bytes, put}
 
 abbrev TextIsOne : Type 0
 TextIsOne = (text : List ℕ) (rs ss : List Entered) → IsJournal text rs → IsJournal text ss → rs ≡ ss
@@ -66,6 +63,7 @@ decoding (BadSteps at) bytes records is d = absurd (d records is)
 refusing : (refusal : Fault) (text new : List ℕ) (records earlier : List Entered) (r : Entered) → records ≡ earlier ++ r ∷ [] → record_turns r text new
     → RefusesStep Revert new records refusal → is_from_outside (run_fault_of refusal) ≡ true
 refusing (Fault.Scan fault) text new records earlier r is turns p = absurd p
+refusing (Fault.Parse fault) text new records earlier r is turns p = absurd p
 refusing (Fault.FixBroken rule) text new records earlier r is turns p = absurd p
 refusing Fault.TooLong text new records earlier r is turns p = absurd p
 refusing Fault.NoRecord text new records earlier r is turns p = absurd (not_nil earlier r (sym is ∙ p))
@@ -86,6 +84,7 @@ fewer (s ∷ records) r =
 
 no_text : (fault : RunFault) (records : List Entered) → length (journal_text records) ≤ MAX_JOURNAL → HasNoText records fault → is_from_outside fault ≡ true
 no_text (Scan fault) records short p = absurd p
+no_text (Parse fault) records short p = absurd p
 no_text (FixBroken rule) records short p = absurd p
 no_text TooLong records short p = absurd p
 no_text NoRecord records short p = absurd p
@@ -98,6 +97,7 @@ no_text (BadJournal fault) records short p = absurd p
 
 putting : (part : Part) (fault : RunFault) (target : Target) (bytes : List ℕ) → NotPut part fault target bytes → is_from_outside fault ≡ true
 putting part (Scan fault) target bytes p = absurd p
+putting part (Parse fault) target bytes p = absurd p
 putting part (FixBroken rule) target bytes p = absurd p
 putting part TooLong target bytes p = absurd p
 putting part NoRecord target bytes p = absurd p
@@ -114,7 +114,7 @@ saving fault text records journal_out text_out short (inl p) = no_text fault rec
 saving fault text records journal_out text_out short (inr (inl p)) = putting Part.Journal fault journal_out p.0 p.2
 saving fault text records journal_out text_out short (inr (inr p)) = putting Part.Text fault text_out text p.3
 
--- ---- a fix that changed the text
+-- ---- a command that changed the text
 
 -- what it wrote: a text and a journal within their limits, the last record of which turns the first text into the new one
 record Wrote (first : Ends) : Type 0 where
@@ -130,22 +130,20 @@ record Wrote (first : Ends) : Type 0 where
   journal_put : Puts first.journal_out bytes
   text_put : Puts first.text_out new
 
-wrote : (rules : RuleSet) (d : Done) (first : Ends) → StreamsOver (Fix rules) d first → d.changed ≡ true → Wrote first
-wrote rules d first s changed =
+wrote : (command : Command) (d : Done) (first : Ends) → command ≢ Revert → StreamsOver command d first → d.changed ≡ true → Wrote first
+wrote command d first other s changed =
     let (text, records, loads, new, new_records, does, saves) = s in
-    let made = does.0 in
-    let differs : differ text made.text ≡ true = sym (ap (λ (x : Done). x.changed) does.2.1) ∙ changed in
-    let adds = subst (λ (b : Bool). AddsRecordOf b (Fix rules) text made records new_records) differs does.2.2 in
+    let p = put command text records d new new_records other does changed in
     record {
       text = text;
       new = new;
       earlier = records;
-      r = adds.0;
+      r = p.r;
       bytes = saves.0;
-      short = subst (λ (x : List ℕ). length x ≤ MAX_TEXT) (sym does.2.0) does.1.new_reads.1.short;
-      is_text = subst (λ (rs : List Entered). IsText saves.0 rs) adds.1 saves.1.0;
+      short = p.short;
+      is_text = subst (λ (rs : List Entered). IsText saves.0 rs) p.added saves.1.0;
       within = saves.1.1;
-      turns = subst (λ (x : List ℕ). record_turns adds.0 text x) (sym does.2.0) adds.2.turns;
+      turns = p.turns;
       journal_put = saves.2;
       text_put = saves.3;
     }
@@ -195,5 +193,6 @@ fault_of one first second w goes fault (inr (inr (text, records, loads, d, u, us
     let short : length (journal_text us) ≤ MAX_JOURNAL = subst (λ (rs : List Entered). length (journal_text rs) ≤ MAX_JOURNAL) (sym lasts.0) (kept_short first w) in
     saving fault u us second.journal_out second.text_out short p
 
-pub fix_can_be_taken_back : TextIsOne → FixCanBeTakenBack
-fix_can_be_taken_back one rules d first second s changed goes fault p = fault_of one first second (wrote rules d first s changed) goes fault p
+pub command_can_be_taken_back : TextIsOne → CommandCanBeTakenBack
+command_can_be_taken_back one command d first second other s changed goes fault p =
+    fault_of one first second (wrote command d first other s changed) goes fault p

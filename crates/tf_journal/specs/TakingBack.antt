@@ -1,10 +1,9 @@
 -- A command is taken back over what it wrote.
-use Rattle.std.specs.Prelude.{◌≡◌, ℕ, Bool, true, false, List, [], Some}
+use Rattle.std.specs.Prelude.{◌≡◌, ◌≢◌, ℕ, Bool, true, false, List, [], Some}
 use Rattle.edit_record.specs.Journal.{Entered}
-use Rattle.tf_rule.specs.declared.rule_set.RuleSet.{RuleSet}
 use Rattle.tf_stream.specs.Streams.{Source, Target}
 use Rattle.tf_session.specs.declared.command.Command.{Command}
-use Rattle.tf_session.specs.declared.command.Command.TheVariants.{Fix, Revert}
+use Rattle.tf_session.specs.declared.command.Command.TheVariants.{Revert}
 use Rattle.tf_session.specs.declared.command.Done.{Done}
 use Rattle.tf_session.specs.declared.fault.RunFault.{RunFault}
 use Rattle.tf_session.specs.declared.fault.RunFault.TheVariants.{Memory, Read, Write}
@@ -36,10 +35,10 @@ pub record GoesOn (first second : Ends) : Type 0 where
   pub text : ReadsBack first.text_out second.text_in
   pub journal : ReadsBack first.journal_out second.journal_in
 
--- A fix that changed the text, and then a revert over what it wrote: that writes the first text again, with the journal as it
--- was read.
-abbrev pub FixIsTakenBack : Type 0
-FixIsTakenBack = (rules : RuleSet) (d again : Done) (first second : Ends) → StreamsOver (Fix rules) d first → d.changed ≡ true
+-- A fmt or a fix that changed the text, and then a revert over what it wrote: that writes the first text again, with the journal
+-- as it was read.
+abbrev pub CommandIsTakenBack : Type 0
+CommandIsTakenBack = (command : Command) (d again : Done) (first second : Ends) → command ≢ Revert → StreamsOver command d first → d.changed ≡ true
     → GoesOn first second → StreamsOver Revert again second
     → (text : List ℕ) × (records : List Entered) × Loads text records first.text_in first.journal_in
     × Saves text records second.journal_out second.text_out × (again ≡ done true 0 0)
@@ -52,6 +51,6 @@ is_from_outside (Write part sent) = true
 is_from_outside _ = false
 
 -- That revert is never refused for what it reads.
-abbrev pub FixCanBeTakenBack : Type 0
-FixCanBeTakenBack = (rules : RuleSet) (d : Done) (first second : Ends) → StreamsOver (Fix rules) d first → d.changed ≡ true
+abbrev pub CommandCanBeTakenBack : Type 0
+CommandCanBeTakenBack = (command : Command) (d : Done) (first second : Ends) → command ≢ Revert → StreamsOver command d first → d.changed ≡ true
     → GoesOn first second → (fault : RunFault) → NotStreamedOver Revert fault second → is_from_outside fault ≡ true

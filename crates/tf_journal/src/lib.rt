@@ -11,5 +11,5 @@ mod streaming;
 pub use edit_text::RecordFault;
 pub use loading::{MAX_JOURNAL, load};
 pub use saving::{journal_text, save};
-pub use streaming::{fix_stream, revert_stream};
+pub use streaming::{fix_stream, fmt_stream, revert_stream};
 pub use tf_session::put_journal;

@@ -4,7 +4,7 @@ ghost use Rattle.std.specs.Prelude.{◌≡◌, ◌↔◌, ◌⊎◌, true, false
 ghost use Rattle.tf_stream.specs.Told.{has_failed};
 ghost use Rattle.tf_stream.specs.Streams.{from, into, Untouched};
 ghost use Rattle.tf_session.specs.Streams.{is_write};
-ghost use Rattle.tf_session.specs.declared.command.Command.TheVariants.{Fix, Revert};
+ghost use Rattle.tf_session.specs.declared.command.Command.TheVariants.{Fmt, Fix, Revert};
 ghost use Rattle.tf_journal.specs.Journals.{IsWriteOf, Streams, NotStreamed};
 
 use crate::loading::load;
@@ -12,6 +12,31 @@ use crate::saving::save;
 use std::alloc::Global;
 use std::io::{Read, Write};
 use tf_session::{Command, Done, Part, RuleSet, RunFault, Told};
+
+/// Lays out the text of a reader, and writes the journal with the record of that, then the new text.
+///
+/// What comes of it is written where nothing changed, too. Nothing is written at any fault but `Write`.
+pub fn fmt_stream<R: Read, J: Read, K: Write, W: Write>(
+    alloc: Global,
+    text: &mut Told<R>,
+    journal: &mut Told<J>,
+    journal_out: &mut Told<K>,
+    text_out: &mut Told<W>,
+) -> Result<Done, RunFault>
+    requires text_fresh { has_failed text.old ≡ false }
+    requires journal_fresh { has_failed journal.old ≡ false }
+    requires journal_out_fresh { has_failed journal_out.old ≡ false }
+    requires text_out_fresh { has_failed text_out.old ≡ false }
+    ensures done { IfOk result (λ d. Streams Fmt d (from R.remaining text.old text.new) (from J.remaining journal.old journal.new) (into K.contents journal_out.old journal_out.new) (into W.contents text_out.old text_out.new)) }
+    ensures fault { IfErr result (λ fault. NotStreamed Fmt fault (from R.remaining text.old text.new) (from J.remaining journal.old journal.new) (into K.contents journal_out.old journal_out.new) (into W.contents text_out.old text_out.new)) }
+    ensures untouched_journal { IfErr result (λ fault. is_write fault ≡ false → Untouched (into K.contents journal_out.old journal_out.new)) }
+    ensures untouched_text { IfErr result (λ fault. is_write fault ≡ false → Untouched (into W.contents text_out.old text_out.new)) }
+    ensures read { IsErrOf result RunFault.Read ↔ (has_failed text.new ≡ true) ⊎ (has_failed journal.new ≡ true) }
+    ensures journal_told { IsErrAnd result (IsWriteOf Part.Journal) ↔ has_failed journal_out.new ≡ true }
+    ensures text_told { IsErrAnd result (IsWriteOf Part.Text) ↔ has_failed text_out.new ≡ true }
+{
+    command_stream(alloc, Command::Fmt, text, journal, journal_out, text_out)
+}
 
 /// Fixes what the rules find in the text of a reader, and writes the journal with the record of that, then the new text.
 ///

@@ -2,7 +2,7 @@
 use Rattle.std.proofs.Common.{◌≡◌, ◌∙◌, ◌≤◌, ◌⊎◌, ℕ, List, [], length, true, false, refl, sym, ap, subst, inl, inr, arith}
 use Rattle.std.proofs.lemmas.Slice.Eq.{bytes_eq-Decides}
 use Rattle.hcl_token.specs.CutText.{CutText}
-use Rattle.hcl_scan.specs.Cut.{IsCut, MAX_TEXT}
+use Rattle.hcl_scan.specs.Cut.{MAX_TEXT}
 use Rattle.edit_record.specs.Pieces.{EditList}
 use Rattle.tf_rule.specs.declared.rule.Rule.TheVariants.{CommentSyntax}
 use Rattle.tf_rule.specs.declared.rule_set.RuleSet.{RuleSet}

@@ -1,17 +1,15 @@
 -- The layout that a fmt puts on has the tokens of the text below, and is its own.
-use Rattle.std.proofs.Common.{◌≡◌, ◌∙◌, ◌≤◌, ℕ, List, ◌∷◌, length, Bool, true, false, Result, Ok, Err, refl, sym, ap, subst}
+use Rattle.std.proofs.Common.{◌≡◌, ◌∙◌, ℕ, List, ◌∷◌, Bool, true, false, Result, Ok, Err, refl, sym, ap, subst}
 use Rattle.std.proofs.lemmas.Slice.Eq.{bytes_eq-Decides}
 use Rattle.std.proofs.lemmas.Bool.{not-false}
-use Rattle.hcl_scan.specs.Cut.{MAX_TEXT}
 use Rattle.hcl_format.specs.Layouts.{IsLayout, HaveSameTokens}
 use Rattle.hcl_format.specs.LayoutLaws.{LayoutKeepsTokens, LayoutOfLayout}
-use Rattle.tf_session.specs.declared.command.Command.{Command}
 use Rattle.tf_session.specs.declared.command.Command.TheVariants.{Fmt}
 use Rattle.tf_session.specs.declared.command.Done.{Done}
 use Rattle.tf_session.specs.declared.command.Fault.{Fault}
 use Rattle.tf_session.specs.Fixing.{Made, differ}
 use Rattle.tf_session.specs.Formatting.{Formats, FmtMakes}
-use Rattle.tf_session.specs.Machine.{Under, Stack, done, put_on, PutsOn, Serves}
+use Rattle.tf_session.specs.Machine.{Stack, done, put_on, PutsOn}
 use Rattle.tf_session.specs.FmtLaws.{FmtKeepsTokens, FmtChangesOnce}
 
 -- what a fmt that answered Done put on

@@ -13,7 +13,7 @@ use Rattle.hcl_format.specs.Layouts.{IsLayout, LaysOut}
 use Rattle.hcl_format.specs.LayoutLaws.{LaidOutIsText, OneLayout}
 use Rattle.edit_record.specs.declared.change.Refused.{Refused}
 use Rattle.edit_record.specs.Refusals.{Gives}
-use Rattle.edit_record.specs.Pieces.{Entry, EditList, Piece, Turns, changes_from}
+use Rattle.edit_record.specs.Pieces.{Entry, EditList, Turns, changes_from}
 use Rattle.edit_record.specs.Pieces.Piece.{Kept}
 use Rattle.tf_session.specs.Reading.{Reads}
 use Rattle.tf_session.specs.Formatting.{Formats}

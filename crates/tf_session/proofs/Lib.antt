@@ -2,7 +2,7 @@ pub mod Lists
 pub mod Stacks
 pub mod LineLists
 pub mod RunLaws
-pub mod Sending
+pub mod Refusing
 pub mod FixSteps
 pub mod Laying
 pub mod FmtAgain

@@ -8,7 +8,7 @@ use Rattle.tf_session.specs.declared.command.Command.TheVariants.{Fmt}
 use Rattle.tf_session.specs.declared.command.Done.{Done}
 use Rattle.tf_session.specs.declared.command.Fault.{Fault}
 use Rattle.tf_session.specs.declared.fixing.Change.{Change}
-use Rattle.tf_session.specs.Fixing.{Made, differ}
+use Rattle.tf_session.specs.Fixing.{differ}
 use Rattle.tf_session.specs.Fixed.{text_after, edits_after, made_of}
 use Rattle.tf_session.specs.Makes.{Makes}
 use Rattle.tf_session.specs.Machine.{done}

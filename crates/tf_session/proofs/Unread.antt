@@ -1,8 +1,8 @@
 -- Why a text is not read.
-use Rattle.std.proofs.Common.{◌≡◌, ◌⊎◌, ◌≤◌, ℕ, List, length, IsUtf8, Result, Ok, Err, MatchResult, MatchBool, true, false, refl, subst, inl, inr, sym}
+use Rattle.std.proofs.Common.{◌≡◌, ◌⊎◌, ℕ, List, refl, subst, inl, inr}
 use Rattle.hcl_token.specs.Tokens.{Pair}
 use Rattle.hcl_scan.specs.declared.error.ScanFault.{ScanFault}
-use Rattle.hcl_scan.specs.Cut.{IsCut, MAX_TEXT}
+use Rattle.hcl_scan.specs.Cut.{IsCut}
 use Rattle.hcl_scan.specs.Fault.{IsFault}
 use Rattle.hcl_scan.specs.Follows.{tokens_of}
 use Rattle.hcl_grammar.specs.declared.tree.Tree.{Tree}
@@ -14,8 +14,8 @@ use Rattle.hcl_tree.specs.Faults.{IsMemory, IsMemoryOrDeep}
 use Rattle.tf_session.specs.declared.command.Fault.{Fault}
 use Rattle.tf_session.specs.declared.command.Fault.TheVariants.{Scan, Parse, FixBroken, TooLong, NoRecord, Refused, Memory}
 use Rattle.tf_session.specs.Faults.{fault_of_parse}
-use Rattle.tf_session.specs.Reading.{IsUnread, HasNoTree, HasNoTreeInLimit, IsParseFault}
-use Rattle.tf_session.specs.Makes.{IsText, NotRead}
+use Rattle.tf_session.specs.Reading.{IsUnread, IsParseFault}
+use Rattle.tf_session.specs.Makes.{NotRead}
 
 abbrev pub OneCut : Type 0
 OneCut = (text : List ℕ) (pairs others : List Pair) (last other : List ℕ) → IsCut text pairs last → IsCut text others other → (pairs ≡ others) × (last ≡ other)

@@ -1,5 +1,5 @@
 -- Laws of `fmt`.
-use Rattle.std.specs.Prelude.{◌≡◌, false, Result, Ok}
+use Rattle.std.specs.Prelude.{◌≡◌, false, Ok}
 use Rattle.hcl_format.specs.Layouts.{HaveSameTokens}
 use Rattle.tf_session.specs.declared.command.Command.TheVariants.{Fmt}
 use Rattle.tf_session.specs.declared.command.Done.{Done}

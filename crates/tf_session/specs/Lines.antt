@@ -1,46 +1,33 @@
 -- The lines of the issues of a text, and what a call that lints a stream took, wrote and answers.
-use Rattle.std.specs.Prelude.{◌≡◌, ◌⊎◌, ℕ, List, [], ◌∷◌, ◌++◌, length}
-use Rattle.hcl_token.specs.Tokens.{Pair}
-use Rattle.hcl_scan.specs.Cut.{IsCut}
-use Rattle.hcl_scan.specs.Fault.{IsFault}
+use Rattle.std.specs.Prelude.{◌≡◌, ℕ, List, [], ◌∷◌, ◌++◌, length}
+use Rattle.hcl_token.specs.CutText.{CutText}
 use Rattle.tf_rule.specs.declared.rule_set.RuleSet.{RuleSet}
 use Rattle.tf_lint.specs.Issues.{issues_of}
 use Rattle.tf_lint.specs.Reports.{Report, line_of}
-use Rattle.tf_stream.specs.Streams.{Source, Target, Puts, Untouched}
+use Rattle.tf_stream.specs.Streams.{Source, Target, Puts}
 use Rattle.tf_session.specs.declared.fault.RunFault.{RunFault}
-use Rattle.tf_session.specs.declared.fault.RunFault.TheVariants.{Scan, Memory, Read, Write, Endless}
-use Rattle.tf_session.specs.declared.fault.Part.{Part}
-use Rattle.tf_session.specs.Streams.{TakesText, NotTaken, NotPut}
-use Rattle.tf_session.specs.Makes.{IsText}
+use Rattle.tf_session.specs.Reading.{Reads}
+use Rattle.tf_session.specs.Makes.{NotRead}
+use Rattle.tf_session.specs.Streams.{TakesText, FailsOver}
 
 -- the line of each issue in a file of this name, each followed by LF
 abbrev pub lines_of : List ℕ → List Report → List ℕ
 lines_of name [] = []
 lines_of name (r ∷ rs) = line_of name r ++ 10 ∷ lines_of name rs
 
--- the text has a cut, in which these are the issues of the rules
+-- the text parses, and these are the issues of the rules in it
 abbrev pub HasIssues : RuleSet → List ℕ → List Report → Type 0
-HasIssues rules text found = (pairs : List Pair) × (last : List ℕ) × IsCut text pairs last × (found ≡ issues_of rules pairs)
+HasIssues rules text found = (cut : CutText) × Reads text cut × (found ≡ issues_of rules cut.pairs)
+
+-- these are the lines of the issues of a text, of which there are so many
+abbrev pub AreLines : List ℕ → RuleSet → List ℕ → List ℕ → ℕ → Type 0
+AreLines name rules text lines count = (found : List Report) × HasIssues rules text found × (lines ≡ lines_of name found) × (count ≡ length found)
 
 -- From the source came a whole text, and to the target went the lines of its issues, of which there are so many.
 abbrev pub Lints : List ℕ → RuleSet → ℕ → Source → Target → Type 0
 Lints name rules count source target =
-    (text : List ℕ) × (found : List Report) × TakesText source text × HasIssues rules text found × (count ≡ length found)
-    × Puts target (lines_of name found)
+    (text : List ℕ) × (lines : List ℕ) × TakesText source text × AreLines name rules text lines count × Puts target lines
 
--- At a fault nothing went to the target, but that at Write some bytes of the lines did.
+-- No text came, or it does not parse, or not all lines went out.
 abbrev pub LintsAtFault : List ℕ → RuleSet → RunFault → Source → Target → Type 0
-LintsAtFault name rules (Scan fault) source target = (text : List ℕ) × TakesText source text × IsFault text fault × Untouched target
-LintsAtFault name rules Memory source target = (NotTaken Memory source ⊎ ((text : List ℕ) × TakesText source text × IsText text)) × Untouched target
-LintsAtFault name rules Read source target = NotTaken Read source × Untouched target
-LintsAtFault name rules (Write part sent) source target =
-    (text : List ℕ) × (found : List Report) × TakesText source text × HasIssues rules text found
-    × NotPut Part.Text (Write part sent) target (lines_of name found)
-LintsAtFault name rules Endless source target = NotTaken Endless source × Untouched target
-LintsAtFault name rules _ source target = ⊥
-
--- why there are no lines of issues: the text has no cut, or a growth was refused while it was looked into
-abbrev pub LinesRefused : List ℕ → RunFault → Type 0
-LinesRefused text (Scan fault) = IsFault text fault
-LinesRefused text Memory = IsText text
-LinesRefused text _ = ⊥
+LintsAtFault name rules fault source target = FailsOver NotRead (λ text lines. (count : ℕ) × AreLines name rules text lines count) fault source target

@@ -8,7 +8,7 @@ use edit_text::RecordFault;
 use hcl_scan::ScanFault;
 use hcl_tree::ParseFault;
 use std::alloc::{AllocError, AllocFailed};
-use tf_lint::{LintFault, Rule};
+use tf_lint::Rule;
 use tf_stream::TakeFault;
 use thiserror::Error;
 
@@ -76,26 +76,6 @@ impl<T: Drop> From<AllocFailed<T>> for RunFault {
 
     fn from(_: AllocFailed<T>) -> Self {
         RunFault::Memory
-    }
-}
-
-impl From<ScanFault> for RunFault {
-    ghost use Rattle.tf_session.specs.Faults.{fault_of_scan, run_fault_of};
-
-    ghost from_gives = { λ fault given. given ≡ run_fault_of (fault_of_scan fault) };
-
-    fn from(fault: ScanFault) -> Self {
-        RunFault::from(Fault::from(fault))
-    }
-}
-
-impl From<LintFault> for RunFault {
-    ghost use Rattle.tf_session.specs.Faults.{fault_of_lint, run_fault_of};
-
-    ghost from_gives = { λ fault given. given ≡ run_fault_of (fault_of_lint fault) };
-
-    fn from(fault: LintFault) -> Self {
-        RunFault::from(Fault::from(fault))
     }
 }
 

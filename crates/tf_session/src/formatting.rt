@@ -1,6 +1,6 @@
 //! What a fmt makes of a text.
 
-ghost use Rattle.std.specs.Prelude.{◌≡◌, ◌≤◌, ◌⊎◌, true, Ok, length, IfOk, IfErr, IfSome};
+ghost use Rattle.std.specs.Prelude.{◌≡◌, ◌≤◌, ◌⊎◌, ◌↔◌, true, Ok, length, IsTrue, IfOk, IfErr, OnOk, IfSome};
 ghost use Rattle.edit_record.specs.Pieces.{Turns};
 ghost use Rattle.hcl_format.specs.Layouts.{IsLayout, IsTooLong};
 ghost use Rattle.hcl_grammar.specs.Bodies.{IsFile};
@@ -8,6 +8,7 @@ ghost use Rattle.hcl_layout.specs.Layout.{layout_edits};
 ghost use Rattle.hcl_parses.specs.Parses.{MAX_NESTING};
 ghost use Rattle.hcl_scan.specs.Cut.{MAX_TEXT};
 ghost use Rattle.hcl_scan.specs.Follows.{tokens_of};
+ghost use Rattle.tf_session.specs.Reading.{DoesParse};
 ghost use Rattle.tf_session.specs.Fixing.{differ};
 ghost use Rattle.tf_session.specs.Fixed.{made_of};
 ghost use Rattle.tf_session.specs.Makes.{Makes, RefusesText};
@@ -19,7 +20,7 @@ use crate::fixing::{Change, Fixed};
 use crate::reading::read_text;
 use edit_record::Change as _;
 use edit_record::laws::{apply_is_exact, sides_fix_each_other};
-use hcl_format::{laws, layout};
+use hcl_format::{is_laid_out, laws, layout};
 use hcl_parses::laws::parsed_apart;
 use hcl_scan::Scanned;
 use hcl_tree::Tree;
@@ -66,4 +67,16 @@ fn layout_change(alloc: Global, scanned: &Scanned<'_>, tree: &Tree) -> Result<Ch
         Ok(text) => Ok(Change { text, edits }),
         Err(refused) => Err(Fault::from(refused)),
     }
+}
+
+/// Whether the text is its own layout.
+pub fn has_own_layout(alloc: Global, text: &[u8]) -> Result<bool, Fault>
+    ensures parses { OnOk result (DoesParse text.now) }
+    ensures short { OnOk result (¬ (IsTooLong text.now)) }
+    ensures answer { IfOk result (λ yes. IsTrue yes ↔ IsLayout text.now text.now) }
+    ensures fault { IfErr result (λ fault. RefusesText Fmt text.now fault) }
+{
+    let parsed = read_text(alloc, text)?;
+    let yes = is_laid_out(alloc, &parsed.scanned, &parsed.tree)?;
+    Ok(yes)
 }

@@ -24,7 +24,7 @@ pub use hcl_tree::ParseFault;
 pub use linting::lint_stream;
 pub use running::run;
 pub use session::Session;
-pub use streaming::step_stream;
+pub use streaming::{check_stream, step_stream};
 pub use texts::{put_journal, put_text, take_text};
 pub use tf_lint::{Rule, RuleSet};
 pub use tf_stream::Told;

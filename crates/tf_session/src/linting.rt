@@ -1,16 +1,17 @@
 //! Whole texts linted from a reader to a writer.
 
-ghost use Rattle.std.specs.Prelude.{◌≡◌, ◌↔◌, ◌+◌, ℕ, List, true, false, length, IfOk, IfErr, IsErrOf, IsErrAnd};
+ghost use Rattle.std.specs.Prelude.{◌≡◌, ◌↔◌, true, false, IfOk, IfErr, IsErrOf, IsErrAnd};
 ghost use Rattle.tf_lint.specs.Issues.{reports};
-ghost use Rattle.tf_lint.specs.Reports.{Report};
 ghost use Rattle.tf_stream.specs.Told.{has_failed};
 ghost use Rattle.tf_stream.specs.Streams.{from, into};
-ghost use Rattle.tf_session.specs.Lines.{lines_of, HasIssues, Lints, LintsAtFault, LinesRefused};
+ghost use Rattle.tf_session.specs.Lines.{lines_of, AreLines, Lints, LintsAtFault};
+ghost use Rattle.tf_session.specs.Makes.{NotRead};
 ghost use Rattle.tf_session.specs.Streams.{is_write};
 
+use crate::command::Fault;
 use crate::fault::RunFault;
+use crate::reading::read_text;
 use crate::texts::{put_text, take_text};
-use hcl_scan::scan;
 use std::alloc::{AllocError, Global};
 use std::io::{Read, Write};
 use tf_lint::{Issue, RuleSet, issues};
@@ -45,14 +46,16 @@ fn issue_lines(
     name: &str,
     text: &[u8],
     rules: RuleSet,
-) -> Result<(Vec<u8>, usize), RunFault>
-    ensures lines { IfOk result (λ made. (found : List Report) × HasIssues rules text.now found × (made.0.items ≡ lines_of name.now found) × (made.1 ≡ length found)) }
-    ensures fault { IfErr result (LinesRefused text.now) }
+) -> Result<(Vec<u8>, usize), Fault>
+    ensures lines { IfOk result (λ made. AreLines name.now rules text.now made.0.items made.1) }
+    ensures fault { IfErr result (λ fault. NotRead text.now fault) }
 {
-    let scanned = scan(alloc, text)?;
-    let found = issues(alloc, &scanned, rules)?;
-    let lines = joined_lines(alloc, name, found.as_slice())?;
-    Ok((lines, found.len()))
+    let parsed = read_text(alloc, text)?;
+    let found = issues(alloc, &parsed.scanned, rules)?;
+    match joined_lines(alloc, name, found.as_slice()) {
+        Ok(lines) => Ok((lines, found.len())),
+        Err(_) => Err(Fault::Memory),
+    }
 }
 
 fn joined_lines(alloc: Global, name: &str, found: &[Issue]) -> Result<Vec<u8>, AllocError>

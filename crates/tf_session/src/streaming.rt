@@ -1,14 +1,15 @@
-//! One command over a whole text, from a reader to a writer.
+//! One command over a whole text, from a reader to a writer, and whether a whole text is laid out.
 
 ghost use Rattle.std.specs.Prelude.{◌≡◌, ◌↔◌, true, false, IfOk, IfErr, IsErrOf, IsErrAnd};
 ghost use Rattle.tf_stream.specs.Told.{has_failed};
 ghost use Rattle.tf_stream.specs.Streams.{from, into};
 ghost use Rattle.tf_session.specs.Session.{text_of, records_of};
 ghost use Rattle.tf_session.specs.Streams.{is_write};
-ghost use Rattle.tf_session.specs.Streaming.{StepsThrough, StepsAtFault};
+ghost use Rattle.tf_session.specs.Streaming.{StepsThrough, StepsAtFault, Checks, ChecksAtFault};
 
 use crate::command::{Command, Done};
 use crate::fault::RunFault;
+use crate::formatting::has_own_layout;
 use crate::session::Session;
 use crate::texts::{put_text, take_text};
 use edit_record::Journal;
@@ -39,4 +40,19 @@ pub fn step_stream<R: Read, W: Write>(
         Ok(()) => Ok((session, done)),
         Err(fault) => Err(fault),
     }
+}
+
+/// Whether the whole text of a reader is its own layout.
+///
+/// A text that a fmt refuses is refused here too, with the same fault: one that does not parse, or has a layout of more than
+/// 16,777,216 bytes.
+pub fn check_stream<R: Read>(alloc: Global, text: &mut Told<R>) -> Result<bool, RunFault>
+    requires { has_failed text.old ≡ false }
+    ensures answer { IfOk result (λ yes. Checks yes (from R.remaining text.old text.new)) }
+    ensures fault { IfErr result (λ fault. ChecksAtFault fault (from R.remaining text.old text.new)) }
+    ensures read { IsErrOf result RunFault.Read ↔ has_failed text.new ≡ true }
+{
+    let bytes = take_text(alloc, text)?;
+    let yes = has_own_layout(alloc, bytes.as_slice())?;
+    Ok(yes)
 }

@@ -1,15 +1,9 @@
 //! `tfk`: a formatter and linter for Terraform files.
 #![tactic(auto)]
 
-mod command_line;
-mod files;
-mod journals;
-mod outcome;
-mod worker;
-
 use std::process::ExitCode;
 use std::{env, io};
-pub use worker::work;
+use tf_program::work;
 
 fn main(rt: HostRuntime) -> io::Result<ExitCode> {
     let alloc = rt.alloc();
@@ -27,6 +21,3 @@ fn main(rt: HostRuntime) -> io::Result<ExitCode> {
     );
     Ok(ExitCode::from(status))
 }
-
-#[cfg(test)]
-mod tests;

@@ -1,5 +1,5 @@
 -- The edits of the layout stand in the text, and make it.
-use Rattle.std.proofs.Common.{◌≡◌, ◌∙◌, rules, ap, inl}
+use Rattle.std.proofs.Common.{◌∙◌, rules, ap, inl}
 use Rattle.edit_record.specs.Pieces.{Turns}
 use Rattle.tf_session.specs.Faults.{fault_of_refused}
 use Rattle.tf_session.proofs.Laying.{made, only_memory}

@@ -1,5 +1,5 @@
 -- The parser's fault is the text's.
-use Rattle.std.proofs.Common.{rules, List, ℕ, sym, subst}
+use Rattle.std.proofs.Common.{List, ℕ, sym, subst}
 use Rattle.hcl_parses.specs.Parses.{Parses}
 use Rattle.tf_session.specs.declared.command.Fault.{Fault}
 use Rattle.tf_session.specs.Makes.{NotRead}

@@ -1,5 +1,5 @@
 -- The layout is put on.
-use Rattle.std.proofs.Common.{rules, sym, subst, IfOk}
+use Rattle.std.proofs.Common.{sym, subst, IfOk}
 use Rattle.tf_session.specs.declared.command.Command.{Command}
 use Rattle.tf_session.specs.declared.command.Done.{Done}
 use Rattle.tf_session.specs.Records.{DoesStep}
