@@ -1,10 +1,10 @@
 //! The text of journals.
 
-use crate::row::Row;
 use crate::spelled::journal_of;
 use anyhow::{Result, anyhow};
 use edit_text::laws::{old_records_turn_alike, text_begins_alike, text_is_one};
 use edit_text::{RecordFault, decode, encode, encoded_len};
+use row_text::Row;
 use std::alloc::Global;
 use std::str::from_utf8;
 

@@ -1,11 +1,11 @@
 //! Texts and their layouts.
 
-use crate::row::Row;
 use anyhow::{Result, anyhow};
 use edit_record::Change;
 use hcl_layout::laws::{cells_in_columns, keeps_tokens, lines_have_all_tokens, own_layout};
 use hcl_layout::{LayoutFault, is_laid_out, layout};
 use hcl_scan::scan;
+use row_text::Row;
 use std::alloc::Global;
 use std::fmt::Write;
 use std::str::from_utf8;

@@ -1,10 +1,10 @@
 //! Rules, issues and the steps of fixes.
 
 use crate::layouts::said;
-use crate::row::Row;
 use anyhow::{Result, anyhow};
 use edit_record::Change;
 use hcl_scan::scan;
+use row_text::Row;
 use std::alloc::Global;
 use std::fmt::Write;
 use tf_lint::{Issue, LintFault, Place, Rule, RuleSet, fix_step, issues, taken};

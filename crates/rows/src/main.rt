@@ -9,14 +9,13 @@ mod layouts;
 mod lints;
 mod parses;
 mod records;
-mod row;
 mod spelled;
 mod squashes;
 mod swaps;
 mod tokens;
 
 use anyhow::{Result, anyhow};
-use row::Row;
+use row_text::Row;
 use std::alloc::Global;
 use std::{env, fs};
 

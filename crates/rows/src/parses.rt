@@ -1,9 +1,9 @@
 //! Texts that parse or not, and where they do not.
 
-use crate::row::Row;
 use anyhow::Result;
 use hcl_scan::scan;
 use hcl_tree::{ParseFault, parse};
+use row_text::Row;
 use std::alloc::Global;
 
 pub fn answer(alloc: Global, row: &Row) -> Result<String> {

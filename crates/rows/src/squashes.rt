@@ -1,11 +1,11 @@
 //! Two lists of edits as one.
 
-use crate::row::Row;
 use crate::spelled::{list_of, rising, spell, spell_as};
 use anyhow::{Result, anyhow};
 use edit_record::Edits;
 use edit_squash::laws::{squash_all_is_one, squash_associates, squash_is_one};
 use edit_squash::{Unmet, squash};
+use row_text::Row;
 use std::alloc::Global;
 
 pub fn answer(alloc: Global, row: &Row) -> Result<String> {

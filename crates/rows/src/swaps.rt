@@ -1,11 +1,11 @@
 //! Lists that change places, and records that are taken out.
 
-use crate::row::Row;
 use crate::spelled::{journal_of, list_of, name_of, rising, spell, spell_as};
 use anyhow::Result;
 use edit_record::{Edits, Journal};
 use edit_swap::laws::{swap_is_one, taking_out_is_one};
 use edit_swap::{SwapFault, TakeFault, swap, take_out};
+use row_text::Row;
 use std::alloc::Global;
 
 pub fn answer(alloc: Global, row: &Row) -> Result<String> {

@@ -1,13 +1,13 @@
 //! Tokens: the cuts of texts, places, and what joins.
 
 use crate::journals::with_byte;
-use crate::row::Row;
 use anyhow::{Result, anyhow};
 use hcl_scan::laws::{
     cut_follows, gaps_of, no_cut_with_fault, one_cut, one_fault, other_gaps, writes_back,
 };
 use hcl_scan::{Kind, ScanFault, Scanned, scan};
 use hcl_token::{clusters, joins};
+use row_text::Row;
 use std::alloc::Global;
 use std::fmt::Write;
 use std::str::from_utf8;
