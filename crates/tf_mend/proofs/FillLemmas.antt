@@ -184,6 +184,22 @@ front_filled text body are =
 pub cut_filled : (text : List ℕ) (pairs : List Pair) (last : List ℕ) → IsCut text pairs last → AreFilled pairs
 cut_filled text pairs last c = subst AreFilled (sym c.cuts.front) (front_filled text c.cuts.body (pairs_filled c.cuts.body [] [] last tt c.cuts.cuts))
 
+-- a text has no fewer bytes than tokens
+filled_length : (pairs : List Pair) (last : List ℕ) → AreFilled pairs → length pairs ≤ length (whole_text pairs last)
+filled_length [] last are = omega arith
+filled_length (p ∷ pairs) last are =
+    let more = filled_length pairs last are.1 in
+    let some = are.0 in
+    let a = length-append p.gap (p.spelling ++ whole_text pairs last) in
+    let b = length-append p.spelling (whole_text pairs last) in
+    omega (arith, more, some, a, b)
+
+pub few_tokens : (text : List ℕ) (pairs : List Pair) (last : List ℕ) → IsCut text pairs last → length pairs ≤ 16777216
+few_tokens text pairs last c =
+    let more = filled_length pairs last (cut_filled text pairs last c) in
+    let whole = ap length c.cuts.text_is in
+    omega (arith, more, whole, c.short)
+
 filled_at : (pairs : List Pair) (i : ℕ) (p : Pair) → AreFilled pairs → slice_get pairs i ≡ Some p → 0 < length p.spelling
 filled_at [] i p are found = absurd (cc found)
 filled_at (q ∷ pairs) zero p are found = let same : q ≡ p = cc found in subst (λ (x : Pair). 0 < length x.spelling) same are.0

@@ -107,3 +107,12 @@ taken_order pairs at (f ∷ fs) are =
 pub step_order : (pairs : List Pair) (findings : List Finding) → AreSound (length pairs) findings
     → AreInOrder 0 (flat_map (finding_replacements pairs) (taken_from 0 findings)) (2 * length pairs)
 step_order pairs findings sound = taken_order pairs 0 (taken_from 0 findings) (taken_are pairs 0 findings (omega arith) sound)
+
+-- ---- how many are taken
+
+taken_count : (pairs : List Pair) (at : ℕ) (fs : List Finding) → AreTaken at pairs fs → at + length fs ≤ length pairs
+taken_count pairs at [] are = omega (arith, are)
+taken_count pairs at (f ∷ fs) are = omega (arith, are.0, are.1.2, taken_count pairs f.past fs are.2)
+
+pub taken_few : (pairs : List Pair) (findings : List Finding) → AreSound (length pairs) findings → length (taken_from 0 findings) ≤ length pairs
+taken_few pairs findings sound = omega (arith, taken_count pairs 0 (taken_from 0 findings) (taken_are pairs 0 findings (omega arith) sound))
