@@ -20,7 +20,7 @@ use Rattle.tf_session.specs.Faults.{run_fault_of, run_fault_of_take, run_fault_o
 use Rattle.tf_session.specs.Records.{RefusesStep}
 use Rattle.tf_session.specs.Streams.{NotPut}
 use Rattle.tf_journal.specs.Journals.{MAX_JOURNAL, Loads, HasNoText, NotTaken, NotDecoded, NotSaved, NotStreamed}
-use Rattle.tf_journal.specs.TakingBack.{ReadsBack, StreamsOver, GoesOn, Ends, is_from_outside, CommandCanBeTakenBack}
+use Rattle.tf_journal.specs.TakingBack.{ReadsBack, PutsOne, StreamsOver, GoesOn, Ends, is_from_outside, CommandCanBeTakenBack}
 use Rattle.tf_journal.proofs.Takes.{not_nil, same_last, held, same_bytes, put}
 
 abbrev TextIsOne : Type 0
@@ -130,7 +130,7 @@ record Wrote (first : Ends) : Type 0 where
   journal_put : Puts first.journal_out bytes
   text_put : Puts first.text_out new
 
-wrote : (command : Command) (d : Done) (first : Ends) → command ≢ Revert → StreamsOver command d first → d.changed ≡ true → Wrote first
+wrote : (command : Command) (d : Done) (first : Ends) → PutsOne command → StreamsOver command d first → d.changed ≡ true → Wrote first
 wrote command d first other s changed =
     let (text, records, loads, new, new_records, does, saves) = s in
     let p = put command text records d new new_records other does changed in
