@@ -1,5 +1,5 @@
 -- A command that changed the text is taken back over what it wrote.
-use Rattle.std.proofs.Common.{◌≡◌, ◌≢◌, ◌∙◌, ◌≤◌, ℕ, length, List, [], ◌∷◌, ◌++◌, Bool, true, Option, Some, None, ap, sym, refl, subst, inl}
+use Rattle.std.proofs.Common.{◌≡◌, ◌∙◌, ◌≤◌, ℕ, length, List, [], ◌∷◌, ◌++◌, Bool, true, Option, Some, None, ap, sym, refl, subst, inl}
 use Rattle.std.specs.Io.KnownBytes.{Appends, Consumes, IsAtEnd}
 use Rattle.hcl_scan.specs.Cut.{MAX_TEXT}
 use Rattle.edit_record.specs.Journal.{Entered, record_turns}

@@ -220,7 +220,7 @@ module _ (one_cut : OneCut) (no_cut : NoCutWithFault) (one_fault : OneFault) (on
       let e : Ok p.steps ≡ Err f = same_runs rules text p.cut w.0 (Ok p.steps) (Err f) p.reads w.1 p.runs w.2 in
       cc
 
-  same_fixes : (rules : RuleSet) (text : List ℕ) (a b : Result Made Fault) → FixMakes rules text a → FixMakes rules text b → AreAlike a b
+  pub same_fixes : (rules : RuleSet) (text : List ℕ) (a b : Result Made Fault) → FixMakes rules text a → FixMakes rules text b → AreAlike a b
   same_fixes rules text (Ok a) (Ok b) p q = inl (ap (λ (x : Made). Ok x) (same_made rules text a b p q))
   same_fixes rules text (Ok a) (Err f) p q = absurd (not_why text f (Broken rules text f) p.reads.2 (not_broken_fix rules text a f p) (why_fix rules text f q))
   same_fixes rules text (Err f) (Ok b) p q = absurd (not_why text f (Broken rules text f) q.reads.2 (not_broken_fix rules text b f q) (why_fix rules text f p))
@@ -242,7 +242,7 @@ module _ (one_cut : OneCut) (no_cut : NoCutWithFault) (one_fault : OneFault) (on
       let left : a.left ≡ b.left = p.left_is ∙ sym q.left_is in
       one_made a b texts edits fixed left
 
-  same_layouts : (text : List ℕ) (a b : Result Made Fault) → FmtMakes text a → FmtMakes text b → AreAlike a b
+  pub same_layouts : (text : List ℕ) (a b : Result Made Fault) → FmtMakes text a → FmtMakes text b → AreAlike a b
   same_layouts text (Ok a) (Ok b) p q = inl (ap (λ (x : Made). Ok x) (same_formats text a b p q))
   same_layouts text (Ok a) (Err f) p q = absurd (not_why text f (Long text f) p.reads.2 (not_long text a f p) (why_fmt text f q))
   same_layouts text (Err f) (Ok b) p q = absurd (not_why text f (Long text f) q.reads.2 (not_long text b f q) (why_fmt text f p))

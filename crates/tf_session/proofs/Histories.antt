@@ -18,9 +18,8 @@ use Rattle.tf_session.specs.declared.command.Fault.TheVariants.{Scan, Parse, Fix
 use Rattle.tf_session.specs.Fixing.{Made, differ}
 use Rattle.tf_session.specs.Makes.{Makes, IsText, is_memory_fault}
 use Rattle.tf_session.specs.Machine.{done}
-use Rattle.tf_session.specs.Nth.{Nth}
 use Rattle.tf_session.specs.TakingNth.{TakesNth, NotUndone, LengthsBreak, RefusesNth}
-use Rattle.tf_session.specs.Layers.{Layer, History, last_text, top_text, record_of, records_in, Rise, IsHistory, layer_on, PutsLayer, OneOut, Acts, ActsOrWants, RunLayers}
+use Rattle.tf_session.specs.Layers.{Layer, History, last_text, top_text, record_of, records_in, Rise, IsHistory, PutsLayer, Acts, ActsOrWants, RunLayers}
 use Rattle.tf_session.specs.Records.{HasWord, AddsRecordOf, TakesLast, DoesStep, RefusesTake, RefusesStep}
 use Rattle.tf_session.proofs.JournalOne.{TurnLengths}
 use Rattle.tf_session.proofs.Lists.{not_nil}

@@ -14,4 +14,5 @@ pub mod JournalOne
 pub mod TakeLaws
 pub mod OneMachine
 pub mod TakingOnce
+pub mod LayersLaws
 pub mod Unread

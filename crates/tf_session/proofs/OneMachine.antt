@@ -8,8 +8,8 @@ use Rattle.tf_session.specs.declared.command.Fault.{Fault}
 use Rattle.tf_session.specs.Fixing.{Made, differ}
 use Rattle.tf_session.specs.Makes.{Makes, IsText}
 use Rattle.tf_session.specs.Machine.{Under, Stack, only, put_on, done, PutsOn, TakesOff, Serves, is_memory, MayWant, Run, NotTake, WithoutTake}
-use Rattle.tf_session.specs.Layers.{Layer, History, bare, last_text, top_text, layer_on, PutsLayer, TakesLayerOff, LastOff, Acts, MayWantMemory, ActsOrWants, RunLayers}
-use Rattle.tf_session.specs.WithoutTake.{Shows, SameTexts, OneMachine, WithoutTakeOneMachine}
+use Rattle.tf_session.specs.Layers.{Layer, History, bare, last_text, top_text, layer_on, PutsLayer, TakesLayerOff, LastOff, Acts, MayWantMemory, RunLayers}
+use Rattle.tf_session.specs.WithoutTake.{Shows, SameTexts, WithoutTakeOneMachine}
 use Rattle.tf_session.proofs.Lists.{not_nil, same_last}
 use Rattle.tf_session.proofs.Histories.{last_on}
 

@@ -17,7 +17,7 @@ use Rattle.tf_session.specs.Faults.{fault_of_refused}
 use Rattle.tf_session.specs.Fixing.{differ}
 use Rattle.tf_session.specs.Machine.{done}
 use Rattle.tf_session.specs.Nth.{Nth}
-use Rattle.tf_session.specs.TakingNth.{TakesNth, NotUndone, RefusesNth, CannotUndo, fault_behind, counted_behind}
+use Rattle.tf_session.specs.TakingNth.{TakesNth, RefusesNth, CannotUndo, fault_behind, counted_behind}
 
 -- what undoing edits answers, by the laws of edits
 abbrev pub Undoes : EditList → Type 0

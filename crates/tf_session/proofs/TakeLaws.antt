@@ -7,15 +7,15 @@ use Rattle.edit_record.specs.Many.{TurnsAll}
 use Rattle.edit_record.specs.Pieces.{EditList, Turns}
 use Rattle.edit_record.specs.declared.record.Word.{Word}
 use Rattle.edit_swap.specs.Taking.{TakenOut, TakesAreOne}
-use Rattle.edit_swap.specs.TakeOut.{edits_of, words_of}
+use Rattle.edit_swap.specs.TakeOut.{edits_of}
 use Rattle.tf_session.specs.declared.command.Command.{Command}
 use Rattle.tf_session.specs.declared.command.Command.TheVariants.{Fmt, Fix, Revert, Take}
 use Rattle.tf_session.specs.declared.command.Done.{Done}
 use Rattle.tf_session.specs.declared.command.Fault.{Fault}
 use Rattle.tf_session.specs.Fixing.{Made, differ}
 use Rattle.tf_session.specs.Machine.{is_memory}
-use Rattle.tf_session.specs.Layers.{Layer, History, bare, last_text, top_text, record_of, records_in, Rise, IsHistory, layer_on, PutsLayer, TakesLayerOff, TakesLayerOut, OneOut, Acts, MayWantMemory, ActsOrWants, RunLayers}
-use Rattle.tf_session.specs.TakeLaws.{ActsAll, Leaves, TakeLeaves, RevertsGiveTheFirstAgain, JournalIsOneAgain}
+use Rattle.tf_session.specs.Layers.{Layer, History, bare, last_text, top_text, record_of, records_in, Rise, IsHistory, layer_on, PutsLayer, TakesLayerOff, TakesLayerOut, Acts, MayWantMemory, RunLayers}
+use Rattle.tf_session.specs.TakeLaws.{ActsAll, TakeLeaves, RevertsGiveTheFirstAgain, JournalIsOneAgain}
 use Rattle.tf_session.proofs.JournalOne.{TurnLengths, SquashesAreOne, become_one}
 use Rattle.tf_session.proofs.Histories.{last_on, rise_on, rise_low, rise_high, rise_turns}
 

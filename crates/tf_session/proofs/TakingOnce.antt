@@ -1,5 +1,5 @@
 -- A take has one answer: where one of its swaps is refused, no other outcome is possible.
-use Rattle.std.proofs.Common.{◌≡◌, ◌∙◌, ◌≤◌, ◌<◌, ◌+◌, ◌⊎◌, ℕ, zero, suc, List, [], ◌∷◌, ◌++◌, length, take, Result, Ok, Err, refl, sym, ap, subst, arith, length-append, inl, inr}
+use Rattle.std.proofs.Common.{◌≡◌, ◌∙◌, ◌<◌, ◌+◌, ◌⊎◌, ℕ, zero, suc, List, [], ◌∷◌, ◌++◌, length, take, Ok, Err, refl, sym, ap, subst, arith, length-append, inl, inr}
 use Rattle.std.proofs.lemmas.List.{length-map}
 use Rattle.edit_record.specs.Journal.{Entered}
 use Rattle.edit_record.specs.Made.{EditsTurnIntoOne}
@@ -7,13 +7,12 @@ use Rattle.edit_record.specs.Pieces.{EditList, Turns}
 use Rattle.edit_swap.specs.Swap.{At, ChangePlaces, SwapsAreOne}
 use Rattle.edit_swap.specs.Taking.{TakenOut, TakesAreOne}
 use Rattle.edit_swap.specs.TakeOut.{edits_of, words_of, Met, Overflows, Stuck}
-use Rattle.edit_record.specs.declared.record.Word.{Word}
 use Rattle.tf_session.specs.declared.command.Done.{Done}
 use Rattle.tf_session.specs.declared.command.Fault.{Fault}
 use Rattle.tf_session.specs.declared.command.Fault.TheVariants.{Scan, Parse, FixBroken, TooLong, NoRecord, Refused, Memory, Blocked}
 use Rattle.tf_session.specs.Fixing.{differ}
 use Rattle.tf_session.specs.Machine.{done}
-use Rattle.tf_session.specs.Layers.{Layer, History, last_text, top_text, record_of, records_in, Rise, OneOut, TakesLayerOut}
+use Rattle.tf_session.specs.Layers.{Layer, History, last_text, top_text, record_of, records_in, Rise, OneOut}
 use Rattle.tf_session.specs.TakingNth.{StuckBehind, NoneOut}
 use Rattle.tf_session.specs.Nth.{Nth}
 use Rattle.tf_session.specs.TakeLaws.{TakeHasOneAnswer}

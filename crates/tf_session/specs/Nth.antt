@@ -1,5 +1,5 @@
 -- One member of a list by its number, the first being 1.
-use Rattle.std.specs.Prelude.{◌≡◌, ℕ, ◌+◌, List, [], ◌∷◌, ◌++◌, length}
+use Rattle.std.specs.Prelude.{◌≡◌, ℕ, ◌+◌, List, ◌∷◌, ◌++◌, length}
 
 -- the member of this number, with those before it and those behind it
 pub record Nth {X : Type 0} (n : ℕ) (xs : List X) : Type 0 where

@@ -7,6 +7,8 @@ use Rattle.tf_session.specs.declared.command.Command.TheVariants.{Revert}
 use Rattle.tf_session.specs.declared.command.Done.{Done}
 use Rattle.tf_session.specs.declared.command.Fault.{Fault}
 use Rattle.tf_session.specs.JournalLaws.{BecomeOne}
+use Rattle.tf_session.specs.OneAnswer.{AreAlike}
+use Rattle.tf_session.specs.RunLaws.{served, given}
 use Rattle.tf_session.specs.Layers.{History, bare, top_text, records_in, IsHistory, OneOut, TakesLayerOut, Acts, RunLayers}
 
 -- the machine over a list of commands, where no growth is refused
@@ -15,6 +17,16 @@ ActsAll old [] [] new = new ≡ old
 ActsAll old [] (reply ∷ replies) new = ⊥
 ActsAll old (command ∷ commands) [] new = ⊥
 ActsAll old (command ∷ commands) (reply ∷ replies) new = (mid : History) × Acts command old reply mid × ActsAll mid commands replies new
+
+-- In any run, takes among its commands, replies and history are those of the machine over the commands that had memory.
+abbrev pub RefusedDoNotCountOverLayers : Type 0
+RefusedDoNotCountOverLayers = (old new : History) (commands : List Command) (replies : List (Result Done Fault)) → RunLayers old commands replies new
+    → ActsAll old (served commands replies) (given replies) new
+
+-- a command over a history has one reply and leaves one history
+abbrev pub OneAnswerOverLayers : Type 0
+OneAnswerOverLayers = (command : Command) (old : History) (reply other : Result Done Fault) (new another : History) → Acts command old reply new → Acts command old other another
+    → AreAlike reply other × (new ≡ another)
 
 -- What a take leaves is a history again, on the same first text and with one layer less. The edits of the layer that is gone, as they
 -- are behind all others, turn its text into the one before the take: so it is that text without what the command did.

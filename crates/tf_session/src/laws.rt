@@ -3,7 +3,7 @@
 ghost use Rattle.tf_session.specs.OneAnswer.{OneAnswer};
 ghost use Rattle.tf_session.specs.FmtLaws.{FmtKeepsTokens, FmtChangesOnce};
 ghost use Rattle.tf_session.specs.JournalLaws.{JournalIsOne};
-ghost use Rattle.tf_session.specs.TakeLaws.{TakeHasOneAnswer, TakeLeaves, RevertsGiveTheFirstAgain, JournalIsOneAgain};
+ghost use Rattle.tf_session.specs.TakeLaws.{OneAnswerOverLayers, TakeHasOneAnswer, TakeLeaves, RefusedDoNotCountOverLayers, RevertsGiveTheFirstAgain, JournalIsOneAgain};
 ghost use Rattle.tf_session.specs.WithoutTake.{WithoutTakeOneMachine};
 ghost use Rattle.tf_session.specs.RunLaws.{RefusedDoNotCount, RevertsTakeOff, RevertsGiveTheFirst};
 
@@ -82,6 +82,24 @@ pub fn each_take_has_one_answer()
     taking_out_is_one();
     turned_texts_are_one();
 }
+
+/// A command over a first text with its layers of edits has one reply, and leaves one history.
+pub fn each_command_has_one_answer_over_layers()
+    ensures { OneAnswerOverLayers }
+{
+    one_cut();
+    no_cut_with_fault();
+    one_fault();
+    one_layout();
+    swap_is_one();
+    taking_out_is_one();
+    turned_texts_are_one();
+}
+
+/// A command that met a refused growth might as well not be in the list, takes among its commands too.
+pub fn refused_commands_do_not_count_over_layers()
+    ensures { RefusedDoNotCountOverLayers }
+{}
 
 /// After any commands, takes among them, enough reverts give back the first bytes.
 pub fn reverts_give_the_first_text_after_takes()

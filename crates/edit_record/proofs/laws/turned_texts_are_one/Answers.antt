@@ -1,4 +1,4 @@
-use Rattle.std.proofs.Common.{◌≡◌, List, ℕ, Ok}
+use Rattle.std.proofs.Common.{◌≡◌, Ok}
 use Rattle.edit_record.specs.Made.{EditsTurnIntoOne}
 use Rattle.edit_record.specs.Inner.Exact.{forward_exact}
 use Rattle.edit_record.specs.Inner.Walk.{answer}
