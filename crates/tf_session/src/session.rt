@@ -131,8 +131,12 @@ impl Session {
         ensures journal { OnErr result (records_of self.new ≡ records_of self.old) }
     {
         let records = self.journal.records();
-        let left = without(alloc, &self.text, records, number as usize)?;
-        let Remainder { text, from, others } = left;
+        let Remainder { text, from, others } = without(
+            alloc,
+            &self.text,
+            records,
+            number as usize,
+        )?;
         let changed = text.as_slice() != self.text.as_slice();
         self.journal.replace_from(from, others);
         self.text = text;
