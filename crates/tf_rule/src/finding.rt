@@ -1,6 +1,11 @@
 //! What a rule finds.
 
+ghost use Rattle.std.specs.Prelude.{◌≡◌, ◌++◌, ℕ, true, OnOk, OnErr};
+ghost use Rattle.tf_rule.specs.declared.finding.Finding.{Finding};
+ghost use Rattle.tf_rule.specs.Findings.{is_in_order, is_sound, if_sound, IsSound};
+
 use crate::rule::Rule;
+use std::alloc::AllocError;
 
 /// What the name stands for that is not in snake_case.
 #[derive(Clone, Copy, Debug, PartialEq, Eq)]
@@ -42,11 +47,11 @@ pub enum Matter {
         name: Option<usize>,
     },
     /// The variable of this name should have a type.
-    Type {
+    Untyped {
         name: Option<usize>,
     },
     /// The variable or the output of this name should have a description.
-    Description {
+    Undocumented {
         name: Option<usize>,
     },
 }
@@ -61,3 +66,51 @@ pub struct Finding {
     pub fixable: bool,
     pub matter: Matter,
 }
+
+/// Whether the ranges that a fix needs stand in order in the tokens from `first` up to `past`.
+fn is_in_order(first: usize, past: usize, matter: Matter) -> bool
+    ensures { result ≡ is_in_order first past matter }
+{
+    match matter {
+        Matter::Slashes | Matter::LegacyIndex => past > first && past - first == 1,
+        Matter::Interpolation => past >= 5 && first <= past - 5,
+        Matter::Comparison { from, to, .. } => first <= from && from < to && to <= past,
+        Matter::Lookup { from, to, key, end } => {
+            first < from && from < to && to <= key && key < end && end <= past
+        }
+        Matter::Name { .. } | Matter::Untyped { .. } | Matter::Undocumented { .. } => false,
+    }
+}
+
+impl Finding {
+    /// Whether its tokens are tokens of a text that has `count`, and, where a fix can mend it, the ranges that the fix needs
+    /// stand in order in them.
+    pub fn is_sound(&self, count: usize) -> bool
+        ensures { result ≡ is_sound count self.now }
+    {
+        self.first < self.past
+            && self.past <= count
+            && (!self.fixable || is_in_order(self.first, self.past, self.matter))
+    }
+}
+
+/// Adds a finding to those in a text that has `count` tokens, if it is sound there; in the text's own tree each is.
+/// `AllocError` where there is no room for one more, and then nothing is added.
+pub fn add_finding(
+    found: &mut Vec<Finding>,
+    count: usize,
+    finding: Finding,
+) -> Result<(), AllocError>
+    ensures added { OnOk result (found.new.items ≡ found.old.items ++ if_sound count finding) }
+    ensures kept { OnErr result (found.new.items ≡ found.old.items) }
+{
+    if finding.is_sound(count) {
+        found.push(finding)?;
+    }
+    Ok(())
+}
+
+/// The test of a finding says the same as facts on its numbers.
+pub fn sound_is_sound()
+    ensures { (count : ℕ) (finding : Finding) → is_sound count finding ≡ true → IsSound count finding }
+{}

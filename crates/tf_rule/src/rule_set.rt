@@ -1,8 +1,10 @@
 //! Sets of rules.
 
-ghost use Rattle.std.specs.Prelude.{◌≡◌, ◌≢◌, true, false};
+ghost use Rattle.std.specs.Prelude.{◌≡◌, ◌≢◌, ◌||◌, true, false};
+ghost use Rattle.std.specs.Str.{bytes_eq};
 ghost use Rattle.tf_rule.specs.declared.rule.Rule.{Rule};
 ghost use Rattle.tf_rule.specs.RuleSets.{has_rule};
+ghost use Rattle.tf_rule.specs.Rules.{name_of};
 
 use crate::rule::Rule;
 
@@ -18,6 +20,19 @@ pub struct RuleSet {
     typed_variables: bool,
     documented_variables: bool,
     documented_outputs: bool,
+}
+
+fn either(a: bool, b: bool) -> bool
+    ensures { result ≡ (a || b) }
+{
+    a || b
+}
+
+/// Whether this is the rule's name.
+fn is_name(name: &[u8], rule: Rule) -> bool
+    ensures { result ≡ bytes_eq name.now (name_of rule) }
+{
+    name == rule.name().as_bytes()
 }
 
 impl RuleSet {
@@ -48,6 +63,41 @@ impl RuleSet {
             typed_variables: has,
             documented_variables: has,
             documented_outputs: has,
+        }
+    }
+
+    /// The rule of this name, or no rule.
+    pub fn named(name: &[u8]) -> RuleSet
+        ensures { (rule : Rule) → has_rule result rule ≡ bytes_eq name.now (name_of rule) }
+    {
+        RuleSet {
+            comment_syntax: is_name(name, Rule::CommentSyntax),
+            deprecated_index: is_name(name, Rule::DeprecatedIndex),
+            deprecated_interpolation: is_name(name, Rule::DeprecatedInterpolation),
+            empty_list_equality: is_name(name, Rule::EmptyListEquality),
+            deprecated_lookup: is_name(name, Rule::DeprecatedLookup),
+            naming_convention: is_name(name, Rule::NamingConvention),
+            typed_variables: is_name(name, Rule::TypedVariables),
+            documented_variables: is_name(name, Rule::DocumentedVariables),
+            documented_outputs: is_name(name, Rule::DocumentedOutputs),
+        }
+    }
+
+    /// The rules of either set.
+    pub fn union(self, other: RuleSet) -> RuleSet
+        ensures { (rule : Rule) → has_rule result rule ≡ (has_rule self rule || has_rule other rule) }
+    {
+        RuleSet {
+            comment_syntax: either(self.comment_syntax, other.comment_syntax),
+            deprecated_index: either(self.deprecated_index, other.deprecated_index),
+            deprecated_interpolation: self.deprecated_interpolation
+                || other.deprecated_interpolation,
+            empty_list_equality: either(self.empty_list_equality, other.empty_list_equality),
+            deprecated_lookup: either(self.deprecated_lookup, other.deprecated_lookup),
+            naming_convention: either(self.naming_convention, other.naming_convention),
+            typed_variables: either(self.typed_variables, other.typed_variables),
+            documented_variables: either(self.documented_variables, other.documented_variables),
+            documented_outputs: either(self.documented_outputs, other.documented_outputs),
         }
     }
 

@@ -1,0 +1,12 @@
+-- For proofs: lists to which the issues of nodes, and of what stands in them, are added.
+use Rattle.std.specs.Prelude.{List, [], ◌∷◌, ◌++◌}
+use Rattle.hcl_token.specs.Tokens.{Pair}
+use Rattle.tf_rule.specs.declared.rule_set.RuleSet.{RuleSet}
+use Rattle.tf_rule.specs.declared.finding.Finding.{Finding}
+use Rattle.tf_find.specs.NodeFindings.{node_findings}
+use Rattle.tf_find.specs.Nodes.{Node, parts}
+
+pub data Collects (rules : RuleSet) (pairs : List Pair) : List Node → List Finding → List Finding → Type 0 where
+  nothing : {xs : List Finding} → Collects rules pairs [] xs xs
+  one : {n : Node} {ns : List Node} {xs ys zs : List Finding} → Collects rules pairs (parts n) (xs ++ node_findings rules pairs n) ys
+      → Collects rules pairs ns ys zs → Collects rules pairs (n ∷ ns) xs zs

@@ -1,0 +1,14 @@
+-- The issues of a tree: those of its nodes, in the order in which these stand.
+use Rattle.std.specs.Prelude.{◌≡◌, List}
+use Rattle.std.specs.List.{flat_map}
+use Rattle.hcl_token.specs.Tokens.{Pair}
+use Rattle.tf_rule.specs.declared.rule_set.RuleSet.{RuleSet}
+use Rattle.tf_rule.specs.declared.finding.Finding.{Finding}
+use Rattle.tf_find.specs.NodeFindings.{node_findings}
+use Rattle.tf_find.specs.Nodes.{Node, Stand}
+
+pub record AreTreeFindings (rules : RuleSet) (pairs : List Pair) (roots : List Node) (found : List Finding) : Type 0 where
+  -- all nodes that stand in the tree
+  pub nodes : List Node
+  pub stand : Stand roots nodes
+  pub are : found ≡ flat_map (node_findings rules pairs) nodes
