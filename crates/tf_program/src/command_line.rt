@@ -2,7 +2,7 @@
 
 use crate::help;
 use crate::rule_choice::{Choice, chosen};
-use clap::{Arg, ArgAction, ArgMatches, Command};
+use clap::{Arg, ArgAction, ArgMatches, Command, value_parser};
 use std::alloc::{AllocError, AllocFailed, Global};
 use tf_session::RuleSet;
 
@@ -25,6 +25,8 @@ const ENABLE: &str = "enable-rule";
 
 const DISABLE: &str = "disable-rule";
 
+const TAKE: &str = "take";
+
 /// What is to be done, and to which files.
 #[derive(Debug, Drop)]
 pub struct Task<'a> {
@@ -40,7 +42,8 @@ pub enum Action {
     Check,
     Lint(RuleSet),
     Fix(RuleSet),
-    Revert,
+    /// Takes back the command of this number, the oldest being 1, or without one the last.
+    Revert(Option<u32>),
 }
 
 /// Why there is nothing to be done.
@@ -131,12 +134,19 @@ fn fix_command<'a>(alloc: Global) -> Result<Command<'a>, AllocError> {
 }
 
 fn revert_command<'a>(alloc: Global) -> Result<Command<'a>, AllocError> {
+    let take = Arg::new(alloc, TAKE)
+        .long(TAKE)
+        .value_name("N")
+        .help(help::TAKE_HELP)
+        .value_parser(value_parser!(u32))
+        .action(ArgAction::Set);
     let file = Arg::new(alloc, FILE)
         .help(help::REVERT_FILE_HELP)
         .required(true);
     Command::new(alloc, REVERT)
         .about(help::REVERT_ABOUT)
         .after_help(help::REVERT_AFTER_HELP)
+        .arg(take)?
         .arg(file)
 }
 
@@ -202,7 +212,7 @@ fn action_of(alloc: Global, name: &str, matches: &ArgMatches<'_>) -> Result<Acti
         FMT if matches.get_flag(CHECK) => Ok(Action::Check),
         FMT => Ok(Action::Format),
         FIX => Ok(Action::Fix(rules_of(alloc, matches)?)),
-        REVERT => Ok(Action::Revert),
+        REVERT => Ok(Action::Revert(matches.get_one(TAKE))),
         _ => Ok(Action::Lint(rules_of(alloc, matches)?)),
     }
 }
@@ -215,7 +225,8 @@ fn task_of<'a>(alloc: Global, matches: &ArgMatches<'a>) -> Result<Task<'a>, Stop
     };
     let action = action_of(alloc, name, inner)?;
     let files = values(alloc, inner, FILE)?;
-    if has_dash_beside(&files) || action == Action::Revert && files.contains(&"-") {
+    let is_revert = matches!(action, Action::Revert(_));
+    if has_dash_beside(&files) || is_revert && files.contains(&"-") {
         return Err(misuse(alloc, "tfk: - stands alone\n"));
     }
     Ok(Task { action, files })
