@@ -26,12 +26,13 @@ fn swapped(alloc: Global, row: &Row, is_second: bool) -> Result<String> {
     let second = list_of(alloc, row.word(2)?)?;
     swap_is_one(&first, &second);
     match swap(alloc, &first, &second) {
-        Ok(lists) => {
-            let list = if is_second { &lists.0 } else { &lists.1 };
-            spell_as(alloc, list, row.word(3)?)
-        }
+        Ok(lists) => spell_as(alloc, of_both(&lists, is_second), row.word(3)?),
         Err(fault) => Ok(format!(in alloc; "refused: {fault}")?),
     }
+}
+
+fn of_both(lists: &(Edits, Edits), is_first: bool) -> &Edits {
+    if is_first { &lists.0 } else { &lists.1 }
 }
 
 /// So many records that each put a `y` at byte 501 of texts that a byte was put before.
