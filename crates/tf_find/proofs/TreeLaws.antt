@@ -1,4 +1,4 @@
--- What stands in a tree is one list, and what is collected are its issues.
+-- What stands in a tree is one list, and what is collected is found there.
 use Rattle.std.proofs.Common.{◌≡◌, List, [], ◌∷◌, ◌++◌, refl, sym, ap, ◌∙◌, append-nil, append_assoc}
 use Rattle.std.specs.List.{flat_map}
 use Rattle.hcl_token.specs.Tokens.{Pair}

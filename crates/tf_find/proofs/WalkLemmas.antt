@@ -1,4 +1,4 @@
--- Collecting issues node by node.
+-- Collecting findings node by node.
 use Rattle.std.proofs.Common.{◌≡◌, ℕ, ◌<◌, ◌≤◌, ◌+◌, List, [], ◌∷◌, ◌++◌, length, get_or, drop, sym, subst, ap, ◌∙◌}
 use Rattle.std.proofs.lemmas.List.{at_drop_more, drop_all}
 use Rattle.hcl_token.specs.Tokens.{Pair}

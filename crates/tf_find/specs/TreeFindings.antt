@@ -1,4 +1,4 @@
--- The issues of a tree: those of its nodes, in the order in which these stand.
+-- What is found in a tree: at its nodes, in the order in which these stand.
 use Rattle.std.specs.Prelude.{◌≡◌, List}
 use Rattle.std.specs.List.{flat_map}
 use Rattle.hcl_token.specs.Tokens.{Pair}

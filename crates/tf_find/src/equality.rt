@@ -55,7 +55,7 @@ fn is_empty_list(e: &Expr) -> bool
 }
 
 impl<'s, 't> Walk<'s, 't> {
-    /// The issue at an operator, with the expressions beside it.
+    /// The comparison at an operator, with the expressions beside it.
     fn link(
         &self,
         first: usize,
