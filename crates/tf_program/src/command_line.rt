@@ -2,6 +2,7 @@
 
 use crate::help;
 use crate::rule_choice::{Choice, chosen};
+use clap::error::ErrorKind;
 use clap::{Arg, ArgAction, ArgMatches, Command};
 use std::alloc::{AllocError, AllocFailed, Global};
 use tf_session::RuleSet;
@@ -247,6 +248,7 @@ pub fn words_of<'a>(alloc: Global, words: &'a [String]) -> Result<Vec<&'a str>, 
 pub fn task_from<'a>(alloc: Global, words: &'a [&'a str]) -> Result<Task<'a>, Stop> {
     match whole_command(alloc)?.try_get_matches_from(words) {
         Ok(matches) => task_of(alloc, &matches),
+        Err(error) if error.kind() == ErrorKind::OutOfMemory => Err(Stop::Memory),
         Err(error) => {
             let text = error.to_string(alloc)?;
             if error.use_stderr() {
