@@ -1,18 +1,15 @@
-//! Readers and writers that fail, and the tests over them.
+//! Readers and writers that fail at one call and then work, and the tests over them.
 
-mod at_size;
 mod journals;
-mod layouts;
-mod linting;
 mod memory;
-mod sessions;
-mod streaming;
-mod streams;
+mod squashing;
+mod told;
+mod whole;
 
 use std::io;
 use std::io::{Error, ErrorKind, Read, Write};
 
-/// Gives at most `step` bytes a read, `left` in all, and fails at one read.
+/// Gives at most `step` bytes a read, `left` in all; the read of number `fails_at` fails, and those behind it work.
 #[derive(Drop)]
 pub struct Hashes {
     pub left: usize,
@@ -53,16 +50,17 @@ impl Read for Hashes {
     }
 }
 
-/// Takes `room` bytes in all, at most `step` a write, and then fails or takes nothing.
+/// Takes `room` bytes in all, at most `step` a write, and then nothing; one write and one flush fail, and those behind them
+/// work.
 #[derive(Drop)]
 pub struct Narrow {
     pub held: Vec<u8>,
     pub room: usize,
     pub step: usize,
-    pub fails: bool,
-    pub flush_fails: bool,
     pub writes: u64,
     pub flushes: u64,
+    pub write_fails_at: u64,
+    pub flush_fails_at: u64,
 }
 
 impl Narrow {
@@ -71,10 +69,10 @@ impl Narrow {
             held,
             room,
             step,
-            fails: false,
-            flush_fails: false,
             writes: 0,
             flushes: 0,
+            write_fails_at: 0,
+            flush_fails_at: 0,
         }
     }
 }
@@ -82,10 +80,10 @@ impl Narrow {
 impl Write for Narrow {
     fn write(&mut self, buf: &[u8]) -> io::Result<usize> {
         self.writes = self.writes.wrapping_add(1);
-        let n = buf.len().min(self.room).min(self.step);
-        if n == 0 && self.fails {
+        if self.writes == self.write_fails_at {
             return Err(Error::from(ErrorKind::Interrupted));
         }
+        let n = buf.len().min(self.room).min(self.step);
         if self.held.extend_from_slice(&buf[..n]).is_err() {
             return Err(Error::from(ErrorKind::OutOfMemory));
         }
@@ -95,7 +93,7 @@ impl Write for Narrow {
 
     fn flush(&mut self) -> io::Result<()> {
         self.flushes = self.flushes.wrapping_add(1);
-        if self.flush_fails {
+        if self.flushes == self.flush_fails_at {
             return Err(Error::from(ErrorKind::BrokenPipe));
         }
         Ok(())

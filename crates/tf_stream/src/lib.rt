@@ -10,6 +10,3 @@ pub use fault::{PutFault, TakeFault};
 pub use putting::put;
 pub use taking::take_up_to;
 pub use told::Told;
-
-#[cfg(test)]
-mod tests;
