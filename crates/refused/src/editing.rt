@@ -87,34 +87,34 @@ pub fn pushed(trial: &Trial<'_>) -> Result<Seen> {
     Ok(Seen::answer(are_same_records(journal.records(), &right)))
 }
 
-/// The edits of both lists meet, in the middle and at the ends, and others stay alone.
+/// Edits of both lists meet, each kind of them begins an edit, and others stay alone.
 pub fn squashed(trial: &Trial<'_>) -> Result<Seen> {
     let alloc = trial.alloc();
-    let first = edits_of(
-        alloc,
-        12,
-        &[
-            (0, "a", "bb"),
-            (3, "d", "xyz"),
-            (6, "g", ""),
-            (11, "l", "m"),
-        ],
-    )?;
-    let second = edits_of(
-        alloc,
-        14,
-        &[
-            (1, "bbc", "q"),
-            (6, "z", "z"),
-            (7, "ef", "fe"),
-            (11, "", "-"),
-        ],
-    )?;
-    let right = edits_of(
-        alloc,
-        12,
-        &[(0, "abcdefg", "bqxyzfe"), (9, "", "-"), (11, "l", "m")],
-    )?;
+    let first = [
+        (0, "a", "bb"),
+        (3, "d", "xyz"),
+        (6, "g", ""),
+        (11, "l", "m"),
+        (15, "p", "P"),
+    ];
+    let second = [
+        (1, "bbc", "q"),
+        (6, "z", "z"),
+        (7, "ef", "fe"),
+        (11, "", "-"),
+        (16, "oPq", ""),
+        (20, "s", ""),
+    ];
+    let both = [
+        (0, "abcdefg", "bqxyzfe"),
+        (9, "", "-"),
+        (11, "l", "m"),
+        (14, "opq", ""),
+        (18, "s", ""),
+    ];
+    let first = edits_of(alloc, 20, &first)?;
+    let second = edits_of(alloc, 22, &second)?;
+    let right = edits_of(alloc, 20, &both)?;
     trial.begin()?;
     Ok(match squash(alloc, &first, &second) {
         Ok(edits) => Seen::answer(are_same_edits(&edits, &right)),

@@ -37,6 +37,9 @@ resource \"aws_instance\" \"web\" {
   none = xs == []
   some = [] != xs /* inline */
   got = lookup(lookup(a, b), c)
+  inner = [!a, (b ? -c : d), e.f.g, h(i, j) + 1, k[l ? m : n], { o = p ? q : r }, \"s${t ? u : v}\"]
+  each_of = [for w in x : w if w ? true : !w]
+  nested_text = \"${\"y${ { key = \"${\"${z}\"}\" } }\"}\"
   nested { x=1 }
   deep a \"b\" c \"d\" e \"f\" {
     deeper {}
@@ -51,6 +54,9 @@ resource \"aws_instance\" \"web\" {
 # tflint-ignore: terraform_deprecated_index
 w = a.0
 ";
+
+/// Texts of which one begins with a mark and is too short to have room for it reserved, and one opens a heredoc first.
+pub const SHORT: [&[u8]; 2] = [b"\xef\xbb\xbfa=1", b"a = <<E\nb\nE\n"];
 
 /// One line with an issue, in a session and its journal.
 pub const LINE: &[u8] = b"a = 1 // one\n";

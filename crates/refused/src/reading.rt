@@ -1,7 +1,7 @@
 //! Calls on one text: its tokens, its tree, its layout, its issues.
 
 use crate::alike::are_same_edits;
-use crate::inputs::TEXT;
+use crate::inputs::{SHORT, TEXT};
 use crate::trial::{Seen, Trial};
 use anyhow::{Result, anyhow};
 use hcl_format::{LayoutFault, is_laid_out, layout};
@@ -11,14 +11,19 @@ use tf_lint::{LintFault, Place, Rule, RuleSet, fix_step, issues};
 use tf_session::{Command, Journal, Session};
 
 pub fn scanned(trial: &Trial<'_>) -> Result<Seen> {
-    let alloc = trial.alloc();
-    let count = scan(alloc, TEXT)?.len();
+    let [marked, heredoc] = SHORT;
+    let count = scan(trial.alloc(), TEXT)?.len();
+    let rows = [(TEXT, count), (marked, 4), (heredoc, 6)];
     trial.begin()?;
-    Ok(match scan(alloc, TEXT) {
-        Ok(scanned) => Seen::answer(scanned.len() == count),
-        Err(ScanFault::Memory) => Seen::Memory,
-        Err(_) => Seen::refusal(),
-    })
+    for (text, count) in rows {
+        match scan(trial.alloc(), text) {
+            Ok(scanned) if scanned.len() == count => {}
+            Ok(_) => return Ok(Seen::answer(false)),
+            Err(ScanFault::Memory) => return Ok(Seen::Memory),
+            Err(_) => return Ok(Seen::refusal()),
+        }
+    }
+    Ok(Seen::Done)
 }
 
 pub fn parsed(trial: &Trial<'_>) -> Result<Seen> {

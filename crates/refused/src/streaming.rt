@@ -14,10 +14,13 @@ use tf_session::{
 /// More bytes than come to any writer here.
 const ROOM: usize = 100_000;
 
+/// A text of several reads, for which the memory grows more than once.
 pub fn taken(trial: &Trial<'_>) -> Result<Seen> {
+    let long = vec![in trial.alloc(); b'x'; 300_000]?;
     trial.begin()?;
-    Ok(match take_text(trial.alloc(), &mut Told::new(TEXT)) {
-        Ok(text) => Seen::answer(text.as_slice() == TEXT),
+    let answer = take_text(trial.alloc(), &mut Told::new(long.as_slice()));
+    Ok(match answer {
+        Ok(text) => Seen::answer(text.as_slice() == long.as_slice()),
         Err(RunFault::Memory) => Seen::Memory,
         Err(_) => Seen::refusal(),
     })
