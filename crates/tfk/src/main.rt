@@ -1,23 +1,40 @@
 //! `tfk`: a formatter and linter for Terraform files.
 #![tactic(auto)]
 
+use std::io::ErrorKind;
 use std::process::ExitCode;
 use std::{env, io};
 use tf_program::work;
 
-fn main(rt: HostRuntime) -> io::Result<ExitCode> {
-    let alloc = rt.alloc();
-    let mut words: Vec<String> = env::args(&rt)?.collect(alloc)?;
-    if !words.is_empty() {
-        words.remove(0);
+fn main(rt: HostRuntime) -> ExitCode {
+    match words_of(&rt) {
+        Ok(words) => ExitCode::from(work(
+            &rt,
+            rt.alloc(),
+            words.as_slice(),
+            &mut rt.stdin(),
+            &mut rt.stdout(),
+            &mut rt.stderr(),
+        )),
+        Err(error) => {
+            let text = match error.kind() {
+                ErrorKind::OutOfMemory => "out of memory",
+                _ => "the command line is not UTF-8",
+            };
+            // where standard error takes nothing, the status still tells
+            let _ = eprintln!(rt; "tfk: {text}");
+            ExitCode::FAILURE
+        }
     }
-    let status = work(
-        &rt,
-        alloc,
-        words.as_slice(),
-        &mut rt.stdin(),
-        &mut rt.stdout(),
-        &mut rt.stderr(),
-    );
-    Ok(ExitCode::from(status))
+}
+
+/// The words of the command line behind the program's name.
+fn words_of(rt: &HostRuntime) -> io::Result<Vec<String>> {
+    let mut given = env::args(rt)?;
+    let _program = given.next();
+    let mut words = Vec::new(rt.alloc());
+    for word in given {
+        words.push(word)?;
+    }
+    Ok(words)
 }

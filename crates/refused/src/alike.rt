@@ -1,0 +1,31 @@
+//! Edits and records that are the same, seen without taking memory.
+
+use edit_record::{Edit, Edits, Record};
+
+fn is_same_edit(one: &Edit, other: &Edit) -> bool {
+    one.at == other.at
+        && one.removed.as_slice() == other.removed.as_slice()
+        && one.added.as_slice() == other.added.as_slice()
+}
+
+/// Whether these are the same edits.
+pub fn are_same_edits(one: &Edits, other: &Edits) -> bool {
+    one.old_len() == other.old_len()
+        && one.new_len() == other.new_len()
+        && one.edits().len() == other.edits().len()
+        && one
+            .edits()
+            .iter()
+            .zip(other.edits())
+            .all(|(a, b)| is_same_edit(a, b))
+}
+
+/// Whether this is the same record.
+pub fn is_same_record(one: &Record, other: &Record) -> bool {
+    one.word() == other.word() && are_same_edits(one.edits(), other.edits())
+}
+
+/// Whether these are the same records.
+pub fn are_same_records(one: &[Record], other: &[Record]) -> bool {
+    one.len() == other.len() && one.iter().zip(other).all(|(a, b)| is_same_record(a, b))
+}
