@@ -24,7 +24,7 @@ pub fn answer(alloc: Global, row: &Row) -> Result<String> {
 fn swapped(alloc: Global, row: &Row, is_second: bool) -> Result<String> {
     let first = list_of(alloc, row.word(1)?)?;
     let second = list_of(alloc, row.word(2)?)?;
-    swap_is_one(&first, &second);
+    swap_is_one();
     match swap(alloc, &first, &second) {
         Ok(lists) => spell_as(alloc, of_both(&lists, is_second), row.word(3)?),
         Err(fault) => Ok(format!(in alloc; "refused: {fault}")?),
@@ -61,7 +61,7 @@ fn others(alloc: Global, row: &Row, journal: &Journal) -> Result<String> {
 /// What the edits are behind the records.
 fn moved(alloc: Global, row: &Row, journal: &Journal) -> Result<String> {
     let first = list_of(alloc, row.word(1)?)?;
-    taking_out_is_one(&first);
+    taking_out_is_one();
     match take_out(alloc, &first, journal.records()) {
         Ok((_, moved)) => match moved {
             Some(list) => spell(alloc, &list),
