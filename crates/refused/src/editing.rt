@@ -1,7 +1,9 @@
 //! Calls on edits, records and journals.
 
 use crate::alike::{are_same_edits, are_same_records, is_same_record};
-use crate::inputs::{COMMENTED, FIRST, JOURNAL, LAST, edits_of, journal_of, record_of};
+use crate::inputs::{
+    APART_JOURNAL, COMMENTED, FIRST, JOURNAL, LAST, LEFT_JOURNAL, edits_of, journal_of, record_of,
+};
 use crate::trial::{Seen, Trial};
 use anyhow::{Result, anyhow};
 use edit_record::{Change, Edits, Journal, Refused};
@@ -143,17 +145,8 @@ pub fn swapped(trial: &Trial<'_>) -> Result<Seen> {
 /// The first record's edits behind the two others.
 pub fn taken_out(trial: &Trial<'_>) -> Result<Seen> {
     let alloc = trial.alloc();
-    let journal = journal_of(
-        alloc,
-        b"tfrec 2 fix 6 1\n2 1 0\nc\nend\n\
-          tfrec 2 fmt 5 1\n0 1 2\naAA\nend\n\
-          tfrec 2 fix 6 2\n4 1 0\ne\n6 0 1\n!\nend\n",
-    )?;
-    let others = journal_of(
-        alloc,
-        b"tfrec 2 fmt 6 1\n0 1 2\naAA\nend\n\
-          tfrec 2 fix 7 2\n5 1 0\ne\n7 0 1\n!\nend\n",
-    )?;
+    let journal = journal_of(alloc, APART_JOURNAL)?;
+    let others = journal_of(alloc, LEFT_JOURNAL)?;
     let behind = edits_of(alloc, 7, &[(3, "c", "")])?;
     let [first, rest @ ..] = journal.records() else {
         return Err(anyhow!("no record"));

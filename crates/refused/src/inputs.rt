@@ -83,6 +83,20 @@ pub const OLD_JOURNAL: &[u8] = b"tfrec 1 fmt 2\nstep 4 1\n1 0 1\n \nstep 5 1\n3 
 pub const MIGRATED: &[u8] = b"tfrec 2 fmt 4 2\n1 0 1\n \n2 0 1\n \nend\n\
     tfrec 2 fix 6 1\n4 1 2\n122\nend\n";
 
+/// A journal from `abcdef` to `APART`, whose first record meets no other.
+pub const APART_JOURNAL: &[u8] = b"tfrec 2 fix 6 1\n2 1 0\nc\nend\n\
+    tfrec 2 fmt 5 1\n0 1 2\naAA\nend\n\
+    tfrec 2 fix 6 2\n4 1 0\ne\n6 0 1\n!\nend\n";
+
+/// The text behind them all.
+pub const APART: &[u8] = b"AAbdf!";
+
+/// The journal without its first record, and the text without what that did.
+pub const LEFT_JOURNAL: &[u8] = b"tfrec 2 fmt 6 1\n0 1 2\naAA\nend\n\
+    tfrec 2 fix 7 2\n5 1 0\ne\n7 0 1\n!\nend\n";
+
+pub const LEFT: &[u8] = b"AAbcdf!";
+
 /// All rules.
 pub fn fix_all() -> Command {
     Command::Fix(RuleSet::all())

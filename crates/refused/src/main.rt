@@ -72,6 +72,7 @@ fn seen(trial: &Trial<'_>) -> Result<Seen> {
         "step_fmt" => stepping::formatted(trial),
         "step_fix" => stepping::fixed(trial),
         "step_revert" => stepping::reverted(trial),
+        "step_take" => stepping::taken_out(trial),
         "run" => stepping::run_in_order(trial),
         "take_text" => streaming::taken(trial),
         "step_stream" => streaming::stepped(trial),

@@ -1,7 +1,9 @@
 //! Calls on sessions.
 
 use crate::alike::are_same_records;
-use crate::inputs::{JOURNAL, LAST, LINE, TEXT, fix_all, session_of};
+use crate::inputs::{
+    APART, APART_JOURNAL, JOURNAL, LAST, LEFT, LEFT_JOURNAL, LINE, TEXT, fix_all, session_of,
+};
 use crate::trial::{Seen, Trial};
 use anyhow::{Result, anyhow};
 use std::alloc::Global;
@@ -42,6 +44,20 @@ pub fn fixed(trial: &Trial<'_>) -> Result<Seen> {
 
 pub fn reverted(trial: &Trial<'_>) -> Result<Seen> {
     step(trial, LAST, JOURNAL, Command::Revert)
+}
+
+/// A record is taken out from under others, whose edits change places with its own.
+pub fn taken_out(trial: &Trial<'_>) -> Result<Seen> {
+    let alloc = trial.alloc();
+    let before = session_of(alloc, APART, APART_JOURNAL)?;
+    let right = session_of(alloc, LEFT, LEFT_JOURNAL)?;
+    let mut session = session_of(alloc, APART, APART_JOURNAL)?;
+    trial.begin()?;
+    Ok(match session.step(alloc, Command::Take(1)) {
+        Ok(done) => Seen::answer(done.changed && are_alike(&session, &right)),
+        Err(Fault::Memory) => Seen::memory(are_alike(&session, &before)),
+        Err(_) => Seen::refusal(),
+    })
 }
 
 /// What `run` is given.

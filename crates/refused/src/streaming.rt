@@ -129,6 +129,7 @@ fn through(trial: &Trial<'_>, text: &[u8], journal: &[u8], command: Command) -> 
                 &mut out,
             )
         }
+        Command::Take(_) => return Err(anyhow!("no stream takes a record out")),
     };
     let journal_out = journal_out.into_inner();
     let out = out.into_inner();
