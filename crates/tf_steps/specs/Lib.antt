@@ -1,0 +1,4 @@
+pub mod Faults
+pub mod Inner
+pub mod Reading
+pub mod Steps
