@@ -1,3 +1,4 @@
 pub mod CommentFixing
 pub mod FixLemmas
 pub mod PositionLemmas
+pub mod OneOrder

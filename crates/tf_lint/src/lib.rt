@@ -6,6 +6,7 @@ mod fault;
 mod finding;
 mod fixing;
 mod issue;
+mod message;
 
 pub use fault::LintFault;
 pub use finding::issues;
