@@ -1,0 +1,4 @@
+mod CommentLemmas
+mod OrderLemmas
+mod SoundLemmas
+mod TextLemmas

@@ -1,0 +1,4 @@
+pub mod CommentSyntax
+pub mod Findings
+pub mod Inner
+pub mod Order
