@@ -23,7 +23,7 @@ Examples:
 pub const FMT_ABOUT: &str = "Lays each file out in place";
 
 pub const FMT_AFTER_HELP: &str = "\
-Spaces, line ends and indentation come into the standard layout; no token and no comment changes. The names of the files that
+Spaces and indentation come into the standard layout; no token, line end or comment changes. The names of the files that
 changed are printed, one a line. What was changed is written to FILE.tfundo first, behind what earlier commands wrote there;
 `tfk revert FILE` takes it back. A file that is laid out already is not written, nor is its journal.
 A file with a fault stays as it is and is named on standard error, and the others are still laid out.
