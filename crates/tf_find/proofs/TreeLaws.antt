@@ -44,7 +44,3 @@ pub collected : {rules : RuleSet} {pairs : List Pair} {ns : List Node} {begun fo
 collected {rules} {pairs} e c =
     let g = gathered c in
     record { nodes = g.nodes; stand = g.stand; are = g.added ∙ ap (λ l. l ++ flat_map (node_findings rules pairs) g.nodes) e }
-
--- they are one list
-pub one_list : {rules : RuleSet} {pairs : List Pair} {ns : List Node} {xs ys : List Finding} → AreTreeFindings rules pairs ns xs → AreTreeFindings rules pairs ns ys → xs ≡ ys
-one_list {rules} {pairs} a b = a.are ∙ (ap (flat_map (node_findings rules pairs)) (one_tree a.stand b.stand) ∙ sym b.are)

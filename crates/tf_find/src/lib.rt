@@ -6,6 +6,7 @@ mod equality;
 mod expressions;
 mod index;
 mod interpolation;
+pub mod laws;
 mod lookup;
 mod node;
 mod role;

@@ -1,4 +1,6 @@
 mod CommentLemmas
-mod OrderLemmas
+mod OneOrder
+mod OneText
 mod SoundLemmas
 mod TextLemmas
+mod TotalOrder

@@ -1,9 +1,8 @@
 -- All that is found, put together.
-use Rattle.std.proofs.Common.{◌≡◌, ◌<◌, ◌^◌, not, List, ◌++◌, length, ap, sym, subst, ◌∙◌, append_assoc}
+use Rattle.std.proofs.Common.{◌≡◌, not, List, ◌++◌, length, ap, sym, subst, ◌∙◌, append_assoc}
 use Rattle.std.specs.Prelude.{filter, map}
 use Rattle.std.specs.List.{flat_map}
-use Rattle.std.specs.List.Sorted.{IsPermutation, IsNonDecreasingBy}
-use Rattle.std.proofs.lemmas.List.Kept.{IsNonDecreasingBy-filter}
+use Rattle.std.specs.List.Sorted.{IsPermutation, IsSorted, IsStable}
 use Rattle.hcl_grammar.specs.declared.tree.Member.{Member}
 use Rattle.hcl_token.specs.Tokens.{Pair}
 use Rattle.tf_rule.specs.declared.finding.Finding.{Finding}
@@ -12,11 +11,10 @@ use Rattle.tf_rule.specs.Findings.{AreSound}
 use Rattle.tf_find.specs.NodeFindings.{node_findings}
 use Rattle.tf_find.specs.Nodes.{member}
 use Rattle.tf_find.specs.TreeFindings.{AreTreeFindings}
-use Rattle.tf_findings.proofs.OrderLemmas.{in_order}
 use Rattle.tf_findings.proofs.SoundLemmas.{SoundIsSound, all_sound, sound_in_order, sound_kept}
 use Rattle.tf_findings.specs.CommentSyntax.{comment_findings}
-use Rattle.tf_findings.specs.Findings.{AreFindings}
-use Rattle.tf_findings.specs.Inner.Key.{key}
+use Rattle.tf_findings.specs.Findings.{AreFindings, gathered}
+use Rattle.tf_findings.specs.Order.{report_order}
 use Rattle.tf_silence.specs.Silencing.{is_silenced}
 use Rattle.tf_top.specs.TopFindings.{top_findings}
 
@@ -26,20 +24,22 @@ pub record Gathered (rules : RuleSet) (pairs : List Pair) (members : List Member
   pub blocks : with_blocks ≡ at_nodes ++ top_findings rules pairs members
   pub comments : with_comments ≡ with_blocks ++ comment_findings rules pairs
   pub same : IsPermutation with_comments ordered
-  pub order : IsNonDecreasingBy key ordered
+  pub sorted : IsSorted report_order ordered
+  pub stable : IsStable report_order with_comments ordered
 
 pub gather : (rules : RuleSet) (pairs : List Pair) (members : List Member) (at_nodes with_blocks with_comments ordered : List Finding)
     → AreTreeFindings rules pairs (map member members) at_nodes
     → with_blocks ≡ at_nodes ++ top_findings rules pairs members
     → with_comments ≡ with_blocks ++ comment_findings rules pairs
     → IsPermutation with_comments ordered
-    → IsNonDecreasingBy key ordered
+    → IsSorted report_order ordered
+    → IsStable report_order with_comments ordered
     → Gathered rules pairs members at_nodes with_blocks with_comments ordered
-gather rules pairs members at_nodes with_blocks with_comments ordered t b c s o = record { tree = t; blocks = b; comments = c; same = s; order = o }
+gather rules pairs members at_nodes with_blocks with_comments ordered t b c s o a = record { tree = t; blocks = b; comments = c; same = s; sorted = o; stable = a }
 
 module _ {rules : RuleSet} {pairs : List Pair} {members : List Member} {at_nodes with_blocks with_comments ordered : List Finding}
     (law : SoundIsSound) (g : Gathered rules pairs members at_nodes with_blocks with_comments ordered) where
-  whole : with_comments ≡ flat_map (node_findings rules pairs) g.tree.nodes ++ (top_findings rules pairs members ++ comment_findings rules pairs)
+  whole : with_comments ≡ gathered rules pairs members g.tree.nodes
   whole =
       let nodes = flat_map (node_findings rules pairs) g.tree.nodes in
       let top = top_findings rules pairs members in
@@ -52,14 +52,13 @@ module _ {rules : RuleSet} {pairs : List Pair} {members : List Member} {at_nodes
   pub found_sound : (found : List Finding) → found ≡ filter (λ f. not (is_silenced pairs f)) ordered → AreSound (length pairs) found
   found_sound found kept = subst (AreSound (length pairs)) (sym kept) (sound_kept (length pairs) (λ f. not (is_silenced pairs f)) ordered ordered_sound)
 
-  pub are_findings : (found : List Finding) → length pairs < 2 ^ 64 → found ≡ filter (λ f. not (is_silenced pairs f)) ordered → AreFindings rules pairs members found
-  are_findings found few kept =
-      let sorted = subst (IsNonDecreasingBy key) (sym kept) (IsNonDecreasingBy-filter key (λ f. not (is_silenced pairs f)) ordered g.order) in
-      record {
-        nodes = g.tree.nodes;
-        stand = g.tree.stand;
-        all = ordered;
-        same = subst (λ l. IsPermutation l ordered) whole g.same;
-        kept = kept;
-        order = in_order (length pairs) found few (found_sound found kept) sorted;
-      }
+  pub are_findings : (found : List Finding) → found ≡ filter (λ f. not (is_silenced pairs f)) ordered → AreFindings rules pairs members found
+  are_findings found kept = record {
+    nodes = g.tree.nodes;
+    stand = g.tree.stand;
+    all = ordered;
+    same = subst (λ l. IsPermutation l ordered) whole g.same;
+    sorted = g.sorted;
+    stable = subst (λ l. IsStable report_order l ordered) whole g.stable;
+    kept = kept;
+  }

@@ -1,4 +1,3 @@
 pub mod CommentSyntax
 pub mod Findings
-pub mod Inner
 pub mod Order

@@ -1,5 +1,7 @@
 -- The order of findings in a report.
-use Rattle.std.specs.Prelude.{◌≡◌, ℕ, ◌<◌, ◌≤◌, ◌⊎◌, List, [], ◌∷◌}
+use Rattle.std.specs.Prelude.{ℕ}
+use Rattle.std.specs.Ordering.{nat_cmp, on, flip_args, then_cmp}
+use Rattle.std.specs.declared.cmp.Ordering.{Ordering}
 use Rattle.tf_rule.specs.declared.finding.Finding.{Finding}
 use Rattle.tf_rule.specs.declared.rule.Rule.{Rule}
 use Rattle.tf_rule.specs.declared.rule.Rule.TheVariants.{CommentSyntax, DeprecatedIndex, DeprecatedInterpolation, EmptyListEquality, DeprecatedLookup, NamingConvention, TypedVariables, DocumentedVariables, DocumentedOutputs}
@@ -16,13 +18,8 @@ rank TypedVariables = 6
 rank DocumentedVariables = 7
 rank DocumentedOutputs = 8
 
--- one may stand before the other: by the first token, at one token by rule, and of one rule the longer first
-abbrev pub MayPrecede : Finding → Finding → Type 0
-MayPrecede a b =
-    (a.first < b.first) ⊎ ((a.first ≡ b.first) × ((rank a.rule < rank b.rule) ⊎ ((rank a.rule ≡ rank b.rule) × (b.past ≤ a.past))))
-
--- each may stand before the next
-abbrev pub AreInOrder : List Finding → Type 0
-AreInOrder [] = Unit {0}
-AreInOrder (a ∷ []) = Unit {0}
-AreInOrder (a ∷ b ∷ rest) = MayPrecede a b × AreInOrder (b ∷ rest)
+-- by the first token, at one token by rule, and of one rule the longer first
+abbrev pub report_order : Finding → Finding → Ordering
+report_order =
+    then_cmp (on (λ (f : Finding). f.first) nat_cmp)
+    (then_cmp (on (λ (f : Finding). rank f.rule) nat_cmp) (on (λ (f : Finding). f.past) (flip_args nat_cmp)))

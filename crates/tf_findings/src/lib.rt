@@ -2,6 +2,7 @@
 #![tactic(auto)]
 
 mod comments;
+pub mod laws;
 mod order;
 mod text;
 

@@ -1,18 +1,15 @@
 //! The order of findings in a report.
 
-ghost use Rattle.std.specs.Prelude.{◌≡◌, ◌<◌, ◌≤◌, ◌+◌, ◌-◌, ◌*◌, ◌^◌, OnOk};
-ghost use Rattle.std.specs.Ordering.{nat_cmp};
-ghost use Rattle.std.specs.List.Sorted.{IsPermutation, IsNonDecreasingBy};
-ghost use Rattle.tf_findings.specs.Order.{rank};
-ghost use Rattle.tf_findings.specs.Inner.Key.{key};
+ghost use Rattle.std.specs.Prelude.{◌≡◌, OnOk};
+ghost use Rattle.std.specs.List.Sorted.{IsPermutation, IsSorted, IsStable};
+ghost use Rattle.tf_findings.specs.Order.{rank, report_order};
 
 use std::alloc::AllocError;
 use std::cmp::Ordering;
 use tf_rule::{Finding, Rule};
 
 fn rank(rule: Rule) -> u8
-    ensures value { result ≡ rank rule }
-    ensures below { result < 16 }
+    ensures { result ≡ rank rule }
 {
     match rule {
         Rule::CommentSyntax => 0,
@@ -27,50 +24,21 @@ fn rank(rule: Rule) -> u8
     }
 }
 
+/// By the first tokens, the ranks of the rules, and the longer first.
 fn order(a: &Finding, b: &Finding) -> Ordering
-    ensures { result ≡ nat_cmp (key a.now) (key b.now) }
+    ensures { result ≡ report_order a.now b.now }
 {
-    by_numbers(a.first, rank(a.rule), a.past, b.first, rank(b.rule), b.past)
-}
-
-/// Compares two findings by their first tokens, the ranks of their rules, and what they end before.
-fn by_numbers(
-    first: usize,
-    rank: u8,
-    past: usize,
-    first_2: usize,
-    rank_2: u8,
-    past_2: usize,
-) -> Ordering
-    requires below { rank < 16 }
-    requires below_2 { rank_2 < 16 }
-    ensures { result ≡ nat_cmp (first * 2 ^ 69 + (rank * 2 ^ 65 + (2 ^ 64 - past))) (first_2 * 2 ^ 69 + (rank_2 * 2 ^ 65 + (2 ^ 64 - past_2))) }
-{
-    if first < first_2 {
-        return Ordering::Less;
-    }
-    if first_2 < first {
-        return Ordering::Greater;
-    }
-    if rank < rank_2 {
-        return Ordering::Less;
-    }
-    if rank_2 < rank {
-        return Ordering::Greater;
-    }
-    if past_2 < past {
-        return Ordering::Less;
-    }
-    if past < past_2 {
-        return Ordering::Greater;
-    }
-    Ordering::Equal
+    a.first
+        .cmp(&b.first)
+        .then(rank(a.rule).cmp(&rank(b.rule)))
+        .then(b.past.cmp(&a.past))
 }
 
 /// Puts findings in the order of a report: by the first token, at one token by rule, and of one rule the longer first.
 pub fn put_in_order(found: &mut Vec<Finding>) -> Result<(), AllocError>
     ensures same { IsPermutation found.old.items found.new.items }
-    ensures order { OnOk result (IsNonDecreasingBy key found.new.items) }
+    ensures sorted { OnOk result (IsSorted report_order found.new.items) }
+    ensures stable { OnOk result (IsStable report_order found.old.items found.new.items) }
 {
     found.sort_by(|a, b| order(a, b))?;
     Ok(())

@@ -1,6 +1,6 @@
 //! All that the rules find in a text.
 
-ghost use Rattle.std.specs.Prelude.{◌<◌, ◌^◌, length, IfOk};
+ghost use Rattle.std.specs.Prelude.{length, IfOk};
 ghost use Rattle.tf_rule.specs.Findings.{AreSound};
 ghost use Rattle.tf_findings.specs.Findings.{AreFindings};
 
@@ -13,13 +13,6 @@ use tf_find::tree_findings;
 use tf_rule::{Finding, RuleSet, sound_is_sound};
 use tf_silence::without_silenced;
 use tf_top::add_top_findings;
-
-/// The number of tokens fits its type.
-fn are_few(scanned: &Scanned<'_>)
-    ensures { length scanned.now.pairs < 2 ^ 64 }
-{
-    let _count = scanned.len();
-}
 
 /// What the rules of the set find in a text, by the first token, at one token by rule, and of one rule the longer first; without what
 /// comments silence. `AllocError` where memory is refused.
@@ -36,7 +29,6 @@ pub fn findings(
     ensures are { IfOk result (λ found. AreFindings rules scanned.now.pairs tree.now.body.members found.items) }
     ensures sound { IfOk result (λ found. AreSound (length scanned.now.pairs) found.items) }
 {
-    are_few(scanned);
     sound_is_sound();
     let mut all = tree_findings(alloc, scanned, tree, rules)?;
     add_top_findings(scanned, tree, rules, &mut all)?;

@@ -1,4 +1,3 @@
 pub mod CommentFixing
 pub mod FixLemmas
 pub mod PositionLemmas
-pub mod OneOrder
