@@ -1,40 +1,24 @@
-//! Laying out a file.
+//! Laying out.
 
 use anyhow::Result;
 use hcl_layout::{is_laid_out, layout};
-use hcl_scan::scan;
-use std::fs;
+use hcl_scan::Scanned;
 use std::time::Instant;
 
-const ROUNDS: usize = 5;
-
-/// Scans the file, lays it out, and asks whether it is laid out, several times.
-pub fn run(rt: &HostRuntime, name: &str) -> Result<()> {
-    let alloc = rt.alloc();
-    let text = fs::read(rt, name)?;
-    let len = text.len();
-    for _ in 0..ROUNDS {
-        let start = Instant::now(rt)?;
-        let scanned = scan(alloc, &text)?;
-        let scanned_in = start.elapsed(rt)?.as_micros();
-        let start = Instant::now(rt)?;
-        let edits = layout(alloc, &scanned);
-        let laid_out_in = start.elapsed(rt)?.as_micros();
-        let start = Instant::now(rt)?;
-        let is_laid_out = is_laid_out(alloc, &scanned);
-        let asked_in = start.elapsed(rt)?.as_micros();
-        let tokens = scanned.len();
-        match edits {
-            Ok(edits) => {
-                let count = edits.edits().len();
-                println!(rt;
-                    "{len} bytes, {tokens} tokens: scan {scanned_in} us, {count} edits in {laid_out_in} us, {is_laid_out:?} in {asked_in} us"
-                )?;
-            }
-            Err(fault) => println!(rt;
-                "{len} bytes, {tokens} tokens: scan {scanned_in} us, {fault} in {laid_out_in} us"
-            )?,
+/// Lays the text out, and asks whether it is laid out.
+pub fn run(rt: &HostRuntime, scanned: &Scanned<'_>) -> Result<()> {
+    let start = Instant::now(rt)?;
+    let edits = layout(rt.alloc(), scanned);
+    let laid_out_in = start.elapsed(rt)?.as_micros();
+    let start = Instant::now(rt)?;
+    let is_laid_out = is_laid_out(rt.alloc(), scanned);
+    let asked_in = start.elapsed(rt)?.as_micros();
+    match edits {
+        Ok(edits) => {
+            let count = edits.edits().len();
+            println!(rt; "{count} edits in {laid_out_in} us, {is_laid_out:?} in {asked_in} us")?;
         }
+        Err(fault) => println!(rt; "{fault} in {laid_out_in} us")?,
     }
     Ok(())
 }

@@ -7,9 +7,11 @@
 mod editing;
 mod laying;
 mod parsing;
+mod rounds;
 mod scanning;
 
 use anyhow::Result;
+use rounds::Task;
 use std::env;
 
 const USAGE: &str = "usage: bench scan FILE | bench parse FILE | bench layout FILE | bench edits";
@@ -19,9 +21,9 @@ fn main(rt: HostRuntime) -> Result<()> {
     let command = words.get(1).map(|word| word.as_str());
     let name = words.get(2).map(|word| word.as_str());
     match (command, name) {
-        (Some("scan"), Some(name)) => scanning::run(&rt, name),
-        (Some("parse"), Some(name)) => parsing::run(&rt, name),
-        (Some("layout"), Some(name)) => laying::run(&rt, name),
+        (Some("scan"), Some(name)) => rounds::run(&rt, name, Task::Places),
+        (Some("parse"), Some(name)) => rounds::run(&rt, name, Task::Parse),
+        (Some("layout"), Some(name)) => rounds::run(&rt, name, Task::Layout),
         (Some("edits"), None) => editing::run(&rt),
         _ => {
             println!(rt; "{USAGE}")?;

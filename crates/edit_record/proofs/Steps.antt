@@ -18,9 +18,6 @@ pub walk_stands : (direction : Direction) (i from : ℕ) (e : Entry) (es : List 
 walk_stands direction i from e es out t s =
     rw (s, behind-behind, append_assoc) refl
 
-pub walk_differs : (direction : Direction) (i from : ℕ) (e : Entry) (es : List Entry) (t : List ℕ) → stands from e.at (read_bytes direction e) t ≡ false → walk direction i from (e ∷ es) t ≡ Err (Differs 0 i)
-walk_differs direction i from e es t s = rw s refl
-
 -- One step, from what each call gives.
 pub step_told : (direction : Direction) (i from : ℕ) (e : Entry) (es : List Entry) (out kept after read put out2 t : List ℕ) (len : ℕ) (ok : Bool)
     → kept ≡ take (e.at - from) t → after ≡ drop (e.at - from) t → read ≡ read_bytes direction e → put ≡ written_bytes direction e → out2 ≡ (out ++ kept) ++ put → len ≡ length e.removed

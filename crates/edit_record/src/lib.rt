@@ -21,6 +21,3 @@ pub use edits::{Edits, MAX_TEXT};
 pub use journal::Journal;
 pub use many::{apply_all, undo_all};
 pub use record::{Record, Word};
-
-#[cfg(test)]
-mod tests;

@@ -6,6 +6,3 @@ mod merge;
 mod squashing;
 
 pub use squashing::{Unmet, squash};
-
-#[cfg(test)]
-mod tests;

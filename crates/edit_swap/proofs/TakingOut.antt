@@ -86,8 +86,3 @@ none_past first records others moved i r Memory lt is p h = may_run_out first re
 pub past_none : (first a : EditList) (records others : List Entered) (moved : Option EditList) (i : ℕ) (r : Entered) (e : TakeFault) → a ≡ there first moved → i < length records → r ≡ get_or records i r → Past first records others moved i
     → TakesPast a r i (Err e) → TakesOut first records (Err e)
 past_none first a records others moved i r e a_is lt is p h = none_past first records others moved i r e lt is p (subst (λ (x : EditList). TakesPast x r i (Err e)) a_is h)
-
-pub past_all : (first : EditList) (records others : List Entered) (moved : Option EditList) (i : ℕ) → length records ≤ i → Past first records others moved i → TakenOut first (edits_of records) (edits_of others) (there first moved) × (words_of others ≡ words_of records)
-past_all first records others moved i le p =
-    let all = take_all i records le in
-    (subst (λ (rs : List Entered). TakenOut first (edits_of rs) (edits_of others) (there first moved)) all p.went, p.words ∙ ap words_of all)

@@ -11,6 +11,3 @@ mod taking;
 
 pub use swapping::{SwapFault, swap};
 pub use taking::{TakeFault, take_out};
-
-#[cfg(test)]
-mod tests;

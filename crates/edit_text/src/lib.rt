@@ -13,6 +13,3 @@ mod writing;
 pub use fault::RecordFault;
 pub use reading::decode;
 pub use writing::{encode, encoded_len};
-
-#[cfg(test)]
-mod tests;

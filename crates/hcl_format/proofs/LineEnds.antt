@@ -9,6 +9,8 @@ use Rattle.std.specs.Str.{chars}
 use Rattle.unicode_ident.proofs.IdentLemmas.{is_xid_start-ascii}
 use Rattle.hcl_token.specs.declared.kind.Kind.{Kind}
 use Rattle.hcl_token.specs.declared.kind.Kind.TheVariants.{Mark, LineEnd, LineComment, InlineComment, Identifier, Number, DotIndex, Slash, HereOpen, SeqClose, QuoteClose, QuoteLit, InterpOpen, DirectiveOpen, HereClose, HereLit}
+use Rattle.hcl_scan.proofs.HereLemmas.{starts_word}
+use Rattle.hcl_scan.specs.Inner.Front.{begins_word}
 use Rattle.hcl_scan.specs.Characters.{starts, continues}
 use Rattle.hcl_scan.specs.Closing.{ends_line}
 use Rattle.hcl_scan.specs.Modes.{Mode}
@@ -26,18 +28,11 @@ first_byte (b ∷ t) some h = grind (arith, nat_tests)
 
 -- ---- identifiers and numbers
 
+word_apart : (b : ℕ) → begins_word b ≡ true → is_line_byte b ≡ false
+word_apart b h = grind (arith, nat_tests)
+
 word_byte : (c : ℕ) (more : List ℕ) → starts c ≡ true → is_line_byte (slice_index (encode_utf8 c ++ more) 0) ≡ false
-word_byte c more h =
-    elim (cases_lt (slice_index (encode_utf8 c ++ more) 0) 128) [
-      | inr high ↦ (let b : ℕ = slice_index (encode_utf8 c ++ more) 0 in grind (arith, nat_tests))
-      | inl low ↦
-          let size : length (encode_utf8 c ++ more) ≡ len_utf8 c + length more = length-append (encode_utf8 c) more ∙ ap (λ n. n + length more) (length-encode c) in
-          let some : 0 < length (encode_utf8 c ++ more) = omega (arith, (len_utf8_bounds c).0) in
-          let same : c ≡ slice_index (encode_utf8 c ++ more) 0 = char_from_byte (encode_utf8 c ++ more) more c refl low some in
-          let ascii : c < 128 = omega arith in
-          let letter = rw (is_xid_start-ascii c ascii) at h in
-          rw (← same) (grind (arith, nat_tests))
-    ]
+word_byte c more h = word_apart (slice_index (encode_utf8 c ++ more) 0) (starts_word c more h)
 
 word_line : (cs : List ℕ) → is_identifier cs ≡ true → ends_line (encode_utf8_all cs) ≡ false
 word_line [] h = absurd (cc)

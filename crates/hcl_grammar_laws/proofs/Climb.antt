@@ -20,19 +20,6 @@ then_then (Err e) f g = refl
 other : (n l : ℕ) → n < l → (l == n) ≡ false
 other n l h = elim (eqb_tells l n) [ inl w ↦ absurd (omega arith) | inr w ↦ w.0 ]
 
--- what does not go on with level n binds no closer than it
-pub stops-binds : (n : ℕ) (ts : List Token) (m : Bool) (i : ℕ) → n ≤ levels → Stops (suc n) ts m i → n ≤ binds ts m i
-unfolding binds
-stops-binds n ts m i l s = go (next ts m i) refl
-  where
-    by : (t : Kind) → suc n ≤ reach t → (o : Option (ℕ × Operator)) → operator_of t ≡ o → n ≤ level_by o
-    by t h None e = l
-    by t h (Some q) e = omega (arith, ap (reach_by t) e, h)
-
-    go : (o : Option Kind) → next ts m i ≡ o → n ≤ level_of o
-    go None e = l
-    go (Some t) e = by t (s.at_token t e) (operator_of t) refl
-
 module _ (ts : List Token) (depth : ℕ) (inner : p.Under) where
   -- a level is an operand and what stands behind it
   pub level-is : (n : ℕ) (m : Bool) (i : ℕ) → p.level ts depth inner n m i ≡ and_then (p.unary ts depth inner m i) (rest ts depth inner n m (start ts m i))
@@ -71,13 +58,3 @@ module _ (ts : List Token) (depth : ℕ) (inner : p.Under) where
   -- where no operator of a level below n follows the operand, the level is the operand
   pub level-not : (n : ℕ) (m : Bool) (i : ℕ) (x : Expr) (j : ℕ) → p.unary ts depth inner m i ≡ Ok (x, j) → n ≤ binds ts m j → p.level ts depth inner n m i ≡ Ok (x, j)
   level-not n m i x j e h = rw (level-is n m i, e) (rest-not n m (start ts m i) x j h)
-
-  -- one level more
-  pub rest-more : (n : ℕ) (m : Bool) (first : ℕ) (head : Expr) (i : ℕ) (x : Expr) (j : ℕ) → rest ts depth inner n m first head i ≡ Ok (x, j)
-      → rest ts depth inner (suc n) m first head i ≡ and_then (p.links_from ts depth inner (p.level ts depth inner n) m n (length ts) [] j) (λ found end. Ok (node.chain first end x found, end))
-  unfolding rest
-  rest-more n m first head i x j e = rw e
-
-  -- so where the tokens behind the operand do not go on with the level
-  pub level-stops : (n : ℕ) (m : Bool) (i : ℕ) (x : Expr) (j : ℕ) → n ≤ levels → p.unary ts depth inner m i ≡ Ok (x, j) → Stops (suc n) ts m j → p.level ts depth inner n m i ≡ Ok (x, j)
-  level-stops n m i x j l e s = level-not n m i x j e (stops-binds n ts m j l s)

@@ -22,10 +22,6 @@ pub record NoLine (ts : List Token) (i : ℕ) : Type 0 where
 pub record NoInner (ts : List Token) (i : ℕ) : Type 0 where
   pub is : p.inner_line ts i ≡ Ok (false, i)
 
--- another token
-pub other_than : (ts : List Token) (m : Bool) (s t : Kind) (i : ℕ) → same_kind s t ≡ false → At ts m s i → sees ts m t i ≡ false
-other_than ts m s t i e h = sees-other ts m s t i h e
-
 no_comma : {ts : List Token} {i j : ℕ} → IsLine ts i j → sees ts false k.Comma i ≡ false
 unfolding same_kind
 no_comma {ts} (line_end {i} h) = sees-other ts false k.LineEnd k.Comma i h refl

@@ -93,23 +93,3 @@ module _ {ts : List Token} where
   own_term {d} {m} {x} {i} {j} w =
       let p = placed_term w in
       subst (λ l. IsTerm ts d m x x.first l) (sym p.1) (subst (λ n. IsTerm ts d m x n j) (sym p.0) (restart_term w (start ts m i) (start-start m i (begin_term w))))
-
-  -- an expression takes a token
-  take_unary : {d : ℕ} {m : Bool} {x : Expr} {i j : ℕ} → IsUnary ts d m x i j → Takes ts i j
-  take_unary (prefixed {m} {t} {i} p o x) = ahead (step ts m t i p) (span_unary x)
-  take_unary (post p xs) = ahead (span_term p) (span_tails xs)
-
-  take_level : {d : ℕ} {m : Bool} {l : ℕ} {x : Expr} {i j : ℕ} → IsLevel ts d m l x i j → Takes ts i j
-  take_level (lowest p) = take_unary p
-  take_level (level p xs) = ahead (take_level p) (span_links xs)
-
-  take_expr : {d : ℕ} {m : Bool} {x : Expr} {i j : ℕ} → IsExpr ts d m x i j → Takes ts i j
-  take_expr (plain p) = take_level p
-  take_expr (conditional {m} {j} {n} c q x s y) = ahead (take_level c) (both (loose (step ts m k.Question j q)) (both (span_expr x) (both (loose (step ts m k.Colon n s)) (span_expr y))))
-
-  -- so its first number is below the one past its last, and that is no more than there are tokens
-  pub ordered_expr : {d : ℕ} {m : Bool} {x : Expr} {i j : ℕ} → IsExpr ts d m x i j → (x.first < x.past) × (x.past ≤ length ts)
-  ordered_expr w = let t = take_expr (own_expr w) in (t.forth, t.within)
-
-  pub ordered_term : {d : ℕ} {m : Bool} {x : Term} {i j : ℕ} → IsTerm ts d m x i j → (x.first < x.past) × (x.past ≤ length ts)
-  ordered_term w = let t = span_term (own_term w) in (t.forth, t.within)

@@ -192,7 +192,3 @@ set_turn pairs at frozen past next o c deep s s1 s2 b more g g1 split o_is c_is 
     ∙ ap₂ (λ d (t : List ℕ). set_lens d b line ++ all_lens t (passed_all ps b) rest) (sym depth) (sym behind)
     ∙ ap (λ (ns : List ℕ). set_lens deep b line ++ ns) (sym (near_all s2 more (passed_all ps b) rest near)) in
     ap (λ (ns : List ℕ). ns ++ all_lens s2 more rest) g1_is ∙ append_assoc g (set_lens deep b line) _ ∙ ap (λ (ns : List ℕ). g ++ ns) (sym whole)
-
-pub set_end : (pairs : List Pair) (at held : ℕ) (s : List ℕ) (b : List Kind) (g : List ℕ) → length pairs ≤ at → g ++ all_lens s b (lines_from held (drop at pairs)) ≡ g
-set_end pairs at held s b g h =
-    ap (λ (ps : List Pair). g ++ all_lens s b (lines_from held ps)) (drop_all at pairs h) ∙ append-nil g

@@ -63,9 +63,6 @@ digit_head : (whole more : List ℕ) → is_decimal whole ≡ true → (0 < leng
 digit_head [] more h = absurd (cc)
 digit_head (d ∷ ds) more h = (omega arith, (and_parts (is_ascii_digit d) (list_all is_ascii_digit ds) h).0)
 
-no_literal : (mode : Mode) (test : Mode → Bool) → is_literal mode ≡ false → ((m : Mode) → test m ≡ true → is_literal m ≡ true) → test mode ≡ true → ⊥
-no_literal mode test plain each h = both_ways _ plain (each mode h)
-
 quoted_literal : (m : Mode) → is_quoted m ≡ true → is_literal m ≡ true
 quoted_literal Quoted h = refl
 quoted_literal m h = absurd (false≢true h)

@@ -20,6 +20,3 @@ mod token;
 pub use error::ScanFault;
 pub use hcl_token::{Item, Kind, MAX_TEXT, Place};
 pub use scanned::{Scanned, scan};
-
-#[cfg(test)]
-mod tests;

@@ -14,15 +14,6 @@ pub order-le : (items : List Item) (from last : ℕ) → InOrder from items last
 order-le [] from last o = omega arith
 order-le (x ∷ items) from last o = omega (arith, order-le items x.stop last o.3)
 
--- one more item
-pub order-push : (items : List Item) (from at : ℕ) (item : Item) → InOrder from items at → item.gap_at ≡ at → at ≤ item.start → item.start ≤ item.stop → InOrder from (items ++ item ∷ []) item.stop
-order-push [] from at item o e h k = (e ∙ sym o, omega arith, k, refl)
-order-push (x ∷ items) from at item o e h k = (o.0, o.1, o.2, order-push items x.stop at item o.3 e h k)
-
-pub utf8-push : (pairs : List Pair) (p : Pair) → AreUtf8 pairs → IsUtf8 p.gap → IsUtf8 p.spelling → AreUtf8 (pairs ++ p ∷ [])
-utf8-push [] p u gap spelling = (gap, spelling, tt)
-utf8-push (q ∷ pairs) p u gap spelling = (u.0, u.1, utf8-push pairs p u.2 gap spelling)
-
 -- what holds of an item by its number
 pub order-at : (items : List Item) (from last i : ℕ) (d : Item) → InOrder from items last → i < length items
     → ((get_or items i d).gap_at ≤ (get_or items i d).start) × ((get_or items i d).start ≤ (get_or items i d).stop) × ((get_or items i d).stop ≤ last)
@@ -184,9 +175,3 @@ offset-found items last i item h e = offset-at items last i item (ltb-true i (le
 
 pub offset-missing : (items : List Item) (last i : ℕ) → nat_lt i (length items) ≡ false → offset items last i ≡ last
 offset-missing items last i h = offset-past items last i (grind (arith, nat_tests, h))
-
--- one more item keeps the pieces in UTF-8
-pub items_utf8-push : (text : List ℕ) (items : List Item) (item : Item) → AreUtf8 (pairs_of text items) → IsUtf8 (slice_range text item.gap_at item.start) → IsUtf8 (slice_range text item.start item.stop)
-    → AreUtf8 (pairs_of text (items ++ item ∷ []))
-items_utf8-push text items item u gap spelling =
-    subst AreUtf8 (sym (map-append (pair_at text) items (item ∷ []))) (utf8-push (pairs_of text items) (pair_at text item) u gap spelling)

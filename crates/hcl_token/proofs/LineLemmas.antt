@@ -35,13 +35,6 @@ count_some (b ∷ t) h =
       | false ↦ λ e k. omega (arith, count-cons b t, count_some t k, ap weight e)
     ] refl h
 
-pub count_test : (t : List ℕ) → (count_by is_lf t == 0) ≡ not (list_any is_lf t)
-count_test t =
-    elim (list_any is_lf t) as (λ v. list_any is_lf t ≡ v → (count_by is_lf t == 0) ≡ not v) [
-      | true ↦ λ e. grind (arith, count_some t e)
-      | false ↦ λ e. rw (count_none t e) refl
-    ] refl
-
 in_text : (t : List ℕ) (k : ℕ) → is_lf (get_or t k 0) ≡ true → k < length t
 in_text [] k h = let byte : get_or {A = ℕ} [] k 0 ≡ 10 = eqb-true _ 10 h in omega (arith, get_or_past {X = ℕ} [] k 0 (omega arith))
 in_text (b ∷ t) zero h = omega arith

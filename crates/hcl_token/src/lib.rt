@@ -15,6 +15,3 @@ pub use join_table::joins;
 pub use kind::Kind;
 pub use place::Place;
 pub use tokens::{MAX_TEXT, Tokens};
-
-#[cfg(test)]
-mod tests;

@@ -14,6 +14,3 @@ pub use fixing::{fix_step, taken};
 pub use hcl_token::Place;
 pub use issue::Issue;
 pub use tf_rule::{Rule, RuleSet, Severity};
-
-#[cfg(test)]
-mod tests;
