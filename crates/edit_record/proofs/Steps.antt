@@ -1,9 +1,8 @@
 -- A step of the walk.
-use Rattle.std.proofs.Common.{◌≡◌, ℕ, ◌+◌, ◌-◌, ◌≤◌, List, ◌∷◌, ◌++◌, length, take, drop, Bool, true, false, Result, Ok, Err, refl, sym, ap, ◌∙◌, append_assoc}
+use Rattle.std.proofs.Common.{◌≡◌, ℕ, ◌+◌, ◌-◌, ◌≤◌, List, ◌∷◌, ◌++◌, length, take, drop, Bool, true, Result, Ok, Err, refl, sym, ap, ◌∙◌, append_assoc}
 use Rattle.std.specs.Str.{bytes_eq}
 use Rattle.std.proofs.lemmas.List.{take_rest}
 use Rattle.edit_record.specs.declared.change.Refused.{Refused}
-use Rattle.edit_record.specs.declared.change.Refused.TheVariants.{Differs}
 use Rattle.edit_record.specs.declared.direction.Direction.{Direction}
 use Rattle.edit_record.specs.Pieces.{Entry}
 use Rattle.edit_record.specs.Inner.Walk.{read_bytes, written_bytes, behind, stands, walk}

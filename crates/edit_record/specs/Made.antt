@@ -3,7 +3,7 @@ use Rattle.std.specs.Prelude.{◌≡◌, ℕ, ◌+◌, ◌-◌, ◌≤◌, ◌<�
 use Rattle.edit_record.specs.declared.edit.BadEdits.{BadEdits}
 use Rattle.edit_record.specs.declared.edit.BadEdits.TheVariants.{EmptyEdit, OutOfOrder, PastEnd, TooLong}
 use Rattle.edit_record.specs.declared.edits.TheConstants.{MAX_TEXT}
-use Rattle.edit_record.specs.Pieces.{as_list, Entry, EditList, removed_len, added_len}
+use Rattle.edit_record.specs.Pieces.{as_list, Entry, EditList, Turns, removed_len, added_len}
 
 -- the length of the texts that edits make
 abbrev pub new_len : EditList → ℕ
@@ -57,3 +57,7 @@ MakeIsExact old_len es = (e : EditList) → (made old_len es ≡ Ok e) ↔ ((e �
 -- the lengths that the texts on both sides of edits have
 abbrev pub HaveLengths : EditList → List ℕ → List ℕ → Type 0
 HaveLengths e old new = (length old ≡ e.old_len) × (length new ≡ new_len e)
+
+-- a text that some edits turn has one new text
+abbrev pub EditsTurnIntoOne : Type 0
+EditsTurnIntoOne = (e : EditList) (t u v : List ℕ) → Turns e t u → Turns e t v → u ≡ v

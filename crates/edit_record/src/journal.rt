@@ -1,4 +1,4 @@
-ghost use Rattle.std.specs.Prelude.{◌≡◌, [], ◌∷◌, ◌++◌, OnOk, OnErr, IfErr, IsNone, option_to_list};
+ghost use Rattle.std.specs.Prelude.{◌≡◌, ◌≤◌, ◌+◌, [], ◌∷◌, ◌++◌, length, take, OnOk, OnErr, IfErr, IsNone, option_to_list};
 
 use crate::many::{apply_all, undo_all};
 use crate::{Change, Record, Refused};
@@ -45,6 +45,17 @@ impl Journal {
         ensures none { IsNone result → self.old ≡ [] }
     {
         self.records.pop()
+    }
+
+    /// Puts these in the place of the records from this number on, counted from 0. It takes no memory, since there are as many of them
+    /// at most.
+    pub fn replace_from(&mut self, from: usize, others: Vec<Record>)
+        requires { from + length others.items ≤ length self.old }
+        ensures { self.new ≡ take from self.old ++ others.items }
+    {
+        let mut others = others;
+        self.records.truncate(from);
+        let _ = self.records.append(&mut others);
     }
 
     /// The records, from the oldest on.

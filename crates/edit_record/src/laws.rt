@@ -1,7 +1,7 @@
 //! Laws of changes and of edits: functions that do nothing, for callers whose proofs want what their clauses say.
 ghost use Rattle.std.specs.Prelude.{◌≡◌, ◌≤◌, ◌↔◌, List, ℕ, Ok, length};
 ghost use Rattle.edit_record.specs.Pieces.{Entry, EditList, Piece, Turns, old_text};
-ghost use Rattle.edit_record.specs.Made.{MakeIsExact, HaveLengths};
+ghost use Rattle.edit_record.specs.Made.{MakeIsExact, HaveLengths, EditsTurnIntoOne};
 ghost use Rattle.edit_record.specs.Pieced.{AreChanges, PiecesTurn, PiecesMake};
 ghost use Rattle.edit_record.specs.Refusals.{Answers};
 ghost use Rattle.edit_record.specs.declared.edits.TheConstants.{MAX_TEXT};
@@ -36,6 +36,11 @@ pub fn edits_refuse_exactly(edits: &Edits)
 /// Edits turn texts of their old length into texts of their new length.
 pub fn turned_texts_have_the_lengths()
     ensures { (e : EditList) (t u : List ℕ) → Turns e t u → HaveLengths e t u }
+{}
+
+/// Any edits turn a text into one at most.
+pub fn turned_texts_are_one()
+    ensures { EditsTurnIntoOne }
 {}
 
 /// `Edits::make` accepts exactly the edits that are placed one behind the other, not empty, and within the limit.

@@ -70,6 +70,10 @@ pub record IsSwap (a b b2 a2 : EditList) : Type 0 where
   pub firsts : AreMoved (removed_spans b.entries) (added_spans 0 0 a.entries) a.entries a2.entries
   pub alike : (t v : List ℕ) → ((u : List ℕ) × Turns a t u × Turns b u v) ↔ ((u : List ℕ) × Turns b2 t u × Turns a2 u v)
 
+-- two lists change places in one way at most
+abbrev pub SwapsAreOne : Type 0
+SwapsAreOne = (a b b2 a2 d2 c2 : EditList) → IsSwap a b b2 a2 → IsSwap a b d2 c2 → (b2 ≡ d2) × (a2 ≡ c2)
+
 -- the old texts of a, with what b adds and without what it removes, are over the limit
 abbrev pub IsOver : EditList → EditList → Type 0
 IsOver a b = MAX_TEXT + removed_len b.entries < a.old_len + added_len b.entries

@@ -15,3 +15,7 @@ TakenOut a (b ∷ bs) (c ∷ cs) last = (next : EditList) × ChangePlaces a b c 
 pub record TakesOne (a : EditList) (bs : List EditList) : Type 0 where
   pub one : (cs ds : List EditList) (last other : EditList) → TakenOut a bs cs last → TakenOut a bs ds other → (cs ≡ ds) × (last ≡ other)
   pub alike : (cs : List EditList) (last : EditList) → TakenOut a bs cs last → (t v : List ℕ) → ((u : List ℕ) × Turns a t u × TurnsAll Turns bs u v) ↔ ((w : List ℕ) × TurnsAll Turns cs t w × Turns last w v)
+
+-- this holds of every list, and of all that are behind it
+abbrev pub TakesAreOne : Type 0
+TakesAreOne = (a : EditList) (bs : List EditList) → TakesOne a bs

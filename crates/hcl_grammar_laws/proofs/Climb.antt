@@ -1,17 +1,15 @@
 -- A level is an operand and what stands behind it; where no operator of a level below n follows the operand, level n is the operand.
-use Rattle.std.proofs.Common.{◌≡◌, ℕ, zero, suc, ◌==◌, ◌<◌, ◌≤◌, Bool, false, List, [], length, Option, Some, None, Ok, Err, refl, sym, ap, inl, inr, arith}
+use Rattle.std.proofs.Common.{◌≡◌, ℕ, zero, suc, ◌==◌, ◌<◌, ◌≤◌, Bool, false, List, [], length, Option, Some, None, Ok, Err, refl, sym, inl, inr, arith}
 use Rattle.std.proofs.lemmas.Bool.Decides.{eqb_tells}
 use Rattle.hcl_token.specs.declared.kind.Kind.{Kind}
 use Rattle.hcl_grammar.specs.declared.tree.Expr.{Expr}
 use Rattle.hcl_grammar.specs.declared.tree.Link.{Link}
 use Rattle.hcl_grammar.specs.declared.tree.Operator.{Operator}
-use Rattle.hcl_grammar.specs.Nodes as node
-use Rattle.hcl_grammar.specs.Operators.{operator_of, levels}
+use Rattle.hcl_grammar.specs.Operators.{operator_of}
 use Rattle.hcl_grammar.specs.Pure.Climb.{level_by, level_of, binds, rest}
 use Rattle.hcl_grammar.specs.Pure.Parser as p
 use Rattle.hcl_grammar.specs.Pure.Reading.{Outcome, Parser, and_then}
 use Rattle.hcl_grammar.specs.Tokens.{Token, start, next}
-use Rattle.hcl_grammar_laws.proofs.Ahead.{Stops, reach, reach_by}
 
 then_then : {A B C : Type 0} (r : Outcome A) (f : A → Parser B) (g : B → Parser C) → and_then (and_then r f) g ≡ and_then r (λ x i. and_then (f x i) g)
 then_then (Ok q) f g = refl

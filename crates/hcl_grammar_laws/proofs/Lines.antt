@@ -1,6 +1,5 @@
 -- Line ends between elements.
-use Rattle.std.proofs.Common.{◌≡◌, ℕ, zero, suc, ◌+◌, ◌≤◌, Bool, true, false, List, length, Ok, refl, ap, ◌∙◌, arith}
-use Rattle.hcl_token.specs.declared.kind.Kind.{Kind}
+use Rattle.std.proofs.Common.{◌≡◌, ℕ, zero, suc, ◌+◌, ◌≤◌, true, false, List, length, Ok, refl, ap, ◌∙◌, arith}
 use Rattle.hcl_token.specs.declared.kind.Kind.TheVariants as k
 use Rattle.hcl_grammar.specs.Tokens.{Token, after, same_kind}
 use Rattle.hcl_grammar.specs.Pure.Reading.{Outcome, Parser, and_then, sees}

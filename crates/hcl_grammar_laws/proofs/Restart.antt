@@ -1,5 +1,5 @@
 -- The tokens of a node, from its first on, derive it: what is dropped before the first is no part of it.
-use Rattle.std.proofs.Common.{length, ◌<◌, ◌≤◌, ◌≡◌, ◌≢◌, ℕ, zero, suc, ◌+◌, Bool, true, false, cond, List, [], ◌∷◌, drop, slice_get, Option, Some, None, refl, sym, ap, ◌∙◌, subst, arith}
+use Rattle.std.proofs.Common.{◌≡◌, ◌≢◌, ℕ, zero, suc, ◌+◌, Bool, true, false, cond, List, [], ◌∷◌, drop, slice_get, Option, Some, None, refl, sym, ap, ◌∙◌, subst, arith}
 use Rattle.std.specs.List.{prefix_len}
 use Rattle.std.specs.Option.{option_map}
 use Rattle.hcl_token.specs.declared.kind.Kind.{Kind}
@@ -13,7 +13,6 @@ use Rattle.hcl_grammar_laws.proofs.Ahead.{Begins}
 use Rattle.hcl_grammar_laws.proofs.Firsts.{begin_expr, begin_term}
 use Rattle.hcl_grammar_laws.proofs.Neat.{same_token, kept_at}
 use Rattle.hcl_grammar_laws.proofs.Placed.{placed_expr, placed_term}
-use Rattle.hcl_grammar_laws.proofs.Spans.{Takes, loose, both, ahead, step, span_expr, span_unary, span_tails, span_links, span_term}
 
 -- the token at which the run of those that pass ends does not pass
 stop_at : (p : Token → Bool) (ts : List Token) (i n : ℕ) (a : Token) → n ≡ i + prefix_len p (drop i ts) → slice_get ts n ≡ Some a → p a ≡ false

@@ -1,6 +1,6 @@
 -- Items in order, and the parts of a text that they stand for.
 use Rattle.std.proofs.Common.{◌≡◌, ℕ, zero, suc, ◌+◌, ◌-◌, ◌<◌, ◌≤◌, true, false, nat_lt, List, [], ◌∷◌, ◌++◌, length, take, drop, get_or, slice_range, slice_get, Some, IsUtf8, refl, sym, ap, subst, ◌∙◌, arith, append_assoc, length-append, length-drop}
-use Rattle.std.proofs.lemmas.List.{append_cancel_right, length-take-le, take-map, map-append, get_or_default}
+use Rattle.std.proofs.lemmas.List.{append_cancel_right, length-take-le, take-map, get_or_default}
 use Rattle.std.proofs.lemmas.Bool.{ltb-true}
 use Rattle.std.proofs.lemmas.Bool.Decides.{nat_tests}
 use Rattle.std.proofs.lemmas.List.Folds.{drop_split}

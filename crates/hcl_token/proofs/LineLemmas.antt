@@ -1,5 +1,5 @@
 -- The last line of a text, and how many LFs a text has.
-use Rattle.std.proofs.Common.{◌≡◌, ℕ, zero, suc, ◌+◌, ◌-◌, ◌<◌, ◌≤◌, slice_range, Bool, true, false, not, ◌||◌, cond, List, [], ◌∷◌, ◌++◌, length, drop, get_or, count_by, ◌==◌, IsUtf8, refl, sym, ap, subst, ◌∙◌, arith, eqb-true, IsCharBoundary}
+use Rattle.std.proofs.Common.{◌≡◌, ℕ, zero, suc, ◌+◌, ◌-◌, ◌<◌, ◌≤◌, slice_range, Bool, true, false, ◌||◌, cond, List, [], ◌∷◌, ◌++◌, length, drop, get_or, count_by, IsUtf8, refl, sym, ap, subst, ◌∙◌, arith, eqb-true, IsCharBoundary}
 use Rattle.std.proofs.lemmas.Bool.{or_right}
 use Rattle.std.specs.List.{list_any}
 use Rattle.std.proofs.lemmas.List.{get_or_past, get_or-drop, get_or_default, take_all, length-drop}

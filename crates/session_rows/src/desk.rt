@@ -13,8 +13,8 @@ use tf_session::{
 /// Does a command.
 ///
 /// `text T` begins a session over T, `lines N T` over T so many times, and `fill N T` over T and as many `x` as make N bytes; `hand T`
-/// puts T in the place of its text by hand; `journal J` reads J beside its text. `fmt`, `fix`, `fix-comments`, `fix-others`, `fix-none` and
-/// `revert` are done on it. `check`, `lint`, `run COMMAND ..`, `through COMMAND R W` and `stream COMMAND R J K W` leave it: they are done over
+/// puts T in the place of its text by hand; `journal J` reads J beside its text. `fmt`, `fix`, `fix-comments`, `fix-others`, `fix-none`,
+/// `revert` and `take-N` are done on it. `check`, `lint`, `run COMMAND ..`, `through COMMAND R W` and `stream COMMAND R J K W` leave it: they are done over
 /// its text, and its journal; the reads of numbers R and J fail, and the writers take K and W bytes.
 pub fn do_row(alloc: Global, session: &mut Session, row: &str) -> Result<Came> {
     let (word, rest) = row.split_once(' ').unwrap_or((row, ""));
@@ -42,6 +42,9 @@ pub fn do_row(alloc: Global, session: &mut Session, row: &str) -> Result<Came> {
 }
 
 fn command_of(word: &str) -> Result<Command> {
+    if let Some(number) = word.strip_prefix("take-") {
+        return Ok(Command::Take(number.parse::<u32>()?));
+    }
     let comments = Rule::CommentSyntax;
     match word {
         "fmt" => Ok(Command::Fmt),
@@ -208,6 +211,7 @@ fn streamed(alloc: Global, session: &Session, rest: &str) -> Result<Came> {
         Command::Revert => {
             revert_stream(alloc, &mut text, &mut journal, &mut journal_out, &mut out)
         }
+        Command::Take(_) => return Err(anyhow!("no stream takes a command out")),
     };
     Ok(Came {
         reply: said(alloc, answer)?,

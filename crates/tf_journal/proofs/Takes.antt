@@ -1,18 +1,18 @@
 -- A command that changed the text is taken back over what it wrote.
-use Rattle.std.proofs.Common.{◌≡◌, ◌≢◌, ◌∙◌, ◌≤◌, ℕ, length, List, [], ◌∷◌, ◌++◌, Bool, true, Option, Some, None, ap, sym, refl, subst, inl}
+use Rattle.std.proofs.Common.{◌≡◌, ◌∙◌, ◌≤◌, ℕ, length, List, [], ◌∷◌, ◌++◌, Bool, true, Option, Some, None, ap, sym, refl, subst, inl}
 use Rattle.std.specs.Io.KnownBytes.{Appends, Consumes, IsAtEnd}
 use Rattle.hcl_scan.specs.Cut.{MAX_TEXT}
 use Rattle.edit_record.specs.Journal.{Entered, record_turns}
 use Rattle.edit_text.specs.Text.{IsJournal}
 use Rattle.tf_stream.specs.Streams.{Source, Target, Puts, TakesAll}
 use Rattle.tf_session.specs.declared.command.Command.{Command}
-use Rattle.tf_session.specs.declared.command.Command.TheVariants.{Fmt, Fix, Revert}
+use Rattle.tf_session.specs.declared.command.Command.TheVariants.{Fmt, Fix, Revert, Take}
 use Rattle.tf_session.specs.declared.command.Done.{Done}
 use Rattle.tf_session.specs.Fixing.{Made, differ}
 use Rattle.tf_session.specs.Machine.{done}
 use Rattle.tf_session.specs.Records.{AddsRecordOf, DoesStep, PutsInPlace}
 use Rattle.tf_journal.specs.Journals.{Saves}
-use Rattle.tf_journal.specs.TakingBack.{ReadsBack, CommandIsTakenBack}
+use Rattle.tf_journal.specs.TakingBack.{ReadsBack, PutsOne, CommandIsTakenBack}
 
 pub not_nil : {X : Type 0} (xs : List X) (x : X) → xs ++ x ∷ [] ≡ [] → ⊥
 not_nil [] x e = cc
@@ -80,11 +80,12 @@ put_in command made t js d u ks short p changed =
       short = subst (λ (x : List ℕ). length x ≤ MAX_TEXT) same short;
     }
 
-pub put : (command : Command) (t : List ℕ) (js : List Entered) (d : Done) (u : List ℕ) (ks : List Entered) → command ≢ Revert
+pub put : (command : Command) (t : List ℕ) (js : List Entered) (d : Done) (u : List ℕ) (ks : List Entered) → PutsOne command
     → DoesStep command t js d u ks → d.changed ≡ true → Put command t js u ks
 put Fmt t js d u ks other p changed = put_in Fmt p.0 t js d u ks p.1.short p.2 changed
 put (Fix rules) t js d u ks other p changed = put_in (Fix rules) p.0 t js d u ks p.1.new_reads.1.short p.2 changed
-put Revert t js d u ks other p changed = absurd (other refl)
+put Revert t js d u ks other p changed = absurd other
+put (Take n) t js d u ks other p changed = absurd other
 
 pub command_is_taken_back : ((text : List ℕ) (rs ss : List Entered) → IsJournal text rs → IsJournal text ss → rs ≡ ss) → CommandIsTakenBack
 command_is_taken_back one command d again first second other s changed goes t =

@@ -1,5 +1,5 @@
 -- A revert over what a command wrote is refused for nothing that it reads.
-use Rattle.std.proofs.Common.{◌≡◌, ◌≢◌, ◌∙◌, ◌+◌, ◌≤◌, ℕ, List, [], ◌∷◌, ◌++◌, true, Option, Some, None, Err, length, length-append, arith, ap, sym, refl, subst, inl, inr}
+use Rattle.std.proofs.Common.{◌≡◌, ◌∙◌, ◌+◌, ◌≤◌, ℕ, List, [], ◌∷◌, ◌++◌, true, Option, Some, None, Err, length, length-append, arith, ap, sym, refl, subst, inl, inr}
 use Rattle.std.specs.Io.KnownBytes.{Consumes}
 use Rattle.hcl_scan.specs.Cut.{MAX_TEXT}
 use Rattle.edit_record.specs.Journal.{Entered, record_turns}
@@ -15,12 +15,12 @@ use Rattle.tf_session.specs.declared.command.Done.{Done}
 use Rattle.tf_session.specs.declared.command.Fault.{Fault}
 use Rattle.tf_session.specs.declared.fault.Part.{Part}
 use Rattle.tf_session.specs.declared.fault.RunFault.{RunFault}
-use Rattle.tf_session.specs.declared.fault.RunFault.TheVariants.{Scan, Parse, FixBroken, TooLong, NoRecord, Refused, Memory, Read, Write, Endless, BadJournal}
+use Rattle.tf_session.specs.declared.fault.RunFault.TheVariants.{Scan, Parse, FixBroken, TooLong, NoRecord, Refused, Memory, Blocked, Read, Write, Endless, BadJournal}
 use Rattle.tf_session.specs.Faults.{run_fault_of, run_fault_of_take, run_fault_of_record}
 use Rattle.tf_session.specs.Records.{RefusesStep}
 use Rattle.tf_session.specs.Streams.{NotPut}
 use Rattle.tf_journal.specs.Journals.{MAX_JOURNAL, Loads, HasNoText, NotTaken, NotDecoded, NotSaved, NotStreamed}
-use Rattle.tf_journal.specs.TakingBack.{ReadsBack, StreamsOver, GoesOn, Ends, is_from_outside, CommandCanBeTakenBack}
+use Rattle.tf_journal.specs.TakingBack.{ReadsBack, PutsOne, StreamsOver, GoesOn, Ends, is_from_outside, CommandCanBeTakenBack}
 use Rattle.tf_journal.proofs.Takes.{not_nil, same_last, held, same_bytes, put}
 
 abbrev TextIsOne : Type 0
@@ -66,6 +66,7 @@ refusing (Fault.Scan fault) text new records earlier r is turns p = absurd p
 refusing (Fault.Parse fault) text new records earlier r is turns p = absurd p
 refusing (Fault.FixBroken rule) text new records earlier r is turns p = absurd p
 refusing Fault.TooLong text new records earlier r is turns p = absurd p
+refusing (Fault.Blocked number) text new records earlier r is turns p = absurd p
 refusing Fault.NoRecord text new records earlier r is turns p = absurd (not_nil earlier r (sym is ∙ p))
 refusing (Fault.Refused refused) text new records earlier r is turns p =
     let lasts = same_last earlier p.1.0 r p.0 (sym is ∙ p.1.1) in
@@ -88,6 +89,7 @@ no_text (Parse fault) records short p = absurd p
 no_text (FixBroken rule) records short p = absurd p
 no_text TooLong records short p = absurd p
 no_text NoRecord records short p = absurd p
+no_text (Blocked number) records short p = absurd p
 no_text (Refused refused) records short p = absurd p
 no_text Memory records short p = refl
 no_text Read records short p = absurd p
@@ -101,6 +103,7 @@ putting part (Parse fault) target bytes p = absurd p
 putting part (FixBroken rule) target bytes p = absurd p
 putting part TooLong target bytes p = absurd p
 putting part NoRecord target bytes p = absurd p
+putting part (Blocked number) target bytes p = absurd p
 putting part (Refused refused) target bytes p = absurd p
 putting part Memory target bytes p = absurd p
 putting part Read target bytes p = absurd p
@@ -130,7 +133,7 @@ record Wrote (first : Ends) : Type 0 where
   journal_put : Puts first.journal_out bytes
   text_put : Puts first.text_out new
 
-wrote : (command : Command) (d : Done) (first : Ends) → command ≢ Revert → StreamsOver command d first → d.changed ≡ true → Wrote first
+wrote : (command : Command) (d : Done) (first : Ends) → PutsOne command → StreamsOver command d first → d.changed ≡ true → Wrote first
 wrote command d first other s changed =
     let (text, records, loads, new, new_records, does, saves) = s in
     let p = put command text records d new new_records other does changed in

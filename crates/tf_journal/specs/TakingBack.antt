@@ -1,9 +1,9 @@
 -- A command is taken back over what it wrote.
-use Rattle.std.specs.Prelude.{◌≡◌, ◌≢◌, ℕ, Bool, true, false, List, [], Some}
+use Rattle.std.specs.Prelude.{◌≡◌, ℕ, Bool, true, false, List, [], Some}
 use Rattle.edit_record.specs.Journal.{Entered}
 use Rattle.tf_stream.specs.Streams.{Source, Target}
 use Rattle.tf_session.specs.declared.command.Command.{Command}
-use Rattle.tf_session.specs.declared.command.Command.TheVariants.{Revert}
+use Rattle.tf_session.specs.declared.command.Command.TheVariants.{Fmt, Fix, Revert}
 use Rattle.tf_session.specs.declared.command.Done.{Done}
 use Rattle.tf_session.specs.declared.fault.RunFault.{RunFault}
 use Rattle.tf_session.specs.declared.fault.RunFault.TheVariants.{Memory, Read, Write}
@@ -35,10 +35,16 @@ pub record GoesOn (first second : Ends) : Type 0 where
   pub text : ReadsBack first.text_out second.text_in
   pub journal : ReadsBack first.journal_out second.journal_in
 
+-- fmt and fix put a record on, where the text changes
+abbrev pub PutsOne : Command → Type 0
+PutsOne Fmt = Unit {0}
+PutsOne (Fix rules) = Unit {0}
+PutsOne _ = ⊥
+
 -- A fmt or a fix that changed the text, and then a revert over what it wrote: that writes the first text again, with the journal
 -- as it was read.
 abbrev pub CommandIsTakenBack : Type 0
-CommandIsTakenBack = (command : Command) (d again : Done) (first second : Ends) → command ≢ Revert → StreamsOver command d first → d.changed ≡ true
+CommandIsTakenBack = (command : Command) (d again : Done) (first second : Ends) → PutsOne command → StreamsOver command d first → d.changed ≡ true
     → GoesOn first second → StreamsOver Revert again second
     → (text : List ℕ) × (records : List Entered) × Loads text records first.text_in first.journal_in
     × Saves text records second.journal_out second.text_out × (again ≡ done true 0 0)
@@ -52,5 +58,5 @@ is_from_outside _ = false
 
 -- That revert is never refused for what it reads.
 abbrev pub CommandCanBeTakenBack : Type 0
-CommandCanBeTakenBack = (command : Command) (d : Done) (first second : Ends) → command ≢ Revert → StreamsOver command d first → d.changed ≡ true
+CommandCanBeTakenBack = (command : Command) (d : Done) (first second : Ends) → PutsOne command → StreamsOver command d first → d.changed ≡ true
     → GoesOn first second → (fault : RunFault) → NotStreamedOver Revert fault second → is_from_outside fault ≡ true

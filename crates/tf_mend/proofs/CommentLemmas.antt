@@ -20,7 +20,10 @@ use Rattle.tf_rule.specs.declared.finding.Matter.TheVariants.{Slashes}
 use Rattle.tf_rule.specs.declared.rule.Rule.{Rule}
 use Rattle.tf_mend.specs.ByPairs.{gap_at, mended_pairs, mended_from, mended_text}
 use Rattle.tf_mend.specs.Comments.{IsSlashComment, mended_comment, start_of, comment_edit}
-use Rattle.tf_mend.specs.Mending.{spelling_at, FitsIn, AreSound, is_slashes, is_comment_rule, AreOf}
+use Rattle.tf_rule.specs.Findings.{IsInOrder, AreSound}
+use Rattle.tf_rule.specs.declared.rule.Rule.TheVariants.{CommentSyntax}
+use Rattle.tf_mend.specs.Inner.Filled.{Fits}
+use Rattle.tf_mend.specs.Mending.{spelling_at, is_slashes, is_comment_rule, IsOf, AreOf}
 use Rattle.tf_mend.specs.Parts.{Part, parts_of, written}
 use Rattle.tf_mend.specs.Parts.Part.{Gap, Token}
 use Rattle.tf_mend.specs.Settled.{Neighbour, after, meets}
@@ -58,9 +61,13 @@ record IsTaken (pairs : List Pair) (f : Finding) : Type 0 where
   next : f.past ≡ f.first + 1
   mended : mended_pairs pairs f.first f.past f.matter ≡ mended_comment comment ∷ []
 
-slash_fits : (pairs : List Pair) (first past : ℕ) (m : Matter) → is_slashes m ≡ true → FitsIn pairs first past m → (past ≡ first + 1) × IsSlashComment pairs first
-slash_fits pairs first past Slashes is fits = fits
-slash_fits pairs first past m is fits = absurd (false≢true is)
+slash_next : (first past : ℕ) (m : Matter) → is_slashes m ≡ true → IsInOrder first past m → past ≡ first + 1
+slash_next first past Slashes is fits = fits
+slash_next first past m is fits = absurd (false≢true is)
+
+of_comments : (rule : Rule) (pairs : List Pair) (f : Finding) → is_comment_rule rule ≡ true → IsOf rule pairs f → (is_slashes f.matter ≡ true) × IsSlashComment pairs f.first
+of_comments CommentSyntax pairs f is of = of
+of_comments rule pairs f is of = absurd (false≢true is)
 
 slash_mended : (pairs : List Pair) (first past : ℕ) (m : Matter) → is_slashes m ≡ true → mended_pairs pairs first past m ≡ map mended_comment (slice_range pairs first past)
 slash_mended pairs first past Slashes is = refl
@@ -74,21 +81,21 @@ one_pair pairs first past p rest next front =
     let one : past - first ≡ 1 = omega (arith, next) in
     ap (λ n. take n (drop first pairs)) one ∙ ap (λ t. take 1 t) front
 
-is_taken : (pairs : List Pair) (f : Finding) → f.past ≤ length pairs → is_slashes f.matter ≡ true → FitsIn pairs f.first f.past f.matter → IsTaken pairs f
-is_taken pairs f le is fits =
-    let both = slash_fits pairs f.first f.past f.matter is fits in
-    let (p, found, front) = known pairs f.first (omega (arith, le, both.0)) in
-    let kind : Some p.kind ≡ Some LineComment = sym (ap (option_map (λ (q : Pair). q.kind)) found) ∙ both.1.0 in
-    let spelling : Some p.spelling ≡ Some (codes "//" ++ both.1.1.0) = sym (ap (option_map (λ (q : Pair). q.spelling)) found) ∙ both.1.1.1 in
-    let here : drop f.first pairs ≡ p ∷ drop f.past pairs = front ∙ ap (λ n. p ∷ drop n pairs) (sym both.0) in
+is_taken : (pairs : List Pair) (f : Finding) → Fits (length pairs) f → is_slashes f.matter ≡ true → IsSlashComment pairs f.first → IsTaken pairs f
+is_taken pairs f fits is comment =
+    let next = slash_next f.first f.past f.matter is fits.1 in
+    let (p, found, front) = known pairs f.first (omega (arith, fits.0, fits.2)) in
+    let kind : Some p.kind ≡ Some LineComment = sym (ap (option_map (λ (q : Pair). q.kind)) found) ∙ comment.0 in
+    let spelling : Some p.spelling ≡ Some (codes "//" ++ comment.1.0) = sym (ap (option_map (λ (q : Pair). q.spelling)) found) ∙ comment.1.1 in
+    let here : drop f.first pairs ≡ p ∷ drop f.past pairs = front ∙ ap (λ n. p ∷ drop n pairs) (sym next) in
     record {
       comment = p;
       found = found;
       front = here;
       kind = cc kind;
-      spelling = two_behind p.spelling both.1.1.0 (cc spelling);
-      next = both.0;
-      mended = slash_mended pairs f.first f.past f.matter is ∙ ap (map mended_comment) (one_pair pairs f.first f.past p _ both.0 here);
+      spelling = two_behind p.spelling comment.1.0 (cc spelling);
+      next = next;
+      mended = slash_mended pairs f.first f.past f.matter is ∙ ap (map mended_comment) (one_pair pairs f.first f.past p _ next here);
     }
 
 -- comments one behind the other
@@ -96,15 +103,16 @@ abbrev AreComments : ℕ → List Pair → List Finding → Type 0
 AreComments at pairs [] = Unit {0}
 AreComments at pairs (f ∷ fs) = (at ≤ f.first) × IsTaken pairs f × AreComments f.past pairs fs
 
-are_comments : (rule : Rule) (pairs : List Pair) (at : ℕ) (fs : List Finding) → is_comment_rule rule ≡ true → AreOf rule fs → AreTaken at pairs fs → AreComments at pairs fs
+are_comments : (rule : Rule) (pairs : List Pair) (at : ℕ) (fs : List Finding) → is_comment_rule rule ≡ true → AreOf rule pairs fs → AreTaken at pairs fs → AreComments at pairs fs
 are_comments rule pairs at [] is of are = tt
 are_comments rule pairs at (f ∷ fs) is of are =
-    (are.0, is_taken pairs f are.1.0 (of.0 ∙ is) are.1.1, are_comments rule pairs f.past fs is of.1 are.2)
+    let comment = of_comments rule pairs f is of.0 in
+    (are.0, is_taken pairs f are.1 comment.0 comment.1, are_comments rule pairs f.past fs is of.1 are.2)
 
-all_comments : (rule : Rule) (pairs : List Pair) (findings : List Finding) → is_comment_rule rule ≡ true → AreOf rule findings → AreSound pairs findings
+all_comments : (rule : Rule) (pairs : List Pair) (findings : List Finding) → is_comment_rule rule ≡ true → AreOf rule pairs findings → AreSound (length pairs) findings
     → AreComments 0 pairs (taken findings)
 all_comments rule pairs findings is of sound =
-    are_comments rule pairs 0 (taken findings) is (taken_of rule 0 findings of) (taken_are pairs 0 findings (omega arith) sound)
+    are_comments rule pairs 0 (taken findings) is (taken_of rule pairs 0 findings of) (taken_are pairs 0 findings (omega arith) sound)
 
 gap_is : (pairs : List Pair) (i : ℕ) (p : Pair) → slice_get pairs i ≡ Some p → gap_at pairs i ≡ p.gap
 gap_is pairs i p found = ap (λ o. unwrap_or (option_map (λ (q : Pair). q.gap) o) []) found
@@ -238,7 +246,7 @@ comments_apart near at pairs last (f ∷ fs) are a =
     ap (λ ps. parts_of (before ++ (ps ++ more)) last) t.mended ∙ parts_append before (mended_comment p ∷ more) last in
     subst (Apart near) (sym now) joined
 
-pub comments_settled : (rule : Rule) (cut : CutText) (findings : List Finding) → is_comment_rule rule ≡ true → AreApart cut.pairs → AreOf rule findings → AreSound cut.pairs findings
+pub comments_settled : (rule : Rule) (cut : CutText) (findings : List Finding) → is_comment_rule rule ≡ true → AreApart cut.pairs → AreOf rule cut.pairs findings → AreSound (length cut.pairs) findings
     → mended_text cut findings ≡ whole_text (mended_from 0 cut.pairs (taken findings)) cut.last
 comments_settled rule cut findings is apart of sound =
     let new = mended_from 0 cut.pairs (taken findings) in
@@ -247,15 +255,15 @@ comments_settled rule cut findings is apart of sound =
 
 -- ---- the whole step
 
-pub comments_before : (rule : Rule) (cut : CutText) (findings : List Finding) → is_comment_rule rule ≡ true → AreOf rule findings → AreSound cut.pairs findings
+pub comments_before : (rule : Rule) (cut : CutText) (findings : List Finding) → is_comment_rule rule ≡ true → AreOf rule cut.pairs findings → AreSound (length cut.pairs) findings
     → old_text (comment_pieces 0 cut.pairs cut.last (taken findings)) ≡ whole_text cut.pairs cut.last
 comments_before rule cut findings is of sound = pieces_before 0 cut.pairs cut.last (taken findings) (all_comments rule cut.pairs findings is of sound)
 
-pub comments_behind : (rule : Rule) (cut : CutText) (findings : List Finding) → is_comment_rule rule ≡ true → AreApart cut.pairs → AreOf rule findings → AreSound cut.pairs findings
+pub comments_behind : (rule : Rule) (cut : CutText) (findings : List Finding) → is_comment_rule rule ≡ true → AreApart cut.pairs → AreOf rule cut.pairs findings → AreSound (length cut.pairs) findings
     → new_text (comment_pieces 0 cut.pairs cut.last (taken findings)) ≡ mended_text cut findings
 comments_behind rule cut findings is apart of sound =
     pieces_behind 0 cut.pairs cut.last (taken findings) (all_comments rule cut.pairs findings is of sound) ∙ sym (comments_settled rule cut findings is apart of sound)
 
-pub comments_edits : (rule : Rule) (cut : CutText) (findings : List Finding) → is_comment_rule rule ≡ true → AreOf rule findings → AreSound cut.pairs findings
+pub comments_edits : (rule : Rule) (cut : CutText) (findings : List Finding) → is_comment_rule rule ≡ true → AreOf rule cut.pairs findings → AreSound (length cut.pairs) findings
     → changes_from 0 (comment_pieces 0 cut.pairs cut.last (taken findings)) ≡ map (comment_edit cut.pairs) (taken findings)
 comments_edits rule cut findings is of sound = pieces_entries 0 0 cut.pairs cut.last (taken findings) (all_comments rule cut.pairs findings is of sound) refl

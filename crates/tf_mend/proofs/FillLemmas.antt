@@ -1,104 +1,240 @@
--- No replacement changes nothing into nothing: the tokens at its ends have a byte.
-use Rattle.std.proofs.Common.{◌≡◌, ℕ, zero, suc, ◌+◌, ◌-◌, ◌*◌, ◌≤◌, ◌<◌, true, false, Bool, List, [], ◌∷◌, ◌++◌, length, slice_range, slice_get, Some, None, if◌then◌else◌, refl, sym, ap, subst, ◌∙◌, arith, length-append}
-use Rattle.std.proofs.lemmas.Bool.{false≢true}
+-- Each token of a text has a byte, so no replacement changes nothing into nothing.
+use Rattle.std.proofs.Common.{◌≡◌, ℕ, zero, suc, ◌+◌, ◌-◌, ◌*◌, ◌≤◌, ◌<◌, ◌==◌, ◌&&◌, ◌⊎◌, inl, inr, true, false, Bool, Option, List, [], ◌∷◌, ◌++◌, length, take, drop, slice_range, slice_get, Some, None, if◌then◌else◌, refl, sym, ap, subst, ◌∙◌, arith, length-append, codes}
+use Rattle.std.proofs.lemmas.Bool.{and_parts, cond_both, false≢true, lt-ltb, ne_eqb}
 use Rattle.std.proofs.lemmas.Str.{chars-nil}
-use Rattle.std.specs.List.{flat_map}
+use Rattle.std.specs.List.{flat_map, list_all}
 use Rattle.std.specs.Option.{option_map}
 use Rattle.std.specs.Prelude.{unwrap_or}
 use Rattle.std.specs.Str.{chars}
+use Rattle.unicode_ident.proofs.IdentLemmas.{is_xid_start-ascii}
 use Rattle.edit_record.specs.Pieced.{AreChanges}
 use Rattle.hcl_token.specs.declared.kind.Kind.{Kind}
-use Rattle.hcl_token.specs.declared.kind.Kind.TheVariants.{Identifier, DotIndex, QuoteOpen, QuoteClose}
-use Rattle.hcl_token.specs.CutText.{kind_of}
+use Rattle.hcl_token.specs.declared.kind.Kind.TheVariants.{Mark, LineEnd, LineComment, InlineComment, Identifier, Number, DotIndex, Slash, OpenBrace, CloseBrace, QuoteOpen, QuoteClose, QuoteLit, HereOpen, HereClose, HereLit, InterpOpen, DirectiveOpen, SeqClose}
 use Rattle.hcl_token.specs.Tokens.{Pair, whole_text}
-use Rattle.hcl_scan.specs.Characters.{begins}
+use Rattle.hcl_scan.specs.Characters.{begins, starts, continues}
 use Rattle.hcl_scan.specs.Cut.{CutsFrom, IsCut, byte_order_mark, front_of}
-use Rattle.hcl_scan.specs.Lexeme.{is_identifier, IsLexeme}
-use Rattle.hcl_scan.specs.Modes.{Mode, mode_of, after as modes_after}
+use Rattle.hcl_scan.specs.Lexeme.{is_heredoc, is_decimal, is_identifier, fixed, Spells, IsLexeme}
+use Rattle.hcl_scan.specs.Modes.{Mode, mode_of, marker, marker_of, within_line, read_on, in_sequence, is_braces, begins_line, after as modes_after}
+use Rattle.hcl_scan.specs.Modes.Mode.{Expression, Sequence, Braces, Quoted, Heredoc}
+use Rattle.tf_rule.specs.Findings.{IsInOrder}
 use Rattle.tf_rule.specs.declared.finding.Finding.{Finding}
 use Rattle.tf_rule.specs.declared.finding.Matter.{Matter}
 use Rattle.tf_rule.specs.declared.finding.Matter.TheVariants.{Slashes, LegacyIndex, Interpolation, Comparison, Lookup}
-use Rattle.tf_mend.specs.Mending.{spelling_at, test_parts, mended, finding_replacements, FitsIn}
+use Rattle.tf_mend.specs.Inner.Filled.{AreFilled}
+use Rattle.tf_mend.specs.Mending.{spelling_at, test_parts, mended, finding_replacements}
 use Rattle.tf_mend.specs.Parts.{Part, parts_of, written}
 use Rattle.tf_mend.specs.Parts.Part.{Gap, Token}
 use Rattle.tf_mend.specs.Replacements.{Replacement, staying, space_before, pieces_from}
 use Rattle.tf_mend.specs.Settled.{Neighbour, after, meets, settled, space}
-use Rattle.tf_mend.specs.Inner.Filled.{is_end, AreFilled}
-use Rattle.tf_mend.proofs.PartLemmas.{known, token_front, range_first, length_written}
+use Rattle.tf_mend.proofs.PartLemmas.{known, gap_front, token_front, range_first}
 use Rattle.tf_mend.proofs.TakeLemmas.{AreTaken}
 
--- ---- tokens with a byte
+-- ---- the markers of heredocs
+
+-- an ASCII byte is a character
+chars_first : (b : ℕ) (t : List ℕ) → b < 128 → chars (b ∷ t) ≡ b ∷ chars t
+unfolding chars
+chars_first b [] h = rw (lt-ltb b 128 h) refl
+chars_first b (c ∷ t) h = rw (lt-ltb b 128 h) refl
 
 identifier_some : (s : List ℕ) → is_identifier (chars s) ≡ true → 0 < length s
 identifier_some [] h = absurd (false≢true (sym (ap is_identifier chars-nil) ∙ h))
 identifier_some (b ∷ t) h = omega arith
 
-quote_some : (s : List ℕ) → Some (34 ∷ []) ≡ Some s → 0 < length s
-quote_some s e = let same : s ≡ 34 ∷ [] = cc in omega (arith, ap length same)
+-- an identifier begins with no ASCII byte that starts none
+first_is_not : (k b : ℕ) (t : List ℕ) → k < 128 → starts k ≡ false → is_identifier (chars (b ∷ t)) ≡ true → (b == k) ≡ false
+first_is_not k b t low none h = ne_eqb b k (λ same.
+    let begun : is_identifier (chars (k ∷ t)) ≡ true = subst (λ x. is_identifier (chars (x ∷ t)) ≡ true) same h in
+    let told : is_identifier (chars (k ∷ t)) ≡ (starts k && list_all continues (chars t)) = ap is_identifier (chars_first k t low) in
+    absurd (false≢true (sym (told ∙ ap (λ x. x && list_all continues (chars t)) none) ∙ begun)))
 
-lexeme_filled : (mode : Mode) (kind : Kind) (s rest : List ℕ) → is_end kind ≡ true → IsLexeme mode kind s rest → 0 < length s
-lexeme_filled mode Identifier s rest end (st, (u, h)) = identifier_some s h
-lexeme_filled mode DotIndex s rest end (st, (digits, e, decimal)) = omega (arith, ap length e)
-lexeme_filled mode QuoteOpen s rest end (st, e) = quote_some s e
-lexeme_filled mode QuoteClose s rest end (st, e) = quote_some s e
-lexeme_filled mode kind s rest end h = absurd (false≢true end)
+dash_starts : starts 45 ≡ false
+dash_starts = rw (is_xid_start-ascii 45 (omega arith)) refl
 
-pairs_filled : (ps : List Pair) (modes left : List Mode) (rest : List ℕ) → CutsFrom modes ps rest left → AreFilled ps
-pairs_filled [] modes left rest c = tt
-pairs_filled (p ∷ ps) modes left rest c =
-    (λ end. lexeme_filled (mode_of modes) p.kind p.spelling (whole_text ps rest) end c.1.0, pairs_filled ps (modes_after p.kind p.spelling modes) left rest c.2)
+feed_starts : starts 10 ≡ false
+feed_starts = rw (is_xid_start-ascii 10 (omega arith)) refl
+
+return_starts : starts 13 ≡ false
+return_starts = rw (is_xid_start-ascii 13 (omega arith)) refl
+
+one_taken : (n b : ℕ) (t : List ℕ) → 0 < length (take (1 + n) (b ∷ t))
+one_taken n b t = let more : 1 + n ≡ suc n = omega arith in rw more (omega arith)
+
+-- what an opening names is not empty
+marker_some : (dash name end : List ℕ) → (dash ≡ []) ⊎ (dash ≡ codes "-") → is_identifier (chars name) ≡ true → 0 < length (marker_of (codes "<<" ++ (dash ++ (name ++ end))))
+marker_some dash [] end is h = absurd (let some = identifier_some [] h in omega (arith, some))
+marker_some dash (b ∷ t) end (inl e) h =
+    rw (e, first_is_not 45 b t (omega arith) dash_starts h, first_is_not 10 b t (omega arith) feed_starts h, first_is_not 13 b t (omega arith) return_starts h) (one_taken _ b (t ++ end))
+marker_some dash (b ∷ t) end (inr e) h =
+    rw (e, first_is_not 10 b t (omega arith) feed_starts h, first_is_not 13 b t (omega arith) return_starts h) (one_taken _ b (t ++ end))
+
+-- a heredoc that is open has a marker
+abbrev IsNamed : Mode → Type 0
+IsNamed (Heredoc name fresh) = 0 < length name
+IsNamed _ = Unit {0}
+
+abbrev AreNamed : List Mode → Type 0
+AreNamed [] = Unit {0}
+AreNamed (mode ∷ modes) = IsNamed mode × AreNamed modes
+
+drop_keeps : (modes : List Mode) → AreNamed modes → AreNamed (drop 1 modes)
+drop_keeps [] h = tt
+drop_keeps (mode ∷ modes) h = h.1
+
+within_keeps : (modes : List Mode) → AreNamed modes → AreNamed (within_line modes)
+within_keeps [] h = tt
+within_keeps (Heredoc name fresh ∷ modes) h = h
+within_keeps (Expression ∷ modes) h = h
+within_keeps (Sequence ∷ modes) h = h
+within_keeps (Braces ∷ modes) h = h
+within_keeps (Quoted ∷ modes) h = h
+
+read_keeps : (piece : List ℕ) (mode : Mode) → IsNamed mode → IsNamed (read_on piece mode)
+read_keeps piece (Heredoc name fresh) h = h
+read_keeps piece Expression h = h
+read_keeps piece Sequence h = h
+read_keeps piece Braces h = h
+read_keeps piece Quoted h = h
+
+named_after : (kind : Kind) (s rest : List ℕ) (modes : List Mode) → Spells (mode_of modes) kind s rest → AreNamed modes → AreNamed (modes_after kind s modes)
+named_after QuoteOpen s rest modes spells h = (tt, h)
+named_after HereOpen s rest modes (dash, name, end, e, is, ident, line) h =
+    (subst (λ (n : List ℕ). 0 < length n) (sym (ap marker_of e)) (marker_some dash name end is ident.1), h)
+named_after InterpOpen s rest modes spells h = (tt, within_keeps modes h)
+named_after DirectiveOpen s rest modes spells h = (tt, within_keeps modes h)
+named_after QuoteClose s rest modes spells h = drop_keeps modes h
+named_after HereClose s rest modes spells h = drop_keeps modes h
+named_after SeqClose s rest modes spells h = drop_keeps modes h
+named_after OpenBrace s rest modes spells h = cond_both (in_sequence (mode_of modes)) (Braces ∷ modes) modes AreNamed (λ _. (tt, h)) (λ _. h)
+named_after CloseBrace s rest modes spells h = cond_both (is_braces (mode_of modes)) (drop 1 modes) modes AreNamed (λ _. drop_keeps modes h) (λ _. h)
+named_after HereLit s rest [] spells h = tt
+named_after HereLit s rest (mode ∷ modes) spells h = (read_keeps s mode h.0, h.1)
+named_after kind s rest modes spells h = h
+
+-- ---- tokens
+
+abbrev is_filled : Option (List ℕ) → Bool
+is_filled None = true
+is_filled (Some []) = false
+is_filled (Some (b ∷ t)) = true
+
+filled : (kind : Kind) → is_filled (fixed kind) ≡ true
+filled Mark = refl
+filled kind = refl
+
+fixed_some : (only : Option (List ℕ)) (s : List ℕ) → is_filled only ≡ true → only ≡ Some s → 0 < length s
+fixed_some None s h e = absurd (cc)
+fixed_some (Some []) s h e = absurd (cc)
+fixed_some (Some (b ∷ t)) s h e = let same : s ≡ b ∷ t = cc in omega (arith, ap length same)
+
+decimal_some : (whole : List ℕ) → is_decimal whole ≡ true → 0 < length whole
+decimal_some [] h = absurd (cc)
+decimal_some (d ∷ ds) h = omega arith
+
+not_empty : (s : List ℕ) → (s ≡ [] → ⊥) → 0 < length s
+not_empty [] h = absurd (h refl)
+not_empty (b ∷ t) h = omega arith
+
+marker_named : (modes : List Mode) → is_heredoc (mode_of modes) ≡ true → AreNamed modes → 0 < length (marker (mode_of modes))
+marker_named [] is h = absurd (false≢true is)
+marker_named (Heredoc name fresh ∷ modes) is h = h.0
+marker_named (mode ∷ modes) is h = absurd (false≢true is)
+
+-- a token has a byte
+a_byte : (kind : Kind) (s rest : List ℕ) (modes : List Mode) → AreNamed modes → IsLexeme (mode_of modes) kind s rest → 0 < length s
+a_byte Mark s rest modes n (st, h) = absurd (false≢true st)
+a_byte LineEnd s rest modes n (st, inl e) = omega (arith, ap length e)
+a_byte LineEnd s rest modes n (st, inr e) = omega (arith, ap length e)
+a_byte LineComment s rest modes n (st, inl (body, e, run)) = omega (arith, ap length e)
+a_byte LineComment s rest modes n (st, inr (body, e, run)) = omega (arith, ap length e)
+a_byte InlineComment s rest modes n (st, (body, e, run)) = omega (arith, ap length e)
+a_byte Identifier s rest modes n (st, (u, h)) = identifier_some s h
+a_byte Number s rest modes n (st, (whole, fraction, exponent, e, decimal, f, x)) = omega (arith, ap length e, length-append whole (fraction ++ exponent), decimal_some whole decimal)
+a_byte DotIndex s rest modes n (st, (digits, e, decimal)) = omega (arith, ap length e)
+a_byte Slash s rest modes n (st, (e, h)) = fixed_some (fixed Slash) s refl e
+a_byte HereOpen s rest modes n (st, (dash, name, end, e, is, ident, line)) = omega (arith, ap length e)
+a_byte SeqClose s rest modes n (st, inl e) = omega (arith, ap length e)
+a_byte SeqClose s rest modes n (st, inr e) = omega (arith, ap length e)
+a_byte InterpOpen s rest modes n (st, inl e) = omega (arith, ap length e)
+a_byte InterpOpen s rest modes n (st, inr e) = omega (arith, ap length e)
+a_byte DirectiveOpen s rest modes n (st, inl e) = omega (arith, ap length e)
+a_byte DirectiveOpen s rest modes n (st, inr e) = omega (arith, ap length e)
+a_byte QuoteLit s rest modes n (st, (some, run)) = not_empty s some
+a_byte HereClose s rest modes n (st, (before, behind, e, blank, blanks, ends)) =
+    let some = marker_named modes (and_parts (is_heredoc (mode_of modes)) (begins_line (mode_of modes)) st).0 n in
+    omega (arith, ap length e, length-append before (marker (mode_of modes) ++ behind), length-append (marker (mode_of modes)) behind, some)
+a_byte HereLit s rest modes n (st, (some, run)) = not_empty s some
+a_byte kind s rest modes n (st, e) = fixed_some (fixed kind) s (filled kind) e
+
+pairs_filled : (ps : List Pair) (modes left : List Mode) (rest : List ℕ) → AreNamed modes → CutsFrom modes ps rest left → AreFilled ps
+pairs_filled [] modes left rest n c = tt
+pairs_filled (p ∷ ps) modes left rest n c =
+    let here = c.1.0 in (
+      a_byte p.kind p.spelling (whole_text ps rest) modes n here,
+      pairs_filled ps (modes_after p.kind p.spelling modes) left rest (named_after p.kind p.spelling (whole_text ps rest) modes here.1 n) c.2,
+    )
 
 front_filled : (text : List ℕ) (body : List Pair) → AreFilled body → AreFilled (front_of text ++ body)
 front_filled text body are =
     elim (begins byte_order_mark text) as (λ b. begins byte_order_mark text ≡ b → AreFilled (front_of text ++ body)) [
-      | true ↦ λ h. rw h (λ end. absurd (false≢true end), are)
+      | true ↦ λ h. rw h (omega arith, are)
       | false ↦ λ h. rw h are
     ] refl
 
 pub cut_filled : (text : List ℕ) (pairs : List Pair) (last : List ℕ) → IsCut text pairs last → AreFilled pairs
-cut_filled text pairs last c = subst AreFilled (sym c.cuts.front) (front_filled text c.cuts.body (pairs_filled c.cuts.body [] [] last c.cuts.cuts))
+cut_filled text pairs last c = subst AreFilled (sym c.cuts.front) (front_filled text c.cuts.body (pairs_filled c.cuts.body [] [] last tt c.cuts.cuts))
 
-filled_at : (pairs : List Pair) (i : ℕ) (p : Pair) → AreFilled pairs → slice_get pairs i ≡ Some p → is_end p.kind ≡ true → 0 < length p.spelling
-filled_at [] i p are found end = absurd (cc found)
-filled_at (q ∷ pairs) zero p are found end =
-    let same : p ≡ q = cc found in subst (λ (x : Pair). is_end x.kind ≡ true → 0 < length x.spelling) (sym same) are.0 end
-filled_at (q ∷ pairs) (suc i) p are found end = filled_at pairs i p are.1 found end
+-- a text has no fewer bytes than tokens
+filled_length : (pairs : List Pair) (last : List ℕ) → AreFilled pairs → length pairs ≤ length (whole_text pairs last)
+filled_length [] last are = omega arith
+filled_length (p ∷ pairs) last are =
+    let more = filled_length pairs last are.1 in
+    let some = are.0 in
+    let a = length-append p.gap (p.spelling ++ whole_text pairs last) in
+    let b = length-append p.spelling (whole_text pairs last) in
+    omega (arith, more, some, a, b)
 
--- the token of this number, if it is of such a kind
-end_at : (pairs : List Pair) (i : ℕ) (p : Pair) (k : Kind) → AreFilled pairs → slice_get pairs i ≡ Some p → kind_of pairs i ≡ Some k → is_end k ≡ true → 0 < length p.spelling
-end_at pairs i p k are found kind end =
-    let is : Some p.kind ≡ Some k = sym (ap (option_map (λ (q : Pair). q.kind)) found) ∙ kind in
-    let same : p.kind ≡ k = cc is in
-    filled_at pairs i p are found (ap is_end same ∙ end)
+pub few_tokens : (text : List ℕ) (pairs : List Pair) (last : List ℕ) → IsCut text pairs last → length pairs ≤ 16777216
+few_tokens text pairs last c =
+    let more = filled_length pairs last (cut_filled text pairs last c) in
+    let whole = ap length c.cuts.text_is in
+    omega (arith, more, whole, c.short)
 
-pub index_coming : (pairs : List Pair) (i : ℕ) → AreFilled pairs → i < length pairs → kind_of pairs i ≡ Some DotIndex → (i < length pairs) × (1 ≤ length (spelling_at pairs i))
-index_coming pairs i are lt kind =
+filled_at : (pairs : List Pair) (i : ℕ) (p : Pair) → AreFilled pairs → slice_get pairs i ≡ Some p → 0 < length p.spelling
+filled_at [] i p are found = absurd (cc found)
+filled_at (q ∷ pairs) zero p are found = let same : q ≡ p = cc found in subst (λ (x : Pair). 0 < length x.spelling) same are.0
+filled_at (q ∷ pairs) (suc i) p are found = filled_at pairs i p are.1 found
+
+pub index_coming : (pairs : List Pair) (i : ℕ) → AreFilled pairs → i < length pairs → (i < length pairs) × (1 ≤ length (spelling_at pairs i))
+index_coming pairs i are lt =
     let (p, found, front) = known pairs i lt in
-    let some = end_at pairs i p DotIndex are found kind refl in
+    let some = filled_at pairs i p are found in
     let same : spelling_at pairs i ≡ p.spelling = ap (λ o. unwrap_or (option_map (λ (q : Pair). q.spelling) o) []) found in
     (lt, omega (arith, some, ap length same))
 
 -- ---- what goes
 
-token_goes : (pairs : List Pair) (last : List ℕ) (i to : ℕ) (k : Kind) → AreFilled pairs → i < length pairs → kind_of pairs i ≡ Some k → is_end k ≡ true → 2 * i + 1 < to
-    → 0 < length (written (slice_range (parts_of pairs last) (2 * i + 1) to))
-token_goes pairs last i to k are lt kind end past =
+token_goes : (pairs : List Pair) (last : List ℕ) (i to : ℕ) → AreFilled pairs → i < length pairs → 2 * i + 1 < to → 0 < length (written (slice_range (parts_of pairs last) (2 * i + 1) to))
+token_goes pairs last i to are lt past =
     let (p, found, front) = known pairs i lt in
-    let some = end_at pairs i p k are found kind end in
+    let some = filled_at pairs i p are found in
     let first = range_first (parts_of pairs last) (2 * i + 1) to (Token p.kind p.spelling) _ past (token_front pairs last i p found) in
     let size = ap (λ t. length (written t)) first ∙ length-append p.spelling _ in
     omega (arith, some, size)
 
--- the last of what goes
-last_goes : (pairs : List Pair) (last : List ℕ) (from i : ℕ) (k : Kind) → AreFilled pairs → i < length pairs → kind_of pairs i ≡ Some k → is_end k ≡ true → from ≤ 2 * i + 1
-    → 0 < length (written (slice_range (parts_of pairs last) from (2 * i + 2)))
-last_goes pairs last from i k are lt kind end le =
-    let xs = parts_of pairs last in
-    let some = token_goes pairs last i (2 * i + 2) k are lt kind end (omega arith) in
-    let whole = length_written xs from (2 * i + 2) (omega (arith, le)) in
-    let front = length_written xs from (2 * i + 1) le in
-    let back = length_written xs (2 * i + 1) (2 * i + 2) (omega arith) in
-    omega (arith, some, whole, front, back)
+two_go : (gap : List ℕ) (kind : Kind) (spelling : List ℕ) (k : ℕ) (rest : List Part) → 2 ≤ k → 0 < length spelling → 0 < length (written (take k (Gap gap ∷ Token kind spelling ∷ rest)))
+two_go gap kind spelling zero rest le some = absurd (omega (arith, le))
+two_go gap kind spelling (suc zero) rest le some = absurd (omega (arith, le))
+two_go gap kind spelling (suc (suc k)) rest le some =
+    let a = length-append gap (spelling ++ written (take k rest)) in
+    let b = length-append spelling (written (take k rest)) in
+    omega (arith, some, a, b)
+
+gap_goes : (pairs : List Pair) (last : List ℕ) (i to : ℕ) → AreFilled pairs → i < length pairs → 2 * i + 2 ≤ to → 0 < length (written (slice_range (parts_of pairs last) (2 * i) to))
+gap_goes pairs last i to are lt past =
+    let (p, found, front) = known pairs i lt in
+    let some = filled_at pairs i p are found in
+    subst (λ t. 0 < length (written (take (to - 2 * i) t))) (sym (gap_front pairs last i p found)) (two_go p.gap p.kind p.spelling (to - 2 * i) _ (omega (arith, past)) some)
 
 -- ---- each replacement takes something away or brings something
 
@@ -114,21 +250,17 @@ test_real : (n : ℕ) (test : Bool) → 0 < n + length (written (test_parts test
 test_real n true = omega arith
 test_real n false = omega arith
 
-mended_real : (pairs : List Pair) (last : List ℕ) (first past : ℕ) (m : Matter) → AreFilled pairs → past ≤ length pairs → FitsIn pairs first past m
+mended_real : (pairs : List Pair) (last : List ℕ) (first past : ℕ) (m : Matter) → AreFilled pairs → past ≤ length pairs → IsInOrder first past m
     → AreReal (parts_of pairs last) (mended pairs first past m)
 mended_real pairs last first past Slashes are le fits = tt
 mended_real pairs last first past LegacyIndex are le fits = (omega arith, tt)
 mended_real pairs last first past Interpolation are le fits =
-    let five = fits.0 in
-    let two : 2 * past ≡ 2 * (past - 1) + 2 = omega (arith, five) in
-    let one = token_goes pairs last first (2 * (first + 2) + 1) QuoteOpen are (omega (arith, five, le)) fits.1 refl (omega arith) in
-    let other : 0 < length (written (slice_range (parts_of pairs last) (2 * (past - 2)) (2 * past))) =
-    subst (λ n. 0 < length (written (slice_range (parts_of pairs last) (2 * (past - 2)) n))) (sym two)
-    (last_goes pairs last (2 * (past - 2)) (past - 1) QuoteClose are (omega (arith, five, le)) fits.2 refl (omega (arith, five))) in
-    (omega (arith, one), (omega (arith, other), tt))
+    let one = token_goes pairs last first (2 * (first + 2) + 1) are (omega (arith, fits, le)) (omega arith) in
+    let two = gap_goes pairs last (past - 2) (2 * past) are (omega (arith, fits, le)) (omega (arith, fits)) in
+    (omega (arith, one), (omega (arith, two), tt))
 mended_real pairs last first past (Comparison from to test) are le fits = (omega arith, (test_real _ test, tt))
 mended_real pairs last first past (Lookup from to key end) are le fits =
-    let one = token_goes pairs last first (2 * from + 1) Identifier are (omega (arith, fits.1, fits.2, fits.3, fits.4, fits.5, le)) fits.0 refl (omega (arith, fits.1)) in
+    let one = token_goes pairs last first (2 * from + 1) are (omega (arith, fits.0, fits.1, fits.2, fits.3, fits.4, le)) (omega (arith, fits.0)) in
     (omega (arith, one), (omega arith, (omega arith, tt)))
 mended_real pairs last first past m are le fits = absurd fits
 

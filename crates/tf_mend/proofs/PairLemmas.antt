@@ -14,14 +14,16 @@ use Rattle.tf_rule.specs.declared.finding.Matter.{Matter}
 use Rattle.tf_rule.specs.declared.finding.Matter.TheVariants.{Slashes, LegacyIndex, Interpolation, Comparison, Lookup}
 use Rattle.tf_rule.specs.declared.rule.Rule.{Rule}
 use Rattle.tf_mend.specs.ByPairs.{is_empty, gap_at, with_gap, test_pair, mended_pairs, mended_from, settled_pair, settled_pairs, mended_text}
-use Rattle.tf_mend.specs.Mending.{number_of, test_parts, index_parts, length_parts, mended, finding_replacements, step_replacements, FitsIn, AreSound, is_slashes, is_comment_rule, AreOf}
+use Rattle.tf_rule.specs.Findings.{IsInOrder, AreSound}
+use Rattle.tf_rule.specs.declared.rule.Rule.TheVariants.{CommentSyntax}
+use Rattle.tf_mend.specs.Mending.{number_of, test_parts, index_parts, length_parts, mended, finding_replacements, step_replacements, is_slashes, is_comment_rule, IsOf, AreOf}
 use Rattle.tf_mend.specs.Parts.{Part, parts_of, parts, written}
 use Rattle.tf_mend.specs.Parts.Part.{Gap, Token}
 use Rattle.tf_mend.specs.Replacements.{Replacement, replaced_from, replaced_text}
 use Rattle.tf_mend.specs.Settled.{Neighbour, meets, settled, space}
 use Rattle.tf_mend.specs.Taking.{taken}
 use Rattle.tf_mend.proofs.PartLemmas.{known, range_last, gap_front, token_front, parts_drop}
-use Rattle.tf_mend.proofs.TakeLemmas.{AreTaken, taken_are, taken_of, fits_some}
+use Rattle.tf_mend.proofs.TakeLemmas.{AreTaken, taken_are, taken_of}
 
 -- the parts of pairs alone
 abbrev pub body : List Pair → List Part
@@ -83,7 +85,7 @@ close_body true = refl
 close_body false = refl
 
 -- one finding: what comes before it, its tokens, and what is behind it
-one_mended : (pairs : List Pair) (last : List ℕ) (at first past : ℕ) (m : Matter) (rs : List Replacement) → is_slashes m ≡ false → at ≤ first → first < past → past ≤ length pairs → FitsIn pairs first past m
+one_mended : (pairs : List Pair) (last : List ℕ) (at first past : ℕ) (m : Matter) (rs : List Replacement) → is_slashes m ≡ false → at ≤ first → first < past → past ≤ length pairs → IsInOrder first past m
     → replaced_from (2 * at) (parts_of pairs last) (mended pairs first past m ++ rs)
     ≡ body (slice_range pairs at first) ++ (body (mended_pairs pairs first past m) ++ replaced_from (2 * past) (parts_of pairs last) rs)
 one_mended pairs last at first past LegacyIndex rs other le some within fits =
@@ -97,7 +99,7 @@ one_mended pairs last at first past Interpolation rs other le some within fits =
     let inner = slice_range (parts_of pairs last) (2 * (first + 2) + 1) (2 * (past - 2)) in
     ap (λ t. t ++ (inner ++ more)) (open_range pairs last at first le (omega (arith, some, within)))
     ∙ append_assoc before (Gap gap ∷ []) (inner ++ more)
-    ∙ ap (λ t. before ++ (t ++ more)) (inner_range pairs last gap (first + 2) (past - 2) (omega (arith, fits.0)) (omega (arith, fits.0, within)))
+    ∙ ap (λ t. before ++ (t ++ more)) (inner_range pairs last gap (first + 2) (past - 2) (omega (arith, fits)) (omega (arith, fits, within)))
 one_mended pairs last at first past (Comparison from to test) rs other le some within fits =
     let more = replaced_from (2 * past) (parts_of pairs last) rs in
     let before = body (slice_range pairs at first) in
@@ -130,19 +132,23 @@ one_mended pairs last at first past (Lookup from to key end) rs other le some wi
     ∙ ap (λ t. body first_arg ++ tail t) (append_assoc (body second_arg) shut more) in
     ap (λ t. t ++ (one ++ (tail (Gap [] ∷ (two ++ (shut ++ more)))))) (open_range pairs last at first le (omega (arith, some, within)))
     ∙ append_assoc before (Gap gap ∷ []) (one ++ (tail (Gap [] ∷ (two ++ (shut ++ more)))))
-    ∙ ap (λ t. before ++ (t ++ tail (Gap [] ∷ (two ++ (shut ++ more))))) (inner_range pairs last gap from to (omega (arith, fits.2)) (omega (arith, fits.2, fits.3, fits.4, fits.5, within)))
-    ∙ ap (λ t. before ++ (body first_arg ++ tail (t ++ (shut ++ more)))) (inner_range pairs last [] key end (omega (arith, fits.4)) (omega (arith, fits.5, within)))
+    ∙ ap (λ t. before ++ (t ++ tail (Gap [] ∷ (two ++ (shut ++ more))))) (inner_range pairs last gap from to (omega (arith, fits.1)) (omega (arith, fits.1, fits.2, fits.3, fits.4, within)))
+    ∙ ap (λ t. before ++ (body first_arg ++ tail (t ++ (shut ++ more)))) (inner_range pairs last [] key end (omega (arith, fits.3)) (omega (arith, fits.4, within)))
     ∙ ap (λ t. before ++ t) (sym split)
 one_mended pairs last at first past Slashes rs other le some within fits = absurd (false≢true (sym other))
 one_mended pairs last at first past m rs other le some within fits = absurd fits
 
-all_mended : (rule : Rule) (pairs : List Pair) (last : List ℕ) (at : ℕ) (fs : List Finding) → is_comment_rule rule ≡ false → AreOf rule fs → AreTaken at pairs fs
+of_other : (rule : Rule) (pairs : List Pair) (f : Finding) → is_comment_rule rule ≡ false → IsOf rule pairs f → is_slashes f.matter ≡ false
+of_other CommentSyntax pairs f other of = absurd (false≢true (sym other))
+of_other rule pairs f other of = of
+
+all_mended : (rule : Rule) (pairs : List Pair) (last : List ℕ) (at : ℕ) (fs : List Finding) → is_comment_rule rule ≡ false → AreOf rule pairs fs → AreTaken at pairs fs
     → replaced_from (2 * at) (parts_of pairs last) (flat_map (finding_replacements pairs) fs) ≡ parts_of (mended_from at pairs fs) last
 all_mended rule pairs last at [] other of are = parts_drop pairs last at are
 all_mended rule pairs last at (f ∷ fs) other of are =
     let mid = mended_pairs pairs f.first f.past f.matter in
     let more = mended_from f.past pairs fs in
-    one_mended pairs last at f.first f.past f.matter (flat_map (finding_replacements pairs) fs) (of.0 ∙ other) are.0 (fits_some pairs f.first f.past f.matter are.1.1) are.1.0 are.1.1
+    one_mended pairs last at f.first f.past f.matter (flat_map (finding_replacements pairs) fs) (of_other rule pairs f other of.0) are.0 are.1.2 are.1.0 are.1.1
     ∙ ap (λ t. body (slice_range pairs at f.first) ++ (body mid ++ t)) (all_mended rule pairs last f.past fs other of.1 are.2)
     ∙ ap (λ t. body (slice_range pairs at f.first) ++ t) (sym (parts_append mid more last))
     ∙ sym (parts_append (slice_range pairs at f.first) (mid ++ more) last)
@@ -183,8 +189,8 @@ pairs_settled near (p ∷ ps) last =
     ∙ same_spelling near p _
 
 -- the text of a step, by pairs
-pub by_pairs : (rule : Rule) (cut : CutText) (findings : List Finding) → is_comment_rule rule ≡ false → AreOf rule findings → AreSound cut.pairs findings
+pub by_pairs : (rule : Rule) (cut : CutText) (findings : List Finding) → is_comment_rule rule ≡ false → AreOf rule cut.pairs findings → AreSound (length cut.pairs) findings
     → mended_text cut findings ≡ replaced_text (parts cut) (step_replacements cut.pairs findings)
 by_pairs rule cut findings other of sound =
-    let all = all_mended rule cut.pairs cut.last 0 (taken findings) other (taken_of rule 0 findings of) (taken_are cut.pairs 0 findings (omega arith) sound) in
+    let all = all_mended rule cut.pairs cut.last 0 (taken findings) other (taken_of rule cut.pairs 0 findings of) (taken_are cut.pairs 0 findings (omega arith) sound) in
     sym (ap (λ t. written (settled None t)) all ∙ pairs_settled None (mended_from 0 cut.pairs (taken findings)) cut.last)

@@ -8,7 +8,9 @@ use Rattle.tf_rule.specs.declared.finding.Finding.{Finding}
 use Rattle.tf_rule.specs.declared.finding.Matter.{Matter}
 use Rattle.tf_rule.specs.declared.finding.Matter.TheVariants.{Slashes, LegacyIndex, Interpolation, Comparison, Lookup}
 use Rattle.tf_rule.specs.declared.rule.Rule.{Rule}
-use Rattle.tf_mend.specs.Mending.{mended, finding_replacements, FitsIn, Fits, AreSound, is_slashes, is_comment_rule, AreOf}
+use Rattle.tf_rule.specs.Findings.{IsInOrder, AreSound}
+use Rattle.tf_mend.specs.Inner.Filled.{Fits}
+use Rattle.tf_mend.specs.Mending.{mended, finding_replacements, IsOf, AreOf}
 use Rattle.tf_mend.specs.Replacements.{Replacement, AreInOrder}
 use Rattle.tf_mend.specs.Taking.{taken_from}
 use Rattle.tf_mend.specs.Inner.Views.{IsComing, AreComing}
@@ -20,13 +22,9 @@ pub coming_push : (pairs : List Pair) (rs : List Replacing) (r : Replacing) → 
 coming_push pairs [] r are is = (is, tt)
 coming_push pairs (x ∷ rs) r are is = (are.0, coming_push pairs rs r are.1 is)
 
-pub is_sound : (pairs : List Pair) (findings : List Finding) (i : ℕ) (d : Finding) → i < length findings → AreSound pairs (drop i findings)
-    → ((get_or findings i d).fixable ≡ true → Fits pairs (get_or findings i d)) × AreSound pairs (drop (i + 1) findings)
-is_sound pairs findings i d lt are = let both = subst (AreSound pairs) (drop_more findings i d lt) are in (both.0, both.1)
-
-pub is_of : (rule : Rule) (findings : List Finding) (i : ℕ) (d : Finding) → i < length findings → AreOf rule (drop i findings)
-    → (is_slashes (get_or findings i d).matter ≡ is_comment_rule rule) × AreOf rule (drop (i + 1) findings)
-is_of rule findings i d lt are = let both = subst (AreOf rule) (drop_more findings i d lt) are in (both.0, both.1)
+pub is_sound : (pairs : List Pair) (findings : List Finding) (i : ℕ) (d : Finding) → i < length findings → AreSound (length pairs) (drop i findings)
+    → ((get_or findings i d).fixable ≡ true → Fits (length pairs) (get_or findings i d)) × AreSound (length pairs) (drop (i + 1) findings)
+is_sound pairs findings i d lt are = let both = subst (AreSound (length pairs)) (drop_more findings i d lt) are in (λ fixable. (both.0.1, both.0.2 fixable, both.0.0), both.1)
 
 pub one_taken : (findings : List Finding) (i past : ℕ) (d : Finding) → i < length findings
     → ((get_or findings i d).fixable && not (nat_lt (get_or findings i d).first past)) ≡ true
@@ -43,31 +41,31 @@ one_left findings i past d lt test = ap (taken_from past) (drop_more findings i 
 -- findings of a text, one behind the other
 abbrev pub AreTaken : ℕ → List Pair → List Finding → Type 0
 AreTaken at pairs [] = at ≤ length pairs
-AreTaken at pairs (f ∷ fs) = (at ≤ f.first) × Fits pairs f × AreTaken f.past pairs fs
+AreTaken at pairs (f ∷ fs) = (at ≤ f.first) × Fits (length pairs) f × AreTaken f.past pairs fs
 
 not_true : (b : Bool) → not b ≡ true → b ≡ false
 not_true true e = absurd (cc e)
 not_true false e = refl
 
 taken_if : (pairs : List Pair) (past : ℕ) (f : Finding) (here : Bool) (xs ys : List Finding) → (f.fixable && not (nat_lt f.first past)) ≡ here
-    → (f.fixable ≡ true → Fits pairs f) → (Fits pairs f → AreTaken f.past pairs xs) → AreTaken past pairs ys → AreTaken past pairs (if here then f ∷ xs else ys)
+    → (f.fixable ≡ true → Fits (length pairs) f) → (Fits (length pairs) f → AreTaken f.past pairs xs) → AreTaken past pairs ys → AreTaken past pairs (if here then f ∷ xs else ys)
 taken_if pairs past f true xs ys test sound a b =
     let both = and_parts f.fixable (not (nat_lt f.first past)) test in
     (ltb-false f.first past (not_true (nat_lt f.first past) both.1), sound both.0, a (sound both.0))
 taken_if pairs past f false xs ys test sound a b = b
 
-pub taken_are : (pairs : List Pair) (past : ℕ) (findings : List Finding) → past ≤ length pairs → AreSound pairs findings → AreTaken past pairs (taken_from past findings)
+pub taken_are : (pairs : List Pair) (past : ℕ) (findings : List Finding) → past ≤ length pairs → AreSound (length pairs) findings → AreTaken past pairs (taken_from past findings)
 taken_are pairs past [] le sound = le
 taken_are pairs past (f ∷ fs) le sound =
-    taken_if pairs past f _ (taken_from f.past fs) (taken_from past fs) refl sound.0 (λ fits. taken_are pairs f.past fs fits.0 sound.1) (taken_are pairs past fs le sound.1)
+    taken_if pairs past f _ (taken_from f.past fs) (taken_from past fs) refl (λ fixable. (sound.0.1, sound.0.2 fixable, sound.0.0)) (λ fits. taken_are pairs f.past fs fits.0 sound.1) (taken_are pairs past fs le sound.1)
 
-of_if : (rule : Rule) (f : Finding) (here : Bool) (xs ys : List Finding) → is_slashes f.matter ≡ is_comment_rule rule → AreOf rule xs → AreOf rule ys → AreOf rule (if here then f ∷ xs else ys)
-of_if rule f true xs ys of a b = (of, a)
-of_if rule f false xs ys of a b = b
+of_if : (rule : Rule) (pairs : List Pair) (f : Finding) (here : Bool) (xs ys : List Finding) → IsOf rule pairs f → AreOf rule pairs xs → AreOf rule pairs ys → AreOf rule pairs (if here then f ∷ xs else ys)
+of_if rule pairs f true xs ys of a b = (of, a)
+of_if rule pairs f false xs ys of a b = b
 
-pub taken_of : (rule : Rule) (past : ℕ) (findings : List Finding) → AreOf rule findings → AreOf rule (taken_from past findings)
-taken_of rule past [] of = tt
-taken_of rule past (f ∷ fs) of = of_if rule f _ (taken_from f.past fs) (taken_from past fs) of.0 (taken_of rule f.past fs of.1) (taken_of rule past fs of.1)
+pub taken_of : (rule : Rule) (pairs : List Pair) (past : ℕ) (findings : List Finding) → AreOf rule pairs findings → AreOf rule pairs (taken_from past findings)
+taken_of rule pairs past [] of = tt
+taken_of rule pairs past (f ∷ fs) of = of_if rule pairs f _ (taken_from f.past fs) (taken_from past fs) of.0 (taken_of rule pairs f.past fs of.1) (taken_of rule pairs past fs of.1)
 
 -- ---- the replacements are in order
 
@@ -81,34 +79,23 @@ later_order at from end [] le o = omega (arith, le, o)
 later_order at from end (r ∷ rs) le o = (omega (arith, le, o.0), o.1, o.2)
 
 -- those of a finding stand within its tokens
-mended_order : (pairs : List Pair) (first past : ℕ) (m : Matter) → FitsIn pairs first past m → AreInOrder (2 * first) (mended pairs first past m) (2 * past)
-mended_order pairs first past Slashes fits = omega (arith, fits.0)
-mended_order pairs first past LegacyIndex fits = let e = fits.0 in (omega arith, omega (arith, e), omega arith)
-mended_order pairs first past Interpolation fits =
-    let five = fits.0 in
-    (omega arith, omega arith, (omega (arith, five), omega (arith, five), omega arith))
+mended_order : (pairs : List Pair) (first past : ℕ) (m : Matter) → IsInOrder first past m → AreInOrder (2 * first) (mended pairs first past m) (2 * past)
+mended_order pairs first past Slashes fits = omega (arith, fits)
+mended_order pairs first past LegacyIndex fits = (omega arith, omega (arith, fits), omega arith)
+mended_order pairs first past Interpolation fits = (omega arith, omega arith, (omega (arith, fits), omega (arith, fits), omega arith))
 mended_order pairs first past (Comparison from to zero) fits =
     let a = fits.0 in
     let b = fits.1 in
     let c = fits.2 in
     (omega arith, omega (arith, a), (omega (arith, b), omega (arith, c), omega arith))
 mended_order pairs first past (Lookup from to key end) fits =
-    let a = fits.1 in
-    let b = fits.2 in
-    let c = fits.3 in
-    let d = fits.4 in
-    let e = fits.5 in
+    let a = fits.0 in
+    let b = fits.1 in
+    let c = fits.2 in
+    let d = fits.3 in
+    let e = fits.4 in
     (omega arith, omega (arith, a), (omega (arith, b), omega (arith, c), (omega (arith, d), omega (arith, e), omega arith)))
 mended_order pairs first past m fits = absurd fits
-
--- a finding has a token
-pub fits_some : (pairs : List Pair) (first past : ℕ) (m : Matter) → FitsIn pairs first past m → first < past
-fits_some pairs first past Slashes fits = omega (arith, fits.0)
-fits_some pairs first past LegacyIndex fits = omega (arith, fits.0)
-fits_some pairs first past Interpolation fits = omega (arith, fits.0)
-fits_some pairs first past (Comparison from to zero) fits = omega (arith, fits.0, fits.1, fits.2)
-fits_some pairs first past (Lookup from to key end) fits = omega (arith, fits.1, fits.2, fits.3, fits.4, fits.5)
-fits_some pairs first past m fits = absurd fits
 
 pub taken_order : (pairs : List Pair) (at : ℕ) (fs : List Finding) → AreTaken at pairs fs → AreInOrder (2 * at) (flat_map (finding_replacements pairs) fs) (2 * length pairs)
 taken_order pairs at [] are = omega (arith, are)
@@ -117,6 +104,15 @@ taken_order pairs at (f ∷ fs) are =
     (join_order (2 * f.first) (2 * f.past) (2 * length pairs) (finding_replacements pairs f) (flat_map (finding_replacements pairs) fs)
     (mended_order pairs f.first f.past f.matter are.1.1) (taken_order pairs f.past fs are.2))
 
-pub step_order : (pairs : List Pair) (findings : List Finding) → AreSound pairs findings
+pub step_order : (pairs : List Pair) (findings : List Finding) → AreSound (length pairs) findings
     → AreInOrder 0 (flat_map (finding_replacements pairs) (taken_from 0 findings)) (2 * length pairs)
 step_order pairs findings sound = taken_order pairs 0 (taken_from 0 findings) (taken_are pairs 0 findings (omega arith) sound)
+
+-- ---- how many are taken
+
+taken_count : (pairs : List Pair) (at : ℕ) (fs : List Finding) → AreTaken at pairs fs → at + length fs ≤ length pairs
+taken_count pairs at [] are = omega (arith, are)
+taken_count pairs at (f ∷ fs) are = omega (arith, are.0, are.1.2, taken_count pairs f.past fs are.2)
+
+pub taken_few : (pairs : List Pair) (findings : List Finding) → AreSound (length pairs) findings → length (taken_from 0 findings) ≤ length pairs
+taken_few pairs findings sound = omega (arith, taken_count pairs 0 (taken_from 0 findings) (taken_are pairs 0 findings (omega arith) sound))

@@ -1,8 +1,8 @@
--- What is replaced to mend a finding, and where its tokens have to stand.
-use Rattle.std.specs.Prelude.{◌≡◌, ℕ, ◌+◌, ◌-◌, ◌<◌, ◌≤◌, Bool, true, false, List, [], ◌∷◌, length, drop, unwrap_or, Some, codes, if◌then◌else◌, ⊤}
+-- What is replaced to mend a finding, and of which rule it is.
+use Rattle.std.specs.Prelude.{◌≡◌, ℕ, ◌+◌, ◌-◌, Bool, true, false, List, [], ◌∷◌, drop, unwrap_or, codes, if◌then◌else◌, ⊤}
 use Rattle.std.specs.List.{flat_map}
-use Rattle.hcl_token.specs.declared.kind.Kind.TheVariants.{Number, DotIndex, OpenBracket, CloseBracket, OpenParen, CloseParen, Identifier, DoubleEqual, Greater, QuoteOpen, QuoteClose}
-use Rattle.hcl_token.specs.CutText.{kind_of, spelling_of}
+use Rattle.hcl_token.specs.declared.kind.Kind.TheVariants.{Number, OpenBracket, CloseBracket, OpenParen, CloseParen, Identifier, DoubleEqual, Greater}
+use Rattle.hcl_token.specs.CutText.{spelling_of}
 use Rattle.hcl_token.specs.Tokens.{Pair}
 use Rattle.tf_rule.specs.declared.finding.Finding.{Finding}
 use Rattle.tf_rule.specs.declared.finding.Matter.{Matter}
@@ -68,25 +68,6 @@ finding_replacements pairs finding = mended pairs finding.first finding.past fin
 abbrev pub step_replacements : List Pair → List Finding → List Replacement
 step_replacements pairs findings = flat_map (finding_replacements pairs) (taken findings)
 
--- What a fix can mend stands so: the ranges in order, and at the ends the tokens that go.
-abbrev pub FitsIn : List Pair → ℕ → ℕ → Matter → Type 0
-FitsIn pairs first past Slashes = (past ≡ first + 1) × IsSlashComment pairs first
-FitsIn pairs first past LegacyIndex = (past ≡ first + 1) × (kind_of pairs first ≡ Some DotIndex)
-FitsIn pairs first past Interpolation = (first + 5 ≤ past) × (kind_of pairs first ≡ Some QuoteOpen) × (kind_of pairs (past - 1) ≡ Some QuoteClose)
-FitsIn pairs first past (Comparison from to zero) = (first ≤ from) × (from < to) × (to ≤ past)
-FitsIn pairs first past (Lookup from to key end) =
-    (kind_of pairs first ≡ Some Identifier) × (first < from) × (from < to) × (to ≤ key) × (key < end) × (end ≤ past)
-FitsIn pairs first past _ = ⊥
-
--- the tokens of the finding are tokens of the text, and stand where a fix can mend them
-abbrev pub Fits : List Pair → Finding → Type 0
-Fits pairs finding = (finding.past ≤ length pairs) × FitsIn pairs finding.first finding.past finding.matter
-
--- each finding that can be fixed fits
-abbrev pub AreSound : List Pair → List Finding → Type 0
-AreSound pairs [] = ⊤
-AreSound pairs (finding ∷ findings) = (finding.fixable ≡ true → Fits pairs finding) × AreSound pairs findings
-
 -- whether the rule is that on comments, which are mended within a token
 abbrev pub is_comment_rule : Rule → Bool
 is_comment_rule CommentSyntax = true
@@ -97,7 +78,12 @@ abbrev pub is_slashes : Matter → Bool
 is_slashes Slashes = true
 is_slashes _ = false
 
--- the findings are of this rule: comments that begin with `//` are found by the rule on comments, and nothing else
-abbrev pub AreOf : Rule → List Finding → Type 0
-AreOf rule [] = ⊤
-AreOf rule (finding ∷ findings) = (is_slashes finding.matter ≡ is_comment_rule rule) × AreOf rule findings
+-- what the rule on comments finds is a comment that begins with `//`, and what the other rules find is none
+abbrev pub IsOf : Rule → List Pair → Finding → Type 0
+IsOf CommentSyntax pairs finding = (is_slashes finding.matter ≡ true) × IsSlashComment pairs finding.first
+IsOf _ pairs finding = is_slashes finding.matter ≡ false
+
+-- the findings are of this rule
+abbrev pub AreOf : Rule → List Pair → List Finding → Type 0
+AreOf rule pairs [] = ⊤
+AreOf rule pairs (finding ∷ findings) = IsOf rule pairs finding × AreOf rule pairs findings

@@ -3,7 +3,7 @@
 ghost use Rattle.std.specs.Prelude.{◌≡◌, ◌<◌, length, map, IfOk};
 ghost use Rattle.edit_record.specs.Pieces.{entry, entries};
 ghost use Rattle.tf_mend.specs.Comments.{comment_edit};
-ghost use Rattle.tf_mend.specs.Mending.{AreSound};
+ghost use Rattle.tf_rule.specs.Findings.{AreSound};
 ghost use Rattle.tf_mend.specs.Taking.{taken};
 
 use crate::taking::is_taken;
@@ -29,7 +29,7 @@ pub fn comment_edits(
     scanned: &Scanned<'_>,
     findings: &[Finding],
 ) -> Result<Vec<Edit>, AllocError>
-    requires { AreSound scanned.now.pairs findings.now }
+    requires { AreSound (length scanned.now.pairs) findings.now }
     ensures { IfOk result (λ edits. entries edits.items ≡ map (comment_edit scanned.now.pairs) (taken findings.now)) }
 {
     let mut edits = Vec::new(alloc);

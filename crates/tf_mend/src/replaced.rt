@@ -1,9 +1,10 @@
 //! What is replaced to mend the findings that one step takes.
 
-ghost use Rattle.std.specs.Prelude.{◌≡◌, ◌++◌, List, IfOk};
+ghost use Rattle.std.specs.Prelude.{◌≡◌, ◌++◌, List, length, IfOk};
 ghost use Rattle.hcl_token.specs.Tokens.{Pair};
-ghost use Rattle.tf_mend.specs.Mending.{finding_replacements, step_replacements, test_parts, Fits, AreSound};
-ghost use Rattle.tf_mend.specs.Inner.Filled.{AreFilled};
+ghost use Rattle.tf_rule.specs.Findings.{AreSound};
+ghost use Rattle.tf_mend.specs.Mending.{finding_replacements, step_replacements, test_parts};
+ghost use Rattle.tf_mend.specs.Inner.Filled.{AreFilled, Fits};
 ghost use Rattle.tf_mend.specs.Inner.Views.{coming_parts, IsComing, replacements, AreComing};
 
 use crate::coming::Coming;
@@ -32,7 +33,7 @@ fn push_replacements(
     one: Finding,
 ) -> Result<(), AllocError>
     requires filled { AreFilled scanned.now.pairs }
-    requires fits { Fits scanned.now.pairs one }
+    requires fits { Fits (length scanned.now.pairs) one }
     ensures items { IfOk result (λ _. replacements scanned.now.pairs all.new.items ≡ replacements scanned.now.pairs all.old.items ++ finding_replacements scanned.now.pairs one) }
     ensures coming { IfOk result (λ _. AreComing scanned.now.pairs all.old.items → AreComing scanned.now.pairs all.new.items) }
 {
@@ -85,9 +86,11 @@ fn push_replacements(
                 coming: Coming::CloseBracket,
             })?;
         }
-        // A comment is mended within its token, names, types and descriptions are not mended.
-        Matter::Slashes | Matter::Name { .. } | Matter::Type { .. } | Matter::Description { .. } =>
-            {}
+        // A comment is mended within its token, names, types and descriptions by no fix.
+        Matter::Slashes
+        | Matter::Name { .. }
+        | Matter::Untyped { .. }
+        | Matter::Undocumented { .. } => {}
     }
     Ok(())
 }
@@ -99,7 +102,7 @@ pub fn taken_replacements(
     findings: &[Finding],
 ) -> Result<Vec<Replacement>, AllocError>
     requires filled { AreFilled scanned.now.pairs }
-    requires sound { AreSound scanned.now.pairs findings.now }
+    requires sound { AreSound (length scanned.now.pairs) findings.now }
     ensures items { IfOk result (λ all. replacements scanned.now.pairs all.items ≡ step_replacements scanned.now.pairs findings.now) }
     ensures coming { IfOk result (λ all. AreComing scanned.now.pairs all.items) }
 {

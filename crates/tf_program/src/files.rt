@@ -135,8 +135,17 @@ pub fn fix_file<R: Files, O: Write>(
     lint_reader(alloc, name, &mut fixed, output, rules)
 }
 
-/// Takes back the last command on a file.
-pub fn revert_file<R: Files>(rt: &R, alloc: Global, name: &str) -> Result<(), RunFault> {
-    command_file(rt, alloc, name, Command::Revert)?;
+/// Takes back the command of this number on a file, the oldest being 1, or without one the last.
+pub fn revert_file<R: Files>(
+    rt: &R,
+    alloc: Global,
+    name: &str,
+    number: Option<u32>,
+) -> Result<(), RunFault> {
+    let command = match number {
+        Some(number) => Command::Take(number),
+        None => Command::Revert,
+    };
+    command_file(rt, alloc, name, command)?;
     Ok(())
 }

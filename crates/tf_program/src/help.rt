@@ -18,7 +18,8 @@ Examples:
   tfk lint main.tf variables.tf    report the issues of two files
   tfk fix main.tf                  fix the issues of a file in place
   tfk fix - < main.tf > fixed.tf   write the text with its issues fixed
-  tfk revert main.tf               take the last change of a file back";
+  tfk revert main.tf               take the last change of a file back
+  tfk revert --take 1 main.tf      take the oldest change back, and keep the later ones";
 
 pub const FMT_ABOUT: &str = "Lays each file out in place";
 
@@ -87,7 +88,8 @@ Examples:
 
 pub const FIX_FILE_HELP: &str = "A file to rewrite; - alone is standard input";
 
-pub const REVERT_ABOUT: &str = "Takes back the last command that changed a file";
+pub const REVERT_ABOUT: &str =
+    "Takes back the last command that changed a file, or one of those before it";
 
 pub const REVERT_AFTER_HELP: &str = "\
 FILE.tfundo tells what the commands on FILE changed. The last of them is undone in FILE, and taken out of FILE.tfundo, which
@@ -95,9 +97,17 @@ is written first. Once more takes back the command before it, and so on to the f
 What was changed by hand since then may stand, as long as FILE has the same length and what the command had put in is
 still there; otherwise both files stay as they are.
 
-Exit status: 0 taken back, 1 a fault (`nothing to revert` is one).
+With --take N the command of that number is taken back, the oldest being 1, and what the later ones did stays, each as if it had
+been done without that command. A later one that changed what the command had put in, or what stands right beside it, blocks: it is
+named by its number, and both files stay as they are. Then it has to be taken back first. Where there is no command of that number
+there is nothing to revert.
 
-Example:
-  tfk revert main.tf";
+Exit status: 0 taken back, 1 a fault (`nothing to revert` and `blocked by command N` are such).
 
-pub const REVERT_FILE_HELP: &str = "The file to take the last command back on";
+Examples:
+  tfk revert main.tf
+  tfk revert --take 1 main.tf";
+
+pub const TAKE_HELP: &str = "The number of the command to take back, the oldest being 1";
+
+pub const REVERT_FILE_HELP: &str = "The file to take a command back on";

@@ -23,8 +23,9 @@ pub fn command_file<R: Files>(
     let journal = journal_name(alloc, name)?;
     let mut session = load_file(rt, alloc, name, journal.as_str())?;
     let done = session.step(alloc, command)?;
-    // a revert takes a record off where the text stays, too
-    if done.changed || command == Command::Revert {
+    // what takes a command back takes its record off where the text stays, too
+    let loses_a_record = matches!(command, Command::Revert | Command::Take(_));
+    if done.changed || loses_a_record {
         save_file(rt, alloc, &session, name, journal.as_str())?;
     }
     Ok((session, done))

@@ -14,10 +14,10 @@ use Rattle.tf_rule.specs.RuleSets.{has_rule}
 use Rattle.tf_lint.specs.Issues.{issues_of}
 use Rattle.tf_lint.specs.Fixes.{fixed_text}
 use Rattle.tf_session.specs.declared.command.Command.{Command}
-use Rattle.tf_session.specs.declared.command.Command.TheVariants.{Fmt, Fix, Revert}
+use Rattle.tf_session.specs.declared.command.Command.TheVariants.{Fmt, Fix, Revert, Take}
 use Rattle.tf_session.specs.declared.command.Done.{Done}
 use Rattle.tf_session.specs.declared.command.Fault.{Fault}
-use Rattle.tf_session.specs.declared.command.Fault.TheVariants.{Scan, Parse, FixBroken, TooLong, NoRecord, Refused, Memory}
+use Rattle.tf_session.specs.declared.command.Fault.TheVariants.{Scan, Parse, FixBroken, TooLong, NoRecord, Refused, Memory, Blocked}
 use Rattle.tf_session.specs.Fixing.{Steps, step_before, StepBreaks, StepThen, RunSteps, fix_order, IsOneList, Made, Fixes, FixMakes}
 use Rattle.hcl_layout.specs.Layout.{layout_edits}
 use Rattle.hcl_format.specs.Layouts.{IsTooLong}
@@ -51,6 +51,7 @@ broken_how rule cut TooLong w = inl (refl, w)
 broken_how rule cut NoRecord w = absurd w
 broken_how rule cut (Refused refused) w = absurd w
 broken_how rule cut Memory w = absurd w
+broken_how rule cut (Blocked number) w = absurd w
 
 same_break : (rule : Rule) (cut : CutText) (f g : Fault) → StepBreaks rule cut f → StepBreaks rule cut g → f ≡ g
 same_break rule cut f g v w =
@@ -96,6 +97,7 @@ why_fix rules text TooLong h = inr (inr h)
 why_fix rules text NoRecord h = absurd h
 why_fix rules text (Refused refused) h = absurd h
 why_fix rules text Memory h = absurd h
+why_fix rules text (Blocked number) h = absurd h
 
 -- the layout is too long
 abbrev Long : List ℕ → Fault → Type 0
@@ -109,6 +111,7 @@ why_fmt text TooLong h = inr (inr (refl, h.0, h.1))
 why_fmt text NoRecord h = absurd h
 why_fmt text (Refused refused) h = absurd h
 why_fmt text Memory h = absurd h
+why_fmt text (Blocked number) h = absurd h
 
 -- tokens over which no tree stands
 has_tokens : (text : List ℕ) (fault : ParseFault) → IsParseFault text fault → (pairs : List Pair) × (last : List ℕ) × IsCut text pairs last
@@ -132,6 +135,7 @@ module _ (one_cut : OneCut) (no_cut : NoCutWithFault) (one_fault : OneFault) (on
   not_broken rule cut next NoRecord short reads w = w
   not_broken rule cut next (Refused refused) short reads w = w
   not_broken rule cut next Memory short reads w = w
+  not_broken rule cut next (Blocked number) short reads w = w
 
   done_or_broken : (rule : Rule) (cut : CutText) (Others : CutText → Result Steps Fault → Type 0) → ((c : CutText) (x y : Result Steps Fault) → Others c x → Others c y → x ≡ y)
       → (s : Steps) (f : Fault) → StepThen rule cut Others (Ok s) → StepThen rule cut Others (Err f) → ⊥
@@ -216,7 +220,7 @@ module _ (one_cut : OneCut) (no_cut : NoCutWithFault) (one_fault : OneFault) (on
       let e : Ok p.steps ≡ Err f = same_runs rules text p.cut w.0 (Ok p.steps) (Err f) p.reads w.1 p.runs w.2 in
       cc
 
-  same_fixes : (rules : RuleSet) (text : List ℕ) (a b : Result Made Fault) → FixMakes rules text a → FixMakes rules text b → AreAlike a b
+  pub same_fixes : (rules : RuleSet) (text : List ℕ) (a b : Result Made Fault) → FixMakes rules text a → FixMakes rules text b → AreAlike a b
   same_fixes rules text (Ok a) (Ok b) p q = inl (ap (λ (x : Made). Ok x) (same_made rules text a b p q))
   same_fixes rules text (Ok a) (Err f) p q = absurd (not_why text f (Broken rules text f) p.reads.2 (not_broken_fix rules text a f p) (why_fix rules text f q))
   same_fixes rules text (Err f) (Ok b) p q = absurd (not_why text f (Broken rules text f) q.reads.2 (not_broken_fix rules text b f q) (why_fix rules text f p))
@@ -238,7 +242,7 @@ module _ (one_cut : OneCut) (no_cut : NoCutWithFault) (one_fault : OneFault) (on
       let left : a.left ≡ b.left = p.left_is ∙ sym q.left_is in
       one_made a b texts edits fixed left
 
-  same_layouts : (text : List ℕ) (a b : Result Made Fault) → FmtMakes text a → FmtMakes text b → AreAlike a b
+  pub same_layouts : (text : List ℕ) (a b : Result Made Fault) → FmtMakes text a → FmtMakes text b → AreAlike a b
   same_layouts text (Ok a) (Ok b) p q = inl (ap (λ (x : Made). Ok x) (same_formats text a b p q))
   same_layouts text (Ok a) (Err f) p q = absurd (not_why text f (Long text f) p.reads.2 (not_long text a f p) (why_fmt text f q))
   same_layouts text (Err f) (Ok b) p q = absurd (not_why text f (Long text f) q.reads.2 (not_long text b f q) (why_fmt text f p))
@@ -253,3 +257,4 @@ module _ (one_cut : OneCut) (no_cut : NoCutWithFault) (one_fault : OneFault) (on
   one_answer Revert old reply other new another p q =
       let h = take_same old.top old.below reply other new another p q in
       (inl h.0, h.1)
+  one_answer (Take n) old reply other new another p q = absurd p

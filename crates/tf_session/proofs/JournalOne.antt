@@ -46,7 +46,7 @@ TurnLengths = (e : EditList) (t u : List ℕ) → Turns e t u → HaveLengths e 
 abbrev pub SquashesAreOne : Type 0
 SquashesAreOne = (first : EditList) (others : List EditList) → SquashAsOne first others
 
-become_one : TurnLengths → SquashesAreOne → (text top : List ℕ) (first : EditList) (others : List EditList) → TurnsAll Turns (first ∷ others) text top → BecomeOne text top first others
+pub become_one : TurnLengths → SquashesAreOne → (text top : List ℕ) (first : EditList) (others : List EditList) → TurnsAll Turns (first ∷ others) text top → BecomeOne text top first others
 become_one lengths squash_as_one text top first others all = record {
   goes_on = λ before next behind so_far same squashed.
       let whole = subst (λ (cs : List EditList). TurnsAll Turns (first ∷ cs) text top) same all in

@@ -1,5 +1,7 @@
 pub mod Lists
 pub mod Stacks
+pub mod OneRecord
+pub mod Histories
 pub mod LineLists
 pub mod RunLaws
 pub mod Refusing
@@ -9,4 +11,8 @@ pub mod FmtAgain
 pub mod Putting
 pub mod Answering
 pub mod JournalOne
+pub mod TakeLaws
+pub mod OneMachine
+pub mod TakingOnce
+pub mod LayersLaws
 pub mod Unread

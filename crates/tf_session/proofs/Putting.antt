@@ -31,6 +31,7 @@ adds true t js ks change fixed left e makes turns h = (
   record { word = Word.Fmt; edits = edits_after t change },
   h,
   record { made = made_of t (record { change = change; fixed = fixed; left = left }); makes = makes; text = refl; edits = refl; word = refl; turns = leads t change e turns },
+  refl,
 )
 adds false t js ks change fixed left e makes turns h = h
 

@@ -1,7 +1,7 @@
 -- By induction on the run, on the number of reverts, and on the commands.
 use Rattle.std.proofs.Common.{◌≡◌, ◌∙◌, ◌≤◌, ℕ, zero, suc, List, [], ◌∷◌, length, drop, replicate, map, Bool, true, false, MatchBool, Result, Ok, Err, refl, ap, subst, arith}
 use Rattle.tf_session.specs.declared.command.Command.{Command}
-use Rattle.tf_session.specs.declared.command.Command.TheVariants.{Fmt, Fix, Revert}
+use Rattle.tf_session.specs.declared.command.Command.TheVariants.{Fmt, Fix, Revert, Take}
 use Rattle.tf_session.specs.declared.command.Done.{Done}
 use Rattle.tf_session.specs.declared.command.Fault.{Fault}
 use Rattle.tf_session.specs.Fixing.{Made, differ}
@@ -65,6 +65,7 @@ same_bottom : (command : Command) (old mid : Stack) (reply : Result Done Fault) 
 same_bottom Fmt old mid reply h = answered Fmt h.0 old mid reply h.2
 same_bottom (Fix rules) old mid reply h = answered (Fix rules) h.0 old mid reply h.2
 same_bottom Revert old mid reply h = taken_off old.top old.below reply mid h
+same_bottom (Take n) old mid reply h = absurd h
 
 pub same_bottoms : (old mid : Stack) (commands : List Command) (replies : List (Result Done Fault)) → ServesAll old commands replies mid → bottom mid.top mid.below ≡ bottom old.top old.below
 same_bottoms old mid [] [] h = ap (λ (s : Stack). bottom s.top s.below) h

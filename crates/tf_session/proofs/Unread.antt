@@ -12,7 +12,7 @@ use Rattle.hcl_tree.specs.declared.error.ParseFault.{ParseFault}
 use Rattle.hcl_tree.specs.declared.error.ParseFault.TheVariants as parse
 use Rattle.hcl_tree.specs.Faults.{IsMemory, IsMemoryOrDeep}
 use Rattle.tf_session.specs.declared.command.Fault.{Fault}
-use Rattle.tf_session.specs.declared.command.Fault.TheVariants.{Scan, Parse, FixBroken, TooLong, NoRecord, Refused, Memory}
+use Rattle.tf_session.specs.declared.command.Fault.TheVariants.{Scan, Parse, FixBroken, TooLong, NoRecord, Refused, Memory, Blocked}
 use Rattle.tf_session.specs.Faults.{fault_of_parse}
 use Rattle.tf_session.specs.Reading.{IsUnread, IsParseFault}
 use Rattle.tf_session.specs.Makes.{NotRead}
@@ -50,3 +50,4 @@ unread one_cut no_cut text TooLong h = absurd h
 unread one_cut no_cut text NoRecord h = absurd h
 unread one_cut no_cut text (Refused refused) h = absurd h
 unread one_cut no_cut text Memory h = inl refl
+unread one_cut no_cut text (Blocked number) h = absurd h

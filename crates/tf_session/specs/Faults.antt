@@ -48,6 +48,7 @@ run_fault_of Fault.TooLong = RunFault.TooLong
 run_fault_of Fault.NoRecord = RunFault.NoRecord
 run_fault_of (Fault.Refused refused) = RunFault.Refused refused
 run_fault_of Fault.Memory = RunFault.Memory
+run_fault_of (Fault.Blocked number) = RunFault.Blocked number
 
 abbrev pub run_fault_of_take : TakeFault → RunFault
 run_fault_of_take TakeFault.Read = RunFault.Read

@@ -13,7 +13,7 @@ use Rattle.tf_lint.specs.Issues.{issues_of}
 use Rattle.tf_lint.specs.Taken.{taken_issues}
 use Rattle.tf_lint.specs.Fixes.{fix_edits, fixed_text}
 use Rattle.tf_session.specs.declared.command.Fault.{Fault}
-use Rattle.tf_session.specs.declared.command.Fault.TheVariants.{Scan, Parse, FixBroken, TooLong, NoRecord, Refused, Memory}
+use Rattle.tf_session.specs.declared.command.Fault.TheVariants.{Scan, Parse, FixBroken, TooLong, NoRecord, Refused, Memory, Blocked}
 use Rattle.tf_session.specs.Reading.{Reads, IsUnread, IsParseFault}
 
 abbrev pub differ : List ℕ → List ℕ → Bool
@@ -49,6 +49,7 @@ StepBreaks rule cut TooLong = MAX_TEXT < length (fixed_text rule cut)
 StepBreaks rule cut NoRecord = ⊥
 StepBreaks rule cut (Refused refused) = ⊥
 StepBreaks rule cut Memory = ⊥
+StepBreaks rule cut (Blocked number) = ⊥
 
 -- the step of the rule, and then the others over its text; the first that can't be done ends all
 abbrev pub StepThen : Rule → CutText → (CutText → Result Steps Fault → Type 0) → Result Steps Fault → Type 0
@@ -106,3 +107,4 @@ FixMakes rules text (Err TooLong) = FixBreaks rules text TooLong
 FixMakes rules text (Err NoRecord) = ⊥
 FixMakes rules text (Err (Refused refused)) = ⊥
 FixMakes rules text (Err Memory) = ⊥
+FixMakes rules text (Err (Blocked number)) = ⊥

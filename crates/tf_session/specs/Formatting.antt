@@ -6,7 +6,7 @@ use Rattle.hcl_scan.specs.Fault.{IsFault}
 use Rattle.hcl_layout.specs.Layout.{layout_edits}
 use Rattle.hcl_format.specs.Layouts.{IsLayout, IsTooLong}
 use Rattle.tf_session.specs.declared.command.Fault.{Fault}
-use Rattle.tf_session.specs.declared.command.Fault.TheVariants.{Scan, Parse, FixBroken, TooLong, NoRecord, Refused, Memory}
+use Rattle.tf_session.specs.declared.command.Fault.TheVariants.{Scan, Parse, FixBroken, TooLong, NoRecord, Refused, Memory, Blocked}
 use Rattle.tf_session.specs.Reading.{Reads, DoesParse, IsParseFault}
 use Rattle.tf_session.specs.Fixing.{Made}
 
@@ -31,3 +31,4 @@ FmtMakes text (Err TooLong) = DoesParse text × IsTooLong text
 FmtMakes text (Err NoRecord) = ⊥
 FmtMakes text (Err (Refused refused)) = ⊥
 FmtMakes text (Err Memory) = ⊥
+FmtMakes text (Err (Blocked number)) = ⊥

@@ -6,11 +6,16 @@ pub mod Fixing
 pub mod Formatting
 pub mod Makes
 pub mod Machine
+pub mod Nth
+pub mod TakingNth
+pub mod Layers
 pub mod Records
 pub mod RunLaws
 pub mod OneAnswer
 pub mod FmtLaws
 pub mod JournalLaws
+pub mod TakeLaws
+pub mod WithoutTake
 pub mod Session
 pub mod Fixed
 pub mod Streaming

@@ -1,8 +1,9 @@
 -- The machine: a stack of whole texts. A fmt puts the layout on top and a fix the stated replacement, where it differs, and a revert
 -- takes the top off. There is no record and no place in it.
 use Rattle.std.specs.Prelude.{◌≡◌, ◌≢◌, ℕ, Bool, true, false, List, [], ◌∷◌, Result, Ok, Err, if◌then◌else◌, MatchBool}
+use Rattle.std.specs.List.{AllByRecursion}
 use Rattle.tf_session.specs.declared.command.Command.{Command}
-use Rattle.tf_session.specs.declared.command.Command.TheVariants.{Fmt, Fix, Revert}
+use Rattle.tf_session.specs.declared.command.Command.TheVariants.{Fmt, Fix, Revert, Take}
 use Rattle.tf_session.specs.declared.command.Done.{Done}
 use Rattle.tf_session.specs.declared.command.Fault.{Fault}
 use Rattle.tf_session.specs.declared.command.Fault.TheVariants.{NoRecord}
@@ -41,11 +42,12 @@ abbrev pub TakesOff : List ℕ → List Under → Result Done Fault → Stack �
 TakesOff top [] reply new = (reply ≡ Err NoRecord) × (new ≡ only top)
 TakesOff top (under ∷ rest) reply new = (reply ≡ Ok (done true 0 0)) × (new ≡ record { top = under.text; below = rest })
 
--- one command over a stack, its reply, and the stack that it leaves
+-- One command over a stack, its reply, and the stack that it leaves. Take needs the edits between the texts: it is none of this machine.
 abbrev pub Serves : Command → Stack → Result Done Fault → Stack → Type 0
 Serves Fmt old reply new = (answer : Result Made Fault) × Makes Fmt old.top answer × PutsOn Fmt answer old reply new
 Serves (Fix rules) old reply new = (answer : Result Made Fault) × Makes (Fix rules) old.top answer × PutsOn (Fix rules) answer old reply new
 Serves Revert old reply new = TakesOff old.top old.below reply new
+Serves (Take n) old reply new = ⊥
 
 -- whether a growth was refused inside the command
 abbrev pub is_memory : Result Done Fault → Bool
@@ -57,6 +59,7 @@ abbrev pub MayWant : Command → Stack → Type 0
 MayWant Fmt s = IsText s.top
 MayWant (Fix rules) s = IsText s.top
 MayWant Revert s = s.below ≢ []
+MayWant (Take n) s = ⊥
 
 -- One command where growths may be refused: then its reply is Memory, and it changes nothing.
 abbrev pub ServesOrWants : Command → Stack → Result Done Fault → Stack → Type 0
@@ -69,3 +72,12 @@ Run old [] [] new = new ≡ old
 Run old [] (reply ∷ replies) new = ⊥
 Run old (command ∷ commands) [] new = ⊥
 Run old (command ∷ commands) (reply ∷ replies) new = (mid : Stack) × ServesOrWants command old reply mid × Run mid commands replies new
+
+-- ---- the lists of commands that are this machine's
+
+abbrev pub NotTake : Command → Type 0
+NotTake (Take n) = ⊥
+NotTake command = Unit {0}
+
+abbrev pub WithoutTake : List Command → Type 0
+WithoutTake = AllByRecursion NotTake

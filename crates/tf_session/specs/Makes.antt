@@ -3,18 +3,19 @@ use Rattle.std.specs.Prelude.{ℕ, ◌≤◌, Bool, true, false, List, length, R
 use Rattle.hcl_scan.specs.Cut.{MAX_TEXT}
 use Rattle.hcl_scan.specs.Fault.{IsFault}
 use Rattle.tf_session.specs.declared.command.Command.{Command}
-use Rattle.tf_session.specs.declared.command.Command.TheVariants.{Fmt, Fix, Revert}
+use Rattle.tf_session.specs.declared.command.Command.TheVariants.{Fmt, Fix, Revert, Take}
 use Rattle.tf_session.specs.declared.command.Fault.{Fault}
-use Rattle.tf_session.specs.declared.command.Fault.TheVariants.{Scan, Parse, FixBroken, TooLong, NoRecord, Refused, Memory}
+use Rattle.tf_session.specs.declared.command.Fault.TheVariants.{Scan, Parse, FixBroken, TooLong, NoRecord, Refused, Memory, Blocked}
 use Rattle.tf_session.specs.Reading.{IsParseFault}
 use Rattle.tf_session.specs.Fixing.{Made, FixMakes}
 use Rattle.tf_session.specs.Formatting.{FmtMakes}
 
--- a revert makes no text of the top
+-- revert and take make no text of the top
 abbrev pub Makes : Command → List ℕ → Result Made Fault → Type 0
 Makes Fmt text answer = FmtMakes text answer
 Makes (Fix rules) text answer = FixMakes rules text answer
 Makes Revert text answer = ⊥
+Makes (Take n) text answer = ⊥
 
 -- whether a growth was refused inside the command
 abbrev pub is_memory_fault : Fault → Bool
@@ -25,6 +26,7 @@ is_memory_fault TooLong = false
 is_memory_fault NoRecord = false
 is_memory_fault (Refused refused) = false
 is_memory_fault Memory = true
+is_memory_fault (Blocked number) = false
 
 -- a text that is looked into: before that no memory is taken
 abbrev pub IsText : List ℕ → Type 0
@@ -39,6 +41,7 @@ NotRead text TooLong = ⊥
 NotRead text NoRecord = ⊥
 NotRead text (Refused refused) = ⊥
 NotRead text Memory = IsText text
+NotRead text (Blocked number) = ⊥
 
 -- why a command refuses a text: it can't make another of it, or a growth was refused while it looked into it
 abbrev pub RefusesText : Command → List ℕ → Fault → Type 0

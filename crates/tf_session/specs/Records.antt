@@ -6,19 +6,21 @@ use Rattle.edit_record.specs.Refusals.{HasLen}
 use Rattle.edit_record.specs.declared.direction.Direction.TheVariants.{Backward}
 use Rattle.edit_record.specs.Journal.{Entered, record_turns, record_backward}
 use Rattle.tf_session.specs.declared.command.Command.{Command}
-use Rattle.tf_session.specs.declared.command.Command.TheVariants.{Fmt, Fix, Revert}
+use Rattle.tf_session.specs.declared.command.Command.TheVariants.{Fmt, Fix, Revert, Take}
 use Rattle.tf_session.specs.declared.command.Done.{Done}
 use Rattle.tf_session.specs.declared.command.Fault.{Fault}
-use Rattle.tf_session.specs.declared.command.Fault.TheVariants.{Scan, Parse, FixBroken, TooLong, NoRecord, Refused, Memory}
+use Rattle.tf_session.specs.declared.command.Fault.TheVariants.{Scan, Parse, FixBroken, TooLong, NoRecord, Refused, Memory, Blocked}
 use Rattle.tf_session.specs.Fixing.{Made, differ}
 use Rattle.tf_session.specs.Makes.{Makes, RefusesText}
 use Rattle.tf_session.specs.Machine.{Under, done}
+use Rattle.tf_session.specs.TakingNth.{TakesNth, RefusesNth}
 
--- the word that the record of a command has; a revert has no record
+-- the word that the record of a command has; revert and take have no record
 abbrev pub HasWord : Command → Word → Type 0
 HasWord Fmt word = word ≡ Word.Fmt
 HasWord (Fix rules) word = word ≡ Word.Fix
 HasWord Revert word = ⊥
+HasWord (Take n) word = ⊥
 
 -- the record of a command that put the upper text on the lower: its word, the stated edits, and it turns the one into the other
 pub record IsRecordOf (command : Command) (lower upper : List ℕ) (r : Entered) : Type 0 where
@@ -43,9 +45,9 @@ abbrev pub AddsRecord : Bool → Word → EditList → List Entered → List Ent
 AddsRecord true word edits js ks = ks ≡ js ++ (record { word = word; edits = edits }) ∷ []
 AddsRecord false word edits js ks = ks ≡ js
 
--- a text that differs is put on with one record more, and one that doesn't with none
+-- a text that differs is put on with one record more, of just these edits, and one that doesn't with none
 abbrev pub AddsRecordOf : Bool → Command → List ℕ → Made → List Entered → List Entered → Type 0
-AddsRecordOf true command t made js ks = (r : Entered) × (ks ≡ js ++ r ∷ []) × IsRecordOf command t made.text r
+AddsRecordOf true command t made js ks = (r : Entered) × (ks ≡ js ++ r ∷ []) × IsRecordOf command t made.text r × (r.edits ≡ made.edits)
 AddsRecordOf false command t made js ks = ks ≡ js
 
 abbrev pub PutsInPlace : Command → Made → List ℕ → List Entered → Done → List ℕ → List Entered → Type 0
@@ -65,6 +67,7 @@ abbrev pub DoesStep : Command → List ℕ → List Entered → Done → List �
 DoesStep Fmt t js d u ks = (made : Made) × Makes Fmt t (Ok made) × PutsInPlace Fmt made t js d u ks
 DoesStep (Fix rules) t js d u ks = (made : Made) × Makes (Fix rules) t (Ok made) × PutsInPlace (Fix rules) made t js d u ks
 DoesStep Revert t js d u ks = TakesLast t js d u ks
+DoesStep (Take n) t js d u ks = TakesNth n t js d u ks
 
 -- this is the last record
 abbrev pub IsLast : List Entered → Entered → Type 0
@@ -80,9 +83,11 @@ RefusesTake t js TooLong = ⊥
 RefusesTake t js NoRecord = js ≡ []
 RefusesTake t js (Refused refused) = (r : Entered) × IsLast js r × (record_backward r t ≡ Err refused) × ((v : List ℕ) → ¬ (record_turns r v t))
 RefusesTake t js Memory = (r : Entered) × IsLast js r × HasLen Backward r.edits t
+RefusesTake t js (Blocked number) = ⊥
 
 -- why a command is refused
 abbrev pub RefusesStep : Command → List ℕ → List Entered → Fault → Type 0
 RefusesStep Fmt t js fault = RefusesText Fmt t fault
 RefusesStep (Fix rules) t js fault = RefusesText (Fix rules) t fault
 RefusesStep Revert t js fault = RefusesTake t js fault
+RefusesStep (Take n) t js fault = RefusesNth n t js fault

@@ -18,6 +18,8 @@ pub enum Command {
     Fix(RuleSet),
     /// Takes back the last command that changed the text.
     Revert,
+    /// Takes back the command whose record has this number, the oldest being 1, and leaves the later ones as if it had not been given.
+    Take(u32),
 }
 
 /// What a command did.
@@ -49,12 +51,15 @@ pub enum Fault {
     /// There is no command to take back.
     #[error("nothing to revert")]
     NoRecord,
-    /// The last record does not stand in the text.
+    /// The record does not stand in the text, or two records do not follow each other.
     #[error(transparent)]
     Refused(Refused),
     /// A growth was refused.
     #[error("out of memory")]
     Memory,
+    /// What the command did overlaps or touches what the command of this record did, the oldest being 1.
+    #[error("blocked by command {number}")]
+    Blocked { number: usize },
 }
 
 impl From<ScanFault> for Fault {

@@ -39,12 +39,15 @@ pub enum RunFault {
     /// There is no command to take back.
     #[error("nothing to revert")]
     NoRecord,
-    /// The last record does not stand in the text.
+    /// The record does not stand in the text, or two records do not follow each other.
     #[error(transparent)]
     Refused(Refused),
     /// A growth was refused.
     #[error("out of memory")]
     Memory,
+    /// What the command did overlaps or touches what the command of this record did, the oldest being 1.
+    #[error("blocked by command {number}")]
+    Blocked { number: usize },
     /// A read failed, whatever its error.
     #[error("cannot read")]
     Read,
@@ -120,6 +123,7 @@ impl From<Fault> for RunFault {
             Fault::NoRecord => RunFault::NoRecord,
             Fault::Refused(refused) => RunFault::Refused(refused),
             Fault::Memory => RunFault::Memory,
+            Fault::Blocked { number } => RunFault::Blocked { number },
         }
     }
 }

@@ -11,6 +11,7 @@ mod formatting;
 pub mod laws;
 mod linting;
 mod reading;
+mod removing;
 mod running;
 mod session;
 mod streaming;

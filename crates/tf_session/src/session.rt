@@ -6,10 +6,12 @@ ghost use Rattle.tf_session.specs.Machine.{done};
 ghost use Rattle.tf_session.specs.Fixed.{text_after, edits_after};
 ghost use Rattle.tf_session.specs.Session.{text_of, records_of};
 ghost use Rattle.tf_session.specs.Records.{DoesStep, RefusesStep, AddsRecord, TakesLast, RefusesTake};
+ghost use Rattle.tf_session.specs.TakingNth.{TakesNth, RefusesNth};
 
 use crate::command::{Command, Done, Fault, Reply};
 use crate::fixing::{Change, Fixed, fix_text};
 use crate::formatting::fmt_text;
+use crate::removing::{Remainder, without};
 use edit_record::laws::undo_is_exact;
 use edit_record::{Change as _, Journal, Record, Word};
 use std::alloc::Global;
@@ -61,6 +63,7 @@ impl Session {
                 self.put_on(Word::Fix, fixed)
             }
             Command::Revert => self.take_off(alloc),
+            Command::Take(number) => self.take_nth(alloc, number),
         }
     }
 
@@ -118,5 +121,29 @@ impl Session {
             }
             Err(refused) => Err(Fault::from(refused)),
         }
+    }
+
+    // Takes the record of this number out from before the later ones. Nothing can fail once all new records are made.
+    fn take_nth(&mut self, alloc: Global, number: u32) -> Reply
+        ensures done { IfOk result (λ d. TakesNth number (text_of self.old) (records_of self.old) d (text_of self.new) (records_of self.new)) }
+        ensures refused { IfErr result (λ fault. RefusesNth number (text_of self.old) (records_of self.old) fault) }
+        ensures text { OnErr result (text_of self.new ≡ text_of self.old) }
+        ensures journal { OnErr result (records_of self.new ≡ records_of self.old) }
+    {
+        let records = self.journal.records();
+        let Remainder { text, from, others } = without(
+            alloc,
+            &self.text,
+            records,
+            number as usize,
+        )?;
+        let changed = text.as_slice() != self.text.as_slice();
+        self.journal.replace_from(from, others);
+        self.text = text;
+        Ok(Done {
+            changed,
+            fixed: 0,
+            left: 0,
+        })
     }
 }

@@ -1,18 +1,14 @@
--- For proofs: tokens that have a byte.
-use Rattle.std.specs.Prelude.{◌≡◌, ◌<◌, Bool, true, false, List, [], ◌∷◌, length, ⊤}
-use Rattle.hcl_token.specs.declared.kind.Kind.{Kind}
-use Rattle.hcl_token.specs.declared.kind.Kind.TheVariants.{Identifier, DotIndex, QuoteOpen, QuoteClose}
+-- For proofs: what is known where a finding is mended.
+use Rattle.std.specs.Prelude.{ℕ, ◌<◌, ◌≤◌, List, [], ◌∷◌, length, ⊤}
 use Rattle.hcl_token.specs.Tokens.{Pair}
+use Rattle.tf_rule.specs.Findings.{IsInOrder}
+use Rattle.tf_rule.specs.declared.finding.Finding.{Finding}
 
--- the kinds at which a replacement may begin or end
-abbrev pub is_end : Kind → Bool
-is_end Identifier = true
-is_end DotIndex = true
-is_end QuoteOpen = true
-is_end QuoteClose = true
-is_end _ = false
-
--- each token of such a kind has a byte
+-- each token has a byte
 abbrev pub AreFilled : List Pair → Type 0
 AreFilled [] = ⊤
-AreFilled (p ∷ ps) = (is_end p.kind ≡ true → 0 < length p.spelling) × AreFilled ps
+AreFilled (p ∷ ps) = (0 < length p.spelling) × AreFilled ps
+
+-- the finding's tokens are among so many, and the ranges that a fix needs stand in order in them
+abbrev pub Fits : ℕ → Finding → Type 0
+Fits count f = (f.past ≤ count) × IsInOrder f.first f.past f.matter × (f.first < f.past)

@@ -1,5 +1,4 @@
-use Rattle.std.proofs.Common.{subst, arith}
-use Rattle.tf_mend.specs.Mending.{FitsIn}
+use Rattle.std.proofs.Common.{arith}
 use Rattle.tf_mend.proofs.FillLemmas.{index_coming}
 use Rattle.tf_mend.proofs.TakeLemmas.{coming_push}
 use Rattle.tf_mend.proofs.replaced.push_replacements.Goals as goal
@@ -7,8 +6,7 @@ use Rattle.tf_mend.proofs.replaced.push_replacements.Goals as goal
 pub returns-in_ok-push-in-LegacyIndex-clause-coming : goal.returns-in_ok-push-in-LegacyIndex-clause-coming
 returns-in_ok-push-in-LegacyIndex-clause-coming c = λ are.
     let pairs = c.args.scanned.now.pairs in
-    let fits = subst (FitsIn pairs c.args.one.first c.args.one.past) c.in-LegacyIndex.is c.requires.fits.1 in
-    rw c.in_ok-push-in-LegacyIndex.ensures.items (coming_push pairs _ _ are (index_coming pairs c.args.one.first c.requires.filled (omega (arith, fits.0, c.requires.fits.0)) fits.1))
+    rw c.in_ok-push-in-LegacyIndex.ensures.items (coming_push pairs _ _ are (index_coming pairs c.args.one.first c.requires.filled (omega (arith, c.requires.fits.0, c.requires.fits.2))))
 
 pub returns-in_ok-push-in-Interpolation-2-clause-coming : goal.returns-in_ok-push-in-Interpolation-2-clause-coming
 returns-in_ok-push-in-Interpolation-2-clause-coming c = λ are.
