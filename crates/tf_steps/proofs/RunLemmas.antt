@@ -63,27 +63,27 @@ skipped_pass rules rule order p count (Changed fixed change by rest) not_in (n, 
 pub stayed_pass : (rules : RuleSet) (rule : Rule) (order : List Rule) (p : Parsed) (count : ℕ) (passed : Passed) (step : Step) → has_rule rules rule ≡ true → Reads p.scanned.text p
     → IsStep rule p step → step.change ≡ None → Passes rules order p (count + step.count) passed → Passes rules (rule ∷ order) p count passed
 stayed_pass rules rule order p count (Same fixed left) step chosen reads s none (n, number, counted, runs) =
-    let stays : fixed_text rule p ≡ p.scanned.text = subst (IsChange rule p) none s.change in
-    let same = same_text p.scanned.text (fixed_text rule p) (sym stays) in
+    let stays : fixed_text p s.found ≡ p.scanned.text = subst (IsChange rule p s.found) none s.change in
+    let same = same_text p.scanned.text (fixed_text p s.found) (sym stays) in
     let taken = s.count in (
       step.count + n,
       omega (arith, number),
       counted,
-      rw chosen (s.short, p, record { text = p.scanned.text; lists = []; fixed = n }, subst (λ (t : List ℕ). Reads t p) (sym stays) reads, runs, rw (same, taken) refl),
+      rw chosen (s.found, s.finds, (s.short, p, record { text = p.scanned.text; lists = []; fixed = n }, subst (λ (t : List ℕ). Reads t p) (sym stays) reads, runs, rw (same, taken) refl)),
     )
 stayed_pass rules rule order p count (Changed fixed change by rest) step chosen reads s none (n, number, few, shorter, turns, on, off, gone) =
-    let stays : fixed_text rule p ≡ p.scanned.text = subst (IsChange rule p) none s.change in
-    let same = same_text p.scanned.text (fixed_text rule p) (sym stays) in
+    let stays : fixed_text p s.found ≡ p.scanned.text = subst (IsChange rule p s.found) none s.change in
+    let same = same_text p.scanned.text (fixed_text p s.found) (sym stays) in
     let taken = s.count in
-    let again : Reads (fixed_text rule p) p = subst (λ (t : List ℕ). Reads t p) (sym stays) reads in (
+    let again : Reads (fixed_text p s.found) p = subst (λ (t : List ℕ). Reads t p) (sym stays) reads in (
       step.count + n,
       omega (arith, number),
       few,
       omega (arith, shorter),
       turns,
-      λ next more read runs. rw chosen (s.short, p, _, again, on next more read runs, rw (same, taken) (ap (λ k. record { text = more.text; lists = change.edits ∷ more.lists; fixed = k }) (omega arith))),
-      λ next fault read runs. rw chosen (inr (s.short, p, again, off next fault read runs)),
-      λ unread. rw chosen (inr (s.short, p, again, gone unread)),
+      λ next more read runs. rw chosen (s.found, s.finds, (s.short, p, _, again, on next more read runs, rw (same, taken) (ap (λ k. record { text = more.text; lists = change.edits ∷ more.lists; fixed = k }) (omega arith)))),
+      λ next fault read runs. rw chosen (s.found, s.finds, inr (s.short, p, again, off next fault read runs)),
+      λ unread. rw chosen (s.found, s.finds, inr (s.short, p, again, gone unread)),
     )
 
 -- what steps from here on make, by what those behind the change make
@@ -95,18 +95,18 @@ GoesOn rules order rest by p n change =
     × (IsUnread change.text.items → RunSteps rules order p (Err (FixBroken by)))
 
 pub changed_turns : (rule : Rule) (p : Parsed) (step : Step) (change : Change) → IsStep rule p step → step.change ≡ Some change → Turns change.edits p.scanned.text change.text.items
-changed_turns rule p step change s some = let c : IsChange rule p (Some change) = subst (IsChange rule p) some s.change in c.3
+changed_turns rule p step change s some = let c : IsChange rule p s.found (Some change) = subst (IsChange rule p s.found) some s.change in c.3
 
 pub changed_pass : (rules : RuleSet) (rule : Rule) (order : List Rule) (p : Parsed) (step : Step) (change : Change) → has_rule rules rule ≡ true → IsStep rule p step → step.change ≡ Some change
     → GoesOn rules (rule ∷ order) order rule p step.count change
 changed_pass rules rule order p step change chosen s some =
-    let c : IsChange rule p (Some change) = subst (IsChange rule p) some s.change in
+    let c : IsChange rule p s.found (Some change) = subst (IsChange rule p s.found) some s.change in
     let taken = s.count in
     let differs = c.0 in
     let listed = c.2 in (
-      λ next more reads runs. rw chosen (s.short, next, more, subst (λ (t : List ℕ). Reads t next) c.1 reads, runs, rw (differs, taken, listed) refl),
-      λ next fault reads runs. rw chosen (inr (s.short, next, subst (λ (t : List ℕ). Reads t next) c.1 reads, runs)),
-      λ unread. rw chosen (inl (refl, s.short, subst IsUnread c.1 unread)),
+      λ next more reads runs. rw chosen (s.found, s.finds, (s.short, next, more, subst (λ (t : List ℕ). Reads t next) c.1 reads, runs, rw (differs, taken, listed) refl)),
+      λ next fault reads runs. rw chosen (s.found, s.finds, inr (s.short, next, subst (λ (t : List ℕ). Reads t next) c.1 reads, runs)),
+      λ unread. rw chosen (s.found, s.finds, inl (refl, s.short, subst IsUnread c.1 unread)),
     )
 
 -- ---- from what was passed on

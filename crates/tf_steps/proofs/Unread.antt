@@ -1,5 +1,6 @@
 -- Why a text is not read.
-use Rattle.std.proofs.Common.{◌≡◌, ◌⊎◌, ℕ, List, refl, subst, inl, inr}
+use Rattle.std.proofs.Common.{◌≡◌, ◌∙◌, ◌⊎◌, ℕ, List, refl, sym, ap, subst, inl, inr}
+use Rattle.hcl_token.specs.CutText.{CutText}
 use Rattle.hcl_token.specs.Tokens.{Pair}
 use Rattle.hcl_scan.specs.declared.error.ScanFault.{ScanFault}
 use Rattle.hcl_scan.specs.Cut.{IsCut}
@@ -14,7 +15,8 @@ use Rattle.hcl_tree.specs.Faults.{IsMemory, IsMemoryOrDeep}
 use Rattle.tf_steps.specs.declared.fault.FixFault.{FixFault}
 use Rattle.tf_steps.specs.declared.fault.FixFault.TheVariants.{Scan, Parse, FixBroken, TooLong, Memory}
 use Rattle.tf_steps.specs.Faults.{fault_of_parse}
-use Rattle.tf_steps.specs.Reading.{IsUnread, IsParseFault, NotRead}
+use Rattle.tf_steps.specs.declared.reading.Parsed.{Parsed}
+use Rattle.tf_steps.specs.Reading.{Reads, IsUnread, IsParseFault, NotRead}
 
 abbrev pub OneCut : Type 0
 OneCut = (text : List ℕ) (pairs others : List Pair) (last other : List ℕ) → IsCut text pairs last → IsCut text others other → (pairs ≡ others) × (last ≡ other)
@@ -47,3 +49,21 @@ unread one_cut no_cut text (Parse fault) h = inr (λ t p. not_both one_cut text 
 unread one_cut no_cut text (FixBroken rule) h = absurd h
 unread one_cut no_cut text TooLong h = absurd h
 unread one_cut no_cut text Memory h = inl refl
+
+-- the tree of a text that is read
+pub parses_of : (text : List ℕ) (p : Parsed) → Reads text p → Parses text p.tree
+parses_of text p reads = record {
+  pairs = p.scanned.pairs;
+  last = p.scanned.last;
+  cut = subst (λ (t : List ℕ). IsCut t p.scanned.pairs p.scanned.last) reads.0 reads.1;
+  derived = reads.2;
+}
+
+-- one text has one cut
+pub same_cut : OneCut → (text : List ℕ) (a b : Parsed) → Reads text a → Reads text b → a.scanned ≡ b.scanned
+same_cut one_cut text a b p q =
+    let h = one_cut text a.scanned.pairs b.scanned.pairs a.scanned.last b.scanned.last
+    (subst (λ (t : List ℕ). IsCut t a.scanned.pairs a.scanned.last) p.0 p.1) (subst (λ (t : List ℕ). IsCut t b.scanned.pairs b.scanned.last) q.0 q.1) in
+    ap (λ (x : List ℕ). let r : CutText = record { text = x; pairs = a.scanned.pairs; last = a.scanned.last } in r) (p.0 ∙ sym q.0)
+    ∙ ap (λ (x : List Pair). let r : CutText = record { text = b.scanned.text; pairs = x; last = a.scanned.last } in r) h.0
+    ∙ ap (λ (x : List ℕ). let r : CutText = record { text = b.scanned.text; pairs = b.scanned.pairs; last = x } in r) h.1

@@ -12,33 +12,34 @@ use Rattle.tf_rule.specs.RuleSets.{has_rule}
 use Rattle.tf_mend.specs.ByPairs.{mended_text}
 use Rattle.tf_mend.specs.Mended.{mended_edits}
 use Rattle.tf_mend.specs.Taking.{taken}
-use Rattle.found_stub.specs.Findings.{findings_of, rule_findings}
+use Rattle.tf_findings.specs.Findings.{AreFindings}
 use Rattle.tf_steps.specs.declared.fault.FixFault.{FixFault}
 use Rattle.tf_steps.specs.declared.fault.FixFault.TheVariants.{Scan, Parse, FixBroken, TooLong, Memory}
 use Rattle.tf_steps.specs.declared.reading.Parsed.{Parsed}
+use Rattle.tf_steps.specs.OneRule.{only}
 use Rattle.tf_steps.specs.Reading.{Reads, IsUnread, NotRead}
 
 -- ---- one step
 
--- what the rule finds in the text
-abbrev pub found : Rule → Parsed → List Finding
-found rule p = rule_findings rule p.scanned.pairs p.tree
+-- what the rules of the set find in the text
+abbrev pub Finds : RuleSet → Parsed → List Finding → Type 0
+Finds rules p found = AreFindings rules p.scanned.pairs p.tree.body.members found
 
--- the text behind the step of the rule
-abbrev pub fixed_text : Rule → Parsed → List ℕ
-fixed_text rule p = mended_text p.scanned (found rule p)
+-- the text behind the step of a rule that found this
+abbrev pub fixed_text : Parsed → List Finding → List ℕ
+fixed_text p found = mended_text p.scanned found
 
--- its edits
-abbrev pub fix_edits : Rule → Parsed → EditList
-fix_edits rule p = mended_edits rule p.scanned (found rule p)
+-- the edits of the step
+abbrev pub fix_edits : Rule → Parsed → List Finding → EditList
+fix_edits rule p found = mended_edits rule p.scanned found
 
 -- how many findings it mends
-abbrev pub fix_count : Rule → Parsed → ℕ
-fix_count rule p = length (taken (found rule p))
+abbrev pub fix_count : List Finding → ℕ
+fix_count found = length (taken found)
 
--- how many findings of the set the text has
-abbrev pub left_count : RuleSet → Parsed → ℕ
-left_count rules p = length (findings_of rules p.scanned.pairs p.tree)
+-- so many findings of the set has the text
+abbrev pub AreLeft : RuleSet → Parsed → ℕ → Type 0
+AreLeft rules p count = (found : List Finding) × Finds rules p found × (count ≡ length found)
 
 -- ---- several steps
 
@@ -58,30 +59,34 @@ pub record Steps : Type 0 where
 abbrev pub no_steps : List ℕ → Steps
 no_steps text = record { text = text; lists = []; fixed = 0 }
 
--- the step of a rule, and then others
-abbrev pub step_before : Rule → Parsed → Steps → Steps
-step_before rule p more = record {
+-- the step of a rule that found this, and then others
+abbrev pub step_before : Rule → Parsed → List Finding → Steps → Steps
+step_before rule p found more = record {
   text = more.text;
-  lists = if differ p.scanned.text (fixed_text rule p) then fix_edits rule p ∷ more.lists else more.lists;
-  fixed = fix_count rule p + more.fixed;
+  lists = if differ p.scanned.text (fixed_text p found) then fix_edits rule p found ∷ more.lists else more.lists;
+  fixed = fix_count found + more.fixed;
 }
 
--- The step of the rule can't be done: its text is over the limit, or does not parse.
-abbrev pub StepBreaks : Rule → Parsed → FixFault → Type 0
-StepBreaks rule p (Scan fault) = ⊥
-StepBreaks rule p (Parse fault) = ⊥
-StepBreaks rule p (FixBroken broken) = (broken ≡ rule) × (length (fixed_text rule p) ≤ MAX_TEXT) × IsUnread (fixed_text rule p)
-StepBreaks rule p TooLong = MAX_TEXT < length (fixed_text rule p)
-StepBreaks rule p Memory = ⊥
+-- The step of a rule that found this can't be done: its text is over the limit, or does not parse.
+abbrev pub StepBreaks : Rule → Parsed → List Finding → FixFault → Type 0
+StepBreaks rule p found (Scan fault) = ⊥
+StepBreaks rule p found (Parse fault) = ⊥
+StepBreaks rule p found (FixBroken broken) = (broken ≡ rule) × (length (fixed_text p found) ≤ MAX_TEXT) × IsUnread (fixed_text p found)
+StepBreaks rule p found TooLong = MAX_TEXT < length (fixed_text p found)
+StepBreaks rule p found Memory = ⊥
 
--- the step of the rule, and then the others over its text; the first that can't be done ends all
+-- the step of a rule that found this, and then the others over its text; the first that can't be done ends all
+abbrev pub FoundThen : Rule → Parsed → List Finding → (Parsed → Result Steps FixFault → Type 0) → Result Steps FixFault → Type 0
+FoundThen rule p found Others (Ok steps) =
+    (length (fixed_text p found) ≤ MAX_TEXT) × (next : Parsed) × (more : Steps) × Reads (fixed_text p found) next
+    × Others next (Ok more) × (steps ≡ step_before rule p found more)
+FoundThen rule p found Others (Err fault) =
+    StepBreaks rule p found fault
+    ⊎ ((length (fixed_text p found) ≤ MAX_TEXT) × (next : Parsed) × Reads (fixed_text p found) next × Others next (Err fault))
+
+-- the step of the rule, over what it alone finds, and then the others
 abbrev pub StepThen : Rule → Parsed → (Parsed → Result Steps FixFault → Type 0) → Result Steps FixFault → Type 0
-StepThen rule p Others (Ok steps) =
-    (length (fixed_text rule p) ≤ MAX_TEXT) × (next : Parsed) × (more : Steps) × Reads (fixed_text rule p) next
-    × Others next (Ok more) × (steps ≡ step_before rule p more)
-StepThen rule p Others (Err fault) =
-    StepBreaks rule p fault
-    ⊎ ((length (fixed_text rule p) ≤ MAX_TEXT) × (next : Parsed) × Reads (fixed_text rule p) next × Others next (Err fault))
+StepThen rule p Others answer = (found : List Finding) × Finds (only rule) p found × FoundThen rule p found Others answer
 
 -- the steps of these rules, as far as they are in the set
 abbrev pub RunSteps : RuleSet → List Rule → Parsed → Result Steps FixFault → Type 0
@@ -115,8 +120,18 @@ pub record Fixes (rules : RuleSet) (text : List ℕ) (made : Made) : Type 0 wher
   pub fixed_is : made.fixed ≡ steps.fixed
   pub new_parsed : Parsed
   pub new_reads : Reads made.text new_parsed
-  pub left_is : made.left ≡ left_count rules new_parsed
+  pub left_is : AreLeft rules new_parsed made.left
+
+-- a step of the fix can't be done
+abbrev pub Breaks : RuleSet → List ℕ → FixFault → Type 0
+Breaks rules text fault = (p : Parsed) × Reads text p × RunSteps rules fix_order p (Err fault)
 
 -- why a fix by these rules refuses a text: it is not read, or a step can't be done
 abbrev pub Refuses : RuleSet → List ℕ → FixFault → Type 0
-Refuses rules text fault = NotRead text fault ⊎ ((p : Parsed) × Reads text p × RunSteps rules fix_order p (Err fault))
+Refuses rules text fault = NotRead text fault ⊎ Breaks rules text fault
+
+-- a fix makes one text of a text, or can't be done for one reason
+pub record OneFix (rules : RuleSet) (text : List ℕ) : Type 0 where
+  pub made : (a b : Made) → Fixes rules text a → Fixes rules text b → a ≡ b
+  pub broken : (f g : FixFault) → Breaks rules text f → Breaks rules text g → f ≡ g
+  pub not_both : (a : Made) (f : FixFault) → Fixes rules text a → Breaks rules text f → ⊥

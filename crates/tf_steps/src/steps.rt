@@ -3,9 +3,10 @@
 ghost use Rattle.std.specs.Prelude.{◌≡◌, ◌≤◌, ◌⊎◌, ◌+◌, ◌*◌, ℕ, List, length, Err, IfOk, IfErr, IfSome};
 ghost use Rattle.edit_record.specs.Pieces.{Turns};
 ghost use Rattle.edit_squash.specs.Squash.{CanFollow, IsSquash};
+ghost use Rattle.tf_steps.specs.Fixed.{made_of};
 ghost use Rattle.tf_steps.specs.Reading.{Reads};
-ghost use Rattle.tf_steps.specs.Steps.{left_count, RunSteps, Fixes, Refuses};
-ghost use Rattle.tf_steps.specs.Inner.Passing.{room, Passes, FixesFrom, RefusesFrom, made_of, made_by};
+ghost use Rattle.tf_steps.specs.Steps.{AreLeft, RunSteps, Fixes, Refuses};
+ghost use Rattle.tf_steps.specs.Inner.Passing.{room, Passes, FixesFrom, RefusesFrom, made_by};
 ghost use Rattle.tf_steps.specs.declared.fault.FixFault.{FixFault};
 ghost use Rattle.tf_steps.specs.declared.reading.Parsed.{Parsed};
 
@@ -15,8 +16,8 @@ use crate::step::{Change, Step, one_step};
 use edit_record::Edits;
 use edit_record::laws::turned_texts_have_the_lengths;
 use edit_squash::{Unmet, squash};
-use found_stub::findings;
 use std::alloc::Global;
+use tf_findings::findings;
 use tf_rule::{Rule, RuleSet};
 
 /// What a fix made of a text.
@@ -72,7 +73,7 @@ fn gather(alloc: Global, done: &Edits, edits: &Edits) -> Result<Edits, FixFault>
 }
 
 fn count_left(alloc: Global, parsed: &Parsed<'_>, rules: RuleSet) -> Result<usize, FixFault>
-    ensures count { IfOk result (λ count. count ≡ left_count rules parsed.now) }
+    ensures count { IfOk result (λ count. AreLeft rules parsed.now count) }
     ensures fault { IfErr result (λ fault. fault ≡ FixFault.Memory) }
 {
     let found = findings(alloc, &parsed.scanned, &parsed.tree, rules)?;
