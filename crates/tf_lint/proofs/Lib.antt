@@ -1,1 +1,3 @@
-mod Telling
+pub mod CommentFixing
+pub mod FixLemmas
+pub mod PositionLemmas

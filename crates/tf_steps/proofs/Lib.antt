@@ -1,6 +1,0 @@
-pub mod OfLemmas
-pub mod OneFixLemmas
-pub mod OneRuleLemmas
-pub mod RunLemmas
-pub mod StepLemmas
-pub mod Unread
