@@ -7,8 +7,9 @@ use anyhow::{Result, anyhow};
 use hcl_format::{LayoutFault, is_laid_out, layout};
 use hcl_scan::{ScanFault, scan};
 use hcl_tree::{ParseFault, parse};
-use tf_lint::{LintFault, Place, Rule, RuleSet, fix_step, issues};
+use tf_lint::{LintFault, Place, Rule, RuleSet, issues};
 use tf_session::{Command, Journal, Session};
+use tf_steps::{Change, FixFault, fix_text};
 
 pub fn scanned(trial: &Trial<'_>) -> Result<Seen> {
     let [marked, heredoc] = SHORT;
@@ -67,19 +68,20 @@ pub fn found_laid_out(trial: &Trial<'_>) -> Result<Seen> {
 pub fn linted(trial: &Trial<'_>) -> Result<Seen> {
     let alloc = trial.alloc();
     let scanned = scan(alloc, TEXT)?;
-    let count = issues(alloc, &scanned, RuleSet::all())?.len();
+    let tree = parse(alloc, &scanned)?;
+    let count = issues(alloc, &scanned, &tree, RuleSet::all())?.len();
     trial.begin()?;
-    Ok(match issues(alloc, &scanned, RuleSet::all()) {
+    Ok(match issues(alloc, &scanned, &tree, RuleSet::all()) {
         Ok(found) => Seen::answer(found.len() == count),
         Err(LintFault::Memory) => Seen::Memory,
-        Err(_) => Seen::refusal(),
     })
 }
 
 pub fn line_made(trial: &Trial<'_>) -> Result<Seen> {
     let alloc = trial.alloc();
     let scanned = scan(alloc, b"a = 1 // one")?;
-    let found = issues(alloc, &scanned, RuleSet::all())?;
+    let tree = parse(alloc, &scanned)?;
+    let found = issues(alloc, &scanned, &tree, RuleSet::all())?;
     let [issue] = found.as_slice() else {
         return Err(anyhow!("there is not one issue"));
     };
@@ -105,19 +107,26 @@ const FIXABLE: [Rule; 5] = [
 
 pub fn step_made(trial: &Trial<'_>) -> Result<Seen> {
     let alloc = trial.alloc();
-    let scanned = scan(alloc, TEXT)?;
     let mut right = Vec::new(alloc);
     for rule in FIXABLE {
-        right.push(fix_step(alloc, &scanned, rule)?)?;
+        right.push(fix_text(alloc, TEXT, RuleSet::none().with(rule))?)?;
     }
     trial.begin()?;
-    for (rule, edits) in FIXABLE.iter().zip(right.as_slice()) {
-        match fix_step(alloc, &scanned, *rule) {
-            Ok(made) if are_same_edits(&made, edits) => {}
+    for (rule, fixed) in FIXABLE.iter().zip(right.as_slice()) {
+        match fix_text(alloc, TEXT, RuleSet::none().with(*rule)) {
+            Ok(made) if are_same_changes(&made.change, &fixed.change) => {}
             Ok(_) => return Ok(Seen::answer(false)),
-            Err(LintFault::Memory) => return Ok(Seen::Memory),
+            Err(FixFault::Memory) => return Ok(Seen::Memory),
             Err(_) => return Ok(Seen::refusal()),
         }
     }
     Ok(Seen::Done)
+}
+
+fn are_same_changes(a: &Option<Change>, b: &Option<Change>) -> bool {
+    match (a, b) {
+        (Some(a), Some(b)) => are_same_edits(&a.edits, &b.edits),
+        (None, None) => true,
+        _ => false,
+    }
 }

@@ -4,10 +4,12 @@ use crate::layouts::said;
 use anyhow::{Result, anyhow};
 use edit_record::Change;
 use hcl_scan::scan;
+use hcl_tree::parse;
 use row_text::Row;
 use std::alloc::Global;
 use std::fmt::Write;
-use tf_lint::{Issue, LintFault, Place, Rule, RuleSet, fix_step, issues, taken};
+use tf_lint::{Issue, LintFault, Place, Rule, RuleSet, issues};
+use tf_steps::fix_text;
 
 const RULES: [Rule; 9] = [
     Rule::CommentSyntax,
@@ -90,8 +92,10 @@ fn line(alloc: Global, row: &Row) -> Result<String> {
 
 /// The issues of a text: for each its tokens, whether it can be fixed, and its line.
 fn found(alloc: Global, rules: RuleSet, text: &[u8]) -> Result<String> {
+    let scanned = scan(alloc, text)?;
+    let tree = parse(alloc, &scanned)?;
     let mut told = String::new(alloc);
-    for issue in issues(alloc, &scan(alloc, text)?, rules)? {
+    for issue in issues(alloc, &scanned, &tree, rules)? {
         let (first, past, fixable) = (issue.first, issue.past, issue.fixable);
         let line = issue.line(alloc, "f")?;
         write!(told, "{first} {past} {fixable} {line}; ")?;
@@ -99,23 +103,30 @@ fn found(alloc: Global, rules: RuleSet, text: &[u8]) -> Result<String> {
     Ok(told)
 }
 
-/// The text with the edits of the step, which goes back.
+/// The text as the rule fixes it, which goes back.
 fn fixed(alloc: Global, rule: Rule, text: &[u8]) -> Result<String> {
-    let edits = fix_step(alloc, &scan(alloc, text)?, rule)?;
-    let fixed = edits.apply(alloc, text)?;
-    let back = edits.undo(alloc, &fixed)?;
-    said(alloc, &fixed, back.as_slice() == text)
+    let fixed = fix_text(alloc, text, RuleSet::none().with(rule))?;
+    match fixed.change {
+        Some(change) => {
+            let back = change.edits.undo(alloc, &change.text)?;
+            said(alloc, &change.text, back.as_slice() == text)
+        }
+        None => said(alloc, text, true),
+    }
 }
 
-/// How many issues the step takes, and how many edits it makes.
+/// How many issues the rule's fix mends, and how many edits it makes.
 fn counts(alloc: Global, rule: Rule, text: &[u8]) -> Result<String> {
-    let scanned = scan(alloc, text)?;
-    let taken = taken(&scanned, rule);
-    let count = fix_step(alloc, &scanned, rule)?.edits().len();
-    Ok(format!(in alloc; "{taken} {count}")?)
+    let fixed = fix_text(alloc, text, RuleSet::none().with(rule))?;
+    let mended = fixed.fixed;
+    let count = match fixed.change {
+        Some(change) => change.edits.edits().len(),
+        None => 0,
+    };
+    Ok(format!(in alloc; "{mended} {count}")?)
 }
 
 fn faults(alloc: Global) -> Result<String> {
-    let (too_long, memory) = (LintFault::TooLong, LintFault::Memory);
-    Ok(format!(in alloc; "{too_long}, {memory}")?)
+    let memory = LintFault::Memory;
+    Ok(format!(in alloc; "{memory}")?)
 }

@@ -8,7 +8,7 @@ use Rattle.tf_stream.specs.Streams.{Source, Target, Puts, TakesAll}
 use Rattle.tf_session.specs.declared.command.Command.{Command}
 use Rattle.tf_session.specs.declared.command.Command.TheVariants.{Fmt, Fix, Revert, Take}
 use Rattle.tf_session.specs.declared.command.Done.{Done}
-use Rattle.tf_session.specs.Fixing.{Made, differ}
+use Rattle.tf_steps.specs.Steps.{Made, differ}
 use Rattle.tf_session.specs.Machine.{done}
 use Rattle.tf_session.specs.Records.{AddsRecordOf, DoesStep, PutsInPlace}
 use Rattle.tf_journal.specs.Journals.{Saves}
@@ -83,7 +83,7 @@ put_in command made t js d u ks short p changed =
 pub put : (command : Command) (t : List ℕ) (js : List Entered) (d : Done) (u : List ℕ) (ks : List Entered) → PutsOne command
     → DoesStep command t js d u ks → d.changed ≡ true → Put command t js u ks
 put Fmt t js d u ks other p changed = put_in Fmt p.0 t js d u ks p.1.short p.2 changed
-put (Fix rules) t js d u ks other p changed = put_in (Fix rules) p.0 t js d u ks p.1.new_reads.1.short p.2 changed
+put (Fix rules) t js d u ks other p changed = put_in (Fix rules) p.0 t js d u ks (subst (λ (x : List ℕ). length x ≤ MAX_TEXT) p.1.new_reads.0 p.1.new_reads.1.short) p.2 changed
 put Revert t js d u ks other p changed = absurd other
 put (Take n) t js d u ks other p changed = absurd other
 

@@ -1,3 +1,1 @@
-pub mod CommentFixing
-pub mod FixLemmas
-pub mod PositionLemmas
+mod Telling

@@ -2,7 +2,11 @@
 use Rattle.std.specs.Prelude.{ℕ, Bool, List, ◌++◌, codes, string_bytes}
 use Rattle.std.specs.Fmt.{decimal}
 use Rattle.hcl_token.specs.declared.place.Place.{Place}
+use Rattle.hcl_token.specs.Place.{place_of}
+use Rattle.hcl_token.specs.Tokens.{Pair}
 use Rattle.tf_lint.specs.declared.issue.Issue.{Issue}
+use Rattle.tf_lint.specs.Messages.{message}
+use Rattle.tf_rule.specs.declared.finding.Finding.{Finding}
 use Rattle.tf_rule.specs.declared.rule.Rule.{Rule}
 use Rattle.tf_rule.specs.Rules.{name_of, severity_of, label_of}
 
@@ -25,6 +29,17 @@ report issue = record {
   place = issue.place;
   text = string_bytes issue.text;
   fixable = issue.fixable;
+}
+
+-- what is reported of a finding
+abbrev pub report_of : List Pair → Finding → Report
+report_of pairs finding = record {
+  rule = finding.rule;
+  first = finding.first;
+  past = finding.past;
+  place = place_of pairs finding.first;
+  text = message pairs finding;
+  fixable = finding.fixable;
 }
 
 -- NAME:LINE:COLUMN: SEVERITY - TEXT (RULE)

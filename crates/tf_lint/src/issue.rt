@@ -1,11 +1,13 @@
 //! Issues and how they are reported.
 
-ghost use Rattle.std.specs.Prelude.{◌≡◌, IfOk, string_bytes};
-ghost use Rattle.tf_lint.specs.Reports.{line_of, report};
+ghost use Rattle.std.specs.Prelude.{◌≡◌, ◌<◌, length, IfOk, string_bytes};
+ghost use Rattle.tf_lint.specs.Reports.{line_of, report, report_of};
 
+use crate::message::message;
+use hcl_scan::Scanned;
 use hcl_token::Place;
 use std::alloc::{AllocError, Global};
-use tf_rule::Rule;
+use tf_rule::{Finding, Rule};
 
 /// What a rule has found at some tokens of a text.
 #[derive(Debug, Drop)]
@@ -24,6 +26,26 @@ pub struct Issue {
 }
 
 impl Issue {
+    /// The issue of a finding in a text.
+    pub(crate) fn of(
+        alloc: Global,
+        scanned: &Scanned<'_>,
+        finding: &Finding,
+    ) -> Result<Issue, AllocError>
+        requires { finding.now.first < length scanned.now.pairs }
+        ensures { IfOk result (λ issue. report issue ≡ report_of scanned.now.pairs finding.now) }
+    {
+        let text = message(alloc, scanned, finding)?;
+        Ok(Issue {
+            rule: finding.rule,
+            first: finding.first,
+            past: finding.past,
+            place: scanned.place_of(finding.first),
+            text,
+            fixable: finding.fixable,
+        })
+    }
+
     /// The issue as a line of a report on the file of this name, without a line end:
     /// `NAME:LINE:COLUMN: SEVERITY - TEXT (RULE)`.
     pub fn line(&self, alloc: Global, name: &str) -> Result<String, AllocError>

@@ -1,15 +1,13 @@
-//! Reports and fixes issues of a Terraform text.
+//! Reports of what the rules find in a Terraform text.
 #![tactic(auto)]
 
-mod comment_syntax;
 mod fault;
-mod finding;
-mod fixing;
 mod issue;
+mod listing;
+mod message;
 
 pub use fault::LintFault;
-pub use finding::issues;
-pub use fixing::{fix_step, taken};
 pub use hcl_token::Place;
 pub use issue::Issue;
+pub use listing::issues;
 pub use tf_rule::{Rule, RuleSet, Severity};

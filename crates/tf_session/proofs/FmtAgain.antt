@@ -4,10 +4,11 @@ use Rattle.std.proofs.lemmas.Slice.Eq.{bytes_eq-Decides}
 use Rattle.std.proofs.lemmas.Bool.{not-false}
 use Rattle.hcl_format.specs.Layouts.{IsLayout, HaveSameTokens}
 use Rattle.hcl_format.specs.LayoutLaws.{LayoutKeepsTokens, LayoutOfLayout}
+use Rattle.tf_steps.proofs.Unread.{parses_of}
 use Rattle.tf_session.specs.declared.command.Command.TheVariants.{Fmt}
 use Rattle.tf_session.specs.declared.command.Done.{Done}
 use Rattle.tf_session.specs.declared.command.Fault.{Fault}
-use Rattle.tf_session.specs.Fixing.{Made, differ}
+use Rattle.tf_steps.specs.Steps.{Made, differ}
 use Rattle.tf_session.specs.Formatting.{Formats, FmtMakes}
 use Rattle.tf_session.specs.Machine.{Stack, done, put_on, PutsOn}
 use Rattle.tf_session.specs.FmtLaws.{FmtKeepsTokens, FmtChangesOnce}
@@ -45,14 +46,14 @@ laid_by old new d (Ok made) makes puts = record {
 pub fmt_keeps_tokens : LayoutKeepsTokens → FmtKeepsTokens
 fmt_keeps_tokens keeps old new d h =
     let l = laid_by old new d h.0 h.1 h.2 in
-    subst (λ (t : List ℕ). HaveSameTokens old.top t) (sym l.top) (keeps old.top l.made.text l.formats.reads.2.0 l.formats.reads.2.1 l.formats.layout l.formats.short)
+    subst (λ (t : List ℕ). HaveSameTokens old.top t) (sym l.top) (keeps old.top l.made.text l.formats.parsed.tree (parses_of old.top l.formats.parsed l.formats.reads) l.formats.layout l.formats.short)
 
 pub fmt_changes_once : LayoutOfLayout → FmtChangesOnce
 fmt_changes_once again old mid new d e h g =
     let l = laid_by old mid d h.0 h.1 h.2 in
     let m = laid_by mid new e g.0 g.1 g.2 in
     let second = subst (λ (t : List ℕ). IsLayout t m.made.text) l.top m.formats.layout in
-    let same : m.made.text ≡ mid.top = again old.top l.made.text m.made.text l.formats.reads.2.0 l.formats.reads.2.1 l.formats.layout second ∙ sym l.top in
+    let same : m.made.text ≡ mid.top = again old.top l.made.text m.made.text l.formats.parsed.tree (parses_of old.top l.formats.parsed l.formats.reads) l.formats.layout second ∙ sym l.top in
     let stays : differ mid.top m.made.text ≡ false = rw ((bytes_eq-Decides mid.top m.made.text).1 (sym same)) refl in
     let kept : put_on Fmt m.made.text mid ≡ mid = rw stays refl in
     (m.replied ∙ ap (λ (b : Bool). done b 0 0) stays, m.put ∙ kept)

@@ -9,7 +9,7 @@ use Rattle.tf_session.specs.declared.command.Command.{Command}
 use Rattle.tf_session.specs.declared.command.Command.TheVariants.{Fmt, Fix, Revert, Take}
 use Rattle.tf_session.specs.declared.command.Done.{Done}
 use Rattle.tf_session.specs.declared.command.Fault.{Fault}
-use Rattle.tf_session.specs.Fixing.{Made, differ}
+use Rattle.tf_steps.specs.Steps.{Made, differ}
 use Rattle.tf_session.specs.Machine.{done, is_memory}
 use Rattle.tf_session.specs.OneAnswer.{AreAlike}
 use Rattle.tf_session.specs.RunLaws.{served, given}
@@ -18,7 +18,9 @@ use Rattle.tf_session.specs.TakeLaws.{ActsAll, OneAnswerOverLayers, RefusedDoNot
 use Rattle.tf_session.proofs.Answering.{same_fixes, same_layouts}
 use Rattle.tf_session.proofs.Lists.{not_nil, same_last}
 use Rattle.tf_session.proofs.TakingOnce.{take_has_one_answer}
-use Rattle.tf_session.proofs.Unread.{OneCut, NoCutWithFault, OneFault}
+use Rattle.tf_rule.specs.declared.rule_set.RuleSet.{RuleSet}
+use Rattle.tf_steps.proofs.Unread.{OneCut, NoCutWithFault, OneFault}
+use Rattle.tf_steps.specs.Steps.{OneFix}
 
 -- ---- one answer
 
@@ -47,12 +49,12 @@ off_same old (Ok d) (Err f) new another p q = absurd (not_nil p.rest p.last (sym
 off_same old (Err f) (Ok e) new another p q = absurd (not_nil q.rest q.last (sym q.layers_are ∙ p.1))
 off_same old (Err f) (Err g) new another p q = (ap (λ (x : Fault). Err x) (p.0 ∙ sym q.0), p.2 ∙ sym q.2)
 
-module _ (one_cut : OneCut) (no_cut : NoCutWithFault) (one_fault : OneFault) (one_layout : OneLayout) (one_swap : SwapsAreOne) (takes_one : TakesAreOne) (into_one : EditsTurnIntoOne) where
+module _ (one_cut : OneCut) (no_cut : NoCutWithFault) (one_fault : OneFault) (one_layout : OneLayout) (one_fix : (rules : RuleSet) (text : List ℕ) → OneFix rules text) (one_swap : SwapsAreOne) (takes_one : TakesAreOne) (into_one : EditsTurnIntoOne) where
   pub one_answer_over_layers : OneAnswerOverLayers
   one_answer_over_layers Fmt old reply other new another p q =
-      put_same Word.Fmt p.0 q.0 old reply other new another (same_layouts one_cut no_cut one_fault one_layout (top_text old) p.0 q.0 p.1 q.1) p.2 q.2
+      put_same Word.Fmt p.0 q.0 old reply other new another (same_layouts one_cut no_cut one_fault one_layout one_fix (top_text old) p.0 q.0 p.1 q.1) p.2 q.2
   one_answer_over_layers (Fix rules) old reply other new another p q =
-      put_same Word.Fix p.0 q.0 old reply other new another (same_fixes one_cut no_cut one_fault one_layout rules (top_text old) p.0 q.0 p.1 q.1) p.2 q.2
+      put_same Word.Fix p.0 q.0 old reply other new another (same_fixes one_cut no_cut one_fault one_layout one_fix rules (top_text old) p.0 q.0 p.1 q.1) p.2 q.2
   one_answer_over_layers Revert old reply other new another p q = let h = off_same old reply other new another p q in (inl h.0, h.1)
   one_answer_over_layers (Take n) old reply other new another p q =
       let h = take_has_one_answer one_swap takes_one into_one n old reply other new another p q in

@@ -4,9 +4,7 @@ use Rattle.std.proofs.lemmas.Slice.Eq.{bytes_eq-Decides}
 use Rattle.hcl_token.specs.Tokens.{Pair}
 use Rattle.hcl_token.specs.CutText.{CutText}
 use Rattle.hcl_scan.specs.Cut.{IsCut, MAX_TEXT}
-use Rattle.hcl_scan.specs.Follows.{tokens_of}
 use Rattle.hcl_grammar.specs.declared.tree.Tree.{Tree}
-use Rattle.hcl_grammar.specs.Bodies.{IsFile}
 use Rattle.hcl_parses.specs.Parses.{MAX_NESTING, ParsedApart}
 use Rattle.hcl_layout.specs.Layout.{layout_text, layout_edits, gap_piece, pieces, IsLaidOut}
 use Rattle.hcl_format.specs.Layouts.{IsLayout, LaysOut}
@@ -15,7 +13,8 @@ use Rattle.edit_record.specs.declared.change.Refused.{Refused}
 use Rattle.edit_record.specs.Refusals.{Gives}
 use Rattle.edit_record.specs.Pieces.{Entry, EditList, Turns, changes_from}
 use Rattle.edit_record.specs.Pieces.Piece.{Kept}
-use Rattle.tf_session.specs.Reading.{Reads}
+use Rattle.tf_steps.specs.declared.reading.Parsed.{Parsed}
+use Rattle.tf_steps.specs.Reading.{Reads}
 use Rattle.tf_session.specs.Formatting.{Formats}
 
 same_gap : (gap : List ℕ) → gap_piece gap gap ≡ Kept gap
@@ -34,16 +33,17 @@ no_edits cut laid =
     ∙ no_changes 0 cut.pairs)
 
 -- the layout is the text that it was made of
-pub stays : ParsedApart → LaidOutIsText → OneLayout → (text new : List ℕ) (cut : CutText) (t : Tree) → Reads text cut → IsFile (tokens_of cut.pairs) MAX_NESTING t
-    → IsLayout cut.text new → length new ≤ MAX_TEXT → new ≡ text
+pub stays : ParsedApart → LaidOutIsText → OneLayout → (text new : List ℕ) (p : Parsed) → Reads text p
+    → IsLayout p.scanned.text new → length new ≤ MAX_TEXT → new ≡ text
     → Formats text (record { text = text; edits = record { old_len = length text; entries = [] }; fixed = 0; left = 0 })
-stays apart is_text one text new cut t reads derived layout short same =
+stays apart is_text one text new p reads layout short same =
+    let cut = p.scanned in
     let here = subst (λ (x : List ℕ). IsLayout x new) reads.0 layout in
-    let made : IsLayout text (layout_text cut) = record { pairs = cut.pairs; last = cut.last; cut = reads.1; made = refl } in
+    let made : IsLayout text (layout_text cut) = record { pairs = cut.pairs; last = cut.last; cut = subst (λ (x : List ℕ). IsCut x cut.pairs cut.last) reads.0 reads.1; made = refl } in
     let kept : layout_text cut ≡ cut.text = one text (layout_text cut) new made here ∙ same ∙ sym reads.0 in
-    let laid = (is_text cut (subst (λ (x : List ℕ). IsCut x cut.pairs cut.last) (sym reads.0) reads.1) (apart text cut.pairs cut.last MAX_NESTING t reads.1 derived)).1 kept in
+    let laid = (is_text cut reads.1 (apart cut.text cut.pairs cut.last MAX_NESTING p.tree reads.1 reads.2)).1 kept in
     record {
-      cut = cut;
+      parsed = p;
       reads = reads;
       layout = subst (λ (x : List ℕ). IsLayout text x) same here;
       short = subst (λ (x : List ℕ). length x ≤ MAX_TEXT) same short;
@@ -52,10 +52,10 @@ stays apart is_text one text new cut t reads derived layout short same =
       left_is = refl;
     }
 
-pub changes : (text new : List ℕ) (edits : EditList) (cut : CutText) → Reads text cut → IsLayout cut.text new → length new ≤ MAX_TEXT → edits ≡ layout_edits cut
+pub changes : (text new : List ℕ) (edits : EditList) (p : Parsed) → Reads text p → IsLayout p.scanned.text new → length new ≤ MAX_TEXT → edits ≡ layout_edits p.scanned
     → Formats text (record { text = new; edits = edits; fixed = 0; left = 0 })
-changes text new edits cut reads layout short listed = record {
-  cut = cut;
+changes text new edits p reads layout short listed = record {
+  parsed = p;
   reads = reads;
   layout = subst (λ (x : List ℕ). IsLayout x new) reads.0 layout;
   short = short;

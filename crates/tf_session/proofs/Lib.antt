@@ -5,7 +5,6 @@ pub mod Histories
 pub mod LineLists
 pub mod RunLaws
 pub mod Refusing
-pub mod FixSteps
 pub mod Laying
 pub mod FmtAgain
 pub mod Putting
@@ -15,4 +14,4 @@ pub mod TakeLaws
 pub mod OneMachine
 pub mod TakingOnce
 pub mod LayersLaws
-pub mod Unread
+pub mod ReadTexts

@@ -1,38 +1,26 @@
 -- Faults of the layers below as those of a command and of a stream: want of memory is always one of their own.
-use Rattle.hcl_scan.specs.declared.error.ScanFault.{ScanFault}
-use Rattle.hcl_scan.specs.declared.error.ScanFault.TheVariants.{TooLong, NotUtf8, BadCharacter, BadEscape, OpenString, OpenTemplate, OpenHeredoc, OpenComment, Memory}
-use Rattle.hcl_tree.specs.declared.error.ParseFault.{ParseFault}
 use Rattle.hcl_layout.specs.declared.fault.LayoutFault.{LayoutFault}
 use Rattle.edit_record.specs.declared.change.Refused.{Refused}
 use Rattle.edit_text.specs.declared.fault.RecordFault.{RecordFault}
 use Rattle.edit_text.specs.declared.fault.RecordFault.TheVariants.{BadHead, BadNumber, CutShort, BadEdits, BadEnd, BadSteps}
 use Rattle.tf_lint.specs.declared.fault.LintFault.{LintFault}
+use Rattle.tf_steps.specs.declared.fault.FixFault.{FixFault}
 use Rattle.tf_stream.specs.declared.fault.TakeFault.{TakeFault}
 use Rattle.tf_session.specs.declared.command.Fault.{Fault}
 use Rattle.tf_session.specs.declared.fault.RunFault.{RunFault}
 
-abbrev pub fault_of_scan : ScanFault → Fault
-fault_of_scan TooLong = Fault.Scan TooLong
-fault_of_scan (NotUtf8 at) = Fault.Scan (NotUtf8 at)
-fault_of_scan (BadCharacter at) = Fault.Scan (BadCharacter at)
-fault_of_scan (BadEscape at) = Fault.Scan (BadEscape at)
-fault_of_scan (OpenString at) = Fault.Scan (OpenString at)
-fault_of_scan (OpenTemplate at) = Fault.Scan (OpenTemplate at)
-fault_of_scan (OpenHeredoc at) = Fault.Scan (OpenHeredoc at)
-fault_of_scan (OpenComment at) = Fault.Scan (OpenComment at)
-fault_of_scan Memory = Fault.Memory
-
-abbrev pub fault_of_parse : ParseFault → Fault
-fault_of_parse (ParseFault.Syntax at) = Fault.Parse (ParseFault.Syntax at)
-fault_of_parse (ParseFault.TooDeep at) = Fault.Parse (ParseFault.TooDeep at)
-fault_of_parse ParseFault.Memory = Fault.Memory
+abbrev pub fault_of_fix : FixFault → Fault
+fault_of_fix (FixFault.Scan fault) = Fault.Scan fault
+fault_of_fix (FixFault.Parse fault) = Fault.Parse fault
+fault_of_fix (FixFault.FixBroken rule) = Fault.FixBroken rule
+fault_of_fix FixFault.TooLong = Fault.TooLong
+fault_of_fix FixFault.Memory = Fault.Memory
 
 abbrev pub fault_of_layout : LayoutFault → Fault
 fault_of_layout LayoutFault.TooLong = Fault.TooLong
 fault_of_layout LayoutFault.Memory = Fault.Memory
 
 abbrev pub fault_of_lint : LintFault → Fault
-fault_of_lint LintFault.TooLong = Fault.TooLong
 fault_of_lint LintFault.Memory = Fault.Memory
 
 abbrev pub fault_of_refused : Refused → Fault

@@ -1,23 +1,24 @@
 -- What `fmt` makes of a text: its layout.
 use Rattle.std.specs.Prelude.{◌≡◌, ◌≤◌, ℕ, List, length, Result, Ok, Err}
-use Rattle.hcl_token.specs.CutText.{CutText}
 use Rattle.hcl_scan.specs.Cut.{MAX_TEXT}
 use Rattle.hcl_scan.specs.Fault.{IsFault}
 use Rattle.hcl_layout.specs.Layout.{layout_edits}
 use Rattle.hcl_format.specs.Layouts.{IsLayout, IsTooLong}
 use Rattle.tf_session.specs.declared.command.Fault.{Fault}
 use Rattle.tf_session.specs.declared.command.Fault.TheVariants.{Scan, Parse, FixBroken, TooLong, NoRecord, Refused, Memory, Blocked}
-use Rattle.tf_session.specs.Reading.{Reads, DoesParse, IsParseFault}
-use Rattle.tf_session.specs.Fixing.{Made}
+use Rattle.tf_session.specs.Reading.{DoesParse}
+use Rattle.tf_steps.specs.declared.reading.Parsed.{Parsed}
+use Rattle.tf_steps.specs.Reading.{Reads, IsParseFault}
+use Rattle.tf_steps.specs.Steps.{Made}
 
 -- A text that parses becomes its layout, if that is within the limit. The edits are exactly the gaps that differ, each from the whole old
 -- gap to the whole new one. Nothing is fixed and no issue is counted.
 pub record Formats (text : List ℕ) (made : Made) : Type 0 where
-  pub cut : CutText
-  pub reads : Reads text cut
+  pub parsed : Parsed
+  pub reads : Reads text parsed
   pub layout : IsLayout text made.text
   pub short : length made.text ≤ MAX_TEXT
-  pub edits_are : made.edits ≡ layout_edits cut
+  pub edits_are : made.edits ≡ layout_edits parsed.scanned
   pub fixed_is : made.fixed ≡ 0
   pub left_is : made.left ≡ 0
 

@@ -17,5 +17,4 @@ pub mod JournalLaws
 pub mod TakeLaws
 pub mod WithoutTake
 pub mod Session
-pub mod Fixed
 pub mod Streaming

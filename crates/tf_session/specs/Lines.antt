@@ -1,12 +1,12 @@
 -- The lines of the issues of a text, and what a call that lints a stream took, wrote and answers.
 use Rattle.std.specs.Prelude.{◌≡◌, ℕ, List, [], ◌∷◌, ◌++◌, length}
-use Rattle.hcl_token.specs.CutText.{CutText}
 use Rattle.tf_rule.specs.declared.rule_set.RuleSet.{RuleSet}
-use Rattle.tf_lint.specs.Issues.{issues_of}
+use Rattle.tf_lint.specs.Issues.{AreReports}
 use Rattle.tf_lint.specs.Reports.{Report, line_of}
 use Rattle.tf_stream.specs.Streams.{Source, Target, Puts}
 use Rattle.tf_session.specs.declared.fault.RunFault.{RunFault}
-use Rattle.tf_session.specs.Reading.{Reads}
+use Rattle.tf_steps.specs.declared.reading.Parsed.{Parsed}
+use Rattle.tf_steps.specs.Reading.{Reads}
 use Rattle.tf_session.specs.Makes.{NotRead}
 use Rattle.tf_session.specs.Streams.{TakesText, FailsOver}
 
@@ -17,7 +17,7 @@ lines_of name (r ∷ rs) = line_of name r ++ 10 ∷ lines_of name rs
 
 -- the text parses, and these are the issues of the rules in it
 abbrev pub HasIssues : RuleSet → List ℕ → List Report → Type 0
-HasIssues rules text found = (cut : CutText) × Reads text cut × (found ≡ issues_of rules cut.pairs)
+HasIssues rules text found = (p : Parsed) × Reads text p × AreReports rules p.scanned.pairs p.tree.body.members found
 
 -- these are the lines of the issues of a text, of which there are so many
 abbrev pub AreLines : List ℕ → RuleSet → List ℕ → List ℕ → ℕ → Type 0

@@ -1,13 +1,13 @@
 -- What a command makes of a text.
-use Rattle.std.specs.Prelude.{ℕ, ◌≤◌, Bool, true, false, List, length, Result, MatchBool, Err, IsUtf8}
-use Rattle.hcl_scan.specs.Cut.{MAX_TEXT}
+use Rattle.std.specs.Prelude.{ℕ, Bool, true, false, List, Result, MatchBool, Err}
 use Rattle.hcl_scan.specs.Fault.{IsFault}
 use Rattle.tf_session.specs.declared.command.Command.{Command}
 use Rattle.tf_session.specs.declared.command.Command.TheVariants.{Fmt, Fix, Revert, Take}
 use Rattle.tf_session.specs.declared.command.Fault.{Fault}
 use Rattle.tf_session.specs.declared.command.Fault.TheVariants.{Scan, Parse, FixBroken, TooLong, NoRecord, Refused, Memory, Blocked}
-use Rattle.tf_session.specs.Reading.{IsParseFault}
-use Rattle.tf_session.specs.Fixing.{Made, FixMakes}
+use Rattle.tf_steps.specs.Reading.{IsText, IsParseFault}
+use Rattle.tf_steps.specs.Steps.{Made}
+use Rattle.tf_session.specs.Fixing.{FixMakes}
 use Rattle.tf_session.specs.Formatting.{FmtMakes}
 
 -- revert and take make no text of the top
@@ -27,10 +27,6 @@ is_memory_fault NoRecord = false
 is_memory_fault (Refused refused) = false
 is_memory_fault Memory = true
 is_memory_fault (Blocked number) = false
-
--- a text that is looked into: before that no memory is taken
-abbrev pub IsText : List ℕ → Type 0
-IsText text = (length text ≤ MAX_TEXT) × IsUtf8 text
 
 -- why a text is not read: it has no tokens, it does not parse, or a growth was refused while it was looked into
 abbrev pub NotRead : List ℕ → Fault → Type 0

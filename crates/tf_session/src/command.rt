@@ -7,6 +7,7 @@ use hcl_format::LayoutFault;
 use hcl_scan::ScanFault;
 use hcl_tree::ParseFault;
 use tf_lint::{LintFault, Rule, RuleSet};
+use tf_steps::FixFault;
 use thiserror::Error;
 
 /// What a session is asked to do.
@@ -62,28 +63,18 @@ pub enum Fault {
     Blocked { number: usize },
 }
 
-impl From<ScanFault> for Fault {
-    ghost use Rattle.tf_session.specs.Faults.{fault_of_scan};
+impl From<FixFault> for Fault {
+    ghost use Rattle.tf_session.specs.Faults.{fault_of_fix};
 
-    ghost from_gives = { λ fault given. given ≡ fault_of_scan fault };
+    ghost from_gives = { λ fault given. given ≡ fault_of_fix fault };
 
-    fn from(fault: ScanFault) -> Self {
+    fn from(fault: FixFault) -> Self {
         match fault {
-            ScanFault::Memory => Fault::Memory,
-            fault => Fault::Scan(fault),
-        }
-    }
-}
-
-impl From<ParseFault> for Fault {
-    ghost use Rattle.tf_session.specs.Faults.{fault_of_parse};
-
-    ghost from_gives = { λ fault given. given ≡ fault_of_parse fault };
-
-    fn from(fault: ParseFault) -> Self {
-        match fault {
-            ParseFault::Memory => Fault::Memory,
-            fault => Fault::Parse(fault),
+            FixFault::Scan(fault) => Fault::Scan(fault),
+            FixFault::Parse(fault) => Fault::Parse(fault),
+            FixFault::FixBroken { rule } => Fault::FixBroken { rule },
+            FixFault::TooLong => Fault::TooLong,
+            FixFault::Memory => Fault::Memory,
         }
     }
 }
@@ -108,7 +99,6 @@ impl From<LintFault> for Fault {
 
     fn from(fault: LintFault) -> Self {
         match fault {
-            LintFault::TooLong => Fault::TooLong,
             LintFault::Memory => Fault::Memory,
         }
     }

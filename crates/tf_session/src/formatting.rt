@@ -9,14 +9,12 @@ ghost use Rattle.hcl_parses.specs.Parses.{MAX_NESTING};
 ghost use Rattle.hcl_scan.specs.Cut.{MAX_TEXT};
 ghost use Rattle.hcl_scan.specs.Follows.{tokens_of};
 ghost use Rattle.tf_session.specs.Reading.{DoesParse};
-ghost use Rattle.tf_session.specs.Fixing.{differ};
-ghost use Rattle.tf_session.specs.Fixed.{made_of};
+ghost use Rattle.tf_steps.specs.Fixed.{made_of};
 ghost use Rattle.tf_session.specs.Makes.{Makes, RefusesText};
 ghost use Rattle.tf_session.specs.declared.command.Command.TheVariants.{Fmt};
 ghost use Rattle.tf_session.specs.declared.command.Fault.TheVariants.{TooLong, Memory};
 
 use crate::command::Fault;
-use crate::fixing::{Change, Fixed};
 use crate::reading::read_text;
 use edit_record::Change as _;
 use edit_record::laws::{apply_is_exact, sides_fix_each_other};
@@ -25,11 +23,12 @@ use hcl_parses::laws::parsed_apart;
 use hcl_scan::Scanned;
 use hcl_tree::Tree;
 use std::alloc::Global;
+use tf_steps::{Change, Fixed};
 
 /// The text laid out.
 pub fn fmt_text(alloc: Global, text: &[u8]) -> Result<Fixed, Fault>
     ensures made { IfOk result (λ fixed. Makes Fmt text.now (Ok (made_of text.now fixed))) }
-    ensures change { IfOk result (λ fixed. IfSome fixed.change (λ change. (differ text.now change.text.items ≡ true) × Turns change.edits text.now change.text.items)) }
+    ensures change { IfOk result (λ fixed. IfSome fixed.change (λ change. Turns change.edits text.now change.text.items)) }
     ensures fault { IfErr result (λ fault. RefusesText Fmt text.now fault) }
 {
     laws::laid_out_is_text();

@@ -12,6 +12,7 @@ use edit_squash::laws::squash_all_is_one;
 use edit_swap::laws::{swap_is_one, taking_out_is_one};
 use hcl_format::laws::{layout_keeps_tokens, layout_of_layout, one_layout};
 use hcl_scan::laws::{no_cut_with_fault, one_cut, one_fault};
+use tf_steps::laws::one_fix;
 
 /// A command that met a refused growth might as well not be in the list.
 pub fn refused_commands_do_not_count()
@@ -36,6 +37,7 @@ pub fn each_command_has_one_answer()
     no_cut_with_fault();
     one_fault();
     one_layout();
+    one_fix();
 }
 
 /// Where a fmt answers `Done`, the new text has the tokens of the old one, comments and line ends among them.
@@ -91,6 +93,7 @@ pub fn each_command_has_one_answer_over_layers()
     no_cut_with_fault();
     one_fault();
     one_layout();
+    one_fix();
     swap_is_one();
     taking_out_is_one();
     turned_texts_are_one();

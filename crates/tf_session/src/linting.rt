@@ -51,7 +51,7 @@ fn issue_lines(
     ensures fault { IfErr result (λ fault. NotRead text.now fault) }
 {
     let parsed = read_text(alloc, text)?;
-    let found = issues(alloc, &parsed.scanned, rules)?;
+    let found = issues(alloc, &parsed.scanned, &parsed.tree, rules)?;
     match joined_lines(alloc, name, found.as_slice()) {
         Ok(lines) => Ok((lines, found.len())),
         Err(_) => Err(Fault::Memory),

@@ -1,20 +1,21 @@
 //! A text with the journal of what changed it.
 
 ghost use Rattle.std.specs.Prelude.{◌≡◌, true, IfOk, IfErr, IfSome, OnErr};
-ghost use Rattle.tf_session.specs.Fixing.{differ};
+ghost use Rattle.tf_steps.specs.Steps.{differ};
 ghost use Rattle.tf_session.specs.Machine.{done};
-ghost use Rattle.tf_session.specs.Fixed.{text_after, edits_after};
+ghost use Rattle.tf_steps.specs.Fixed.{text_after, edits_after};
 ghost use Rattle.tf_session.specs.Session.{text_of, records_of};
 ghost use Rattle.tf_session.specs.Records.{DoesStep, RefusesStep, AddsRecord, TakesLast, RefusesTake};
 ghost use Rattle.tf_session.specs.TakingNth.{TakesNth, RefusesNth};
 
 use crate::command::{Command, Done, Fault, Reply};
-use crate::fixing::{Change, Fixed, fix_text};
+use crate::fixing::fix_text;
 use crate::formatting::fmt_text;
 use crate::removing::{Remainder, without};
 use edit_record::laws::undo_is_exact;
 use edit_record::{Change as _, Journal, Record, Word};
 use std::alloc::Global;
+use tf_steps::{Change, Fixed};
 
 /// A text, and the journal of the commands that changed it.
 #[derive(Drop)]
@@ -69,7 +70,6 @@ impl Session {
 
     // Puts the new text in the place of the old, with a record, if it changed.
     fn put_on(&mut self, word: Word, new: Fixed) -> Reply
-        requires { IfSome new.change (λ change. differ (text_of self.old) change.text.items ≡ true) }
         ensures replied { IfOk result (λ d. d ≡ done (differ (text_of self.old) (text_after (text_of self.old) new.change)) new.fixed new.left) }
         ensures put { IfOk result (λ d. text_of self.new ≡ text_after (text_of self.old) new.change) }
         ensures added { IfOk result (λ d. AddsRecord (differ (text_of self.old) (text_after (text_of self.old) new.change)) word (edits_after (text_of self.old) new.change) (records_of self.old) (records_of self.new)) }
@@ -82,16 +82,26 @@ impl Session {
             fixed,
             left,
         } = new;
-        let changed = change.is_some();
-        if let Some(change) = change {
-            let Change { text, edits } = change;
-            if self.journal.push(Record::make(word, edits)).is_err() {
-                return Err(Fault::Memory);
-            }
-            self.text = text;
+        let Some(Change { text, edits }) = change else {
+            return Ok(Done {
+                changed: false,
+                fixed,
+                left,
+            });
+        };
+        if text.as_slice() == self.text.as_slice() {
+            return Ok(Done {
+                changed: false,
+                fixed,
+                left,
+            });
         }
+        if self.journal.push(Record::make(word, edits)).is_err() {
+            return Err(Fault::Memory);
+        }
+        self.text = text;
         Ok(Done {
-            changed,
+            changed: true,
             fixed,
             left,
         })

@@ -5,10 +5,10 @@ use Rattle.tf_session.proofs.formatting.fmt_text.Goals as goal
 
 pub returns-then-eq-clause-made : goal.returns-then-eq-clause-made
 returns-then-eq-clause-made c =
-    stays c.parsed_apart.ensures c.laid_out_is_text.ensures c.one_layout.ensures c.args.text.now c.in_ok-change.change.text.items c.in_ok-parsed.parsed.scanned c.in_ok-parsed.parsed.tree
-    c.in_ok-parsed.ensures.reads c.in_ok-parsed.ensures.derived c.in_ok-change.ensures.layout c.in_ok-change.ensures.short (search rules)
+    stays c.parsed_apart.ensures c.laid_out_is_text.ensures c.one_layout.ensures c.args.text.now c.in_ok-change.change.text.items c.in_ok-parsed.parsed
+    c.in_ok-parsed.ensures.reads c.in_ok-change.ensures.layout c.in_ok-change.ensures.short (search rules)
 
 pub returns-clause-made : goal.returns-clause-made
 returns-clause-made c =
-    changes c.args.text.now c.in_ok-change.change.text.items c.in_ok-change.change.edits c.in_ok-parsed.parsed.scanned
+    changes c.args.text.now c.in_ok-change.change.text.items c.in_ok-change.change.edits c.in_ok-parsed.parsed
     c.in_ok-parsed.ensures.reads c.in_ok-change.ensures.layout c.in_ok-change.ensures.short c.in_ok-change.ensures.edits

@@ -1,13 +1,19 @@
--- The parser's fault is the text's.
-use Rattle.std.proofs.Common.{List, ℕ, sym, subst}
-use Rattle.hcl_parses.specs.Parses.{Parses}
+-- The steps' facts on a text that is read, and their fault.
+use Rattle.std.proofs.Common.{sym, subst}
 use Rattle.tf_session.specs.declared.command.Fault.{Fault}
 use Rattle.tf_session.specs.Makes.{NotRead}
-use Rattle.tf_session.proofs.Unread.{not_parsed}
+use Rattle.tf_session.proofs.ReadTexts.{does_parse, not_read}
 use Rattle.tf_session.proofs.reading.read_text.Goals as goal
 
-pub returns-clause-fault : goal.returns-clause-fault
-returns-clause-fault c =
-    subst (λ (fault : Fault). NotRead c.args.text.now fault) (sym c.from.ensures)
-    (not_parsed c.args.text.now c.in_ok-scanned.scanned.pairs c.in_ok-scanned.scanned.last c.in-Err.fault c.in_ok-scanned.ensures.cut
-    (λ t p. c.in-Err.ensures.only t (subst (λ (x : List ℕ). Parses x t) (sym c.in_ok-scanned.ensures.text) p)) c.in-Err.ensures.deeper)
+pub returns-in-Ok-clause-text : goal.returns-in-Ok-clause-text
+returns-in-Ok-clause-text c = c.in-Ok.ensures.reads.0
+
+pub returns-in-Ok-clause-derived : goal.returns-in-Ok-clause-derived
+returns-in-Ok-clause-derived c = c.in-Ok.ensures.reads.2
+
+pub returns-in-Ok-clause-parses : goal.returns-in-Ok-clause-parses
+returns-in-Ok-clause-parses c = does_parse c.args.text.now c.in-Ok.parsed c.in-Ok.ensures.reads
+
+pub returns-in-Err-clause-fault : goal.returns-in-Err-clause-fault
+returns-in-Err-clause-fault c =
+    subst (λ (fault : Fault). NotRead c.args.text.now fault) (sym c.from.ensures) (not_read c.args.text.now c.in-Err.fault c.in-Err.ensures.fault)

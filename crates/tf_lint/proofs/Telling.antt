@@ -1,0 +1,26 @@
+-- Findings told one after the other.
+use Rattle.std.proofs.Common.{◌≡◌, ◌∙◌, ◌<◌, ◌+◌, ℕ, zero, suc, List, [], ◌∷◌, ◌++◌, length, take, map, get_or, ap, sym, arith}
+use Rattle.std.proofs.lemmas.List.{take_more, map-append}
+use Rattle.hcl_token.specs.Tokens.{Pair}
+use Rattle.tf_rule.specs.Findings.{AreSound}
+use Rattle.tf_rule.specs.declared.finding.Finding.{Finding}
+use Rattle.tf_lint.specs.Issues.{reports}
+use Rattle.tf_lint.specs.Reports.{Report, report, report_of}
+use Rattle.tf_lint.specs.declared.issue.Issue.{Issue}
+
+-- each of sound findings begins at a token of the text
+pub begins_inside : (count : ℕ) (found : List Finding) (i : ℕ) (d : Finding) → AreSound count found → i < length found → (get_or found i d).first < count
+begins_inside count [] i d sound below = absurd (omega (arith, below))
+begins_inside count (f ∷ fs) zero d sound below = omega (arith, sound.0.0, sound.0.1)
+begins_inside count (f ∷ fs) (suc i) d sound below = begins_inside count fs i d sound.1 (omega (arith, below))
+
+-- the first i findings are told, and one more
+pub one_told : (pairs : List Pair) (found : List Finding) (i : ℕ) (d : Finding) (issues grown : List Issue) (issue : Issue) → i < length found
+    → reports issues ≡ map (report_of pairs) (take i found) → report issue ≡ report_of pairs (get_or found i d) → grown ≡ issues ++ issue ∷ []
+    → reports grown ≡ map (report_of pairs) (take (i + 1) found)
+one_told pairs found i d issues grown issue below so_far told push =
+    let next : take (i + 1) found ≡ take i found ++ get_or found i d ∷ [] = take_more found i d below in
+    ap reports push ∙ map-append report issues (issue ∷ [])
+    ∙ ap (λ (l : List Report). l ++ report issue ∷ []) so_far
+    ∙ ap (λ (r : Report). map (report_of pairs) (take i found) ++ r ∷ []) told
+    ∙ sym (ap (map (report_of pairs)) next ∙ map-append (report_of pairs) (take i found) (get_or found i d ∷ []))

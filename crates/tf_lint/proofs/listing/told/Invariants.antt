@@ -1,0 +1,8 @@
+-- What is told of the findings so far.
+use Rattle.std.proofs.Common.{◌≡◌, take, map}
+use Rattle.tf_lint.specs.Issues.{reports}
+use Rattle.tf_lint.specs.Reports.{report_of}
+use Rattle.tf_lint.proofs.listing.told.Given as goal
+
+abbrev pub invariant-loop-finding : goal.invariant-loop-finding
+invariant-loop-finding l = reports l.issues.items ≡ map (report_of l.fn.scanned.pairs) (take l.finding-index l.found)

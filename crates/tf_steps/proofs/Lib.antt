@@ -1,0 +1,6 @@
+pub mod OfLemmas
+pub mod OneFixLemmas
+pub mod OneRuleLemmas
+pub mod RunLemmas
+pub mod StepLemmas
+pub mod Unread

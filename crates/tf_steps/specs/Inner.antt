@@ -1,0 +1,2 @@
+-- For proofs: one step, and what is known from some steps on.
+pub mod Passing

@@ -1,0 +1,20 @@
+//! Laws of fixes: functions that do nothing, for callers whose proofs want what their clauses say.
+
+ghost use Rattle.std.specs.Prelude.{ℕ, List};
+ghost use Rattle.tf_rule.specs.declared.rule_set.RuleSet.{RuleSet};
+ghost use Rattle.tf_steps.specs.Steps.{OneFix};
+
+use edit_squash::laws::squash_all_is_one;
+use hcl_parses::laws::one_parse;
+use hcl_scan::laws::one_cut;
+use tf_findings::laws::findings_are_one;
+
+/// A fix makes one text of a text, or can't be done for one reason.
+pub fn one_fix()
+    ensures { (rules : RuleSet) (text : List ℕ) → OneFix rules text }
+{
+    one_cut();
+    one_parse();
+    findings_are_one();
+    squash_all_is_one();
+}

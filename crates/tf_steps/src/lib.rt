@@ -1,0 +1,15 @@
+//! What a fix makes of a text: the steps of its rules, one after another.
+//!
+//! `fix_text` fixes a text, `read_text` answers the tokens and the tree of a text that parses. `laws` says that a text has one fix.
+#![tactic(auto)]
+
+mod fault;
+pub mod laws;
+mod reading;
+mod step;
+mod steps;
+
+pub use fault::FixFault;
+pub use reading::{Parsed, read_text};
+pub use step::Change;
+pub use steps::{Fixed, fix_text};

@@ -1,0 +1,214 @@
+//! The steps of several rules, one after another.
+
+ghost use Rattle.std.specs.Prelude.{◌≡◌, ◌≤◌, ◌⊎◌, ◌+◌, ◌*◌, ℕ, List, length, Err, IfOk, IfErr, IfSome};
+ghost use Rattle.edit_record.specs.Pieces.{Turns};
+ghost use Rattle.edit_squash.specs.Squash.{CanFollow, IsSquash};
+ghost use Rattle.tf_steps.specs.Fixed.{made_of};
+ghost use Rattle.tf_steps.specs.Reading.{Reads};
+ghost use Rattle.tf_steps.specs.Steps.{AreLeft, RunSteps, Fixes, Refuses};
+ghost use Rattle.tf_steps.specs.Inner.Passing.{room, Passes, FixesFrom, RefusesFrom, made_by};
+ghost use Rattle.tf_steps.specs.declared.fault.FixFault.{FixFault};
+ghost use Rattle.tf_steps.specs.declared.reading.Parsed.{Parsed};
+
+use crate::fault::FixFault;
+use crate::reading::{Parsed, read_made, read_text};
+use crate::step::{Change, Step, one_step};
+use edit_record::Edits;
+use edit_record::laws::turned_texts_have_the_lengths;
+use edit_squash::{Unmet, squash};
+use std::alloc::Global;
+use tf_findings::findings;
+use tf_rule::{Rule, RuleSet};
+
+/// What a fix made of a text.
+#[derive(Drop)]
+pub struct Fixed {
+    /// None where no rule changes the text.
+    pub change: Option<Change>,
+    /// How many findings were mended.
+    pub fixed: usize,
+    /// How many findings of the chosen rules the new text has.
+    pub left: usize,
+}
+
+/// What the rules up to the first that changes the text did.
+#[derive(Drop)]
+enum Passed<'o> {
+    /// None changes the text.
+    Same {
+        fixed: usize,
+        left: usize,
+    },
+    /// This rule is the first that does, and those of the rest come behind it.
+    Changed {
+        fixed: usize,
+        change: Change,
+        by: Rule,
+        rest: &'o [Rule],
+    },
+}
+
+const FIX_ORDER: [Rule; 5] = [
+    Rule::CommentSyntax,
+    Rule::DeprecatedIndex,
+    Rule::DeprecatedInterpolation,
+    Rule::EmptyListEquality,
+    Rule::DeprecatedLookup,
+];
+
+// The edits so far with those of one more step.
+fn gather(alloc: Global, done: &Edits, edits: &Edits) -> Result<Edits, FixFault>
+    requires { CanFollow done.now edits.now }
+    ensures both { IfOk result (λ both. IsSquash done.now edits.now both) }
+    ensures fault { IfErr result (λ fault. fault ≡ FixFault.Memory) }
+{
+    turned_texts_have_the_lengths();
+    match squash(alloc, done, edits) {
+        Ok(both) => Ok(both),
+        Err(unmet) => {
+            prove!(matches!(unmet, Unmet::Memory));
+            Err(FixFault::Memory)
+        }
+    }
+}
+
+fn count_left(alloc: Global, parsed: &Parsed<'_>, rules: RuleSet) -> Result<usize, FixFault>
+    ensures count { IfOk result (λ count. AreLeft rules parsed.now count) }
+    ensures fault { IfErr result (λ fault. fault ≡ FixFault.Memory) }
+{
+    let found = findings(alloc, &parsed.scanned, &parsed.tree, rules)?;
+    Ok(found.len())
+}
+
+// The first of the rules that changes the text, where so many findings were mended before.
+fn first_change<'o>(
+    alloc: Global,
+    parsed: &Parsed<'_>,
+    rules: RuleSet,
+    order: &'o [Rule],
+    count: usize,
+) -> Result<Passed<'o>, FixFault>
+    requires reads { Reads parsed.now.scanned.text parsed.now }
+    requires few { count + room order.now ≤ 16777216 * 16 }
+    ensures passes { IfOk result (λ passed. Passes rules order.now parsed.now count passed) }
+    ensures fault { IfErr result (λ fault. (fault ≡ FixFault.Memory) ⊎ RunSteps rules order.now parsed.now (Err fault)) }
+{
+    if let [rule, rest @ ..] = order {
+        if !rules.has(*rule) {
+            return first_change(alloc, parsed, rules, rest, count);
+        }
+        let Step {
+            count: taken,
+            change,
+        } = one_step(alloc, parsed, *rule)?;
+        let fixed = count + taken;
+        match change {
+            None => first_change(alloc, parsed, rules, rest, fixed),
+            Some(change) => Ok(Passed::Changed {
+                fixed,
+                change,
+                by: *rule,
+                rest,
+            }),
+        }
+    } else {
+        let left = count_left(alloc, parsed, rules)?;
+        Ok(Passed::Same { fixed: count, left })
+    }
+}
+
+// The first of the rules that changes a text which the step of one made.
+fn pass<'o>(
+    alloc: Global,
+    text: &[u8],
+    rules: RuleSet,
+    order: &'o [Rule],
+    by: Rule,
+    count: usize,
+) -> Result<Passed<'o>, FixFault>
+    requires few { count + room order.now ≤ 16777216 * 16 }
+    ensures passes { IfOk result (λ passed. (parsed : Parsed) × Reads text.now parsed × Passes rules order.now parsed count passed) }
+    ensures fault { IfErr result (λ fault. RefusesFrom rules order.now text.now by fault) }
+{
+    match read_made(alloc, text, by) {
+        Ok(parsed) => first_change(alloc, &parsed, rules, order, count),
+        Err(fault) => Err(fault),
+    }
+}
+
+/// What all steps did to a text that the first of them changed.
+#[derive(Drop)]
+struct Ended {
+    change: Change,
+    fixed: usize,
+    left: usize,
+}
+
+// The steps of these rules over a text that the step of one made, behind the edits so far.
+fn run(
+    alloc: Global,
+    done: Change,
+    rules: RuleSet,
+    order: &[Rule],
+    by: Rule,
+    count: usize,
+) -> Result<Ended, FixFault>
+    requires leads { (old : List ℕ) × Turns done.edits old done.text.items }
+    requires few { count + room order.now ≤ 16777216 * 16 }
+    ensures made { IfOk result (λ ended. FixesFrom rules order.now done.text.items done.edits count (made_by ended)) }
+    ensures turns { (old : List ℕ) → Turns done.edits old done.text.items → IfOk result (λ ended. Turns ended.change.edits old ended.change.text.items) }
+    ensures fault { IfErr result (λ fault. RefusesFrom rules order.now done.text.items by fault) }
+{
+    let passed = pass(alloc, &done.text, rules, order, by, count)?;
+    match passed {
+        Passed::Same { fixed, left } => Ok(Ended {
+            change: done,
+            fixed,
+            left,
+        }),
+        Passed::Changed {
+            fixed,
+            change,
+            by: next,
+            rest,
+        } => {
+            let edits = gather(alloc, &done.edits, &change.edits)?;
+            let text = change.text;
+            run(alloc, Change { text, edits }, rules, rest, next, fixed)
+        }
+    }
+}
+
+/// The text fixed by the rules of the set: comments, legacy indexes, interpolations, comparisons with empty lists, lookups, in this
+/// order, each over the text that the one before left.
+///
+/// A text is read once for each rule that changes it, and once more. `FixBroken` where what a rule makes does not parse; `TooLong`
+/// where it would have more than 16,777,216 bytes.
+pub fn fix_text(alloc: Global, text: &[u8], rules: RuleSet) -> Result<Fixed, FixFault>
+    ensures made { IfOk result (λ fixed. Fixes rules text.now (made_of text.now fixed)) }
+    ensures turns { IfOk result (λ fixed. IfSome fixed.change (λ change. Turns change.edits text.now change.text.items)) }
+    ensures fault { IfErr result (λ fault. Refuses rules text.now fault) }
+{
+    let parsed = read_text(alloc, text)?;
+    let passed = first_change(alloc, &parsed, rules, &FIX_ORDER, 0)?;
+    match passed {
+        Passed::Same { fixed, left } => Ok(Fixed {
+            change: None,
+            fixed,
+            left,
+        }),
+        Passed::Changed {
+            fixed,
+            change,
+            by,
+            rest,
+        } => {
+            let ended = run(alloc, change, rules, rest, by, fixed)?;
+            Ok(Fixed {
+                change: Some(ended.change),
+                fixed: ended.fixed,
+                left: ended.left,
+            })
+        }
+    }
+}
