@@ -12,15 +12,14 @@ use tf_session::{
 
 /// Does a command.
 ///
-/// `text T` begins a session over T, `lines N T` over T so many times, and `fill N T` over T and as many `x` as make N bytes; `hand T`
-/// puts T in the place of its text by hand; `journal J` reads J beside its text. `fmt`, `fix`, `fix-comments`, `fix-others`, `fix-none`,
-/// `revert` and `take-N` are done on it. `check`, `lint`, `run COMMAND ..`, `through COMMAND R W` and `stream COMMAND R J K W` leave it: they are done over
+/// `text T` begins a session over T, and `fill N T` over T and as many `x` as make N bytes; `hand T` puts T in the place of its text by
+/// hand; `journal J` reads J beside its text. `fmt`, `fix` (by all rules), `fix-none`, `fix-RULE+RULE..` (by these alone), `revert` and
+/// `take-N` are done on it. `check`, `lint`, `run COMMAND ..`, `through COMMAND R W` and `stream COMMAND R J K W` leave it: they are done over
 /// its text, and its journal; the reads of numbers R and J fail, and the writers take K and W bytes.
 pub fn do_row(alloc: Global, session: &mut Session, row: &str) -> Result<Came> {
     let (word, rest) = row.split_once(' ').unwrap_or((row, ""));
     match word {
         "text" => start(alloc, session, decoded(alloc, rest)?),
-        "lines" => start(alloc, session, lines(alloc, rest)?),
         "fill" => start(alloc, session, filled(alloc, rest)?),
         "hand" => {
             let journal = journal_text(alloc, session)?;
@@ -45,31 +44,34 @@ fn command_of(word: &str) -> Result<Command> {
     if let Some(number) = word.strip_prefix("take-") {
         return Ok(Command::Take(number.parse::<u32>()?));
     }
-    let comments = Rule::CommentSyntax;
+    if word == "fix-none" {
+        return Ok(Command::Fix(RuleSet::none()));
+    }
+    if let Some(names) = word.strip_prefix("fix-") {
+        return Ok(Command::Fix(rules_of(names)?));
+    }
     match word {
         "fmt" => Ok(Command::Fmt),
         "fix" => Ok(Command::Fix(RuleSet::all())),
-        "fix-comments" => Ok(Command::Fix(RuleSet::none().with(comments))),
-        "fix-others" => Ok(Command::Fix(RuleSet::all().without(comments))),
-        "fix-none" => Ok(Command::Fix(RuleSet::none())),
         "revert" => Ok(Command::Revert),
         _ => Err(anyhow!("no command: {word}")),
     }
 }
 
-fn number(word: Option<&str>) -> Result<usize> {
-    Ok(word.unwrap_or("").parse::<usize>()?)
+// The rules of names with `+` between them.
+fn rules_of(names: &str) -> Result<RuleSet> {
+    let mut rules = RuleSet::none();
+    for name in names.split('+') {
+        match Rule::by_name(name) {
+            Some(rule) => rules = rules.with(rule),
+            None => return Err(anyhow!("no rule: {name}")),
+        }
+    }
+    Ok(rules)
 }
 
-// A text so many times.
-fn lines(alloc: Global, rest: &str) -> Result<Vec<u8>> {
-    let (times, line) = rest.split_once(' ').unwrap_or((rest, ""));
-    let line = decoded(alloc, line)?;
-    let mut text = Vec::new(alloc);
-    for _ in 0..number(Some(times))? {
-        text.extend_from_slice(line.as_slice())?;
-    }
-    Ok(text)
+fn number(word: Option<&str>) -> Result<usize> {
+    Ok(word.unwrap_or("").parse::<usize>()?)
 }
 
 // A text, and as many `x` as make so many bytes.

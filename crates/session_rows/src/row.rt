@@ -1,6 +1,8 @@
 //! What comes of a row, and the bytes that a field stands for.
 
-use std::alloc::{AllocError, Global};
+use anyhow::Result;
+use row_text::Row;
+use std::alloc::Global;
 
 /// What came of a row.
 #[derive(Drop)]
@@ -12,7 +14,7 @@ pub struct Came {
 
 impl Came {
     /// Whether it is what these fields say, as far as there are any.
-    pub fn is(&self, alloc: Global, want: &str) -> Result<bool, AllocError> {
+    pub fn is(&self, alloc: Global, want: &str) -> Result<bool> {
         let came = [
             self.reply.as_bytes(),
             self.text.as_slice(),
@@ -27,53 +29,11 @@ impl Came {
     }
 }
 
-/// Where in an escape a field is.
-#[derive(Drop)]
-enum Escape {
-    Outside,
-    Begun,
-    High,
-    Low(u8),
-}
-
-/// The bytes of a field, in which `\n`, `\r`, `\t` and `\xHH` stand for those bytes; a field of `-` has none.
-pub fn decoded(alloc: Global, field: &str) -> Result<Vec<u8>, AllocError> {
-    let mut bytes = Vec::new(alloc);
-    let mut escape = Escape::Outside;
-    let field = if field == "-" { "" } else { field };
-    for byte in field.bytes() {
-        let (next, given) = step(escape, byte);
-        escape = next;
-        if let Some(given) = given {
-            bytes.push(given)?;
-        }
+/// The bytes of a field, which is written as the fields of `row_text` are; one of `-` has none.
+pub fn decoded(alloc: Global, field: &str) -> Result<Vec<u8>> {
+    if field == "-" {
+        return Ok(Vec::new(alloc));
     }
-    Ok(bytes)
-}
-
-fn step(escape: Escape, byte: u8) -> (Escape, Option<u8>) {
-    match escape {
-        Escape::Outside if byte == b'\\' => (Escape::Begun, None),
-        Escape::Outside => (Escape::Outside, Some(byte)),
-        Escape::Begun => match byte {
-            b'n' => (Escape::Outside, Some(b'\n')),
-            b'r' => (Escape::Outside, Some(b'\r')),
-            b't' => (Escape::Outside, Some(b'\t')),
-            b'x' => (Escape::High, None),
-            other => (Escape::Outside, Some(other)),
-        },
-        Escape::High => (Escape::Low(digit(byte)), None),
-        Escape::Low(high) => {
-            let given = high.wrapping_mul(16).wrapping_add(digit(byte));
-            (Escape::Outside, Some(given))
-        }
-    }
-}
-
-fn digit(byte: u8) -> u8 {
-    match byte {
-        b'0'..=b'9' => byte - b'0',
-        b'a'..=b'f' => byte - b'a' + 10,
-        _ => 0,
-    }
+    let row = Row::read(alloc, field)?;
+    Ok(Vec::from_slice(alloc, row.text(0)?)?)
 }
