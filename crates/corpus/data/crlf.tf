@@ -1,0 +1,5 @@
+// first
+variable "x" {
+  type = string // text
+}
+a = b.0

@@ -1,0 +1,12 @@
+a = <<E
+E
+b = <<-MARK
+  MARK
+c = [<<ONE
+one
+ONE
+, <<TWO
+two
+TWO
+]
+// end

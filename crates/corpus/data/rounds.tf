@@ -1,0 +1,3 @@
+a = "${"${"${b}"}"}"
+c = lookup(lookup(lookup(d, "e"), "f"), "g")
+h = i == [] == [] == []

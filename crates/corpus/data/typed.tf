@@ -1,0 +1,17 @@
+variable "one" {
+  description = "First"
+}
+variable two {
+  type = number
+}
+variable "three" {}
+variable "four" { type = string }
+variable {
+  type = string
+}
+nested {
+  variable "inner" {}
+}
+output three {
+  value = 3
+}

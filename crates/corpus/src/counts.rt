@@ -1,0 +1,90 @@
+//! Issues, counted by their rules.
+
+use anyhow::Result;
+use std::alloc::Global;
+use std::fmt::Write;
+use tf_lint::{Issue, Rule};
+
+const RULES: [Rule; 9] = [
+    Rule::CommentSyntax,
+    Rule::DeprecatedIndex,
+    Rule::DeprecatedInterpolation,
+    Rule::EmptyListEquality,
+    Rule::DeprecatedLookup,
+    Rule::NamingConvention,
+    Rule::TypedVariables,
+    Rule::DocumentedVariables,
+    Rule::DocumentedOutputs,
+];
+
+/// How many texts a rule is to have an issue in that can be fixed; one without a fix, an issue.
+fn wanted(rule: Rule) -> u64 {
+    match rule {
+        Rule::CommentSyntax
+        | Rule::DeprecatedIndex
+        | Rule::DeprecatedInterpolation
+        | Rule::EmptyListEquality
+        | Rule::DeprecatedLookup => 5,
+        Rule::NamingConvention
+        | Rule::TypedVariables
+        | Rule::DocumentedVariables
+        | Rule::DocumentedOutputs => 1,
+    }
+}
+
+/// The rule's name without what all begin with.
+fn short(rule: Rule) -> &'static str {
+    let name = rule.name();
+    name.strip_prefix("terraform_").unwrap_or(name)
+}
+
+/// The rules of the issues in their order, each with the number of its issues.
+pub fn told(alloc: Global, issues: &[Issue]) -> Result<String> {
+    let mut counts = String::new(alloc);
+    for rule in RULES {
+        let count = issues.iter().filter(|issue| issue.rule == rule).count();
+        if count > 0 {
+            let name = short(rule);
+            write!(counts, " {name}={count}")?;
+        }
+    }
+    Ok(counts)
+}
+
+/// In how many texts the rules have issues that count for them, in the order of `RULES`.
+#[derive(Drop)]
+pub struct Tally {
+    texts: [u64; 9],
+}
+
+/// Whether the issue is one of the rule, and can be fixed if the rule has a fix.
+fn counts_for(issue: &Issue, rule: Rule) -> bool {
+    issue.rule == rule && (issue.fixable || wanted(rule) == 1)
+}
+
+impl Tally {
+    pub fn new() -> Tally {
+        Tally { texts: [0; 9] }
+    }
+
+    /// Counts a text with these issues.
+    pub fn add(&mut self, issues: &[Issue]) {
+        for (i, rule) in RULES.iter().enumerate() {
+            let occurs = issues.iter().any(|issue| counts_for(issue, *rule));
+            if let Some(texts) = self.texts.get_mut(i) {
+                *texts = texts.saturating_add(u64::from(occurs));
+            }
+        }
+    }
+
+    /// Tells the rules that occur too seldom.
+    pub fn tell_rare(&self, rt: &HostRuntime) -> Result<()> {
+        for (rule, texts) in RULES.iter().zip(self.texts.iter()) {
+            if *texts < wanted(*rule) {
+                let name = short(*rule);
+                println!(rt; "{name}: in {texts} texts")?;
+            }
+        }
+        Ok(())
+    }
+}
