@@ -2,7 +2,7 @@
 use Rattle.std.specs.Prelude.{◌≡◌, ◌≤◌, ◌<◌, ◌+◌, ◌⊎◌, ℕ, Bool, List, [], ◌∷◌, length, Result, Ok, Err, not, if◌then◌else◌, MatchBool}
 use Rattle.std.specs.Str.{bytes_eq}
 use Rattle.hcl_scan.specs.Cut.{MAX_TEXT}
-use Rattle.edit_record.specs.Pieces.{EditList, as_list}
+use Rattle.edit_record.specs.Pieces.{EditList, as_list, Turns}
 use Rattle.edit_squash.specs.Grouping.{SquashAll}
 use Rattle.tf_rule.specs.declared.finding.Finding.{Finding}
 use Rattle.tf_rule.specs.declared.rule.Rule.{Rule}
@@ -74,6 +74,19 @@ StepBreaks rule p found (Parse fault) = ⊥
 StepBreaks rule p found (FixBroken broken) = (broken ≡ rule) × (length (fixed_text p found) ≤ MAX_TEXT) × IsUnread (fixed_text p found)
 StepBreaks rule p found TooLong = MAX_TEXT < length (fixed_text p found)
 StepBreaks rule p found Memory = ⊥
+
+-- the step of the rule, over what it alone finds, can't be done
+abbrev pub CannotStep : Rule → Parsed → FixFault → Type 0
+CannotStep rule p fault = (found : List Finding) × Finds (only rule) p found × StepBreaks rule p found fault
+
+-- the step of the rule over a text: these edits, which turn it into the text behind the step, and so many findings that they mend
+pub record IsFixStep (rule : Rule) (p : Parsed) (count : ℕ) (edits : EditList) : Type 0 where
+  pub found : List Finding
+  pub finds : Finds (only rule) p found
+  pub edits_are : edits ≡ fix_edits rule p found
+  pub turns : Turns edits p.scanned.text (fixed_text p found)
+  pub short : length (fixed_text p found) ≤ MAX_TEXT
+  pub count_is : count ≡ fix_count found
 
 -- the step of a rule that found this, and then the others over its text; the first that can't be done ends all
 abbrev pub FoundThen : Rule → Parsed → List Finding → (Parsed → Result Steps FixFault → Type 0) → Result Steps FixFault → Type 0

@@ -1,6 +1,7 @@
 //! What a fix makes of a text: the steps of its rules, one after another.
 //!
-//! `fix_text` fixes a text, `read_text` answers the tokens and the tree of a text that parses. `laws` says that a text has one fix.
+//! `fix_text` fixes a text, `fix_step` makes the edits of one rule's step, `read_text` answers the tokens and the tree of a text
+//! that parses. `laws` says that a text has one fix.
 #![tactic(auto)]
 
 mod fault;
@@ -11,5 +12,5 @@ mod steps;
 
 pub use fault::FixFault;
 pub use reading::{Parsed, read_text};
-pub use step::Change;
+pub use step::{Change, Mended, fix_step};
 pub use steps::{Fixed, fix_text};

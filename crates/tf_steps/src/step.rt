@@ -7,8 +7,8 @@ ghost use Rattle.edit_record.specs.Pieces.{Turns};
 ghost use Rattle.tf_steps.specs.Reading.{Reads};
 ghost use Rattle.tf_rule.specs.Findings.{AreSound};
 ghost use Rattle.tf_steps.specs.OneRule.{only};
-ghost use Rattle.tf_steps.specs.Steps.{Finds, fixed_text, fix_edits, fix_count, StepBreaks};
-ghost use Rattle.tf_steps.specs.Inner.Passing.{IsStep, CannotStep};
+ghost use Rattle.tf_steps.specs.Steps.{Finds, fixed_text, fix_edits, fix_count, IsFixStep, StepBreaks, CannotStep};
+ghost use Rattle.tf_steps.specs.Inner.Passing.{IsStep};
 ghost use Rattle.tf_steps.specs.declared.fault.FixFault.{FixFault};
 
 use crate::fault::FixFault;
@@ -38,11 +38,13 @@ pub struct Step {
     pub change: Option<Change>,
 }
 
-/// The edits of a step, and how many findings they mend.
+/// The edits of one rule's step, and how many findings they mend.
 #[derive(Drop)]
-struct Mended {
-    count: usize,
-    edits: Edits,
+pub struct Mended {
+    /// How many findings are mended.
+    pub count: usize,
+    /// What turns the text into the one behind the step.
+    pub edits: Edits,
 }
 
 // The set of this rule alone.
@@ -75,14 +77,27 @@ fn step_edits(
     Ok(Mended { count, edits })
 }
 
+/// One rule's fix of a text that parses: of what the rule finds, all is mended that can be and shares no token with what was taken before
+/// it, exactly by the stated edits.
+///
+/// `TooLong` where the new text would have more than 16,777,216 bytes, and `Memory`. Whether the new text parses is not asked.
+pub fn fix_step(alloc: Global, parsed: &Parsed<'_>, rule: Rule) -> Result<Mended, FixFault>
+    requires { Reads parsed.now.scanned.text parsed.now }
+    ensures step { IfOk result (λ mended. IsFixStep rule parsed.now mended.count mended.edits) }
+    ensures few { IfOk result (λ mended. mended.count ≤ MAX_TEXT) }
+    ensures fault { IfErr result (λ fault. (fault ≡ FixFault.Memory) ⊎ ((fault ≡ FixFault.TooLong) × CannotStep rule parsed.now fault)) }
+{
+    let found = findings(alloc, &parsed.scanned, &parsed.tree, only(rule))?;
+    step_edits(alloc, parsed, rule, &found)
+}
+
 /// The step of the rule over a text.
 pub fn one_step(alloc: Global, parsed: &Parsed<'_>, rule: Rule) -> Result<Step, FixFault>
     requires { Reads parsed.now.scanned.text parsed.now }
     ensures step { IfOk result (λ step. IsStep rule parsed.now step) }
     ensures fault { IfErr result (λ fault. (fault ≡ FixFault.Memory) ⊎ CannotStep rule parsed.now fault) }
 {
-    let found = findings(alloc, &parsed.scanned, &parsed.tree, only(rule))?;
-    let Mended { count, edits } = step_edits(alloc, parsed, rule, &found)?;
+    let Mended { count, edits } = fix_step(alloc, parsed, rule)?;
     let text = turned(alloc, parsed.scanned.text(), &edits)?;
     if text.as_slice() == parsed.scanned.text() {
         return Ok(Step {

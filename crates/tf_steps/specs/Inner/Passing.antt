@@ -34,10 +34,6 @@ pub record IsStep (rule : Rule) (p : Parsed) (step : Step) : Type 0 where
   pub short : length (fixed_text p found) ≤ MAX_TEXT
   pub change : IsChange rule p found step.change
 
--- the step of the rule, over what it finds, can't be done
-abbrev pub CannotStep : Rule → Parsed → FixFault → Type 0
-CannotStep rule p fault = (found : List Finding) × Finds (only rule) p found × StepBreaks rule p found fault
-
 -- ---- the first step that changes the text
 
 -- the most findings that steps of these rules can mend
