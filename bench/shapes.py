@@ -1,0 +1,142 @@
+"""Texts of one shape each, many times over: what a formatter and linter could be slow at."""
+
+LEVELS = 100  # as deep as tfk lets constructs stand in one another
+
+
+def lines(count, line):
+    """The lines of the numbers from 0."""
+    return "".join(line(i) for i in range(count))
+
+
+def joined(count, between, part):
+    """The parts of the numbers from 0, with something between each two."""
+    return between.join(part(i) for i in range(count))
+
+
+def nested(count):
+    """Each construct inside itself, as deep as may be, many times over."""
+    deep = LEVELS
+    blocks = "".join(f'b "l{i}" {{\n' for i in range(deep)) + "x = 1\n" + "}\n" * deep
+    one = [
+        blocks,
+        "parens = " + "(" * deep + "1" + ")" * deep + "\n",
+        "lists = " + "[" * deep + "1" + "]" * deep + "\n",
+        "open = " + "[\n" * deep + "1" + "\n]" * deep + "\n",
+        "objects = " + "{ a = " * deep + "1" + " }" * deep + "\n",
+        "calls = " + "f(" * deep + "1" + ")" * deep + "\n",
+        "nots = " + "!" * deep + "true\n",
+        "conditionals = " + "a ? b : " * deep + "c\n",
+        "loops = " + "[for v in " * deep + "x" + " : v]" * deep + "\n",
+        "indexes = " + "a[" * deep + "0" + "]" * deep + "\n",
+    ]
+    return "".join(one) * count
+
+
+def interpolations(deep, inner):
+    """Interpolations inside each other, two constructs each."""
+    return '"${' * deep + inner + '}"' * deep
+
+
+def lookups(deep, inner):
+    """Lookups inside each other."""
+    return "lookup(" * deep + inner + ", k)" * deep
+
+
+def arguments(count):
+    """A call with so many arguments."""
+    return "f(" + joined(count, ",", lambda i: "1") + ")"
+
+
+def journal(count):
+    """A text with its journal: the oldest record changes the first byte, and each later one a hundred others, forth and back."""
+    places = [10 + 10 * i for i in range(100)]
+    length = places[-1] + 10
+
+    def record(word, edits):
+        return f"tfrec 2 {word} {length} {len(edits)}\n" + "".join(f"{at} 1 1\n{old}{new}\n" for at, old, new in edits) + "end\n"
+
+    records = [record("fix", [(0, "x", "#")])]
+    letter = "a"
+    for _ in range(1, count):
+        new = "b" if letter == "a" else "a"
+        records.append(record("fmt", [(at, letter, new) for at in places]))
+        letter = new
+    text = "#" + "".join(letter if i in places else " " for i in range(1, length))
+    return text, "".join(records)
+
+
+# By name: how many, and what stands in the text so many times. The second size has four times as many.
+SHAPES = {
+    # a million tokens on one line
+    "one-line": (250000, lambda n: "x = [" + joined(n // 2, ", ", lambda i: str(i % 1000)) + "]\n"),
+    # the same with letters that are not ASCII: two, three and four bytes, and clusters of several
+    "one-line-wide": (60000, lambda n: "x = [" + joined(n // 2, ", ", lambda i: ('"größe"', '"変数名"', '"e\u0301"', '"👩‍👩‍👧"')[i % 4]) + "]\n"),
+    # a list of a million elements, on one line and one a line
+    "list": (250000, lambda n: "x = [" + joined(n, ", ", str) + "]\n"),
+    "list-lines": (250000, lambda n: "x = [\n" + lines(n, lambda i: f"  {i},\n") + "]\n"),
+    # 400,000 attributes in the body of the text, with names of many widths, whose = signs stand in one column
+    "attributes": (100000, lambda n: lines(n, lambda i: f'a{"x" * (i % 17)}{i} = {i}\n')),
+    # the same in a block, in a variable and in locals
+    "attributes-in-block": (100000, lambda n: 'resource "r" "n" {\n' + lines(n, lambda i: f"  a{i} = {i}\n") + "}\n"),
+    "attributes-in-variable": (100000, lambda n: 'variable "n" {\n' + lines(n, lambda i: f"  a{i} = {i}\n") + "}\n"),
+    "attributes-in-locals": (100000, lambda n: "locals {\n" + lines(n, lambda i: f"  a{i} = {i}\n") + "}\n"),
+    # comments behind attributes, which stand in one column too
+    "attributes-with-comments": (100000, lambda n: lines(n, lambda i: f'a{i} = "{"v" * (i % 13)}" # {i}\n')),
+    # an object of 400,000 elements
+    "object": (100000, lambda n: "x = {\n" + lines(n, lambda i: f'  k{"x" * (i % 17)}{i} = {i}\n') + "}\n"),
+    # an operator chain of 200,000 and of 800,000
+    "operators": (200000, lambda n: "x = a" + joined(n, "", lambda i: (" + b", " * c", " - d", " && e", " < f", " || g")[i % 6]) + "\n"),
+    # a template of 200,000 parts and of 800,000, and a heredoc of as many lines
+    "template": (200000, lambda n: 'x = "' + joined(n // 2, "", lambda i: "ab ${c.d}") + '"\n'),
+    "heredoc-parts": (100000, lambda n: "x = <<EOT\n" + lines(n, lambda i: f"line {i} with ${{c.d}} in it\n") + "EOT\n"),
+    # many heredocs
+    "heredocs": (30000, lambda n: lines(n, lambda i: f'r "n{i}" {{\n  text = <<-EOT\n    first {i}\n      second ${{a.y[{i}]}}\n  EOT\n}}\n')),
+    # 200,000 blocks and 800,000
+    "blocks": (200000, lambda n: lines(n, lambda i: f"b{i} {{\n}}\n")),
+    "blocks-on-a-line": (150000, lambda n: lines(n, lambda i: f"b{i} {{ a = {i} }}\n")),
+    # 100 constructs in one another, everywhere
+    "nested": (80, nested),
+    "nested-interpolations": (10000, lambda n: lines(n, lambda i: f'a{i} = {interpolations(LEVELS // 2, "v")}\n')),
+    "nested-lookups": (3000, lambda n: lines(n, lambda i: f'a{i} = {lookups(LEVELS, "v")}\n')),
+    # as many constructs as may be around very much
+    "interpolations-around-much": (1000000, lambda n: "x = " + interpolations(LEVELS // 2 - 1, arguments(n)) + "\n"),
+    "lookups-around-much": (1000000, lambda n: "x = " + lookups(LEVELS - 1, arguments(n)) + "\n"),
+    # 100,000 issues of each rule, and 400,000
+    "issues-comments": (100000, lambda n: lines(n, lambda i: f"a{i} = 1 // why\n")),
+    "issues-index": (100000, lambda n: lines(n, lambda i: f"a{i} = b.0.c\n")),
+    "issues-interpolation": (100000, lambda n: lines(n, lambda i: f'a{i} = "${{var.name_{i}}}"\n')),
+    "issues-equality": (100000, lambda n: lines(n, lambda i: f"a{i} = b.c == []\n")),
+    "issues-lookup": (100000, lambda n: lines(n, lambda i: f"a{i} = lookup(b, c)\n")),
+    "issues-naming": (100000, lambda n: lines(n, lambda i: f'data "d" "aB{i}" {{}}\n')),
+    "issues-naming-locals": (100000, lambda n: "locals {\n" + lines(n, lambda i: f"  aB{i} = 1\n") + "}\n"),
+    "issues-variables": (100000, lambda n: lines(n, lambda i: f'variable "a{i}" {{}}\n')),
+    "issues-outputs": (100000, lambda n: lines(n, lambda i: f'output "a{i}" {{}}\n')),
+    # each rule in one text
+    "issues-all": (20000, lambda n: lines(n, lambda i: f'variable "aB{i}" {{}}\noutput "o{i}" {{ value = lookup(a.0, "${{b}}") == [] }} // c\n')),
+    # issues one behind the other in one expression
+    "index-chain": (100000, lambda n: "x = a" + ".0" * n + "\n"),
+    "index-behind-splat": (100000, lambda n: "x = a.*" + ".0" * n + "\n"),
+    "equality-chain": (100000, lambda n: "x = a" + " == []" * n + "\n"),
+    # the same where a long token stands before the first operand, from which the issues' columns are counted
+    "equality-behind-text": (100000, lambda n: 'x = ["' + "a" * (10 * n) + '", b' + " == []" * n + "]\n"),
+    "equality-behind-wide-text": (100000, lambda n: 'x = ["' + "ä" * (5 * n) + '", b' + " == []" * n + "]\n"),
+    # 70,000 silencing comments, and 280,000; 100,000 on one line, and 400,000; one with very many names
+    "silenced": (70000, lambda n: lines(n, lambda i: f"# tflint-ignore: terraform_deprecated_index\na{i} = b.0\n")),
+    "silenced-on-a-line": (100000, lambda n: "x = [" + lines(n, lambda i: "/* tflint-ignore: all */ b.0, ") + "]\n"),
+    "names-in-a-silencing-comment": (400000, lambda n: "# tflint-ignore: " + joined(n, ", ", lambda i: f"n{i % 10}") + "\na = b.0\n"),
+    # 100,000 runs whose = signs stand in one column, 400,000, and runs of comments
+    "alignments": (100000, lambda n: lines(n, lambda i: f"a=1\nbcd{i} = 2\n\n")),
+    "comment-alignments": (100000, lambda n: lines(n, lambda i: f"a=1 # x\nbcd=2 # y\n\n")),
+    # each line of a run longer than the one before
+    "longer-and-longer": (2000000, lambda n: lines(int((2 * n) ** 0.5), lambda i: "a" * (i + 1) + "=1\n")),
+    # line comments that are well
+    "comments": (100000, lambda n: lines(n, lambda i: f"# comment number {i}\n")),
+    # letters that are not ASCII
+    "wide-names": (60000, lambda n: lines(n, lambda i: f'{("größe", "ключ", "変数名", "値")[i % 4]}_{i} = "e\u0301 👩‍👩‍👧 {i}"\n')),
+    # a heredoc of 4 and 16 MB in one line, and in lines; a string; a comment
+    "heredoc": (4000000, lambda n: "x = <<EOT\n" + "a" * n + "\nEOT\n"),
+    "heredoc-lines": (130000, lambda n: "x = <<EOT\n" + lines(n, lambda i: "a line of some text in a heredoc\n"[:30] + "\n") + "EOT\n"),
+    "string": (4000000, lambda n: 'x = "' + "a" * n + '"\n'),
+    "wide-string": (2000000, lambda n: 'x = "' + "ä" * n + '"\n'),
+    "comment": (4000000, lambda n: "/*" + "a" * n + "*/\nx = 1\n"),
+}
