@@ -1,6 +1,7 @@
 //! Issues and how they are reported.
 
-ghost use Rattle.std.specs.Prelude.{◌≡◌, ◌<◌, length, IfOk, string_bytes};
+ghost use Rattle.std.specs.Prelude.{◌≡◌, IfOk, string_bytes};
+ghost use Rattle.hcl_token.specs.Place.{place_of};
 ghost use Rattle.tf_lint.specs.Reports.{line_of, report, report_of};
 
 use crate::message::message;
@@ -26,13 +27,14 @@ pub struct Issue {
 }
 
 impl Issue {
-    /// The issue of a finding in a text.
+    /// The issue of a finding that begins at this place of a text.
     pub(crate) fn of(
         alloc: Global,
         scanned: &Scanned<'_>,
         finding: &Finding,
+        place: Place,
     ) -> Result<Issue, AllocError>
-        requires { finding.now.first < length scanned.now.pairs }
+        requires { place ≡ place_of scanned.now.pairs finding.now.first }
         ensures { IfOk result (λ issue. report issue ≡ report_of scanned.now.pairs finding.now) }
     {
         let text = message(alloc, scanned, finding)?;
@@ -40,7 +42,7 @@ impl Issue {
             rule: finding.rule,
             first: finding.first,
             past: finding.past,
-            place: scanned.place_of(finding.first),
+            place,
             text,
             fixable: finding.fixable,
         })

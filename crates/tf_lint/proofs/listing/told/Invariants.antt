@@ -1,8 +1,13 @@
--- What is told of the findings so far.
+-- What is told of the findings so far, and the place that was told last.
 use Rattle.std.proofs.Common.{◌≡◌, take, map}
+use Rattle.std.specs.Prelude.{IfSome}
+use Rattle.hcl_token.specs.Place.{place_of}
 use Rattle.tf_lint.specs.Issues.{reports}
 use Rattle.tf_lint.specs.Reports.{report_of}
 use Rattle.tf_lint.proofs.listing.told.Given as goal
 
 abbrev pub invariant-loop-finding : goal.invariant-loop-finding
-invariant-loop-finding l = reports l.issues.items ≡ map (report_of l.fn.scanned.pairs) (take l.finding-index l.found)
+invariant-loop-finding l = record {
+  reports : reports l.issues.items ≡ map (report_of l.fn.scanned.pairs) (take l.finding-index l.found);
+  last : IfSome l.told (λ t. t.1 ≡ place_of l.fn.scanned.pairs t.0);
+}
