@@ -6,7 +6,8 @@ use std::fs;
 use std::io::{Read, Write};
 use std::rt::Files;
 use tf_session::{
-    Command, RuleSet, RunFault, Told, check_stream, lint_stream, put_text, step_stream,
+    Command, Done, RuleSet, RunFault, Session, Told, check_stream, lint_stream, put_text,
+    step_stream,
 };
 
 /// The name of standard input, on the command line and in reports.
@@ -111,14 +112,30 @@ pub fn fix_input<I: Read, O: Write, F: Write>(
     left: &mut F,
     rules: RuleSet,
 ) -> Result<usize, RunFault> {
-    let (session, _) = step_stream(
+    let (session, done) = step_stream(
         alloc,
         Command::Fix(rules),
         &mut Told::new(input),
         &mut Told::new(output),
     )?;
+    list_left(alloc, STANDARD_INPUT, &session, done, left, rules)
+}
+
+/// Writes the lines of the issues that a fix left to the output, and answers how many are left.
+fn list_left<O: Write>(
+    alloc: Global,
+    name: &str,
+    session: &Session,
+    done: Done,
+    output: &mut O,
+    rules: RuleSet,
+) -> Result<usize, RunFault> {
+    if done.left == 0 {
+        // There is no line to write, so the text need not be read once more.
+        return Ok(0);
+    }
     let mut fixed = session.text();
-    lint_reader(alloc, STANDARD_INPUT, &mut fixed, left, rules)
+    lint_reader(alloc, name, &mut fixed, output, rules)
 }
 
 /// Fixes a file in place, with its journal beside it, writes the lines of the issues left to the output, and answers how many
@@ -130,9 +147,8 @@ pub fn fix_file<R: Files, O: Write>(
     output: &mut O,
     rules: RuleSet,
 ) -> Result<usize, RunFault> {
-    let (session, _) = command_file(rt, alloc, name, Command::Fix(rules))?;
-    let mut fixed = session.text();
-    lint_reader(alloc, name, &mut fixed, output, rules)
+    let (session, done) = command_file(rt, alloc, name, Command::Fix(rules))?;
+    list_left(alloc, name, &session, done, output, rules)
 }
 
 /// Takes back the command of this number on a file, the oldest being 1, or without one the last.
