@@ -69,8 +69,9 @@ impl<T: Drop, A: Allocator> Items<T, A> {
     {
         let len = self.len();
         if len == self.vec.capacity() {
-            // Most lists of a tree are short, and a long one is most of its tree: so a quarter more, not twice as much.
-            self.vec.reserve_exact(len / 4 + 1)?;
+            // A short list doubles; a long one is most of its tree, and grows by a quarter.
+            let more = if len < 64 { len + 1 } else { len / 4 };
+            self.vec.reserve_exact(more)?;
         }
         self.vec.push(item)?;
         Ok(())
