@@ -273,7 +273,7 @@ pub struct Attribute {
     /// The number of the name's token.
     pub name: usize,
     /// What stands behind `=`.
-    pub value: Expr,
+    pub value: Boxed<Expr>,
 }
 
 /// A label of a block: a name, or quoted text.
@@ -292,11 +292,11 @@ pub struct Label {
 #[derive(Drop)]
 pub struct Block {
     /// The number of its first token, the word.
-    pub first: usize,
+    pub first: u32,
     /// The number past its last token; the comment and the line end behind the brace are its tokens.
-    pub past: usize,
+    pub past: u32,
     /// The number of the token of the word that it begins with.
-    pub word: usize,
+    pub word: u32,
     /// The labels between the word and the brace.
     pub labels: Items<Label>,
     /// What stands in the braces.
@@ -308,9 +308,9 @@ pub struct Block {
 #[derive(Drop)]
 pub enum Content {
     /// A body, on lines of its own.
-    Lines(Body),
+    Lines(Boxed<Body>),
     /// At most one attribute, on the line of the braces.
-    Line(Option<Attribute>),
+    Line(Option<Boxed<Attribute>>),
 }
 
 /// The attributes and blocks of a text or of a block, one behind the other.
@@ -332,7 +332,7 @@ pub enum Member {
     /// `NAME = A`
     Attribute(Attribute),
     /// `WORD LABELS { .. }`
-    Block(Boxed<Block>),
+    Block(Block),
 }
 
 /// The tree of a whole text.

@@ -2,7 +2,8 @@
 //!
 //! `first` is the number of a node's first token, `past` the number past its last.
 
-ghost use Rattle.std.specs.Prelude.{◌≡◌, IfOk};
+ghost use Rattle.std.specs.Prelude.{◌≡◌, Some, IfOk};
+ghost use Rattle.hcl_grammar.specs.declared.tree.Content.TheVariants as content;
 ghost use Rattle.hcl_grammar.specs.declared.tree.Part.TheVariants as part;
 ghost use Rattle.hcl_grammar.specs.declared.tree.Tail.TheVariants as tail;
 ghost use Rattle.hcl_grammar.specs.Nodes as nodes;
@@ -218,15 +219,34 @@ pub fn for_part(
 
 /// An attribute, whose first token is its name.
 #[tactic(auto, unfolding(hcl_grammar::specs::Nodes::attribute))]
-pub fn attribute(first: usize, past: usize, value: Expr) -> Attribute
-    ensures { result ≡ nodes.attribute first past value }
+pub fn attribute(
+    alloc: Global,
+    first: usize,
+    past: usize,
+    value: Expr,
+) -> Result<Attribute, AllocError>
+    ensures { IfOk result (λ a. a ≡ nodes.attribute first past value) }
 {
-    Attribute {
+    Ok(Attribute {
         first,
         past,
         name: first,
-        value,
-    }
+        value: Boxed::new(alloc, value)?,
+    })
+}
+
+/// The attribute of a block on one line.
+pub fn line(alloc: Global, attribute: Attribute) -> Result<Content, AllocError>
+    ensures { IfOk result (λ c. c ≡ content.Line (Some attribute)) }
+{
+    Ok(Content::Line(Some(Boxed::new(alloc, attribute)?)))
+}
+
+/// The body of a block on lines of its own.
+pub fn lines(alloc: Global, body: Body) -> Result<Content, AllocError>
+    ensures { IfOk result (λ c. c ≡ content.Lines body) }
+{
+    Ok(Content::Lines(Boxed::new(alloc, body)?))
 }
 
 /// A label of a block.
@@ -237,10 +257,20 @@ pub fn label(first: usize, past: usize, name: Option<usize>) -> Label
     Label { first, past, name }
 }
 
+/// The number of a token, in 32 bits; `AllocError` past them, where no list of tokens has room for so many.
+fn narrow(number: usize) -> Result<u32, AllocError>
+    ensures { IfOk result (λ n. n ≡ number) }
+{
+    if number <= u32::MAX as usize {
+        Ok(number as u32)
+    } else {
+        Err(AllocError)
+    }
+}
+
 /// A block, whose first token is its word.
 #[tactic(auto, unfolding(hcl_grammar::specs::Nodes::block))]
 pub fn block(
-    alloc: Global,
     first: usize,
     past: usize,
     labels: Items<Label>,
@@ -248,14 +278,15 @@ pub fn block(
 ) -> Result<Member, AllocError>
     ensures { IfOk result (λ m. m ≡ nodes.block first past labels content) }
 {
-    let block = Block {
+    let first = narrow(first)?;
+    let past = narrow(past)?;
+    Ok(Member::Block(Block {
         first,
         past,
         word: first,
         labels,
         content,
-    };
-    Ok(Member::Block(Boxed::new(alloc, block)?))
+    }))
 }
 
 /// The members of a body.
@@ -263,6 +294,8 @@ pub fn block(
 pub fn body(first: usize, past: usize, members: Items<Member>) -> Body
     ensures { result ≡ nodes.body first past members }
 {
+    let mut members = members;
+    members.trim();
     Body {
         first,
         past,

@@ -61,7 +61,8 @@ fn on_line(
     }
     cursor::expect(scanned, false, Kind::Equal, at)?;
     let value = expr(alloc, scanned, depth, false, Goal::Whole, at)?;
-    Ok(Content::Line(Some(nodes::attribute(first, *at, value))))
+    let attribute = nodes::attribute(alloc, first, *at, value)?;
+    Ok(nodes::line(alloc, attribute)?)
 }
 
 /// A text, with the function that parses the bodies of blocks.
@@ -98,7 +99,7 @@ impl<
     {
         let value = expr(self.alloc, self.scanned, self.depth, false, Goal::Whole, at)?;
         eol(self.scanned, at)?;
-        Ok(Member::Attribute(nodes::attribute(first, *at, value)))
+        Ok(Member::Attribute(nodes::attribute(self.alloc, first, *at, value)?))
     }
 
     /// The body of a block.
@@ -111,7 +112,7 @@ impl<
         let members = self.inner(at)?;
         let to = *at;
         let first = span::first_of(self.scanned, false, from, to);
-        Ok(Content::Lines(nodes::body(first, to, members)))
+        Ok(nodes::lines(self.alloc, nodes::body(first, to, members))?)
     }
 
     /// What stands behind `{`: a line end and a body, or what stands on the line.
@@ -139,7 +140,7 @@ impl<
         let content = self.block_content(at)?;
         cursor::expect(self.scanned, false, Kind::CloseBrace, at)?;
         eol(self.scanned, at)?;
-        Ok(nodes::block(self.alloc, first, *at, labels, content)?)
+        Ok(nodes::block(first, *at, labels, content)?)
     }
 
     /// An attribute or a block, behind its first word.

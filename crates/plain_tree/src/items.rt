@@ -52,6 +52,13 @@ impl<T, A: Allocator> Items<T, A> {
     {
         self.vec.is_empty()
     }
+
+    /// Gives the room back that no element takes, where the allocator can take it.
+    pub fn trim(&mut self)
+        ensures { self.new ≡ self.old }
+    {
+        self.vec.shrink_to_fit();
+    }
 }
 
 impl<T: Drop, A: Allocator> Items<T, A> {
@@ -60,9 +67,11 @@ impl<T: Drop, A: Allocator> Items<T, A> {
         ensures ok { OnOk result (self.new ≡ self.old ++ item ∷ []) }
         ensures err { OnErr result (self.new ≡ self.old) }
     {
-        if self.vec.is_empty() {
-            // Most lists have one element: room for four would be most of a tree.
-            self.vec.reserve_exact(1)?;
+        let len = self.len();
+        if len == self.vec.capacity() {
+            // A short list doubles; a long one is most of its tree, and grows by a quarter.
+            let more = if len < 64 { len + 1 } else { len / 4 };
+            self.vec.reserve_exact(more)?;
         }
         self.vec.push(item)?;
         Ok(())

@@ -11,7 +11,7 @@ use crate::role::Role;
 use crate::walk::Walk;
 use hcl_grammar::tree::{Attribute, Content, Member, Tree};
 use hcl_scan::Scanned;
-use plain_tree::Items;
+use plain_tree::{Boxed, Items};
 use std::alloc::{AllocError, Global};
 use tf_rule::{Finding, RuleSet};
 
@@ -31,8 +31,8 @@ impl<'s, 't> Walk<'s, 't> {
         ensures { OnOk result (Collects self.now.rules self.now.scanned.now.pairs (member_parts (out-Member x.now)) found.old.items found.new.items) }
     {
         match x {
-            Member::Attribute(a) => self.expr(Role::AttributeValue, &a.value, found),
-            Member::Block(b) => self.content(&b.get().content, found),
+            Member::Attribute(a) => self.expr(Role::AttributeValue, a.value.get(), found),
+            Member::Block(b) => self.content(&b.content, found),
         }
     }
 
@@ -41,20 +41,20 @@ impl<'s, 't> Walk<'s, 't> {
         ensures { OnOk result (Collects self.now.rules self.now.scanned.now.pairs (content_parts (out-Content content.now)) found.old.items found.new.items) }
     {
         match content {
-            Content::Lines(body) => self.members(&body.members, found),
+            Content::Lines(body) => self.members(&body.get().members, found),
             Content::Line(a) => self.attribute_if(a, found),
         }
     }
 
     fn attribute_if(
         &self,
-        a: &Option<Attribute>,
+        a: &Option<Boxed<Attribute>>,
         found: &mut Vec<Finding>,
     ) -> Result<(), AllocError>
         ensures { OnOk result (Collects self.now.rules self.now.scanned.now.pairs (option_parts a.now) found.old.items found.new.items) }
     {
         match a {
-            Some(a) => self.expr(Role::AttributeValue, &a.value, found),
+            Some(a) => self.expr(Role::AttributeValue, a.get().value.get(), found),
             None => Ok(()),
         }
     }

@@ -29,13 +29,14 @@ impl<'s, 't> Top<'s, 't> {
     ) -> Result<(), AllocError>
         ensures { OnOk result (found.new.items ≡ found.old.items ++ missing self.now.scanned.now.pairs rule b.now matter) }
     {
-        if b.word >= self.scanned.len() {
+        let word = b.word as usize;
+        if word >= self.scanned.len() {
             return Ok(());
         }
         let finding = Finding {
             rule,
-            first: b.word,
-            past: b.word + 1,
+            first: word,
+            past: word + 1,
             fixable: false,
             matter,
         };
@@ -48,7 +49,7 @@ impl<'s, 't> Top<'s, 't> {
         if !self.rules.has(Rule::TypedVariables) {
             return Ok(());
         }
-        if !is_word(word(self.scanned, b.word), b"variable") {
+        if !is_word(word(self.scanned, b.word as usize), b"variable") {
             return Ok(());
         }
         if has_attribute(self.scanned, b"type", false, b) {
@@ -71,7 +72,7 @@ impl<'s, 't> Top<'s, 't> {
         if !self.rules.has(rule) {
             return Ok(());
         }
-        if !is_word(word(self.scanned, b.word), kind) {
+        if !is_word(word(self.scanned, b.word as usize), kind) {
             return Ok(());
         }
         if !is_undocumented(self.scanned, b) {

@@ -10,6 +10,7 @@ use crate::snake_case::is_snake_case;
 use crate::top::Top;
 use crate::words::{is_word, name_at, word};
 use hcl_grammar::tree::{Attribute, Block, Content, Label, Member};
+use plain_tree::Boxed;
 use std::alloc::AllocError;
 use tf_rule::{Finding, Matter, Named, Rule};
 
@@ -76,7 +77,7 @@ impl<'s, 't> Top<'s, 't> {
     fn declared(&self, b: &Block, found: &mut Vec<Finding>) -> Result<(), AllocError>
         ensures { OnOk result (found.new.items ≡ found.old.items ++ declared_findings self.now.scanned.now.pairs b.now (declaration (word self.now.scanned.now.pairs b.now.word))) }
     {
-        match declaration(word(self.scanned, b.word)) {
+        match declaration(word(self.scanned, b.word as usize)) {
             None => Ok(()),
             Some((named, i)) => self.label(named, b.labels.as_slice().get(i), found),
         }
@@ -91,12 +92,16 @@ impl<'s, 't> Top<'s, 't> {
         self.naming(Named::Local, Some(a.name), a.name, a.name + 1, found)
     }
 
-    fn local_if(&self, a: &Option<Attribute>, found: &mut Vec<Finding>) -> Result<(), AllocError>
+    fn local_if(
+        &self,
+        a: &Option<Boxed<Attribute>>,
+        found: &mut Vec<Finding>,
+    ) -> Result<(), AllocError>
         ensures { OnOk result (found.new.items ≡ found.old.items ++ flat_map (local_findings self.now.scanned.now.pairs) (attribute_at a.now)) }
     {
         match a {
             None => Ok(()),
-            Some(a) => self.local(a, found),
+            Some(a) => self.local(a.get(), found),
         }
     }
 
@@ -122,7 +127,7 @@ impl<'s, 't> Top<'s, 't> {
         ensures { OnOk result (found.new.items ≡ found.old.items ++ flat_map (local_findings self.now.scanned.now.pairs) (attributes b.now)) }
     {
         match &b.content {
-            Content::Lines(body) => self.local_members(body.members.as_slice(), found),
+            Content::Lines(body) => self.local_members(body.get().members.as_slice(), found),
             Content::Line(a) => self.local_if(a, found),
         }
     }
@@ -130,7 +135,7 @@ impl<'s, 't> Top<'s, 't> {
     fn locals(&self, b: &Block, found: &mut Vec<Finding>) -> Result<(), AllocError>
         ensures { OnOk result (found.new.items ≡ found.old.items ++ locals_findings self.now.scanned.now.pairs b.now) }
     {
-        if !is_word(word(self.scanned, b.word), b"locals") {
+        if !is_word(word(self.scanned, b.word as usize), b"locals") {
             return Ok(());
         }
         self.local_attributes(b, found)

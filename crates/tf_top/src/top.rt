@@ -49,7 +49,7 @@ impl<'s, 't> Top<'s, 't> {
     {
         match m {
             Member::Attribute(_) => Ok(()),
-            Member::Block(b) => self.block(b.get(), found),
+            Member::Block(b) => self.block(b, found),
         }
     }
 
