@@ -1,0 +1,4 @@
+pub mod Grammar
+pub mod Inside
+pub mod Through
+pub mod Told
