@@ -185,18 +185,28 @@ impl Seen {
 
     /// Tells what has not occurred.
     pub fn tell_missing(&self, rt: &HostRuntime) -> Result<()> {
+        self.tell_kinds(rt)?;
+        self.tell_forms(rt)?;
+        if self.unlisted {
+            println!(rt; "something occurs that is not listed")?;
+        }
+        Ok(())
+    }
+
+    fn tell_kinds(&self, rt: &HostRuntime) -> Result<()> {
         for (kind, seen) in KINDS.iter().zip(self.kinds.iter()) {
             if !*seen {
                 println!(rt; "in no text: {kind:?}")?;
             }
         }
+        Ok(())
+    }
+
+    fn tell_forms(&self, rt: &HostRuntime) -> Result<()> {
         for (form, seen) in FORMS.iter().zip(self.forms.iter()) {
             if !*seen {
                 println!(rt; "in no text: {form}")?;
             }
-        }
-        if self.unlisted {
-            println!(rt; "something occurs that is not listed")?;
         }
         Ok(())
     }
