@@ -142,6 +142,20 @@ pub struct Seen {
     unlisted: bool,
 }
 
+/// Notes what stands at this place of a list, and answers whether it is in the list.
+fn note(seen: &mut [bool], at: Option<usize>) -> bool {
+    let Some(i) = at else {
+        return false;
+    };
+    match seen.get_mut(i) {
+        Some(seen) => {
+            *seen = true;
+            true
+        }
+        None => false,
+    }
+}
+
 impl Seen {
     pub fn new() -> Seen {
         Seen {
@@ -153,18 +167,14 @@ impl Seen {
 
     pub fn kind(&mut self, kind: Kind) {
         let at = KINDS.iter().position(|known| *known == kind);
-        match at.and_then(|i| self.kinds.get_mut(i)) {
-            Some(seen) => *seen = true,
-            None => self.unlisted = true,
-        }
+        let is_listed = note(&mut self.kinds, at);
+        self.unlisted = self.unlisted || !is_listed;
     }
 
     pub fn form(&mut self, form: &str) {
         let at = FORMS.iter().position(|known| *known == form);
-        match at.and_then(|i| self.forms.get_mut(i)) {
-            Some(seen) => *seen = true,
-            None => self.unlisted = true,
-        }
+        let is_listed = note(&mut self.forms, at);
+        self.unlisted = self.unlisted || !is_listed;
     }
 
     pub fn form_if(&mut self, occurs: bool, form: &str) {
@@ -175,18 +185,28 @@ impl Seen {
 
     /// Tells what has not occurred.
     pub fn tell_missing(&self, rt: &HostRuntime) -> Result<()> {
+        self.tell_kinds(rt)?;
+        self.tell_forms(rt)?;
+        if self.unlisted {
+            println!(rt; "something occurs that is not listed")?;
+        }
+        Ok(())
+    }
+
+    fn tell_kinds(&self, rt: &HostRuntime) -> Result<()> {
         for (kind, seen) in KINDS.iter().zip(self.kinds.iter()) {
             if !*seen {
                 println!(rt; "in no text: {kind:?}")?;
             }
         }
+        Ok(())
+    }
+
+    fn tell_forms(&self, rt: &HostRuntime) -> Result<()> {
         for (form, seen) in FORMS.iter().zip(self.forms.iter()) {
             if !*seen {
                 println!(rt; "in no text: {form}")?;
             }
-        }
-        if self.unlisted {
-            println!(rt; "something occurs that is not listed")?;
         }
         Ok(())
     }

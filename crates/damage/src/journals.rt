@@ -1,20 +1,19 @@
 //! Journals, damaged or not, beside the text that they belong to.
 
 use crate::damaged;
-use crate::outer::outside;
-use crate::sessions::{State, hold as holds, take_back, worked};
+use crate::outer::{can_stay, outside};
+use crate::sessions::{State, hold as holds, take_back};
 use crate::streams::Drops;
 use anyhow::{Result, anyhow};
 use std::alloc::Global;
 use tf_journal::{RecordFault, load};
 use tf_session::{Command, RunFault, Session, Told};
 
-/// Tries the journal of what can be done to the text.
-pub fn hold(alloc: Global, text: &[u8]) -> Result<()> {
-    let state = worked(alloc, text)?;
-    let ends = ends(alloc, &state)?;
+/// Tries the journal in all its damaged forms.
+pub fn hold(alloc: Global, state: &State) -> Result<()> {
+    let ends = ends(alloc, state)?;
     for number in 0..damaged::count(state.journal.len()) {
-        try_one(alloc, &state, &ends, number)?;
+        try_one(alloc, state, &ends, number)?;
     }
     Ok(())
 }
@@ -131,7 +130,7 @@ fn take_out(alloc: Global, state: &State, number: usize, goes: bool, first: &[u8
         }
         Err(fault) => {
             holds(
-                crate::outer::can_stay(fault, number),
+                can_stay(fault, number),
                 "a command is not taken out otherwise",
             )?;
             holds(

@@ -11,12 +11,13 @@ mod failing;
 mod faults;
 mod journals;
 mod machine;
+mod narrow;
 mod outer;
 mod sessions;
 mod streams;
 mod texts;
 
-use anyhow::Result;
+use anyhow::{Result, anyhow};
 use std::alloc::Global;
 use std::{env, fs};
 
@@ -36,25 +37,31 @@ fn main(rt: HostRuntime) -> Result<()> {
 
 /// Tries a text in all ways, and answers how many damaged ones were made of it.
 fn run(rt: &HostRuntime, name: &str) -> Result<usize> {
-    let alloc = rt.alloc();
-    let file = format!(in alloc; "{name}.tf")?;
+    let file = format!(in rt.alloc(); "{name}.tf")?;
     let text = fs::read(rt, file.as_str())?;
-    for number in 0..damaged::count(text.len()) {
-        if let Err(error) = damaged_text(alloc, &text, number) {
-            println!(rt; "{file}, damage {number}: {error}")?;
-            break;
-        }
+    if let Err(error) = damaged_texts(rt.alloc(), &text) {
+        println!(rt; "{file}: {error}")?;
     }
-    if let Err(error) = journals::hold(alloc, &text) {
-        println!(rt; "{file}, its journal: {error}")?;
-    }
-    if let Err(error) = failing::hold(alloc, &text) {
-        println!(rt; "{file}, streams that fail: {error}")?;
+    if let Err(error) = worked_text(rt.alloc(), &text) {
+        println!(rt; "{file}, with its journal: {error}")?;
     }
     Ok(damaged::count(text.len()))
 }
 
-fn damaged_text(alloc: Global, text: &[u8], number: usize) -> Result<()> {
-    let changed = damaged::of(alloc, text, number)?;
-    texts::hold(alloc, &changed)
+fn damaged_texts(alloc: Global, text: &[u8]) -> Result<()> {
+    for number in 0..damaged::count(text.len()) {
+        let changed = damaged::of(alloc, text, number)?;
+        if let Err(error) = texts::hold(alloc, &changed) {
+            return Err(anyhow!("damage {number}: {error}"));
+        }
+    }
+    Ok(())
+}
+
+/// What can be done to the text, and its journal.
+fn worked_text(alloc: Global, text: &[u8]) -> Result<()> {
+    let state = sessions::worked(alloc, text)?;
+    journals::hold(alloc, &state)?;
+    failing::hold(alloc, &state)?;
+    narrow::hold(alloc, text, &state)
 }

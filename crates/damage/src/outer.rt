@@ -40,6 +40,15 @@ pub fn stream<R: Read, J: Read, K: Write, W: Write>(
     }
 }
 
+/// A reader of these bytes, which come one by one, and which fails behind them where it is to.
+pub fn reader(bytes: &[u8], fails: bool) -> Told<Drops<'_>> {
+    Told::new(if fails {
+        Drops::failing(bytes)
+    } else {
+        Drops::new(bytes)
+    })
+}
+
 /// What a stream over these bytes, which come one by one, answers and writes.
 pub fn outside(alloc: Global, command: Command, text: &[u8], journal: &[u8]) -> Result<Came> {
     let mut journal_out = Told::new(Room::ample(alloc));
