@@ -32,8 +32,8 @@ impl<'s, 't> Walk<'s, 't> {
         match member {
             Member::Attribute(attribute) => self.attribute(attribute, seen),
             Member::Block(block) => {
-                see_labels(&block.get().labels, seen);
-                self.content(&block.get().content, seen);
+                see_labels(&block.labels, seen);
+                self.content(&block.content, seen);
             }
         }
     }
@@ -43,11 +43,11 @@ impl<'s, 't> Walk<'s, 't> {
         match content {
             Content::Lines(body) => {
                 seen.form("a block on lines");
-                self.members(&body.members, seen);
+                self.members(&body.get().members, seen);
             }
             Content::Line(Some(attribute)) => {
                 seen.form("a block on a line, with an attribute");
-                self.attribute(attribute, seen);
+                self.attribute(attribute.get(), seen);
             }
             Content::Line(None) => seen.form("a block on a line, empty"),
         }
@@ -55,7 +55,7 @@ impl<'s, 't> Walk<'s, 't> {
 
     fn attribute(&self, attribute: &Attribute, seen: &mut Seen) {
         seen.form("NAME = A");
-        self.expr(&attribute.value, seen);
+        self.expr(attribute.value.get(), seen);
     }
 
     #[cycle(expressions)]
