@@ -9,3 +9,6 @@ loop-finding-preserved c = record {
       c.loop-finding.invariant.reports c.in_ok-issue.ensures (search rules);
   last = search rules;
 }
+
+pub place_at-place-requires-clause-within : goal.place_at-place-requires-clause-within
+place_at-place-requires-clause-within c = begins_inside (length c.args.scanned.now.pairs) c.args.found.now c.loop-finding.finding-index _ (search rules) c.loop-finding-test.true
