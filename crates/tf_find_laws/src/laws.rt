@@ -2,6 +2,7 @@
 
 ghost use Rattle.tf_find_laws.specs.Both.{EachIsGoneThrough, EachIsOfTheGrammar};
 ghost use Rattle.tf_find_laws.specs.Own.{NoneForgotten, TreeTold};
+ghost use Rattle.tf_find_laws.specs.Untested.{NoneDropped};
 
 /// What stands directly in a node, together with what it has of its own, tells the node: none of its parts is forgotten.
 pub fn none_forgotten()
@@ -23,3 +24,10 @@ pub fn each_is_gone_through()
 pub fn each_is_of_the_grammar()
     ensures { EachIsOfTheGrammar }
 {}
+
+/// Over a text that parses, what the rules find is all that they name: the test of a finding's numbers drops none.
+pub fn none_dropped()
+    ensures { NoneDropped }
+{
+    hcl_grammar_laws::laws::each_node_over_its_tokens();
+}
