@@ -1,6 +1,6 @@
 -- What the rules find is sound.
-use Rattle.std.proofs.Common.{◌≡◌, ℕ, ◌+◌, ◌<◌, zero, suc, Bool, true, false, not, ◌&&◌, ◌||◌, List, [], ◌∷◌, ◌++◌, length, Option, Some, None, refl, arith, codes}
-use Rattle.std.specs.Prelude.{filter, slice_get, slice_index_or, if◌then◌else◌}
+use Rattle.std.proofs.Common.{◌≡◌, ℕ, ◌+◌, zero, suc, Bool, true, false, not, ◌&&◌, ◌||◌, List, [], ◌∷◌, ◌++◌, length, Option, Some, None, refl, arith, codes}
+use Rattle.std.specs.Prelude.{filter, slice_get, if◌then◌else◌}
 use Rattle.std.specs.List.{flat_map, All}
 use Rattle.std.specs.Str.{bytes_eq}
 use Rattle.std.specs.List.Sorted.{IsPermutation}
@@ -41,9 +41,9 @@ use Rattle.tf_findings.specs.CommentSyntax.{is_slash_comment, comments_from, com
 use Rattle.tf_top.specs.Attributes.{attributes, has_attribute}
 use Rattle.tf_top.specs.Layers.{MemberLayer}
 use Rattle.tf_top.specs.Missing.{is_undocumented, missing as missing_at, untyped_findings, undocumented_findings, missing_findings}
-use Rattle.tf_top.specs.Naming.{naming_finding, label_findings, declared_findings, declaration, local_findings, locals_findings, naming_findings}
+use Rattle.tf_top.specs.Naming.{naming_finding, label_findings, declared_findings, declaration, local_findings, naming_findings}
 use Rattle.tf_top.specs.SnakeCase.{is_snake_case}
-use Rattle.tf_top.specs.TopFindings.{block_findings, member_findings_in, member_findings, top_findings}
+use Rattle.tf_top.specs.TopFindings.{member_findings_in, member_findings, top_findings}
 use Rattle.tf_top.specs.Words.{word, name_at}
 
 -- the test says the same as the facts

@@ -1,6 +1,6 @@
 -- What one rule finds is of that rule: the rule on comments finds comments that begin with `//`, and the others find none.
-use Rattle.std.proofs.Common.{◌≡◌, ◌∙◌, ℕ, ◌+◌, ◌<◌, ◌==◌, ◌&&◌, ◌||◌, zero, suc, Bool, true, false, not, List, [], ◌∷◌, ◌++◌, length, drop, Option, Some, None, refl, ap, sym, subst, arith, codes}
-use Rattle.std.specs.Prelude.{filter, map, slice_get, slice_index, if◌then◌else◌, ⊤}
+use Rattle.std.proofs.Common.{◌≡◌, ◌∙◌, ℕ, ◌+◌, ◌==◌, ◌&&◌, ◌||◌, zero, suc, Bool, true, false, not, List, [], ◌∷◌, ◌++◌, length, drop, Option, Some, None, refl, ap, sym, subst, arith, codes}
+use Rattle.std.specs.Prelude.{filter, slice_get, slice_index, if◌then◌else◌, ⊤}
 use Rattle.std.specs.List.{flat_map, All}
 use Rattle.std.specs.Str.{bytes_eq}
 use Rattle.std.specs.Option.{option_map}
@@ -19,7 +19,6 @@ use Rattle.hcl_grammar.specs.declared.tree.Link.{Link}
 use Rattle.hcl_grammar.specs.declared.tree.Member.{Member, out-Member}
 use Rattle.hcl_grammar.specs.declared.tree.Shape.{out-Shape}
 use Rattle.hcl_grammar.specs.declared.tree.Tail.{out-Tail}
-use Rattle.hcl_token.specs.CutText.{kind_of, spelling_of}
 use Rattle.hcl_token.specs.declared.kind.Kind.{Kind}
 use Rattle.hcl_token.specs.declared.kind.Kind.TheVariants as kind
 use Rattle.hcl_token.specs.declared.kind.Kind.TheVariants.{LineComment}
@@ -49,9 +48,9 @@ use Rattle.tf_silence.specs.Silencing.{is_silenced}
 use Rattle.tf_top.specs.Attributes.{attributes, has_attribute}
 use Rattle.tf_top.specs.Layers.{MemberLayer}
 use Rattle.tf_top.specs.Missing.{is_undocumented, missing as missing_at, untyped_findings, undocumented_findings, missing_findings}
-use Rattle.tf_top.specs.Naming.{naming_finding, label_findings, declared_findings, declaration, local_findings, locals_findings, naming_findings}
+use Rattle.tf_top.specs.Naming.{naming_finding, label_findings, declared_findings, declaration, local_findings, naming_findings}
 use Rattle.tf_top.specs.SnakeCase.{is_snake_case}
-use Rattle.tf_top.specs.TopFindings.{member_findings_in, member_findings, top_findings}
+use Rattle.tf_top.specs.TopFindings.{member_findings_in, member_findings}
 use Rattle.tf_top.specs.Words.{word, name_at}
 use Rattle.tf_mend.specs.Comments.{IsSlashComment}
 use Rattle.tf_mend.specs.Mending.{is_slashes, IsOf, AreOf}
