@@ -68,17 +68,17 @@ impl<'s, 't> Walk<'s, 't> {
         match form {
             Form::Conditional(condition, met, unmet) => {
                 seen.form("A ? B : C");
-                self.boxed(condition, seen);
-                self.boxed(met, seen);
-                self.boxed(unmet, seen);
+                self.expr(condition.get(), seen);
+                self.expr(met.get(), seen);
+                self.expr(unmet.get(), seen);
             }
             Form::Chain(head, links) => {
-                self.boxed(head, seen);
+                self.expr(head.get(), seen);
                 self.links(links, seen);
             }
             Form::Prefixed(prefix, operand) => {
                 seen.form(name_of_prefix(*prefix));
-                self.boxed(operand, seen);
+                self.expr(operand.get(), seen);
             }
             Form::Tailed(term, tails) => {
                 self.term(term.get(), seen);
@@ -86,11 +86,6 @@ impl<'s, 't> Walk<'s, 't> {
             }
             Form::Plain(term) => self.term(term, seen),
         }
-    }
-
-    #[cycle(expressions)]
-    fn boxed(&self, expr: &Boxed<Expr>, seen: &mut Seen) {
-        self.expr(expr.get(), seen);
     }
 
     #[cycle(expressions)]
@@ -117,7 +112,7 @@ impl<'s, 't> Walk<'s, 't> {
             Tail::FullSplat => seen.form("A[*]"),
             Tail::Index(expr) => {
                 seen.form("A[B]");
-                self.boxed(expr, seen);
+                self.expr(expr.get(), seen);
             }
         }
     }
@@ -156,8 +151,9 @@ impl<'s, 't> Walk<'s, 't> {
 
     #[cycle(expressions)]
     fn filter(&self, filter: &Option<Boxed<Expr>>, seen: &mut Seen) {
-        if let Some(expr) = filter {
-            self.boxed(expr, seen);
+        match filter {
+            Some(expr) => self.expr(expr.get(), seen),
+            None => {}
         }
     }
 
@@ -194,7 +190,7 @@ impl<'s, 't> Walk<'s, 't> {
             Shape::Heredoc(template) => self.heredoc(template, seen),
             Shape::Parens(expr) => {
                 seen.form("( )");
-                self.boxed(expr, seen);
+                self.expr(expr.get(), seen);
             }
         }
     }
@@ -273,7 +269,7 @@ impl<'s, 't> Walk<'s, 't> {
             Part::Literal(_) => seen.form("literal text"),
             Part::Interp(expr) => {
                 seen.form("an interpolation");
-                self.boxed(expr, seen);
+                self.expr(expr.get(), seen);
             }
             Part::If(choice) => self.if_directive(choice.get(), seen),
             Part::For(each) => self.for_directive(each.get(), seen),

@@ -35,12 +35,12 @@ fn journal_fails(alloc: Global, state: &State, front: &[u8]) -> Result<()> {
 }
 
 fn takes(alloc: Global, front: &[u8]) -> Result<()> {
-    let taken = take_text(alloc, &mut reader(front, true));
+    let taken = take_text(alloc, &mut Told::new(reader(front, true)));
     holds(
         taken.err() == Some(RunFault::Read),
         "a text is taken from a read that fails",
     )?;
-    let checked = check_stream(alloc, &mut reader(front, true));
+    let checked = check_stream(alloc, &mut Told::new(reader(front, true)));
     holds(
         checked == Err(RunFault::Read),
         "a check goes on over a read that fails",
@@ -48,15 +48,15 @@ fn takes(alloc: Global, front: &[u8]) -> Result<()> {
 }
 
 fn lints(alloc: Global, front: &[u8]) -> Result<()> {
-    let mut out = Told::new(Room::ample(alloc));
+    let mut out = Room::ample(alloc);
     let linted = lint_stream(
         alloc,
         "f",
-        &mut reader(front, true),
-        &mut out,
+        &mut Told::new(reader(front, true)),
+        &mut Told::new(&mut out),
         RuleSet::all(),
     );
-    let is_unwritten = out.into_inner().held.is_empty();
+    let is_unwritten = out.held.is_empty();
     holds(
         linted == Err(RunFault::Read) && is_unwritten,
         "a lint goes on over a read that fails",
@@ -64,9 +64,14 @@ fn lints(alloc: Global, front: &[u8]) -> Result<()> {
 }
 
 fn steps(alloc: Global, front: &[u8]) -> Result<()> {
-    let mut out = Told::new(Room::ample(alloc));
-    let stepped = step_stream(alloc, Command::Fmt, &mut reader(front, true), &mut out);
-    let is_unwritten = out.into_inner().held.is_empty();
+    let mut out = Room::ample(alloc);
+    let stepped = step_stream(
+        alloc,
+        Command::Fmt,
+        &mut Told::new(reader(front, true)),
+        &mut Told::new(&mut out),
+    );
+    let is_unwritten = out.held.is_empty();
     let is_read = stepped.err() == Some(RunFault::Read);
     holds(
         is_read && is_unwritten,
@@ -85,19 +90,17 @@ fn not_loaded(alloc: Global, text: Drops<'_>, journal: Drops<'_>) -> Result<()> 
 /// No stream goes on; of text and journal it is said whether a read fails behind them.
 fn not_streamed(alloc: Global, text: (&[u8], bool), journal: (&[u8], bool)) -> Result<()> {
     for command in [Command::Fmt, Command::Fix(RuleSet::all()), Command::Revert] {
-        let mut journal_out = Told::new(Room::ample(alloc));
-        let mut text_out = Told::new(Room::ample(alloc));
+        let mut journal_out = Room::ample(alloc);
+        let mut text_out = Room::ample(alloc);
         let answer = stream(
             alloc,
             command,
-            (
-                &mut reader(text.0, text.1),
-                &mut reader(journal.0, journal.1),
-            ),
-            (&mut journal_out, &mut text_out),
+            &mut reader(text.0, text.1),
+            &mut reader(journal.0, journal.1),
+            &mut journal_out,
+            &mut text_out,
         );
-        let journal_held = journal_out.into_inner().held;
-        let is_unwritten = text_out.into_inner().held.is_empty() && journal_held.is_empty();
+        let is_unwritten = text_out.held.is_empty() && journal_out.held.is_empty();
         let is_read = answer == Err(RunFault::Read);
         holds(
             is_read && is_unwritten,

@@ -15,10 +15,10 @@ struct Narrow {
 }
 
 impl Narrow {
-    fn writer(self, alloc: Global) -> Told<Room> {
+    fn writer(self, alloc: Global) -> Room {
         let has_room = self.way == Full::FailsToFlush;
         let room = if has_room { usize::MAX } else { self.room };
-        Told::new(Room::new(alloc, room, self.way))
+        Room::new(alloc, room, self.way)
     }
 
     /// How many of so many bytes have gone out when it fails; none if it takes all.
@@ -55,15 +55,15 @@ pub fn hold(alloc: Global, text: &[u8], state: &State) -> Result<()> {
 }
 
 fn lines(alloc: Global, text: &[u8], way: Full) -> Result<()> {
-    let mut out = Told::new(Room::ample(alloc));
+    let mut out = Room::ample(alloc);
     let count = lint_stream(
         alloc,
         "f",
-        &mut reader(text, false),
-        &mut out,
+        &mut Told::new(reader(text, false)),
+        &mut Told::new(&mut out),
         RuleSet::all(),
     )?;
-    let right = out.into_inner().held;
+    let right = out.held;
     holds(count > 0 && !right.is_empty(), "there is no issue")?;
     for room in 0..=right.len() {
         narrow_lines(alloc, text, &right, Narrow { room, way })?;
@@ -76,11 +76,11 @@ fn narrow_lines(alloc: Global, text: &[u8], right: &[u8], narrow: Narrow) -> Res
     let answer = lint_stream(
         alloc,
         "f",
-        &mut reader(text, false),
-        &mut out,
+        &mut Told::new(reader(text, false)),
+        &mut Told::new(&mut out),
         RuleSet::all(),
     );
-    let held = out.into_inner().held;
+    let held = out.held;
     holds(
         narrow.is_told(Part::Text, right, answer.err(), &held),
         "lines are told otherwise",
@@ -97,10 +97,10 @@ fn puts(alloc: Global, bytes: &[u8], part: Part, way: Full) -> Result<()> {
 fn put(alloc: Global, bytes: &[u8], part: Part, narrow: Narrow) -> Result<()> {
     let mut out = narrow.writer(alloc);
     let answer = match part {
-        Part::Journal => put_journal(bytes, &mut out),
-        Part::Text => put_text(bytes, &mut out),
+        Part::Journal => put_journal(bytes, &mut Told::new(&mut out)),
+        Part::Text => put_text(bytes, &mut Told::new(&mut out)),
     };
-    let held = out.into_inner().held;
+    let held = out.held;
     holds(
         narrow.is_told(part, bytes, answer.err(), &held),
         "bytes are told otherwise",
@@ -125,7 +125,7 @@ fn journals(
 ) -> Result<()> {
     for room in 0..=right.journal.len() {
         let narrow = Narrow { room, way };
-        let ample = Told::new(Room::ample(alloc));
+        let ample = Room::ample(alloc);
         let came = try_stream(alloc, state, command, narrow.writer(alloc), ample);
         let is_told = narrow.is_told(Part::Journal, &right.journal, came.fault, &came.journal);
         holds(is_told, "a journal is told otherwise")?;
@@ -145,7 +145,7 @@ fn journals(
 fn texts(alloc: Global, state: &State, command: Command, right: &State, way: Full) -> Result<()> {
     for room in 0..=right.text.len() {
         let narrow = Narrow { room, way };
-        let ample = Told::new(Room::ample(alloc));
+        let ample = Room::ample(alloc);
         let came = try_stream(alloc, state, command, ample, narrow.writer(alloc));
         let is_told = narrow.is_told(Part::Text, &right.text, came.fault, &came.text);
         holds(is_told, "a text is told otherwise")?;
@@ -167,23 +167,22 @@ fn try_stream(
     alloc: Global,
     state: &State,
     command: Command,
-    journal_out: Told<Room>,
-    text_out: Told<Room>,
+    journal_out: Room,
+    text_out: Room,
 ) -> Streamed {
     let mut journal_out = journal_out;
     let mut text_out = text_out;
     let answer = stream(
         alloc,
         command,
-        (
-            &mut reader(&state.text, false),
-            &mut reader(&state.journal, false),
-        ),
-        (&mut journal_out, &mut text_out),
+        &mut reader(&state.text, false),
+        &mut reader(&state.journal, false),
+        &mut journal_out,
+        &mut text_out,
     );
     Streamed {
         fault: answer.err(),
-        text: text_out.into_inner().held,
-        journal: journal_out.into_inner().held,
+        text: text_out.held,
+        journal: journal_out.held,
     }
 }

@@ -26,11 +26,15 @@ impl Came {
 pub fn stream<R: Read, J: Read, K: Write, W: Write>(
     alloc: Global,
     command: Command,
-    readers: (&mut Told<R>, &mut Told<J>),
-    writers: (&mut Told<K>, &mut Told<W>),
+    text: &mut R,
+    journal: &mut J,
+    journal_out: &mut K,
+    text_out: &mut W,
 ) -> std::result::Result<Done, RunFault> {
-    let (text, journal) = readers;
-    let (journal_out, text_out) = writers;
+    let text = &mut Told::new(text);
+    let journal = &mut Told::new(journal);
+    let journal_out = &mut Told::new(journal_out);
+    let text_out = &mut Told::new(text_out);
     match command {
         Command::Fmt => fmt_stream(alloc, text, journal, journal_out, text_out),
         Command::Fix(_) => fix_stream(alloc, text, journal, journal_out, text_out, RuleSet::all()),
@@ -41,32 +45,31 @@ pub fn stream<R: Read, J: Read, K: Write, W: Write>(
 }
 
 /// A reader of these bytes, which come one by one, and which fails behind them where it is to.
-pub fn reader(bytes: &[u8], fails: bool) -> Told<Drops<'_>> {
-    Told::new(if fails {
+pub fn reader(bytes: &[u8], fails: bool) -> Drops<'_> {
+    if fails {
         Drops::failing(bytes)
     } else {
         Drops::new(bytes)
-    })
+    }
 }
 
 /// What a stream over these bytes, which come one by one, answers and writes.
 pub fn outside(alloc: Global, command: Command, text: &[u8], journal: &[u8]) -> Result<Came> {
-    let mut journal_out = Told::new(Room::ample(alloc));
-    let mut text_out = Told::new(Room::ample(alloc));
+    let mut journal_out = Room::ample(alloc);
+    let mut text_out = Room::ample(alloc);
     let answer = stream(
         alloc,
         command,
-        (
-            &mut Told::new(Drops::new(text)),
-            &mut Told::new(Drops::new(journal)),
-        ),
-        (&mut journal_out, &mut text_out),
+        &mut Drops::new(text),
+        &mut Drops::new(journal),
+        &mut journal_out,
+        &mut text_out,
     );
     Ok(Came {
         answer,
         written: State {
-            text: text_out.into_inner().held,
-            journal: journal_out.into_inner().held,
+            text: text_out.held,
+            journal: journal_out.held,
         },
     })
 }
