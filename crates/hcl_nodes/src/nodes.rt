@@ -294,8 +294,6 @@ pub fn block(
 pub fn body(first: usize, past: usize, members: Items<Member>) -> Body
     ensures { result ≡ nodes.body first past members }
 {
-    let mut members = members;
-    members.trim();
     Body {
         first,
         past,

@@ -52,13 +52,6 @@ impl<T, A: Allocator> Items<T, A> {
     {
         self.vec.is_empty()
     }
-
-    /// Gives the room back that no element takes, where the allocator can take it.
-    pub fn trim(&mut self)
-        ensures { self.new ≡ self.old }
-    {
-        self.vec.shrink_to_fit();
-    }
 }
 
 impl<T: Drop, A: Allocator> Items<T, A> {
