@@ -35,7 +35,7 @@ count_some (b ∷ t) h =
       | false ↦ λ e k. omega (arith, count-cons b t, count_some t k, ap weight e)
     ] refl h
 
-in_text : (t : List ℕ) (k : ℕ) → is_lf (get_or t k 0) ≡ true → k < length t
+pub in_text : (t : List ℕ) (k : ℕ) → is_lf (get_or t k 0) ≡ true → k < length t
 in_text [] k h = let byte : get_or {A = ℕ} [] k 0 ≡ 10 = eqb-true _ 10 h in omega (arith, get_or_past {X = ℕ} [] k 0 (omega arith))
 in_text (b ∷ t) zero h = omega arith
 in_text (b ∷ t) (suc k) h = omega (arith, in_text t k h)
@@ -117,11 +117,19 @@ none_behind t k h =
 pub last_line_found : (t : List ℕ) (k : ℕ) → NoneAfter (Passes (is_byte 10) t) 0 (length t) k × Passes (is_byte 10) t k → drop (suc k) t ≡ last_line t
 last_line_found t k h = sym (last_line-after t k h.1 (none_behind t k h.0))
 
-pub last_line_missing : (t : List ℕ) → Nowhere (Passes (is_byte 10) t) 0 (length t) → t ≡ last_line t
-last_line_missing t h =
-    sym (last_line-none t (list_any_none is_lf t (λ i d inside.
+-- what a search tells that finds none
+pub none_found : (t : List ℕ) → Nowhere (Passes (is_byte 10) t) 0 (length t) → list_any is_lf t ≡ false
+none_found t h =
+    list_any_none is_lf t (λ i d inside.
     let fails : ¬ Passes (is_byte 10) t i = h i (omega arith) inside in
-    ap is_lf (get_or_default t i d 0 inside) ∙ not_true _ fails)))
+    ap is_lf (get_or_default t i d 0 inside) ∙ not_true _ fails)
+
+pub last_line_missing : (t : List ℕ) → Nowhere (Passes (is_byte 10) t) 0 (length t) → t ≡ last_line t
+last_line_missing t h = sym (last_line-none t (none_found t h))
+
+-- an LF that is found is one
+pub some_found : (t : List ℕ) (k : ℕ) → Passes (is_byte 10) t k → list_any is_lf t ≡ true
+some_found t k h = list_any_at is_lf t k 0 (in_text t k h) h
 
 pub any_from_count : (t : List ℕ) → 0 < count_by is_lf t → list_any is_lf t ≡ true
 any_from_count t h =

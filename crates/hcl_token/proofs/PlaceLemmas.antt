@@ -12,7 +12,8 @@ use Rattle.hcl_token.specs.Inner.Milestones.{after_piece, after_pair, after_pair
 use Rattle.hcl_token.proofs.ClusterLemmas.{clusters-plain, clusters-append}
 use Rattle.hcl_token.proofs.LineLemmas.{count-append, count_none, count_some, last_line-none, last_line-append_some, last_line-append_none, any-append_none}
 
-place_is : (l l' c c' : ℕ) → l ≡ l' → c ≡ c' → let p : Place = record { line = l; column = c } in let q : Place = record { line = l'; column = c' } in p ≡ q
+-- a place is its line and its column
+pub place_is : (l l' c c' : ℕ) → l ≡ l' → c ≡ c' → let p : Place = record { line = l; column = c } in let q : Place = record { line = l'; column = c' } in p ≡ q
 place_is l l' c c' e f = cc
 
 -- the column behind a piece, where it has no LF, and where it has one

@@ -10,7 +10,12 @@ use unicode_segmentation::UnicodeSegmentation;
 pub(crate) fn is_plain(text: &[u8]) -> bool
     ensures { result ≡ is_plain text.now }
 {
-    text.iter().all(|b| (*b < 128) & (*b != 13))
+    // no early end: over whole lines at a time the processor does this many bytes at once
+    let mut plain = true;
+    for byte in text {
+        plain &= (*byte < 128) & (*byte != 13);
+    }
+    plain
 }
 
 fn clusters_of_str(text: &str) -> usize

@@ -1,8 +1,9 @@
 //! Places kept along a text, so that the place of any token is found near one of them.
 
-ghost use Rattle.std.specs.Prelude.{◌≡◌, ℕ, ◌+◌, ◌^◌, ◌<◌, ◌≤◌, [], ◌∷◌, length, slice_range, count_by, IsUtf8, IfOk};
+ghost use Rattle.std.specs.Prelude.{◌≡◌, ℕ, true, ◌+◌, ◌^◌, ◌<◌, ◌≤◌, [], ◌∷◌, length, slice_range, count_by, IsUtf8, IfOk};
 ghost use Rattle.hcl_token.specs.Items.{pair_at, pairs_of};
 ghost use Rattle.hcl_token.specs.Inner.Milestones.{AreMilestones, IsKept, IsOrdered, IsReached, IsStretch, after_pair, after_piece, after_pairs, has_mark, milestone_place, offset};
+ghost use Rattle.hcl_token.specs.Inner.Plain.{is_plain};
 ghost use Rattle.hcl_token.specs.Place.{is_lf, is_mark, last_line, place_of};
 
 use crate::graphemes::{clusters, is_plain};
@@ -125,6 +126,25 @@ fn after_each(text: &[u8], items: &[Item], at: Place) -> Place
     place
 }
 
+// The place behind a piece of text in which each byte ends a line or is a column.
+fn after_plain(at: Place, piece: &[u8]) -> Place
+    requires plain { is_plain piece.now ≡ true }
+    requires line { at.line + length piece.now < 2 ^ 32 }
+    requires column { at.column + length piece.now < 2 ^ 32 }
+    ensures { result ≡ after_piece at piece.now }
+{
+    match memrchr(b'\n', piece) {
+        Some(last) => Place {
+            line: at.line + line_ends(piece),
+            column: piece.len() - last,
+        },
+        None => Place {
+            line: at.line,
+            column: at.column + piece.len(),
+        },
+    }
+}
+
 // The place behind items that take the bytes between two offsets. Where all of these are ASCII without CR, they are one
 // piece.
 fn after_items(text: &[u8], items: &[Item], from: u32, to: u32, at: Place) -> Place
@@ -134,7 +154,7 @@ fn after_items(text: &[u8], items: &[Item], from: u32, to: u32, at: Place) -> Pl
 {
     let bytes = part(text, from, to);
     if is_plain(bytes) & !has_mark(items) {
-        after_piece(at, bytes)
+        after_plain(at, bytes)
     } else {
         after_each(text, items, at)
     }
