@@ -9,7 +9,7 @@ use hcl_scan::{ScanFault, scan};
 use hcl_tree::{ParseFault, parse};
 use tf_lint::{LintFault, Place, Rule, RuleSet, issues};
 use tf_session::{Command, Journal, Session};
-use tf_steps::{Change, FixFault, fix_text};
+use tf_steps::{Change, FixFault, fix_step, fix_text, read_text};
 
 pub fn scanned(trial: &Trial<'_>) -> Result<Seen> {
     let [marked, heredoc] = SHORT;
@@ -107,20 +107,35 @@ const FIXABLE: [Rule; 5] = [
 
 pub fn step_made(trial: &Trial<'_>) -> Result<Seen> {
     let alloc = trial.alloc();
+    let parsed = read_text(alloc, TEXT)?;
     let mut right = Vec::new(alloc);
     for rule in FIXABLE {
-        right.push(fix_text(alloc, TEXT, RuleSet::none().with(rule))?)?;
+        right.push(fix_step(alloc, &parsed, rule)?)?;
     }
     trial.begin()?;
-    for (rule, fixed) in FIXABLE.iter().zip(right.as_slice()) {
-        match fix_text(alloc, TEXT, RuleSet::none().with(*rule)) {
-            Ok(made) if are_same_changes(&made.change, &fixed.change) => {}
+    for (rule, mended) in FIXABLE.iter().zip(right.as_slice()) {
+        match fix_step(alloc, &parsed, *rule) {
+            Ok(made) if made.count == mended.count && are_same_edits(&made.edits, &mended.edits) =>
+                {}
             Ok(_) => return Ok(Seen::answer(false)),
             Err(FixFault::Memory) => return Ok(Seen::Memory),
             Err(_) => return Ok(Seen::refusal()),
         }
     }
     Ok(Seen::Done)
+}
+
+pub fn fixed(trial: &Trial<'_>) -> Result<Seen> {
+    let alloc = trial.alloc();
+    let right = fix_text(alloc, TEXT, RuleSet::all())?;
+    trial.begin()?;
+    Ok(match fix_text(alloc, TEXT, RuleSet::all()) {
+        Ok(made) => Seen::answer(
+            are_same_changes(&made.change, &right.change) && made.left.len() == right.left.len(),
+        ),
+        Err(FixFault::Memory) => Seen::Memory,
+        Err(_) => Seen::refusal(),
+    })
 }
 
 fn are_same_changes(a: &Option<Change>, b: &Option<Change>) -> bool {

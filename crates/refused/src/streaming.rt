@@ -7,8 +7,8 @@ use anyhow::{Result, anyhow};
 use std::alloc::Global;
 use tf_journal::{fix_stream, fmt_stream, journal_text, revert_stream};
 use tf_session::{
-    Command, Done, RuleSet, RunFault, Session, Told, check_stream, lint_stream, step_stream,
-    take_text,
+    Command, Done, RuleSet, RunFault, Session, Told, check_stream, fix_through, lint_stream,
+    put_issues, step_stream, take_text,
 };
 
 /// More bytes than come to any writer here.
@@ -52,6 +52,40 @@ pub fn stepped(trial: &Trial<'_>) -> Result<Seen> {
         Ok((session, _)) => {
             Seen::answer(session.text() == right.text() && out.held() == right.text())
         }
+        Err(RunFault::Memory) => Seen::memory(out.held().is_empty()),
+        Err(_) => Seen::refusal(),
+    })
+}
+
+pub fn fixed_through(trial: &Trial<'_>) -> Result<Seen> {
+    let alloc = trial.alloc();
+    let (right, done) = stepped_session(alloc, TEXT, b"", fix_all())?;
+    let mut out = Told::new(Sheet::new(alloc, ROOM)?);
+    trial.begin()?;
+    let answer = fix_through(alloc, RuleSet::all(), &mut Told::new(TEXT), &mut out);
+    let out = out.into_inner();
+    Ok(match answer {
+        Ok((session, _, left)) => Seen::answer(
+            session.text() == right.text() && out.held() == right.text() && left.len() == done.left,
+        ),
+        Err(RunFault::Memory) => Seen::memory(out.held().is_empty()),
+        Err(_) => Seen::refusal(),
+    })
+}
+
+pub fn issues_put(trial: &Trial<'_>) -> Result<Seen> {
+    let alloc = trial.alloc();
+    let mut session = session_of(alloc, TEXT, b"")?;
+    let (_, left) = session.fix(alloc, RuleSet::all())?;
+    let mut right = Told::new(Sheet::new(alloc, ROOM)?);
+    put_issues(alloc, "main.tf", left.as_slice(), &mut right)?;
+    let right = right.into_inner();
+    let mut out = Told::new(Sheet::new(alloc, ROOM)?);
+    trial.begin()?;
+    let answer = put_issues(alloc, "main.tf", left.as_slice(), &mut out);
+    let out = out.into_inner();
+    Ok(match answer {
+        Ok(()) => Seen::answer(out.held() == right.held()),
         Err(RunFault::Memory) => Seen::memory(out.held().is_empty()),
         Err(_) => Seen::refusal(),
     })

@@ -5,12 +5,12 @@ use std::io::{ErrorKind, Read};
 use std::rt::Files;
 use std::{fs, io};
 use tf_journal::{journal_text, load, put_journal};
-use tf_session::{Command, Done, Part, RunFault, Session, Told, put_text};
+use tf_session::{Command, Done, Issue, Part, RuleSet, RunFault, Session, Told, put_text};
 
 /// What the name of a journal has behind that of its file.
 const SUFFIX: &str = ".tfundo";
 
-/// Does the command on a file and its journal, and answers the session after it, and what the command did. A journal that is not there is the empty one.
+/// Does the command on a file and its journal, and answers what it did. A journal that is not there is the empty one.
 ///
 /// Where the text or the journal changed, the journal is written, and only then the file; each is as before until its turn.
 /// Where neither changed, nothing is written. A file that cannot be opened is `Read`, or `Write` with no bytes sent.
@@ -19,7 +19,7 @@ pub fn command_file<R: Files>(
     alloc: Global,
     name: &str,
     command: Command,
-) -> Result<(Session, Done), RunFault> {
+) -> Result<Done, RunFault> {
     let journal = journal_name(alloc, name)?;
     let mut session = load_file(rt, alloc, name, journal.as_str())?;
     let done = session.step(alloc, command)?;
@@ -28,7 +28,23 @@ pub fn command_file<R: Files>(
     if done.changed || loses_a_record {
         save_file(rt, alloc, &session, name, journal.as_str())?;
     }
-    Ok((session, done))
+    Ok(done)
+}
+
+/// Fixes a file that has its journal beside it, as `command_file` does, and answers what the rules report of its new text.
+pub fn fix_in_place<R: Files>(
+    rt: &R,
+    alloc: Global,
+    name: &str,
+    rules: RuleSet,
+) -> Result<Vec<Issue>, RunFault> {
+    let journal = journal_name(alloc, name)?;
+    let mut session = load_file(rt, alloc, name, journal.as_str())?;
+    let (done, left) = session.fix(alloc, rules)?;
+    if done.changed {
+        save_file(rt, alloc, &session, name, journal.as_str())?;
+    }
+    Ok(left)
 }
 
 fn journal_name(alloc: Global, name: &str) -> Result<String, AllocError> {

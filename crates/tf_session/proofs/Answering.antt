@@ -1,5 +1,5 @@
 -- One text has one cut or one fault, and a fix makes one text of it, so each command has one answer.
-use Rattle.std.proofs.Common.{◌≡◌, ◌∙◌, ◌≤◌, ◌<◌, ◌⊎◌, ℕ, List, [], ◌∷◌, length, Bool, true, false, MatchBool, Result, Ok, Err, refl, sym, ap, subst, inl, inr, arith}
+use Rattle.std.proofs.Common.{◌≡◌, ◌∙◌, ◌≤◌, ◌<◌, ◌⊎◌, ℕ, List, [], ◌∷◌, length, Result, Ok, Err, refl, sym, ap, subst, inl, inr, arith}
 use Rattle.hcl_token.specs.Tokens.{Pair}
 use Rattle.hcl_tree.specs.declared.error.ParseFault.{ParseFault}
 use Rattle.hcl_tree.specs.declared.error.ParseFault.TheVariants.{Syntax, TooDeep}
@@ -16,13 +16,12 @@ use Rattle.tf_session.specs.declared.command.Fault.TheVariants.{Scan, Parse, Fix
 use Rattle.tf_session.specs.Faults.{fault_of_fix}
 use Rattle.tf_session.specs.Fixing.{FixMakes}
 use Rattle.tf_steps.specs.declared.fault.FixFault.{FixFault}
-use Rattle.tf_steps.specs.declared.reading.Parsed.{Parsed}
-use Rattle.tf_steps.specs.Steps.{Made, Fixes, Breaks, OneFix}
+use Rattle.tf_steps.specs.Steps.{Made, Breaks, OneFix}
 use Rattle.hcl_layout.specs.Layout.{layout_edits}
 use Rattle.hcl_format.specs.Layouts.{IsTooLong}
 use Rattle.hcl_format.specs.LayoutLaws.{OneLayout}
 use Rattle.tf_session.specs.Reading.{DoesParse}
-use Rattle.tf_steps.specs.Reading.{Reads, IsParseFault}
+use Rattle.tf_steps.specs.Reading.{IsParseFault}
 use Rattle.tf_session.specs.Formatting.{Formats, FmtMakes}
 use Rattle.tf_session.proofs.ReadTexts.{does_parse}
 use Rattle.tf_steps.proofs.Unread.{OneCut, NoCutWithFault, OneFault, not_both, same_cut}

@@ -13,7 +13,7 @@ use Rattle.tf_steps.specs.Steps.{Made, differ}
 use Rattle.tf_session.specs.Machine.{done, is_memory}
 use Rattle.tf_session.specs.OneAnswer.{AreAlike}
 use Rattle.tf_session.specs.RunLaws.{served, given}
-use Rattle.tf_session.specs.Layers.{Layer, History, top_text, PutsLayer, TakesLayerOff, Acts, MayWantMemory, ActsOrWants}
+use Rattle.tf_session.specs.Layers.{History, top_text, PutsLayer, TakesLayerOff, Acts, MayWantMemory}
 use Rattle.tf_session.specs.TakeLaws.{ActsAll, OneAnswerOverLayers, RefusedDoNotCountOverLayers}
 use Rattle.tf_session.proofs.Answering.{same_fixes, same_layouts}
 use Rattle.tf_session.proofs.Lists.{not_nil, same_last}

@@ -11,7 +11,7 @@ use Rattle.tf_session.specs.declared.command.Done.{Done}
 use Rattle.tf_session.specs.declared.command.Fault.{Fault}
 use Rattle.tf_steps.specs.declared.step.Change.{Change}
 use Rattle.tf_steps.specs.Steps.{Made, differ}
-use Rattle.tf_steps.specs.Fixed.{text_after, edits_after, made_of}
+use Rattle.tf_steps.specs.Fixed.{text_after, edits_after}
 use Rattle.tf_session.specs.Makes.{Makes}
 use Rattle.tf_session.specs.Machine.{done}
 use Rattle.tf_session.specs.Records.{HasWord, AddsRecord, AddsRecordOf, PutsInPlace, DoesStep}
@@ -25,20 +25,24 @@ leads t None e h =
     cc
 leads t (Some change) e h = h
 
+-- what was made of a text, by its parts
+abbrev made_with : List ℕ → Option Change → ℕ → ℕ → Made
+made_with t change fixed left = record { text = text_after t change; edits = edits_after t change; fixed = fixed; left = left }
+
 -- what a command made of a text
-abbrev MakesOf : Command → List ℕ → Option Change → ℕ → ℕ → Type 0
-MakesOf command t change fixed left = Makes command t (Ok (made_of t (record { change = change; fixed = fixed; left = left })))
+abbrev pub MakesOf : Command → List ℕ → Option Change → ℕ → ℕ → Type 0
+MakesOf command t change fixed left = Makes command t (Ok (made_with t change fixed left))
 
 abbrev Leads : List ℕ → Option Change → Type 0
 Leads t change = IfSome change (λ c. Turns c.edits t c.text.items)
 
 adds : (command : Command) (word : Word) → HasWord command word → (b : Bool) (t : List ℕ) (js ks : List Entered) (change : Option Change) (fixed left : ℕ) → differ t (text_after t change) ≡ b
     → MakesOf command t change fixed left → Leads t change
-    → AddsRecord b word (edits_after t change) js ks → AddsRecordOf b command t (made_of t (record { change = change; fixed = fixed; left = left })) js ks
+    → AddsRecord b word (edits_after t change) js ks → AddsRecordOf b command t (made_with t change fixed left) js ks
 adds command word has true t js ks change fixed left e makes turns h = (
   record { word = word; edits = edits_after t change },
   h,
-  record { made = made_of t (record { change = change; fixed = fixed; left = left }); makes = makes; text = refl; edits = refl; word = has; turns = leads t change e turns },
+  record { made = made_with t change fixed left; makes = makes; text = refl; edits = refl; word = has; turns = leads t change e turns },
   refl,
 )
 adds command word has false t js ks change fixed left e makes turns h = h
@@ -52,7 +56,7 @@ put_here : (command : Command) (word : Word) → HasWord command word → (t : L
     → IfOk reply (λ d. d ≡ done (differ t (text_after t change)) fixed left) → IfOk reply (λ d. u ≡ text_after t change)
     → IfOk reply (λ d. AddsRecord (differ t (text_after t change)) word (edits_after t change) js ks) → IfOk reply (λ d. PutsMade command t js d u ks)
 put_here command word has t js change fixed left (Ok d) u ks makes turns replied put added =
-    (made_of t (record { change = change; fixed = fixed; left = left }), makes, (put, replied, adds command word has (differ t (text_after t change)) t js ks change fixed left refl makes turns added))
+    (made_with t change fixed left, makes, (put, replied, adds command word has (differ t (text_after t change)) t js ks change fixed left refl makes turns added))
 put_here command word has t js change fixed left (Err fault) u ks makes turns replied put added = replied
 
 put_lent : (command : Command) (word : Word) → HasWord command word → (lent t : List ℕ) (js : List Entered) (change : Option Change) (fixed left : ℕ) (reply : Result Done Fault) (u : List ℕ) (ks : List Entered) → lent ≡ t

@@ -1,5 +1,5 @@
 -- By induction on the run and on the layers.
-use Rattle.std.proofs.Common.{◌≡◌, ◌∙◌, ◌+◌, ℕ, zero, suc, List, [], ◌∷◌, ◌++◌, length, replicate, Bool, true, false, MatchBool, Result, Ok, Err, refl, sym, ap, subst, arith, length-append}
+use Rattle.std.proofs.Common.{◌≡◌, ◌∙◌, ℕ, zero, suc, List, [], ◌∷◌, ◌++◌, length, replicate, Bool, true, false, MatchBool, Result, Ok, Err, refl, sym, ap, subst, arith, length-append}
 use Rattle.std.proofs.lemmas.List.{length-map, nil_from_length}
 use Rattle.edit_record.specs.Journal.{Entered}
 use Rattle.edit_record.specs.Made.{EditsTurnIntoOne}

@@ -1,14 +1,15 @@
 -- The lines of the issues of a text, and what a call that lints a stream took, wrote and answers.
-use Rattle.std.specs.Prelude.{◌≡◌, ℕ, List, [], ◌∷◌, ◌++◌, length}
+use Rattle.std.specs.Prelude.{◌≡◌, ◌⊎◌, ℕ, List, [], ◌∷◌, ◌++◌, length}
 use Rattle.tf_rule.specs.declared.rule_set.RuleSet.{RuleSet}
 use Rattle.tf_lint.specs.Issues.{AreReports}
 use Rattle.tf_lint.specs.Reports.{Report, line_of}
-use Rattle.tf_stream.specs.Streams.{Source, Target, Puts}
+use Rattle.tf_stream.specs.Streams.{Source, Target, Puts, Untouched}
 use Rattle.tf_session.specs.declared.fault.RunFault.{RunFault}
 use Rattle.tf_steps.specs.declared.reading.Parsed.{Parsed}
 use Rattle.tf_steps.specs.Reading.{Reads}
 use Rattle.tf_session.specs.Makes.{NotRead}
-use Rattle.tf_session.specs.Streams.{TakesText, FailsOver}
+use Rattle.tf_session.specs.declared.fault.Part.{Part}
+use Rattle.tf_session.specs.Streams.{TakesText, NotPut, FailsOver}
 
 -- the line of each issue in a file of this name, each followed by LF
 abbrev pub lines_of : List ℕ → List Report → List ℕ
@@ -31,3 +32,7 @@ Lints name rules count source target =
 -- No text came, or it does not parse, or not all lines went out.
 abbrev pub LintsAtFault : List ℕ → RuleSet → RunFault → Source → Target → Type 0
 LintsAtFault name rules fault source target = FailsOver NotRead (λ text lines. (count : ℕ) × AreLines name rules text lines count) fault source target
+
+-- A growth was refused, and nothing was put; or not all of these lines went out.
+abbrev pub NotListed : List ℕ → RunFault → Target → Type 0
+NotListed lines fault target = ((fault ≡ RunFault.Memory) × Untouched target) ⊎ NotPut Part.Text fault target lines

@@ -4,7 +4,8 @@ ghost use Rattle.std.specs.Prelude.{Ok, IfOk, IfErr, IfSome};
 ghost use Rattle.edit_record.specs.Pieces.{Turns};
 ghost use Rattle.tf_session.specs.Makes.{Makes, RefusesText};
 ghost use Rattle.tf_session.specs.declared.command.Command.TheVariants.{Fix};
-ghost use Rattle.tf_steps.specs.Fixed.{made_of};
+ghost use Rattle.tf_steps.specs.Fixed.{made_of, text_after};
+ghost use Rattle.tf_steps.specs.Steps.{IsReport};
 
 use crate::command::Fault;
 use std::alloc::Global;
@@ -15,6 +16,7 @@ use tf_steps::Fixed;
 pub fn fix_text(alloc: Global, text: &[u8], rules: RuleSet) -> Result<Fixed, Fault>
     ensures made { IfOk result (λ fixed. Makes (Fix rules) text.now (Ok (made_of text.now fixed))) }
     ensures change { IfOk result (λ fixed. IfSome fixed.change (λ change. Turns change.edits text.now change.text.items)) }
+    ensures left { IfOk result (λ fixed. IsReport rules (text_after text.now fixed.change) fixed.left.items) }
     ensures fault { IfErr result (λ fault. RefusesText (Fix rules) text.now fault) }
 {
     match tf_steps::fix_text(alloc, text, rules) {

@@ -40,13 +40,13 @@ pub fn fmt_text(alloc: Global, text: &[u8]) -> Result<Fixed, Fault>
         return Ok(Fixed {
             change: None,
             fixed: 0,
-            left: 0,
+            left: Vec::new(alloc),
         });
     }
     Ok(Fixed {
         change: Some(change),
         fixed: 0,
-        left: 0,
+        left: Vec::new(alloc),
     })
 }
 

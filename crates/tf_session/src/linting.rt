@@ -1,10 +1,10 @@
 //! Whole texts linted from a reader to a writer.
 
-ghost use Rattle.std.specs.Prelude.{◌≡◌, ◌↔◌, true, false, IfOk, IfErr, IsErrOf, IsErrAnd};
+ghost use Rattle.std.specs.Prelude.{◌≡◌, ◌↔◌, true, false, OnOk, IfOk, IfErr, IsErrOf, IsErrAnd};
 ghost use Rattle.tf_lint.specs.Issues.{reports};
 ghost use Rattle.tf_stream.specs.Told.{has_failed};
-ghost use Rattle.tf_stream.specs.Streams.{from, into};
-ghost use Rattle.tf_session.specs.Lines.{lines_of, AreLines, Lints, LintsAtFault};
+ghost use Rattle.tf_stream.specs.Streams.{from, into, Puts};
+ghost use Rattle.tf_session.specs.Lines.{lines_of, AreLines, Lints, LintsAtFault, NotListed};
 ghost use Rattle.tf_session.specs.Makes.{NotRead};
 ghost use Rattle.tf_session.specs.Streams.{is_write};
 
@@ -38,6 +38,24 @@ pub fn lint_stream<R: Read, W: Write>(
     let (lines, count) = issue_lines(alloc, name, bytes.as_slice(), rules)?;
     put_text(lines.as_slice(), out)?;
     Ok(count)
+}
+
+/// Writes a line for each of these issues of a file with this name, each followed by LF.
+///
+/// All lines are made before the first is written, so nothing is written at any fault but `Write`.
+pub fn put_issues<W: Write>(
+    alloc: Global,
+    name: &str,
+    found: &[Issue],
+    out: &mut Told<W>,
+) -> Result<(), RunFault>
+    requires { has_failed out.old ≡ false }
+    ensures lines { OnOk result (Puts (into W.contents out.old out.new) (lines_of name.now (reports found.now))) }
+    ensures fault { IfErr result (λ fault. NotListed (lines_of name.now (reports found.now)) fault (into W.contents out.old out.new)) }
+    ensures write { IsErrAnd result (λ fault. is_write fault ≡ true) ↔ has_failed out.new ≡ true }
+{
+    let lines = joined_lines(alloc, name, found)?;
+    put_text(lines.as_slice(), out)
 }
 
 // The lines of the issues of a text, and their number.

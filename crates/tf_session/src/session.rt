@@ -1,7 +1,8 @@
 //! A text with the journal of what changed it.
 
 ghost use Rattle.std.specs.Prelude.{◌≡◌, true, IfOk, IfErr, IfSome, OnErr};
-ghost use Rattle.tf_steps.specs.Steps.{differ};
+ghost use Rattle.tf_steps.specs.Steps.{differ, IsReport};
+ghost use Rattle.tf_session.specs.declared.command.Command.TheVariants.{Fix};
 ghost use Rattle.tf_session.specs.Machine.{done};
 ghost use Rattle.tf_steps.specs.Fixed.{text_after, edits_after};
 ghost use Rattle.tf_session.specs.Session.{text_of, records_of};
@@ -15,6 +16,7 @@ use crate::removing::{Remainder, without};
 use edit_record::laws::undo_is_exact;
 use edit_record::{Change as _, Journal, Record, Word};
 use std::alloc::Global;
+use tf_lint::{Issue, RuleSet};
 use tf_steps::{Change, Fixed};
 
 /// A text, and the journal of the commands that changed it.
@@ -56,24 +58,27 @@ impl Session {
     {
         match command {
             Command::Fmt => {
-                let laid = fmt_text(alloc, self.text.as_slice())?;
-                self.put_on(Word::Fmt, laid)
+                let Fixed {
+                    change,
+                    fixed,
+                    left,
+                } = fmt_text(alloc, self.text.as_slice())?;
+                self.put_on(Word::Fmt, change, fixed, left.len())
             }
-            Command::Fix(rules) => {
-                let fixed = fix_text(alloc, self.text.as_slice(), rules)?;
-                self.put_on(Word::Fix, fixed)
-            }
+            Command::Fix(rules) => match self.fix(alloc, rules) {
+                Ok((done, _)) => Ok(done),
+                Err(fault) => Err(fault),
+            },
             Command::Revert => self.take_off(alloc),
             Command::Take(number) => self.take_nth(alloc, number),
         }
     }
 
-    // Puts the new text in the place of the old, with a record, if it changed.
-    fn put_on(&mut self, word: Word, new: Fixed) -> Reply
-        ensures replied { IfOk result (λ d. d ≡ done (differ (text_of self.old) (text_after (text_of self.old) new.change)) new.fixed new.left) }
-        ensures put { IfOk result (λ d. text_of self.new ≡ text_after (text_of self.old) new.change) }
-        ensures added { IfOk result (λ d. AddsRecord (differ (text_of self.old) (text_after (text_of self.old) new.change)) word (edits_after (text_of self.old) new.change) (records_of self.old) (records_of self.new)) }
-        ensures refused { IfErr result (λ fault. fault ≡ Fault.Memory) }
+    /// A fix by the rules of the set, and what they report of the text behind it. A refused one changes nothing.
+    pub fn fix(&mut self, alloc: Global, rules: RuleSet) -> Result<(Done, Vec<Issue>), Fault>
+        ensures done { IfOk result (λ r. DoesStep (Fix rules) (text_of self.old) (records_of self.old) r.0 (text_of self.new) (records_of self.new)) }
+        ensures left { IfOk result (λ r. IsReport rules (text_of self.new) r.1.items) }
+        ensures refused { IfErr result (λ fault. RefusesStep (Fix rules) (text_of self.old) (records_of self.old) fault) }
         ensures text { OnErr result (text_of self.new ≡ text_of self.old) }
         ensures journal { OnErr result (records_of self.new ≡ records_of self.old) }
     {
@@ -81,7 +86,22 @@ impl Session {
             change,
             fixed,
             left,
-        } = new;
+        } = fix_text(alloc, self.text.as_slice(), rules)?;
+        match self.put_on(Word::Fix, change, fixed, left.len()) {
+            Ok(done) => Ok((done, left)),
+            Err(fault) => Err(fault),
+        }
+    }
+
+    // Puts the new text in the place of the old, with a record, if it changed.
+    fn put_on(&mut self, word: Word, change: Option<Change>, fixed: usize, left: usize) -> Reply
+        ensures replied { IfOk result (λ d. d ≡ done (differ (text_of self.old) (text_after (text_of self.old) change)) fixed left) }
+        ensures put { IfOk result (λ d. text_of self.new ≡ text_after (text_of self.old) change) }
+        ensures added { IfOk result (λ d. AddsRecord (differ (text_of self.old) (text_after (text_of self.old) change)) word (edits_after (text_of self.old) change) (records_of self.old) (records_of self.new)) }
+        ensures refused { IfErr result (λ fault. fault ≡ Fault.Memory) }
+        ensures text { OnErr result (text_of self.new ≡ text_of self.old) }
+        ensures journal { OnErr result (records_of self.new ≡ records_of self.old) }
+    {
         let Some(Change { text, edits }) = change else {
             return Ok(Done {
                 changed: false,

@@ -5,6 +5,8 @@ ghost use Rattle.tf_stream.specs.Told.{has_failed};
 ghost use Rattle.tf_stream.specs.Streams.{from, into};
 ghost use Rattle.tf_session.specs.Session.{text_of, records_of};
 ghost use Rattle.tf_session.specs.Streams.{is_write};
+ghost use Rattle.tf_session.specs.declared.command.Command.TheVariants.{Fix};
+ghost use Rattle.tf_steps.specs.Steps.{IsReport};
 ghost use Rattle.tf_session.specs.Streaming.{StepsThrough, StepsAtFault, Checks, ChecksAtFault};
 
 use crate::command::{Command, Done};
@@ -15,6 +17,7 @@ use crate::texts::{put_text, take_text};
 use edit_record::Journal;
 use std::alloc::Global;
 use std::io::{Read, Write};
+use tf_lint::{Issue, RuleSet};
 use tf_stream::Told;
 
 /// One command over the whole text of a reader, with no journal. The new text, changed or not, goes to the writer.
@@ -38,6 +41,33 @@ pub fn step_stream<R: Read, W: Write>(
     let done = session.step(alloc, command)?;
     match put_text(session.text(), out) {
         Ok(()) => Ok((session, done)),
+        Err(fault) => Err(fault),
+    }
+}
+
+/// A fix by the rules of the set over the whole text of a reader, with no journal. The new text, changed or not, goes to the writer.
+///
+/// Answers the session after it, what it did, and what the rules report of the new text. Nothing is written at any fault but
+/// `Write`.
+pub fn fix_through<R: Read, W: Write>(
+    alloc: Global,
+    rules: RuleSet,
+    text: &mut Told<R>,
+    out: &mut Told<W>,
+) -> Result<(Session, Done, Vec<Issue>), RunFault>
+    requires text_fresh { has_failed text.old ≡ false }
+    requires out_fresh { has_failed out.old ≡ false }
+    ensures done { IfOk result (λ made. StepsThrough (Fix rules) made.1 (text_of made.0) (records_of made.0) (from R.remaining text.old text.new) (into W.contents out.old out.new)) }
+    ensures left { IfOk result (λ made. IsReport rules (text_of made.0) made.2.items) }
+    ensures fault { IfErr result (λ fault. StepsAtFault (Fix rules) fault (from R.remaining text.old text.new) (into W.contents out.old out.new)) }
+    ensures read { IsErrOf result RunFault.Read ↔ has_failed text.new ≡ true }
+    ensures write { IsErrAnd result (λ fault. is_write fault ≡ true) ↔ has_failed out.new ≡ true }
+{
+    let bytes = take_text(alloc, text)?;
+    let mut session = Session::start(bytes, Journal::empty(alloc));
+    let (done, left) = session.fix(alloc, rules)?;
+    match put_text(session.text(), out) {
+        Ok(()) => Ok((session, done, left)),
         Err(fault) => Err(fault),
     }
 }

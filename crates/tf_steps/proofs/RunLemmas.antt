@@ -1,11 +1,14 @@
 -- The run of several steps, from one step to the next.
-use Rattle.std.proofs.Common.{◌≡◌, ℕ, ◌+◌, ◌-◌, ◌≤◌, ◌<◌, ◌⊎◌, true, false, List, [], ◌∷◌, length, take, drop, slice_index_or, Some, None, Result, Ok, Err, Bor, refl, sym, ap, subst, arith, inl, inr}
-use Rattle.std.proofs.lemmas.List.{take_all}
+use Rattle.std.proofs.Common.{◌≡◌, ℕ, ◌+◌, ◌-◌, ◌≤◌, ◌<◌, ◌⊎◌, true, false, List, [], ◌∷◌, length, take, drop, slice_index_or, Some, None, Result, Ok, Err, Bor, refl, sym, ap, subst, ◌∙◌, arith, inl, inr}
+use Rattle.std.proofs.lemmas.List.{length-map, take_all}
 use Rattle.std.proofs.lemmas.Slice.Eq.{bytes_eq-Decides}
+use Rattle.std.specs.Global.{Vec}
 use Rattle.std.specs.Prelude.{IfOk, IfErr}
 use Rattle.std.specs.Result.{IsErr, IsErrAnd}
 use Rattle.edit_record.specs.Pieces.{EditList, Turns}
 use Rattle.edit_squash.specs.Squash.{IsSquash}
+use Rattle.tf_lint.specs.declared.issue.Issue.{Issue}
+use Rattle.tf_lint.specs.Reports.{report, report_of}
 use Rattle.tf_rule.specs.declared.rule.Rule.{Rule}
 use Rattle.tf_rule.specs.declared.rule_set.RuleSet.{RuleSet}
 use Rattle.tf_rule.specs.RuleSets.{has_rule}
@@ -17,7 +20,7 @@ use Rattle.tf_steps.specs.declared.step.Step.{Step}
 use Rattle.tf_steps.specs.declared.steps.Passed.{Passed}
 use Rattle.tf_steps.specs.declared.steps.Passed.TheVariants.{Same, Changed}
 use Rattle.tf_steps.specs.Reading.{Reads, IsUnread, IsText, NotRead}
-use Rattle.tf_steps.specs.Steps.{fixed_text, fix_order, differ, Steps, RunSteps, Made, Fixes, Refuses}
+use Rattle.tf_steps.specs.Steps.{AreLeft, Reports, fixed_text, fix_order, differ, Steps, RunSteps, Made, Fixes, Refuses}
 use Rattle.tf_steps.specs.Inner.Passing.{IsChange, IsStep, Passes, FixesFrom, RefusesFrom}
 
 pub split_first : {X : Type 0} (xs : List X) (d : X) → 1 ≤ length xs → xs ≡ slice_index_or xs 0 d ∷ take (length xs - 1) (drop 1 xs)
@@ -111,9 +114,13 @@ changed_pass rules rule order p step change chosen s some =
 
 -- ---- from what was passed on
 
-pub no_more : (rules : RuleSet) (order : List Rule) (text : List ℕ) (p : Parsed) (done : EditList) (count fixed left : ℕ) → Reads text p → Passes rules order p count (Same fixed left)
-    → FixesFrom rules order text done count (record { text = text; edits = done; fixed = fixed; left = left })
-no_more rules order text p done count fixed left reads (n, number, counted, runs) = record {
+-- one issue is reported for each finding
+one_each : (rules : RuleSet) (p : Parsed) (issues : List Issue) → Reports rules p issues → AreLeft rules p (length issues)
+one_each rules p issues (found, finds, told) = (found, finds, sym (length-map issues report) ∙ ap length told ∙ length-map found (report_of p.scanned.pairs))
+
+pub no_more : (rules : RuleSet) (order : List Rule) (text : List ℕ) (p : Parsed) (done : EditList) (count fixed : ℕ) (left : Vec Issue) → Reads text p → Passes rules order p count (Same fixed left)
+    → FixesFrom rules order text done count (record { text = text; edits = done; fixed = fixed; left = length left.items })
+no_more rules order text p done count fixed left reads (n, number, reported, runs) = record {
   parsed = p;
   reads = reads;
   steps = record { text = p.scanned.text; lists = []; fixed = n };
@@ -123,7 +130,7 @@ no_more rules order text p done count fixed left reads (n, number, counted, runs
   fixed_is = number;
   new_parsed = p;
   new_reads = reads;
-  left_is = counted;
+  left_is = one_each rules p left.items reported;
 }
 
 pub and_more : (rules : RuleSet) (order : List Rule) (text : List ℕ) (p : Parsed) (done both : EditList) (count fixed : ℕ) (change : Change) (by : Rule) (rest : Bor (List Rule)) (made : Made)
@@ -155,9 +162,9 @@ and_refuses rules order text p count fixed change made_by by rest fault reads (n
 
 -- ---- from the first step on
 
-pub none_changed : (rules : RuleSet) (text : List ℕ) (p : Parsed) (fixed left : ℕ) → Reads text p → Passes rules fix_order p 0 (Same fixed left)
-    → Fixes rules text (record { text = text; edits = record { old_len = length text; entries = [] }; fixed = fixed; left = left })
-none_changed rules text p fixed left reads (n, number, counted, runs) = record {
+pub none_changed : (rules : RuleSet) (text : List ℕ) (p : Parsed) (fixed : ℕ) (left : Vec Issue) → Reads text p → Passes rules fix_order p 0 (Same fixed left)
+    → Fixes rules text (record { text = text; edits = record { old_len = length text; entries = [] }; fixed = fixed; left = length left.items })
+none_changed rules text p fixed left reads (n, number, reported, runs) = record {
   parsed = p;
   reads = reads;
   steps = record { text = p.scanned.text; lists = []; fixed = n };
@@ -167,7 +174,7 @@ none_changed rules text p fixed left reads (n, number, counted, runs) = record {
   fixed_is = omega (arith, number);
   new_parsed = p;
   new_reads = reads;
-  left_is = counted;
+  left_is = one_each rules p left.items reported;
 }
 
 pub all_fixed : (rules : RuleSet) (text : List ℕ) (p : Parsed) (fixed : ℕ) (change : Change) (by : Rule) (rest : Bor (List Rule)) (made : Made)

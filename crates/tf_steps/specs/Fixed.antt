@@ -16,4 +16,4 @@ edits_after text (Some change) = change.edits
 
 -- what was made of this text
 abbrev pub made_of : List ℕ → Fixed → Made
-made_of text f = record { text = text_after text f.change; edits = edits_after text f.change; fixed = f.fixed; left = f.left }
+made_of text f = record { text = text_after text f.change; edits = edits_after text f.change; fixed = f.fixed; left = length f.left.items }

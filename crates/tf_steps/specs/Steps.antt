@@ -13,6 +13,8 @@ use Rattle.tf_mend.specs.ByPairs.{mended_text}
 use Rattle.tf_mend.specs.Mended.{mended_edits}
 use Rattle.tf_mend.specs.Taking.{taken}
 use Rattle.tf_findings.specs.Findings.{AreFindings}
+use Rattle.tf_lint.specs.Issues.{AreIssues}
+use Rattle.tf_lint.specs.declared.issue.Issue.{Issue}
 use Rattle.tf_steps.specs.declared.fault.FixFault.{FixFault}
 use Rattle.tf_steps.specs.declared.fault.FixFault.TheVariants.{Scan, Parse, FixBroken, TooLong, Memory}
 use Rattle.tf_steps.specs.declared.reading.Parsed.{Parsed}
@@ -40,6 +42,14 @@ fix_count found = length (taken found)
 -- so many findings of the set has the text
 abbrev pub AreLeft : RuleSet → Parsed → ℕ → Type 0
 AreLeft rules p count = (found : List Finding) × Finds rules p found × (count ≡ length found)
+
+-- what the rules of the set report of the text
+abbrev pub Reports : RuleSet → Parsed → List Issue → Type 0
+Reports rules p issues = AreIssues rules p.scanned.pairs p.tree.body.members issues
+
+-- the text parses, and this is what the rules of the set report of it
+abbrev pub IsReport : RuleSet → List ℕ → List Issue → Type 0
+IsReport rules text issues = (p : Parsed) × Reads text p × Reports rules p issues
 
 -- ---- several steps
 

@@ -3,9 +3,9 @@
 ghost use Rattle.std.specs.Prelude.{◌≡◌, ◌≤◌, ◌⊎◌, ◌+◌, ◌*◌, ℕ, List, length, Err, IfOk, IfErr, IfSome};
 ghost use Rattle.edit_record.specs.Pieces.{Turns};
 ghost use Rattle.edit_squash.specs.Squash.{CanFollow, IsSquash};
-ghost use Rattle.tf_steps.specs.Fixed.{made_of};
+ghost use Rattle.tf_steps.specs.Fixed.{made_of, text_after};
 ghost use Rattle.tf_steps.specs.Reading.{Reads};
-ghost use Rattle.tf_steps.specs.Steps.{AreLeft, RunSteps, Fixes, Refuses};
+ghost use Rattle.tf_steps.specs.Steps.{Reports, IsReport, RunSteps, Fixes, Refuses};
 ghost use Rattle.tf_steps.specs.Inner.Passing.{room, Passes, FixesFrom, RefusesFrom, made_by};
 ghost use Rattle.tf_steps.specs.declared.fault.FixFault.{FixFault};
 ghost use Rattle.tf_steps.specs.declared.reading.Parsed.{Parsed};
@@ -17,7 +17,7 @@ use edit_record::Edits;
 use edit_record::laws::turned_texts_have_the_lengths;
 use edit_squash::{Unmet, squash};
 use std::alloc::Global;
-use tf_findings::findings;
+use tf_lint::{Issue, issues};
 use tf_rule::{Rule, RuleSet};
 
 /// What a fix made of a text.
@@ -27,8 +27,8 @@ pub struct Fixed {
     pub change: Option<Change>,
     /// How many findings were mended.
     pub fixed: usize,
-    /// How many findings of the chosen rules the new text has.
-    pub left: usize,
+    /// What the chosen rules report of the new text.
+    pub left: Vec<Issue>,
 }
 
 /// What the rules up to the first that changes the text did.
@@ -37,7 +37,7 @@ enum Passed<'o> {
     /// None changes the text.
     Same {
         fixed: usize,
-        left: usize,
+        left: Vec<Issue>,
     },
     /// This rule is the first that does, and those of the rest come behind it.
     Changed {
@@ -72,12 +72,14 @@ fn gather(alloc: Global, done: &Edits, edits: &Edits) -> Result<Edits, FixFault>
     }
 }
 
-fn count_left(alloc: Global, parsed: &Parsed<'_>, rules: RuleSet) -> Result<usize, FixFault>
-    ensures count { IfOk result (λ count. AreLeft rules parsed.now count) }
+fn reported(alloc: Global, parsed: &Parsed<'_>, rules: RuleSet) -> Result<Vec<Issue>, FixFault>
+    ensures issues { IfOk result (λ issues. Reports rules parsed.now issues.items) }
     ensures fault { IfErr result (λ fault. fault ≡ FixFault.Memory) }
 {
-    let found = findings(alloc, &parsed.scanned, &parsed.tree, rules)?;
-    Ok(found.len())
+    match issues(alloc, &parsed.scanned, &parsed.tree, rules) {
+        Ok(issues) => Ok(issues),
+        Err(_) => Err(FixFault::Memory),
+    }
 }
 
 // The first of the rules that changes the text, where so many findings were mended before.
@@ -112,7 +114,7 @@ fn first_change<'o>(
             }),
         }
     } else {
-        let left = count_left(alloc, parsed, rules)?;
+        let left = reported(alloc, parsed, rules)?;
         Ok(Passed::Same { fixed: count, left })
     }
 }
@@ -141,7 +143,7 @@ fn pass<'o>(
 struct Ended {
     change: Change,
     fixed: usize,
-    left: usize,
+    left: Vec<Issue>,
 }
 
 // The steps of these rules over a text that the step of one made, behind the edits so far.
@@ -157,6 +159,7 @@ fn run(
     requires few { count + room order.now ≤ 16777216 * 16 }
     ensures made { IfOk result (λ ended. FixesFrom rules order.now done.text.items done.edits count (made_by ended)) }
     ensures turns { (old : List ℕ) → Turns done.edits old done.text.items → IfOk result (λ ended. Turns ended.change.edits old ended.change.text.items) }
+    ensures left { IfOk result (λ ended. IsReport rules ended.change.text.items ended.left.items) }
     ensures fault { IfErr result (λ fault. RefusesFrom rules order.now done.text.items by fault) }
 {
     let passed = pass(alloc, &done.text, rules, order, by, count)?;
@@ -187,6 +190,7 @@ fn run(
 pub fn fix_text(alloc: Global, text: &[u8], rules: RuleSet) -> Result<Fixed, FixFault>
     ensures made { IfOk result (λ fixed. Fixes rules text.now (made_of text.now fixed)) }
     ensures turns { IfOk result (λ fixed. IfSome fixed.change (λ change. Turns change.edits text.now change.text.items)) }
+    ensures left { IfOk result (λ fixed. IsReport rules (text_after text.now fixed.change) fixed.left.items) }
     ensures fault { IfErr result (λ fault. Refuses rules text.now fault) }
 {
     let parsed = read_text(alloc, text)?;

@@ -16,7 +16,7 @@ use Rattle.tf_steps.specs.declared.steps.Passed.{Passed}
 use Rattle.tf_steps.specs.declared.steps.Passed.TheVariants.{Same, Changed}
 use Rattle.tf_steps.specs.Reading.{Reads, IsUnread}
 use Rattle.tf_steps.specs.OneRule.{only}
-use Rattle.tf_steps.specs.Steps.{Finds, fixed_text, fix_edits, fix_count, AreLeft, differ, Steps, RunSteps, Made}
+use Rattle.tf_steps.specs.Steps.{Finds, fixed_text, fix_edits, fix_count, AreLeft, Reports, differ, Steps, RunSteps, Made}
 
 -- ---- one step
 
@@ -43,7 +43,7 @@ room order = 16777216 * length order
 -- what is known of the steps from here on, where so many findings were mended before
 abbrev pub Passes : RuleSet → List Rule → Parsed → ℕ → Passed → Type 0
 Passes rules order p count (Same fixed left) =
-    (n : ℕ) × (fixed ≡ count + n) × AreLeft rules p left × RunSteps rules order p (Ok (record { text = p.scanned.text; lists = []; fixed = n }))
+    (n : ℕ) × (fixed ≡ count + n) × Reports rules p left.items × RunSteps rules order p (Ok (record { text = p.scanned.text; lists = []; fixed = n }))
 Passes rules order p count (Changed fixed change by rest) =
     (n : ℕ) × (fixed ≡ count + n) × (fixed + room rest.now ≤ 16777216 * 16) × (length rest.now < length order) × Turns change.edits p.scanned.text change.text.items
     × ((next : Parsed) (more : Steps) → Reads change.text.items next → RunSteps rules rest.now next (Ok more)
@@ -74,4 +74,4 @@ RefusesFrom rules order text by fault =
 -- ---- what the last of them answers
 
 abbrev pub made_by : Ended → Made
-made_by e = record { text = e.change.text.items; edits = e.change.edits; fixed = e.fixed; left = e.left }
+made_by e = record { text = e.change.text.items; edits = e.change.edits; fixed = e.fixed; left = length e.left.items }

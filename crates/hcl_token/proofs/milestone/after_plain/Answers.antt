@@ -1,4 +1,4 @@
-use Rattle.std.proofs.Common.{◌≡◌, ◌+◌, ◌-◌, suc, length, refl, ap, ◌∙◌, sym, arith}
+use Rattle.std.proofs.Common.{◌≡◌, ◌+◌, ◌-◌, suc, length, ap, ◌∙◌, sym, arith}
 use Rattle.std.proofs.lemmas.List.{length-drop}
 use Rattle.hcl_token.specs.Place.{clusters, last_line}
 use Rattle.hcl_token.proofs.ClusterLemmas.{clusters-plain}
