@@ -106,7 +106,7 @@ fn found(alloc: Global, rules: RuleSet, text: &[u8]) -> Result<String> {
 /// The text as the rule fixes it, which goes back.
 fn fixed(alloc: Global, rule: Rule, text: &[u8]) -> Result<String> {
     let fixed = fix_text(alloc, text, RuleSet::none().with(rule))?;
-    match fixed.change {
+    match &fixed.change {
         Some(change) => {
             let back = change.edits.undo(alloc, &change.text)?;
             said(alloc, &change.text, back.as_slice() == text)
@@ -119,7 +119,7 @@ fn fixed(alloc: Global, rule: Rule, text: &[u8]) -> Result<String> {
 fn counts(alloc: Global, rule: Rule, text: &[u8]) -> Result<String> {
     let fixed = fix_text(alloc, text, RuleSet::none().with(rule))?;
     let mended = fixed.fixed;
-    let count = match fixed.change {
+    let count = match &fixed.change {
         Some(change) => change.edits.edits().len(),
         None => 0,
     };
