@@ -18,3 +18,7 @@ pub mod Own
 pub mod Standing
 pub mod EachNode
 pub mod Climb
+pub mod Alike
+pub mod AlikeExpressions
+pub mod AlikeBodies
+pub mod Quiet

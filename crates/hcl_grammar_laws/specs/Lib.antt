@@ -1,5 +1,6 @@
 pub mod OneTree
 pub mod Nesting
 pub mod EachNode
+pub mod Comments
 pub mod Glue
 pub mod Pure

@@ -1,5 +1,6 @@
 //! What holds of the grammar. Each law is the contract of a function that does nothing.
 
+ghost use Rattle.hcl_grammar_laws.specs.Comments.{CommentsSayNothing};
 ghost use Rattle.hcl_grammar_laws.specs.EachNode.{EachNode};
 ghost use Rattle.hcl_grammar_laws.specs.Glue.{NoGlue};
 ghost use Rattle.hcl_grammar_laws.specs.Nesting.{NestingIsABound};
@@ -10,6 +11,11 @@ ghost use Rattle.hcl_grammar_laws.specs.Pure.Climbing.{Climbing};
 /// Over the same tokens stands one tree at most.
 pub fn one_tree()
     ensures { OneTree }
+{}
+
+/// Lists of tokens that differ in what their line comments say, and in nothing else, have the same trees.
+pub fn comments_say_nothing()
+    ensures { CommentsSayNothing }
 {}
 
 /// What nests no deeper than a number nests no deeper than a greater one.

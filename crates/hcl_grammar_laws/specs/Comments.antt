@@ -1,0 +1,20 @@
+-- What line comments say is no part of a tree.
+-- HCL native syntax specification, Comments and Whitespace.
+use Rattle.std.specs.Prelude.{◌≡◌, ℕ, Bool, true, false, List, [], map, if◌then◌else◌}
+use Rattle.hcl_token.specs.declared.kind.Kind.{Kind}
+use Rattle.hcl_token.specs.declared.kind.Kind.TheVariants as k
+use Rattle.hcl_grammar.specs.declared.tree.Tree.{Tree}
+use Rattle.hcl_grammar.specs.Bodies.{IsFile}
+use Rattle.hcl_grammar.specs.Tokens.{Token}
+
+abbrev pub is_line_comment : Kind → Bool
+is_line_comment k.LineComment = true
+is_line_comment _ = false
+
+-- a token; of a line comment the kind alone
+abbrev pub unsaid : Token → Token
+unsaid t = if is_line_comment t.0 then (t.0, []) else t
+
+-- tokens that differ in what their line comments say, and in nothing else, have the same trees
+abbrev pub CommentsSayNothing : Type 0
+CommentsSayNothing = (ts us : List Token) (d : ℕ) (t : Tree) → map unsaid ts ≡ map unsaid us → IsFile ts d t → IsFile us d t
