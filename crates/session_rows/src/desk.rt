@@ -6,16 +6,16 @@ use anyhow::{Result, anyhow};
 use std::alloc::{AllocError, Global};
 use tf_journal::{fix_stream, fmt_stream, journal_text, load, revert_stream};
 use tf_session::{
-    Command, Done, Journal, Rule, RuleSet, RunFault, Session, Told, check_stream, fix_through,
-    lint_stream, put_issues, run, step_stream,
+    Command, Done, Journal, Rule, RuleSet, RunFault, Session, Told, check_stream, lint_stream, run,
+    step_stream,
 };
 
 /// Does a command.
 ///
 /// `text T` begins a session over T, and `fill N T` over T and as many `x` as make N bytes; `hand T` puts T in the place of its text by
 /// hand; `journal J` reads J beside its text. `fmt`, `fix` (by all rules), `fix-none`, `fix-RULE+RULE..` (by these alone), `revert` and
-/// `take-N` are done on it. `check`, `lint`, `run COMMAND ..`, `through COMMAND R W`, `list COMMAND R W L` and `stream COMMAND R J K W` leave
-/// it: they are done over its text, and its journal; the reads of numbers R and J fail, and the writers take K, W and L bytes.
+/// `take-N` are done on it. `check`, `lint`, `run COMMAND ..`, `through COMMAND R W` and `stream COMMAND R J K W` leave it: they are done over
+/// its text, and its journal; the reads of numbers R and J fail, and the writers take K and W bytes.
 pub fn do_row(alloc: Global, session: &mut Session, row: &str) -> Result<Came> {
     let (word, rest) = row.split_once(' ').unwrap_or((row, ""));
     match word {
@@ -35,7 +35,6 @@ pub fn do_row(alloc: Global, session: &mut Session, row: &str) -> Result<Came> {
         "lint" => linted(alloc, session),
         "run" => ran(alloc, session, rest),
         "through" => through(alloc, session, rest),
-        "list" => listed(alloc, session, rest),
         "stream" => streamed(alloc, session, rest),
         _ => stepped(alloc, session, command_of(word)?),
     }
@@ -190,29 +189,6 @@ fn through(alloc: Global, session: &Session, rest: &str) -> Result<Came> {
         reply: said(alloc, answer)?,
         text: out.into_inner().held,
         journal: Vec::new(alloc),
-    })
-}
-
-// The text through a fix, and then the lines of the issues that are left, which go where a journal would.
-fn listed(alloc: Global, session: &Session, rest: &str) -> Result<Came> {
-    let mut words = rest.split(' ');
-    let Command::Fix(rules) = command_of(words.next().unwrap_or(""))? else {
-        return Err(anyhow!("only a fix lists what is left"));
-    };
-    let mut text = Told::new(Slow::new(session.text(), number(words.next())?));
-    let mut out = Told::new(Narrow::new(alloc, number(words.next())?));
-    let mut lines = Told::new(Narrow::new(alloc, number(words.next())?));
-    let answer = match fix_through(alloc, rules, &mut text, &mut out) {
-        Ok((_, done, left)) => match put_issues(alloc, "main.tf", &left, &mut lines) {
-            Ok(()) => Ok(done),
-            Err(fault) => Err(fault),
-        },
-        Err(fault) => Err(fault),
-    };
-    Ok(Came {
-        reply: said(alloc, answer)?,
-        text: out.into_inner().held,
-        journal: lines.into_inner().held,
     })
 }
 
