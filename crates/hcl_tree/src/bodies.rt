@@ -205,3 +205,23 @@ pub fn members(
     };
     bodies.all(at)
 }
+
+/// The member of a text's body that comes next, if one does; with no more constructs in one another than `depth`.
+///
+/// Line ends before it are not taken. A text's members, one behind the other, are what `parse` makes its tree of.
+pub fn member(
+    alloc: Global,
+    scanned: &Scanned<'_>,
+    depth: usize,
+    at: &mut usize,
+) -> Result<Option<Member>, TokenFault>
+    ensures { let ts = tokens_of scanned.now.pairs in Reads (spec.member_of ts depth (spec.deeper_members ts depth) at.old) result at.new }
+{
+    let bodies = Bodies {
+        alloc,
+        scanned,
+        depth,
+        members,
+    };
+    bodies.member(at)
+}

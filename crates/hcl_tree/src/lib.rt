@@ -9,7 +9,8 @@ mod error;
 mod labels;
 mod parsing;
 
+pub use bodies::{ended, member};
 pub use error::ParseFault;
 pub use hcl_grammar::tree;
 pub use hcl_grammar::tree::{Attribute, Block, Body, Expr, Template, Term, Tree};
-pub use parsing::{MAX_NESTING, parse};
+pub use parsing::{MAX_NESTING, in_bytes, parse};

@@ -51,7 +51,7 @@ fn start_of(scanned: &Scanned<'_>, number: usize) -> usize
 }
 
 /// A fault by the number of its token, as one by its byte.
-fn in_bytes(scanned: &Scanned<'_>, fault: TokenFault) -> ParseFault
+pub fn in_bytes(scanned: &Scanned<'_>, fault: TokenFault) -> ParseFault
     ensures { result ≡ in_bytes scanned.now fault }
 {
     match fault {

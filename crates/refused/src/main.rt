@@ -50,6 +50,7 @@ fn seen(trial: &Trial<'_>) -> Result<Seen> {
         "layout" => reading::laid_out(trial),
         "is_laid_out" => reading::found_laid_out(trial),
         "issues" => reading::linted(trial),
+        "search_text" => reading::searched(trial),
         "issue_line" => reading::line_made(trial),
         "fix_step" => reading::step_made(trial),
         "fix_text" => reading::fixed(trial),

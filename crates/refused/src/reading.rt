@@ -9,7 +9,7 @@ use hcl_scan::{ScanFault, scan};
 use hcl_tree::{ParseFault, parse};
 use tf_lint::{LintFault, Place, Rule, RuleSet, issues};
 use tf_session::{Command, Journal, Session};
-use tf_steps::{Change, FixFault, fix_step, fix_text, read_text};
+use tf_steps::{Change, FixFault, fix_step, fix_text, read_text, search_text};
 
 pub fn scanned(trial: &Trial<'_>) -> Result<Seen> {
     let [marked, heredoc] = SHORT;
@@ -74,6 +74,17 @@ pub fn linted(trial: &Trial<'_>) -> Result<Seen> {
     Ok(match issues(alloc, &scanned, &tree, RuleSet::all()) {
         Ok(found) => Seen::answer(found.len() == count),
         Err(LintFault::Memory) => Seen::Memory,
+    })
+}
+
+pub fn searched(trial: &Trial<'_>) -> Result<Seen> {
+    let alloc = trial.alloc();
+    let count = search_text(alloc, TEXT, RuleSet::all())?.found.len();
+    trial.begin()?;
+    Ok(match search_text(alloc, TEXT, RuleSet::all()) {
+        Ok(searched) => Seen::answer(searched.found.len() == count),
+        Err(FixFault::Memory) => Seen::Memory,
+        Err(_) => Seen::refusal(),
     })
 }
 

@@ -8,7 +8,7 @@ use Rattle.tf_find.specs.Inner.Collects.{Collects, nothing, one}
 use Rattle.tf_find.specs.NodeFindings.{node_findings}
 use Rattle.tf_find.specs.Nodes as nodes
 use Rattle.tf_find.specs.Nodes.{Node, Stand, parts}
-use Rattle.tf_find.specs.TreeFindings.{AreTreeFindings}
+use Rattle.tf_find.specs.TreeFindings.{AreAdded, AreTreeFindings}
 
 -- one list of nodes stands in a tree
 pub one_tree : {ns xs ys : List Node} → Stand ns xs → Stand ns ys → xs ≡ ys
@@ -20,12 +20,7 @@ flat_map-append : {X Y : Type 0} (f : X → List Y) (xs ys : List X) → flat_ma
 flat_map-append f [] ys = refl
 flat_map-append f (x ∷ xs) ys = ap (λ l. f x ++ l) (flat_map-append f xs ys) ∙ sym (append_assoc (f x) _ _)
 
-pub record Gathered (rules : RuleSet) (pairs : List Pair) (ns : List Node) (old new : List Finding) : Type 0 where
-  pub nodes : List Node
-  pub stand : Stand ns nodes
-  pub added : new ≡ old ++ flat_map (node_findings rules pairs) nodes
-
-pub gathered : {rules : RuleSet} {pairs : List Pair} {ns : List Node} {xs ys : List Finding} → Collects rules pairs ns xs ys → Gathered rules pairs ns xs ys
+pub gathered : {rules : RuleSet} {pairs : List Pair} {ns : List Node} {xs ys : List Finding} → Collects rules pairs ns xs ys → AreAdded rules pairs ns xs ys
 gathered (nothing {xs = xs}) = record { nodes = []; stand = nodes.nothing; added = sym (append-nil xs) }
 gathered {rules} {pairs} (one {n = n} {ns = ns} {xs = xs} {ys = ys} {zs = zs} a c) =
     let f = node_findings rules pairs in

@@ -1,5 +1,6 @@
 -- Collecting findings node by node.
-use Rattle.std.proofs.Common.{◌≡◌, ℕ, ◌<◌, ◌≤◌, ◌+◌, List, [], ◌∷◌, ◌++◌, length, get_or, drop, sym, subst, ap, ◌∙◌}
+use Rattle.std.proofs.Common.{◌≡◌, ℕ, ◌<◌, ◌≤◌, ◌+◌, List, [], ◌∷◌, ◌++◌, length, get_or, drop, Result, Ok, Err, sym, subst, ap, ◌∙◌}
+use Rattle.std.specs.Prelude.{OnOk}
 use Rattle.std.proofs.lemmas.List.{at_drop_more, drop_all}
 use Rattle.hcl_token.specs.Tokens.{Pair}
 use Rattle.tf_rule.specs.declared.rule_set.RuleSet.{RuleSet}
@@ -7,6 +8,11 @@ use Rattle.tf_rule.specs.declared.finding.Finding.{Finding}
 use Rattle.tf_find.specs.Inner.Collects.{Collects, nothing, one}
 use Rattle.tf_find.specs.NodeFindings.{node_findings}
 use Rattle.tf_find.specs.Nodes.{Node, parts}
+
+-- what holds where there is an answer, from what else holds there
+pub where_ok : {T E : Type 0} (r : Result T E) {P Q : Type 0} → (P → Q) → OnOk r P → OnOk r Q
+where_ok (Ok x) f h = f h
+where_ok (Err e) f h = tt
 
 module _ {rules : RuleSet} {pairs : List Pair} where
   -- one list of nodes behind another

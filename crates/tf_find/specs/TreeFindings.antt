@@ -1,5 +1,5 @@
 -- What is found in a tree: at its nodes, in the order in which these stand.
-use Rattle.std.specs.Prelude.{◌≡◌, List}
+use Rattle.std.specs.Prelude.{◌≡◌, List, ◌++◌}
 use Rattle.std.specs.List.{flat_map}
 use Rattle.hcl_token.specs.Tokens.{Pair}
 use Rattle.tf_rule.specs.declared.rule_set.RuleSet.{RuleSet}
@@ -12,3 +12,9 @@ pub record AreTreeFindings (rules : RuleSet) (pairs : List Pair) (roots : List N
   pub nodes : List Node
   pub stand : Stand roots nodes
   pub are : found ≡ flat_map (node_findings rules pairs) nodes
+
+-- to a list what is found at some nodes, and in what stands in them, is added
+pub record AreAdded (rules : RuleSet) (pairs : List Pair) (roots : List Node) (old new : List Finding) : Type 0 where
+  pub nodes : List Node
+  pub stand : Stand roots nodes
+  pub added : new ≡ old ++ flat_map (node_findings rules pairs) nodes

@@ -13,49 +13,52 @@ use Rattle.tf_find.specs.Nodes.{member}
 use Rattle.tf_find.specs.TreeFindings.{AreTreeFindings}
 use Rattle.tf_findings.proofs.SoundLemmas.{SoundIsSound, all_sound, sound_in_order, sound_kept}
 use Rattle.tf_findings.specs.CommentSyntax.{comment_findings}
-use Rattle.tf_findings.specs.Findings.{AreFindings, gathered}
+use Rattle.tf_findings.specs.Findings.{AreAtNodesAndBlocks, AreFindings, gathered}
 use Rattle.tf_findings.specs.Order.{report_order}
 use Rattle.tf_silence.specs.Silencing.{is_silenced}
 use Rattle.tf_top.specs.TopFindings.{top_findings}
 
--- what is found at the nodes, then at the blocks, then at the comments, and that in order
-pub record Gathered (rules : RuleSet) (pairs : List Pair) (members : List Member) (at_nodes with_blocks with_comments ordered : List Finding) : Type 0 where
-  pub tree : AreTreeFindings rules pairs (map member members) at_nodes
-  pub blocks : with_blocks ≡ at_nodes ++ top_findings rules pairs members
-  pub comments : with_comments ≡ with_blocks ++ comment_findings rules pairs
+-- what is found at the nodes and at the blocks
+pub at_both : {rules : RuleSet} {pairs : List Pair} {members : List Member} {at_nodes with_blocks : List Finding} → AreTreeFindings rules pairs (map member members) at_nodes
+    → with_blocks ≡ at_nodes ++ top_findings rules pairs members → AreAtNodesAndBlocks rules pairs members with_blocks
+at_both {rules} {pairs} {members} t b = record { nodes = t.nodes; stand = t.stand; are = b ∙ ap (λ l. l ++ top_findings rules pairs members) t.are }
+
+-- that, then what is found at the comments, and all in order
+pub record Gathered (rules : RuleSet) (pairs : List Pair) (members : List Member) (found with_comments ordered : List Finding) : Type 0 where
+  pub both : AreAtNodesAndBlocks rules pairs members found
+  pub comments : with_comments ≡ found ++ comment_findings rules pairs
   pub same : IsPermutation with_comments ordered
   pub sorted : IsSorted report_order ordered
   pub stable : IsStable report_order with_comments ordered
 
-pub gather : (rules : RuleSet) (pairs : List Pair) (members : List Member) (at_nodes with_blocks with_comments ordered : List Finding)
-    → AreTreeFindings rules pairs (map member members) at_nodes
-    → with_blocks ≡ at_nodes ++ top_findings rules pairs members
-    → with_comments ≡ with_blocks ++ comment_findings rules pairs
+pub gather : {rules : RuleSet} {pairs : List Pair} {members : List Member} {found with_comments ordered : List Finding}
+    → AreAtNodesAndBlocks rules pairs members found
+    → with_comments ≡ found ++ comment_findings rules pairs
     → IsPermutation with_comments ordered
     → IsSorted report_order ordered
     → IsStable report_order with_comments ordered
-    → Gathered rules pairs members at_nodes with_blocks with_comments ordered
-gather rules pairs members at_nodes with_blocks with_comments ordered t b c s o a = record { tree = t; blocks = b; comments = c; same = s; sorted = o; stable = a }
+    → Gathered rules pairs members found with_comments ordered
+gather b c s o a = record { both = b; comments = c; same = s; sorted = o; stable = a }
 
-module _ {rules : RuleSet} {pairs : List Pair} {members : List Member} {at_nodes with_blocks with_comments ordered : List Finding}
-    (law : SoundIsSound) (g : Gathered rules pairs members at_nodes with_blocks with_comments ordered) where
-  whole : with_comments ≡ gathered rules pairs members g.tree.nodes
+module _ {rules : RuleSet} {pairs : List Pair} {members : List Member} {found with_comments ordered : List Finding}
+    (law : SoundIsSound) (g : Gathered rules pairs members found with_comments ordered) where
+  whole : with_comments ≡ gathered rules pairs members g.both.nodes
   whole =
-      let nodes = flat_map (node_findings rules pairs) g.tree.nodes in
+      let nodes = flat_map (node_findings rules pairs) g.both.nodes in
       let top = top_findings rules pairs members in
       let comments = comment_findings rules pairs in
-      g.comments ∙ (ap (λ l. l ++ comments) (g.blocks ∙ ap (λ l. l ++ top) g.tree.are) ∙ append_assoc nodes top comments)
+      g.comments ∙ (ap (λ l. l ++ comments) g.both.are ∙ append_assoc nodes top comments)
 
   pub ordered_sound : AreSound (length pairs) ordered
-  ordered_sound = sound_in_order (length pairs) with_comments ordered g.same (subst (AreSound (length pairs)) (sym whole) (all_sound law rules pairs g.tree.nodes members))
+  ordered_sound = sound_in_order (length pairs) with_comments ordered g.same (subst (AreSound (length pairs)) (sym whole) (all_sound law rules pairs g.both.nodes members))
 
-  pub found_sound : (found : List Finding) → found ≡ filter (λ f. not (is_silenced pairs f)) ordered → AreSound (length pairs) found
-  found_sound found kept = subst (AreSound (length pairs)) (sym kept) (sound_kept (length pairs) (λ f. not (is_silenced pairs f)) ordered ordered_sound)
+  pub told_sound : (told : List Finding) → told ≡ filter (λ f. not (is_silenced pairs f)) ordered → AreSound (length pairs) told
+  told_sound told kept = subst (AreSound (length pairs)) (sym kept) (sound_kept (length pairs) (λ f. not (is_silenced pairs f)) ordered ordered_sound)
 
-  pub are_findings : (found : List Finding) → found ≡ filter (λ f. not (is_silenced pairs f)) ordered → AreFindings rules pairs members found
-  are_findings found kept = record {
-    nodes = g.tree.nodes;
-    stand = g.tree.stand;
+  pub are_findings : (told : List Finding) → told ≡ filter (λ f. not (is_silenced pairs f)) ordered → AreFindings rules pairs members told
+  are_findings told kept = record {
+    nodes = g.both.nodes;
+    stand = g.both.stand;
     all = ordered;
     same = subst (λ l. IsPermutation l ordered) whole g.same;
     sorted = g.sorted;

@@ -17,6 +17,13 @@ use Rattle.tf_top.specs.TopFindings.{top_findings}
 abbrev pub gathered : RuleSet → List Pair → List Member → List Node → List Finding
 gathered rules pairs members nodes = flat_map (node_findings rules pairs) nodes ++ (top_findings rules pairs members ++ comment_findings rules pairs)
 
+-- what is found at the nodes of a tree whose body has these members, and then at its blocks
+pub record AreAtNodesAndBlocks (rules : RuleSet) (pairs : List Pair) (members : List Member) (found : List Finding) : Type 0 where
+  -- all nodes that stand in the tree
+  pub nodes : List Node
+  pub stand : Stand (map member members) nodes
+  pub are : found ≡ flat_map (node_findings rules pairs) nodes ++ top_findings rules pairs members
+
 -- What the rules of the set find in a text whose body has these members, in the order of a report, without what comments silence.
 pub record AreFindings (rules : RuleSet) (pairs : List Pair) (members : List Member) (found : List Finding) : Type 0 where
   -- all nodes that stand in the tree

@@ -8,7 +8,7 @@ use std::alloc::AllocError;
 use std::cmp::Ordering;
 use tf_rule::{Finding, Rule};
 
-fn rank(rule: Rule) -> u8
+pub(crate) fn rank(rule: Rule) -> u8
     ensures { result ≡ rank rule }
 {
     match rule {

@@ -1,3 +1,4 @@
 pub mod Findings
+pub mod OneRule
 pub mod RuleSets
 pub mod Rules

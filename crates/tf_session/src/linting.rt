@@ -10,11 +10,11 @@ ghost use Rattle.tf_session.specs.Streams.{is_write};
 
 use crate::command::Fault;
 use crate::fault::RunFault;
-use crate::reading::read_text;
+use crate::reading::search_text;
 use crate::texts::{put_text, take_text};
 use std::alloc::{AllocError, Global};
 use std::io::{Read, Write};
-use tf_lint::{Issue, RuleSet, issues};
+use tf_lint::{Issue, RuleSet, issues_of};
 use tf_stream::Told;
 
 /// Writes a line for each issue that the rules find in the text, each followed by LF, and answers their number.
@@ -68,8 +68,8 @@ fn issue_lines(
     ensures lines { IfOk result (λ made. AreLines name.now rules text.now made.0.items made.1) }
     ensures fault { IfErr result (λ fault. NotRead text.now fault) }
 {
-    let parsed = read_text(alloc, text)?;
-    let found = issues(alloc, &parsed.scanned, &parsed.tree, rules)?;
+    let searched = search_text(alloc, text, rules)?;
+    let found = issues_of(alloc, &searched.scanned, searched.found.as_slice())?;
     match joined_lines(alloc, name, found.as_slice()) {
         Ok(lines) => Ok((lines, found.len())),
         Err(_) => Err(Fault::Memory),

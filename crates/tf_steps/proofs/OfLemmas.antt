@@ -54,7 +54,7 @@ use Rattle.tf_top.specs.TopFindings.{member_findings_in, member_findings}
 use Rattle.tf_top.specs.Words.{word, name_at}
 use Rattle.tf_mend.specs.Comments.{IsSlashComment}
 use Rattle.tf_mend.specs.Mending.{is_slashes, IsOf, AreOf}
-use Rattle.tf_steps.specs.OneRule.{only}
+use Rattle.tf_rule.specs.OneRule.{only}
 
 -- ---- lists of findings of which each is so
 

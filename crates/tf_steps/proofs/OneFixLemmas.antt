@@ -14,7 +14,7 @@ use Rattle.tf_findings.specs.Findings.{FindingsAreOne}
 use Rattle.tf_steps.specs.declared.fault.FixFault.{FixFault}
 use Rattle.tf_steps.specs.declared.fault.FixFault.TheVariants.{Scan, Parse, FixBroken, TooLong, Memory}
 use Rattle.tf_steps.specs.declared.reading.Parsed.{Parsed}
-use Rattle.tf_steps.specs.OneRule.{only}
+use Rattle.tf_rule.specs.OneRule.{only}
 use Rattle.tf_steps.specs.Reading.{Reads}
 use Rattle.tf_steps.specs.Steps.{fixed_text, AreLeft, Steps, step_before, StepBreaks, FoundThen, StepThen, RunSteps, fix_order, IsOneList, Made, Fixes, Breaks, OneFix}
 use Rattle.tf_steps.proofs.Unread.{OneCut, parses_of, same_cut}

@@ -4,7 +4,7 @@ use Rattle.tf_rule.specs.declared.rule.Rule.{Rule}
 use Rattle.tf_rule.specs.declared.rule.Rule.TheVariants.{CommentSyntax, DeprecatedIndex, DeprecatedInterpolation, EmptyListEquality, DeprecatedLookup, NamingConvention, TypedVariables, DocumentedVariables, DocumentedOutputs}
 use Rattle.tf_rule.specs.declared.rule_set.RuleSet.{RuleSet}
 use Rattle.tf_rule.specs.RuleSets.{has_rule}
-use Rattle.tf_steps.specs.OneRule.{only}
+use Rattle.tf_rule.specs.OneRule.{only}
 
 pub one_set : (a b : RuleSet) → ((rule : Rule) → has_rule a rule ≡ has_rule b rule) → a ≡ b
 one_set a b h = λ i. record {

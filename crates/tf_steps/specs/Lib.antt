@@ -1,6 +1,6 @@
 pub mod Faults
 pub mod Fixed
 pub mod Inner
-pub mod OneRule
 pub mod Reading
+pub mod Searching
 pub mod Steps

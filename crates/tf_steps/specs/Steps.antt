@@ -18,7 +18,7 @@ use Rattle.tf_lint.specs.declared.issue.Issue.{Issue}
 use Rattle.tf_steps.specs.declared.fault.FixFault.{FixFault}
 use Rattle.tf_steps.specs.declared.fault.FixFault.TheVariants.{Scan, Parse, FixBroken, TooLong, Memory}
 use Rattle.tf_steps.specs.declared.reading.Parsed.{Parsed}
-use Rattle.tf_steps.specs.OneRule.{only}
+use Rattle.tf_rule.specs.OneRule.{only}
 use Rattle.tf_steps.specs.Reading.{Reads, IsUnread, NotRead}
 
 -- ---- one step

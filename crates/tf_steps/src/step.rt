@@ -1,23 +1,30 @@
 //! The step of one rule.
 
-ghost use Rattle.std.specs.Prelude.{◌≡◌, ◌≤◌, ◌⊎◌, ℕ, List, length, IfOk, IfErr};
+ghost use Rattle.std.specs.Prelude.{◌≡◌, ◌≤◌, ◌<◌, ◌⊎◌, ℕ, true, List, length, IfOk, IfErr};
 ghost use Rattle.hcl_scan.specs.Cut.{MAX_TEXT};
-ghost use Rattle.hcl_scan.specs.Follows.{AreApart};
 ghost use Rattle.edit_record.specs.Pieces.{Turns};
 ghost use Rattle.tf_steps.specs.Reading.{Reads};
 ghost use Rattle.tf_rule.specs.Findings.{AreSound};
-ghost use Rattle.tf_steps.specs.OneRule.{only};
-ghost use Rattle.tf_steps.specs.Steps.{Finds, fixed_text, fix_edits, fix_count, IsFixStep, StepBreaks, CannotStep};
+ghost use Rattle.tf_rule.specs.OneRule.{only};
+ghost use Rattle.tf_rule.specs.RuleSets.{has_rule};
+ghost use Rattle.tf_mend.specs.ByPairs.{mended_text};
+ghost use Rattle.tf_mend.specs.Mended.{mended_edits};
+ghost use Rattle.tf_steps.specs.Searching.{IsOf};
+ghost use Rattle.tf_steps.specs.declared.reading.Parsed.{Parsed};
+ghost use Rattle.tf_steps.specs.Steps.{Finds, fix_count, IsFixStep, CannotStep};
 ghost use Rattle.tf_steps.specs.Inner.Passing.{IsStep};
 ghost use Rattle.tf_steps.specs.declared.fault.FixFault.{FixFault};
 
 use crate::fault::FixFault;
 use crate::reading::Parsed;
+use crate::searched::Searched;
 use edit_record::laws::apply_is_exact;
 use edit_record::{Change as _, Edits};
 use hcl_parses::laws::parsed_apart;
+use hcl_scan::Scanned;
 use std::alloc::Global;
-use tf_findings::findings;
+use tf_findings::laws::found_by_one;
+use tf_findings::{findings, of_rule};
 use tf_mend::laws::taken_are_few;
 use tf_mend::{mended_edits, taken};
 use tf_rule::{Finding, Rule, RuleSet};
@@ -54,25 +61,25 @@ fn only(rule: Rule) -> RuleSet
     RuleSet::none().with(rule)
 }
 
+// The edits that mend what a rule finds in a text.
 fn step_edits(
     alloc: Global,
-    parsed: &Parsed<'_>,
+    scanned: &Scanned<'_>,
     rule: Rule,
     found: &[Finding],
 ) -> Result<Mended, FixFault>
-    requires reads { Reads parsed.now.scanned.text parsed.now }
-    requires finds { Finds (only rule) parsed.now found.now }
-    requires sound { AreSound (length parsed.now.scanned.pairs) found.now }
+    requires finds { (p : Parsed) × (p.scanned ≡ scanned.now) × Reads p.scanned.text p × Finds (only rule) p found.now }
+    requires sound { AreSound (length scanned.now.pairs) found.now }
     ensures count { IfOk result (λ mended. mended.count ≡ fix_count found.now) }
     ensures few { IfOk result (λ mended. mended.count ≤ MAX_TEXT) }
-    ensures edits { IfOk result (λ mended. mended.edits ≡ fix_edits rule parsed.now found.now) }
-    ensures turns { IfOk result (λ mended. Turns mended.edits parsed.now.scanned.text (fixed_text parsed.now found.now)) }
-    ensures short { IfOk result (λ mended. length (fixed_text parsed.now found.now) ≤ MAX_TEXT) }
-    ensures fault { IfErr result (λ fault. (fault ≡ FixFault.Memory) ⊎ ((fault ≡ FixFault.TooLong) × StepBreaks rule parsed.now found.now fault)) }
+    ensures edits { IfOk result (λ mended. mended.edits ≡ mended_edits rule scanned.now found.now) }
+    ensures turns { IfOk result (λ mended. Turns mended.edits scanned.now.text (mended_text scanned.now found.now)) }
+    ensures short { IfOk result (λ mended. length (mended_text scanned.now found.now) ≤ MAX_TEXT) }
+    ensures fault { IfErr result (λ fault. (fault ≡ FixFault.Memory) ⊎ ((fault ≡ FixFault.TooLong) × (MAX_TEXT < length (mended_text scanned.now found.now)))) }
 {
     parsed_apart();
     taken_are_few();
-    let edits = mended_edits(alloc, &parsed.scanned, rule, found)?;
+    let edits = mended_edits(alloc, scanned, rule, found)?;
     let count = taken(found);
     Ok(Mended { count, edits })
 }
@@ -88,18 +95,32 @@ pub fn fix_step(alloc: Global, parsed: &Parsed<'_>, rule: Rule) -> Result<Mended
     ensures fault { IfErr result (λ fault. (fault ≡ FixFault.Memory) ⊎ ((fault ≡ FixFault.TooLong) × CannotStep rule parsed.now fault)) }
 {
     let found = findings(alloc, &parsed.scanned, &parsed.tree, only(rule))?;
-    step_edits(alloc, parsed, rule, &found)
+    step_edits(alloc, &parsed.scanned, rule, &found)
 }
 
-/// The step of the rule over a text.
-pub fn one_step(alloc: Global, parsed: &Parsed<'_>, rule: Rule) -> Result<Step, FixFault>
-    requires { Reads parsed.now.scanned.text parsed.now }
-    ensures step { IfOk result (λ step. IsStep rule parsed.now step) }
-    ensures fault { IfErr result (λ fault. (fault ≡ FixFault.Memory) ⊎ CannotStep rule parsed.now fault) }
+// The same of a text that was searched with a set that has the rule.
+fn mended_step(alloc: Global, searched: &Searched<'_>, rule: Rule) -> Result<Mended, FixFault>
+    requires searched { (p : Parsed) × IsOf p searched.now }
+    requires chosen { has_rule searched.now.rules rule ≡ true }
+    ensures step { (p : Parsed) → IsOf p searched.now → IfOk result (λ mended. IsFixStep rule p mended.count mended.edits) }
+    ensures few { IfOk result (λ mended. mended.count ≤ MAX_TEXT) }
+    ensures fault { (p : Parsed) → IsOf p searched.now → IfErr result (λ fault. (fault ≡ FixFault.Memory) ⊎ ((fault ≡ FixFault.TooLong) × CannotStep rule p fault)) }
 {
-    let Mended { count, edits } = fix_step(alloc, parsed, rule)?;
-    let text = turned(alloc, parsed.scanned.text(), &edits)?;
-    if text.as_slice() == parsed.scanned.text() {
+    found_by_one();
+    let found = of_rule(alloc, searched.found.as_slice(), rule)?;
+    step_edits(alloc, &searched.scanned, rule, &found)
+}
+
+/// The step of a rule over a text that was searched with a set that has it.
+pub fn one_step(alloc: Global, searched: &Searched<'_>, rule: Rule) -> Result<Step, FixFault>
+    requires searched { (p : Parsed) × IsOf p searched.now }
+    requires chosen { has_rule searched.now.rules rule ≡ true }
+    ensures step { (p : Parsed) → IsOf p searched.now → IfOk result (λ step. IsStep rule p step) }
+    ensures fault { (p : Parsed) → IsOf p searched.now → IfErr result (λ fault. (fault ≡ FixFault.Memory) ⊎ CannotStep rule p fault) }
+{
+    let Mended { count, edits } = mended_step(alloc, searched, rule)?;
+    let text = turned(alloc, searched.scanned.text(), &edits)?;
+    if text.as_slice() == searched.scanned.text() {
         return Ok(Step {
             count,
             change: None,

@@ -5,19 +5,21 @@ ghost use Rattle.edit_record.specs.Pieces.{Turns};
 ghost use Rattle.edit_squash.specs.Squash.{CanFollow, IsSquash};
 ghost use Rattle.tf_steps.specs.Fixed.{made_of, text_after};
 ghost use Rattle.tf_steps.specs.Reading.{Reads};
+ghost use Rattle.tf_steps.specs.Searching.{IsOf};
 ghost use Rattle.tf_steps.specs.Steps.{Reports, IsReport, RunSteps, Fixes, Refuses};
 ghost use Rattle.tf_steps.specs.Inner.Passing.{room, Passes, FixesFrom, RefusesFrom, made_by};
 ghost use Rattle.tf_steps.specs.declared.fault.FixFault.{FixFault};
 ghost use Rattle.tf_steps.specs.declared.reading.Parsed.{Parsed};
 
 use crate::fault::FixFault;
-use crate::reading::{Parsed, read_made, read_text};
+use crate::searched::Searched;
+use crate::searching::{search_made, search_text};
 use crate::step::{Change, Step, one_step};
 use edit_record::Edits;
 use edit_record::laws::turned_texts_have_the_lengths;
 use edit_squash::{Unmet, squash};
 use std::alloc::Global;
-use tf_lint::{Issue, issues};
+use tf_lint::{Issue, issues_of};
 use tf_rule::{Rule, RuleSet};
 
 /// What a fix made of a text.
@@ -72,11 +74,12 @@ fn gather(alloc: Global, done: &Edits, edits: &Edits) -> Result<Edits, FixFault>
     }
 }
 
-fn reported(alloc: Global, parsed: &Parsed<'_>, rules: RuleSet) -> Result<Vec<Issue>, FixFault>
-    ensures issues { IfOk result (λ issues. Reports rules parsed.now issues.items) }
+fn reported(alloc: Global, searched: &Searched<'_>) -> Result<Vec<Issue>, FixFault>
+    requires { (p : Parsed) × IsOf p searched.now }
+    ensures issues { (p : Parsed) → IsOf p searched.now → IfOk result (λ issues. Reports searched.now.rules p issues.items) }
     ensures fault { IfErr result (λ fault. fault ≡ FixFault.Memory) }
 {
-    match issues(alloc, &parsed.scanned, &parsed.tree, rules) {
+    match issues_of(alloc, &searched.scanned, searched.found.as_slice()) {
         Ok(issues) => Ok(issues),
         Err(_) => Err(FixFault::Memory),
     }
@@ -85,27 +88,26 @@ fn reported(alloc: Global, parsed: &Parsed<'_>, rules: RuleSet) -> Result<Vec<Is
 // The first of the rules that changes the text, where so many findings were mended before.
 fn first_change<'o>(
     alloc: Global,
-    parsed: &Parsed<'_>,
-    rules: RuleSet,
+    searched: &Searched<'_>,
     order: &'o [Rule],
     count: usize,
 ) -> Result<Passed<'o>, FixFault>
-    requires reads { Reads parsed.now.scanned.text parsed.now }
+    requires searched { (p : Parsed) × IsOf p searched.now }
     requires few { count + room order.now ≤ 16777216 * 16 }
-    ensures passes { IfOk result (λ passed. Passes rules order.now parsed.now count passed) }
-    ensures fault { IfErr result (λ fault. (fault ≡ FixFault.Memory) ⊎ RunSteps rules order.now parsed.now (Err fault)) }
+    ensures passes { (p : Parsed) → IsOf p searched.now → IfOk result (λ passed. Passes searched.now.rules order.now p count passed) }
+    ensures fault { (p : Parsed) → IsOf p searched.now → IfErr result (λ fault. (fault ≡ FixFault.Memory) ⊎ RunSteps searched.now.rules order.now p (Err fault)) }
 {
     if let [rule, rest @ ..] = order {
-        if !rules.has(*rule) {
-            return first_change(alloc, parsed, rules, rest, count);
+        if !searched.rules.has(*rule) {
+            return first_change(alloc, searched, rest, count);
         }
         let Step {
             count: taken,
             change,
-        } = one_step(alloc, parsed, *rule)?;
+        } = one_step(alloc, searched, *rule)?;
         let fixed = count + taken;
         match change {
-            None => first_change(alloc, parsed, rules, rest, fixed),
+            None => first_change(alloc, searched, rest, fixed),
             Some(change) => Ok(Passed::Changed {
                 fixed,
                 change,
@@ -114,7 +116,7 @@ fn first_change<'o>(
             }),
         }
     } else {
-        let left = reported(alloc, parsed, rules)?;
+        let left = reported(alloc, searched)?;
         Ok(Passed::Same { fixed: count, left })
     }
 }
@@ -132,8 +134,8 @@ fn pass<'o>(
     ensures passes { IfOk result (λ passed. (parsed : Parsed) × Reads text.now parsed × Passes rules order.now parsed count passed) }
     ensures fault { IfErr result (λ fault. RefusesFrom rules order.now text.now by fault) }
 {
-    match read_made(alloc, text, by) {
-        Ok(parsed) => first_change(alloc, &parsed, rules, order, count),
+    match search_made(alloc, text, rules, by) {
+        Ok(searched) => first_change(alloc, &searched, order, count),
         Err(fault) => Err(fault),
     }
 }
@@ -193,8 +195,8 @@ pub fn fix_text(alloc: Global, text: &[u8], rules: RuleSet) -> Result<Fixed, Fix
     ensures left { IfOk result (λ fixed. IsReport rules (text_after text.now fixed.change) fixed.left.items) }
     ensures fault { IfErr result (λ fault. Refuses rules text.now fault) }
 {
-    let parsed = read_text(alloc, text)?;
-    let passed = first_change(alloc, &parsed, rules, &FIX_ORDER, 0)?;
+    let searched = search_text(alloc, text, rules)?;
+    let passed = first_change(alloc, &searched, &FIX_ORDER, 0)?;
     match passed {
         Passed::Same { fixed, left } => Ok(Fixed {
             change: None,

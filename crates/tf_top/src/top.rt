@@ -78,3 +78,19 @@ pub fn add_top_findings(
     let top = Top { scanned, rules };
     top.members(tree.body.members.as_slice(), found)
 }
+
+/// Adds what the rules of the set find at an attribute or a block of a text's body, as `add_top_findings` adds it for all of them.
+/// `AllocError` where memory is refused.
+///
+/// TFLint ruleset for the Terraform language.
+pub fn add_member_findings(
+    scanned: &Scanned<'_>,
+    rules: RuleSet,
+    m: &Member,
+    found: &mut Vec<Finding>,
+) -> Result<(), AllocError>
+    ensures { OnOk result (found.new.items ≡ found.old.items ++ member_findings rules scanned.now.pairs m.now) }
+{
+    let top = Top { scanned, rules };
+    top.member(m, found)
+}

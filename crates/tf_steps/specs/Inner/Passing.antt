@@ -15,7 +15,7 @@ use Rattle.tf_steps.specs.declared.steps.Ended.{Ended}
 use Rattle.tf_steps.specs.declared.steps.Passed.{Passed}
 use Rattle.tf_steps.specs.declared.steps.Passed.TheVariants.{Same, Changed}
 use Rattle.tf_steps.specs.Reading.{Reads, IsUnread}
-use Rattle.tf_steps.specs.OneRule.{only}
+use Rattle.tf_rule.specs.OneRule.{only}
 use Rattle.tf_steps.specs.Steps.{Finds, fixed_text, fix_edits, fix_count, AreLeft, Reports, differ, Steps, RunSteps, Made}
 
 -- ---- one step

@@ -11,6 +11,7 @@ use Rattle.hcl_grammar.specs.Tokens.{Token}
 use Rattle.hcl_grammar_laws.specs.Pure.Answering.{IsAnswer}
 use Rattle.hcl_parses.specs.Parses.{Parses, MAX_NESTING}
 use Rattle.hcl_tree.specs.Faults.{IsMemory, IsMemoryOrDeep, in_bytes}
+use Rattle.hcl_tree.proofs.FaultLemmas.{own_tokens, memory_in_bytes, deep_in_bytes}
 use Rattle.hcl_tree.proofs.parsing.parse.Goals as goal
 
 -- ---- an answer that is there
@@ -20,22 +21,6 @@ at_ok {ts} {b} e a = subst (λ r. IsAnswer ts b r) e a
 
 at_err : {ts : List Token} {b : ℕ} {r : Result Tree TokenFault} {f : TokenFault} → r ≡ Err f → IsAnswer ts b r → IsAnswer ts b (Err f)
 at_err {ts} {b} e a = subst (λ r. IsAnswer ts b r) e a
-
--- the text's own tokens are those of its cut
-own_tokens : (s : CutText) (t : Tree) (p : Parses s.text t) → s.pairs ≡ p.pairs → IsFile (tokens_of s.pairs) MAX_NESTING t
-own_tokens s t p e = subst (λ (ps : List Pair). IsFile (tokens_of ps) MAX_NESTING t) (sym e) p.derived
-
--- ---- faults by bytes
-
-memory_in_bytes : (s : CutText) (f : TokenFault) → pure.IsMemory f → IsMemory (in_bytes s f)
-memory_in_bytes s token.Memory h = tt
-memory_in_bytes s (token.Syntax at) h = elim h [ ]
-memory_in_bytes s (token.TooDeep at) h = elim h [ ]
-
-deep_in_bytes : (s : CutText) (f : TokenFault) → pure.IsMemoryOrDeep f → IsMemoryOrDeep (in_bytes s f)
-deep_in_bytes s token.Memory h = tt
-deep_in_bytes s (token.TooDeep at) h = tt
-deep_in_bytes s (token.Syntax at) h = elim h [ ]
 
 pub returns-in-Ok-clause-parses : goal.returns-in-Ok-clause-parses
 returns-in-Ok-clause-parses c = record {

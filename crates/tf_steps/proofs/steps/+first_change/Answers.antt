@@ -7,39 +7,38 @@ use Rattle.tf_steps.proofs.RunLemmas.{split_first, skipped_pass, stayed_pass, ch
 use Rattle.tf_steps.proofs.steps.+first_change.Goals as goal
 
 pub returns-then-not-has-clause-passes : goal.returns-then-not-has-clause-passes
-returns-then-not-has-clause-passes n c =
+returns-then-not-has-clause-passes n c = λ p h.
     let order = c.args.order.now in
     let rule = slice_index_or order 0 CommentSyntax in
     let rest = take (length order - 1) (drop 1 order) in
     let split : order ≡ rule ∷ rest = split_first order CommentSyntax c.in-len1-up.len_at_least in
-    let not_in : has_rule c.args.rules rule ≡ false = search rules in
-    if_ok c.first_change.result _ (λ q. Passes c.args.rules order c.args.parsed.now c.args.count q)
-    (λ q told. subst (λ (rs : List Rule). Passes c.args.rules rs c.args.parsed.now c.args.count q) (sym split)
-    (skipped_pass c.args.rules rule rest c.args.parsed.now c.args.count q not_in told)) c.first_change.ensures.passes
+    let not_in : has_rule c.args.searched.now.rules rule ≡ false = search rules in
+    if_ok c.first_change.result _ (λ q. Passes c.args.searched.now.rules order p c.args.count q)
+    (λ q told. subst (λ (rs : List Rule). Passes c.args.searched.now.rules rs p c.args.count q) (sym split)
+    (skipped_pass c.args.searched.now.rules rule rest p c.args.count q not_in told)) (c.first_change.ensures.passes p h)
 
 pub returns-in-None-clause-passes : goal.returns-in-None-clause-passes
-returns-in-None-clause-passes n c =
+returns-in-None-clause-passes n c = λ p h.
     let order = c.args.order.now in
     let rule = slice_index_or order 0 CommentSyntax in
     let rest = take (length order - 1) (drop 1 order) in
     let split : order ≡ rule ∷ rest = split_first order CommentSyntax c.in-len1-up.len_at_least in
-    let chosen : has_rule c.args.rules rule ≡ true = search rules in
-    if_ok c.first_change-in-None.result _ (λ q. Passes c.args.rules order c.args.parsed.now c.args.count q)
-    (λ q told. subst (λ (rs : List Rule). Passes c.args.rules rs c.args.parsed.now c.args.count q) (sym split)
-    (stayed_pass c.args.rules rule rest c.args.parsed.now c.args.count q c.in_ok-taken.field-0 chosen c.requires.reads c.in_ok-taken.ensures.step c.in-None.is told)) c.first_change-in-None.ensures.passes
+    let chosen : has_rule c.args.searched.now.rules rule ≡ true = search rules in
+    if_ok c.first_change-in-None.result _ (λ q. Passes c.args.searched.now.rules order p c.args.count q)
+    (λ q told. subst (λ (rs : List Rule). Passes c.args.searched.now.rules rs p c.args.count q) (sym split)
+    (stayed_pass c.args.searched.now.rules rule rest p c.args.count q c.in_ok-taken.field-0 chosen h.reads (c.in_ok-taken.ensures.step p h) c.in-None.is told)) (c.first_change-in-None.ensures.passes p h)
 
 pub returns-in-Some-clause-passes : goal.returns-in-Some-clause-passes
-returns-in-Some-clause-passes n c =
+returns-in-Some-clause-passes n c = λ p h.
     let order = c.args.order.now in
     let rule = slice_index_or order 0 CommentSyntax in
     let rest = take (length order - 1) (drop 1 order) in
     let split : order ≡ rule ∷ rest = split_first order CommentSyntax c.in-len1-up.len_at_least in
-    let chosen : has_rule c.args.rules rule ≡ true = search rules in
+    let chosen : has_rule c.args.searched.now.rules rule ≡ true = search rules in
     let shorter = ap length split in
-    let p = c.args.parsed.now in
     let step = c.in_ok-taken.field-0 in
-    let few = c.in_ok-taken.ensures.step.few in
+    let few = (c.in_ok-taken.ensures.step p h).few in
     let room = c.requires.few in
-    let on = subst (λ (rs : List Rule). GoesOn c.args.rules rs rest rule p step.count c.in-Some.change) (sym split)
-    (changed_pass c.args.rules rule rest p step c.in-Some.change chosen c.in_ok-taken.ensures.step c.in-Some.is) in
-    (step.count, refl, omega (arith, shorter, few, room), omega (arith, shorter), changed_turns rule p step c.in-Some.change c.in_ok-taken.ensures.step c.in-Some.is, on.0, on.1, on.2)
+    let on = subst (λ (rs : List Rule). GoesOn c.args.searched.now.rules rs rest rule p step.count c.in-Some.change) (sym split)
+    (changed_pass c.args.searched.now.rules rule rest p step c.in-Some.change chosen (c.in_ok-taken.ensures.step p h) c.in-Some.is) in
+    (step.count, refl, omega (arith, shorter, few, room), omega (arith, shorter), changed_turns rule p step c.in-Some.change (c.in_ok-taken.ensures.step p h) c.in-Some.is, on.0, on.1, on.2)

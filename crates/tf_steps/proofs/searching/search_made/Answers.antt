@@ -1,7 +1,7 @@
 -- What is not read, but for want of memory, does not parse.
 use Rattle.std.proofs.Common.{inl, inr}
 use Rattle.tf_steps.proofs.Unread.{unread}
-use Rattle.tf_steps.proofs.reading.read_made.Goals as goal
+use Rattle.tf_steps.proofs.searching.search_made.Goals as goal
 
 pub returns-in-Err-clause-fault : goal.returns-in-Err-clause-fault
 returns-in-Err-clause-fault c =

@@ -1,0 +1,28 @@
+-- The tokens of a text that parses, and faults by numbers of tokens and by bytes.
+use Rattle.std.proofs.Common.{◌≡◌, List, sym, subst}
+use Rattle.hcl_token.specs.CutText.{CutText}
+use Rattle.hcl_token.specs.Tokens.{Pair}
+use Rattle.hcl_scan.specs.Follows.{tokens_of}
+use Rattle.hcl_grammar.specs.declared.error.TokenFault.{TokenFault}
+use Rattle.hcl_grammar.specs.declared.error.TokenFault.TheVariants as token
+use Rattle.hcl_grammar.specs.declared.tree.Tree.{Tree}
+use Rattle.hcl_grammar.specs.Bodies.{IsFile}
+use Rattle.hcl_grammar.specs.Pure.Faults as pure
+use Rattle.hcl_parses.specs.Parses.{Parses, MAX_NESTING}
+use Rattle.hcl_tree.specs.Faults.{IsMemory, IsMemoryOrDeep, in_bytes}
+
+-- the text's own tokens are those of its cut
+pub own_tokens : (s : CutText) (t : Tree) (p : Parses s.text t) → s.pairs ≡ p.pairs → IsFile (tokens_of s.pairs) MAX_NESTING t
+own_tokens s t p e = subst (λ (ps : List Pair). IsFile (tokens_of ps) MAX_NESTING t) (sym e) p.derived
+
+-- ---- faults by bytes
+
+pub memory_in_bytes : (s : CutText) (f : TokenFault) → pure.IsMemory f → IsMemory (in_bytes s f)
+memory_in_bytes s token.Memory h = tt
+memory_in_bytes s (token.Syntax at) h = elim h [ ]
+memory_in_bytes s (token.TooDeep at) h = elim h [ ]
+
+pub deep_in_bytes : (s : CutText) (f : TokenFault) → pure.IsMemoryOrDeep f → IsMemoryOrDeep (in_bytes s f)
+deep_in_bytes s token.Memory h = tt
+deep_in_bytes s (token.TooDeep at) h = tt
+deep_in_bytes s (token.Syntax at) h = elim h [ ]

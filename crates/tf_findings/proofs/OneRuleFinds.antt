@@ -1,0 +1,180 @@
+-- What one rule of a set finds is what of all that the set finds is of that rule.
+use Rattle.std.proofs.Common.{◌≡◌, ◌∙◌, ℕ, ◌==◌, ◌&&◌, Bool, true, false, not, List, [], ◌∷◌, ◌++◌, Option, Some, None, refl, sym, ap, ap₂, subst, codes}
+use Rattle.std.specs.Prelude.{filter, slice_get, if◌then◌else◌}
+use Rattle.std.specs.List.{flat_map, AllByRecursion}
+use Rattle.std.specs.List.Sorted.{IsPermutation, ties}
+use Rattle.std.specs.Ordering.{is_lt}
+use Rattle.std.specs.Str.{bytes_eq}
+use Rattle.std.proofs.lemmas.Bool.{false≢true}
+use Rattle.std.proofs.lemmas.List.Elements.{filter-append}
+use Rattle.std.proofs.lemmas.List.Kept.{IsSortedBy-filter}
+use Rattle.std.proofs.lemmas.List.Sorted.{ranks_by}
+use Rattle.hcl_grammar.specs.declared.tree.Block.{Block}
+use Rattle.hcl_grammar.specs.declared.tree.Content.TheOpen.{Member-F}
+use Rattle.hcl_grammar.specs.declared.tree.Form.{out-Form}
+use Rattle.hcl_grammar.specs.declared.tree.Label.{Label}
+use Rattle.hcl_grammar.specs.declared.tree.Member.{Member, out-Member}
+use Rattle.hcl_grammar.specs.declared.tree.Shape.{out-Shape}
+use Rattle.hcl_grammar.specs.declared.tree.Tail.{out-Tail}
+use Rattle.hcl_token.specs.Tokens.{Pair}
+use Rattle.tf_rule.specs.declared.finding.Finding.{Finding}
+use Rattle.tf_rule.specs.declared.finding.Matter.TheVariants.{Untyped, Undocumented}
+use Rattle.tf_rule.specs.declared.rule.Rule.{Rule}
+use Rattle.tf_rule.specs.declared.rule.Rule.TheVariants.{CommentSyntax, DeprecatedIndex, DeprecatedInterpolation, EmptyListEquality, DeprecatedLookup, NamingConvention, TypedVariables, DocumentedVariables, DocumentedOutputs}
+use Rattle.tf_rule.specs.declared.rule_set.RuleSet.{RuleSet}
+use Rattle.tf_rule.specs.OneRule.{only}
+use Rattle.tf_rule.specs.RuleSets.{has_rule}
+use Rattle.tf_find.specs.Interpolation.{sole_in}
+use Rattle.tf_find.specs.NodeFindings.{node_findings}
+use Rattle.tf_find.specs.Nodes as nodes
+use Rattle.tf_find.specs.Nodes.{Node}
+use Rattle.tf_findings.proofs.FilterLemmas.{filter_all, filter_none, filter_turned, filter_permutation}
+use Rattle.tf_findings.proofs.OfRule as of
+use Rattle.tf_findings.proofs.OfRule.{Of}
+use Rattle.tf_findings.proofs.TotalOrder.{total}
+use Rattle.tf_findings.specs.Findings.{gathered}
+use Rattle.tf_findings.specs.OneRule.{is_of, FoundByOne}
+use Rattle.tf_findings.specs.Order.{rank, report_order}
+use Rattle.tf_silence.specs.Silencing.{is_silenced}
+use Rattle.tf_top.specs.Attributes.{attributes, has_attribute}
+use Rattle.tf_top.specs.Layers.{MemberLayer}
+use Rattle.tf_top.specs.Missing.{is_undocumented, untyped_findings, undocumented_findings, missing_findings}
+use Rattle.tf_top.specs.TopFindings.{member_findings_in, member_findings}
+use Rattle.tf_top.specs.Words.{word}
+
+-- ---- rules and their ranks
+
+-- a rule's rank is its own
+same_rule : (other rule : Rule) → (rank other == rank rule) ≡ true → other ≡ rule
+same_rule CommentSyntax CommentSyntax h = refl
+same_rule DeprecatedIndex DeprecatedIndex h = refl
+same_rule DeprecatedInterpolation DeprecatedInterpolation h = refl
+same_rule EmptyListEquality EmptyListEquality h = refl
+same_rule DeprecatedLookup DeprecatedLookup h = refl
+same_rule NamingConvention NamingConvention h = refl
+same_rule TypedVariables TypedVariables h = refl
+same_rule DocumentedVariables DocumentedVariables h = refl
+same_rule DocumentedOutputs DocumentedOutputs h = refl
+same_rule _ _ h = absurd (false≢true h)
+
+-- the set of one rule has a rule where their ranks are one
+only_has : (rule other : Rule) → has_rule (only rule) other ≡ (rank other == rank rule)
+only_has CommentSyntax CommentSyntax = refl
+only_has DeprecatedIndex DeprecatedIndex = refl
+only_has DeprecatedInterpolation DeprecatedInterpolation = refl
+only_has EmptyListEquality EmptyListEquality = refl
+only_has DeprecatedLookup DeprecatedLookup = refl
+only_has NamingConvention NamingConvention = refl
+only_has TypedVariables TypedVariables = refl
+only_has DocumentedVariables DocumentedVariables = refl
+only_has DocumentedOutputs DocumentedOutputs = refl
+only_has _ _ = refl
+
+-- ---- findings of one rule among others
+
+-- where all are of one rule, its rank tells of each whether it passes
+alike : (rule other : Rule) (b : Bool) (fs : List Finding) → (rank other == rank rule) ≡ b
+    → AllByRecursion (λ (f : Finding). f.rule ≡ other) fs → AllByRecursion (λ (f : Finding). is_of rule f ≡ b) fs
+alike rule other b [] e h = tt
+alike rule other b (f ∷ fs) e h = (ap (λ (r : Rule). rank r == rank rule) h.0 ∙ e, alike rule other b fs e h.1)
+
+-- those of a rule; a record, so that the lists are found from it
+record Picks (rule : Rule) (all some : List Finding) : Type 0 where
+  is : filter (is_of rule) all ≡ some
+
+nothing : {rule : Rule} → Picks rule [] []
+nothing = record { is = refl }
+
+both : {rule : Rule} {xs ys us vs : List Finding} → Picks rule xs us → Picks rule ys vs → Picks rule (xs ++ ys) (us ++ vs)
+both {rule} {xs} {ys} h k = record { is = filter-append (is_of rule) xs ys ∙ ap₂ ◌++◌ h.is k.is }
+
+each : {X : Type 0} {rule : Rule} (f g : X → List Finding) → ((x : X) → Picks rule (f x) (g x)) → (xs : List X) → Picks rule (flat_map f xs) (flat_map g xs)
+each f g h [] = nothing
+each f g h (x ∷ xs) = both (h x) (each f g h xs)
+
+-- b whether the set has the rule of the findings, d whether that is the rule
+by_test : (rule : Rule) (fs : List Finding) (b d : Bool) → (d ≡ true → (b ≡ true) × (filter (is_of rule) fs ≡ fs)) → (d ≡ false → filter (is_of rule) fs ≡ [])
+    → filter (is_of rule) (if b then fs else []) ≡ (if d then fs else [])
+by_test rule fs true true h k = (h refl).1
+by_test rule fs false true h k = absurd (false≢true (h refl).0)
+by_test rule fs true false h k = k refl
+by_test rule fs false false h k = refl
+
+-- a second test of what is found
+also : (b c : Bool) (fs : List Finding) → (if b then (if c then fs else []) else []) ≡ (if b && c then fs else [])
+also true c fs = refl
+also false c fs = refl
+
+if_both : {rule : Rule} (fs : List Finding) (b d c : Bool) → Picks rule (if b then (if c then fs else []) else []) (if d then (if c then fs else []) else [])
+    → Picks rule (if b && c then fs else []) (if d && c then fs else [])
+if_both {rule} fs b d c h = record { is = ap (filter (is_of rule)) (sym (also b c fs)) ∙ h.is ∙ also d c fs }
+
+of_if : {other : Rule} (c : Bool) (fs : List Finding) → Of other fs → Of other (if c then fs else [])
+of_if true fs h = h
+of_if false fs h = record { are = tt }
+
+module _ (rules : RuleSet) (rule : Rule) (has : has_rule rules rule ≡ true) where
+  -- what a rule finds, if it is in the set
+  chosen : (other : Rule) (fs : List Finding) → Of other fs → Picks rule (if has_rule rules other then fs else []) (if has_rule (only rule) other then fs else [])
+  chosen other fs h = record {
+    is = by_test rule fs (has_rule rules other) (has_rule (only rule) other)
+        (λ t. let same = sym (only_has rule other) ∙ t in
+        (ap (has_rule rules) (same_rule other rule same) ∙ has, filter_all (is_of rule) fs (alike rule other true fs same h.are)))
+        (λ t. filter_none (is_of rule) fs (alike rule other false fs (sym (only_has rule other) ∙ t) h.are));
+  }
+
+  chosen_if : (other : Rule) (c : Bool) (fs : List Finding) → Of other fs
+      → Picks rule (if has_rule rules other && c then fs else []) (if has_rule (only rule) other && c then fs else [])
+  chosen_if other c fs h = if_both fs (has_rule rules other) (has_rule (only rule) other) c (chosen other (if c then fs else []) (of_if c fs h))
+
+  node : (pairs : List Pair) (n : Node) → Picks rule (node_findings rules pairs n) (node_findings (only rule) pairs n)
+  node pairs (nodes.expr role e) = chosen EmptyListEquality _ (of.equality pairs e.first (out-Form e.form))
+  node pairs (nodes.term role t) =
+      both (chosen DeprecatedInterpolation _ (of.interpolation pairs role t.first t.past (sole_in (out-Shape t.shape))))
+      (chosen DeprecatedLookup _ (of.lookup pairs t.first t.past (out-Shape t.shape)))
+  node pairs (nodes.tail splat t) = chosen DeprecatedIndex _ (of.index pairs splat (out-Tail t))
+  node pairs (nodes.part x) = nothing
+  node pairs (nodes.member m) = nothing
+
+  untyped : (pairs : List Pair) (b : Block) (l : Label) → Picks rule (untyped_findings rules pairs b l) (untyped_findings (only rule) pairs b l)
+  untyped pairs b l =
+      chosen_if TypedVariables (bytes_eq (word pairs b.word) (codes "variable") && not (has_attribute pairs (codes "type") false (attributes b))) _
+      (of.at_word pairs TypedVariables b (Untyped l.name))
+
+  undocumented : (pairs : List Pair) (other : Rule) (kind : List ℕ) (b : Block) (l : Label)
+      → Picks rule (undocumented_findings rules pairs other kind b l) (undocumented_findings (only rule) pairs other kind b l)
+  undocumented pairs other kind b l =
+      chosen_if other (bytes_eq (word pairs b.word) kind && is_undocumented pairs (attributes b)) _ (of.at_word pairs other b (Undocumented l.name))
+
+  missing : (pairs : List Pair) (b : Block) (o : Option Label) → Picks rule (missing_findings rules pairs b o) (missing_findings (only rule) pairs b o)
+  missing pairs b None = nothing
+  missing pairs b (Some l) = both (untyped pairs b l)
+      (both (undocumented pairs DocumentedVariables (codes "variable") b l) (undocumented pairs DocumentedOutputs (codes "output") b l))
+
+  in_member : (pairs : List Pair) (m : MemberLayer) → Picks rule (member_findings_in rules pairs m) (member_findings_in (only rule) pairs m)
+  in_member pairs (Member-F.Attribute a) = nothing
+  in_member pairs (Member-F.Block b) = both (chosen NamingConvention _ (of.names pairs b)) (missing pairs b (slice_get b.labels 0))
+
+  -- of all that is found
+  all : (pairs : List Pair) (members : List Member) (ns : List Node) → Picks rule (gathered rules pairs members ns) (gathered (only rule) pairs members ns)
+  all pairs members ns =
+      let at_nodes = each (node_findings rules pairs) (node_findings (only rule) pairs) (node pairs) ns in
+      let at_blocks = each (member_findings rules pairs) (member_findings (only rule) pairs) (λ m. in_member pairs (out-Member m)) members in
+      both at_nodes (both at_blocks (chosen CommentSyntax _ (of.comments pairs 0 pairs)))
+
+pub found_by_one : FoundByOne
+found_by_one rules rule pairs members found has a =
+    let p = is_of rule in
+    let whole = gathered rules pairs members a.nodes in
+    let part : filter p whole ≡ gathered (only rule) pairs members a.nodes = (all rules rule has pairs members a.nodes).is in
+    let lt = λ (x y : Finding). is_lt (report_order x y) in
+    let loud = λ (f : Finding). not (is_silenced pairs f) in
+    record {
+      nodes = a.nodes;
+      stand = a.stand;
+      all = filter p a.all;
+      same = subst (λ l. IsPermutation l (filter p a.all)) part (filter_permutation p whole a.all a.same);
+      sorted = IsSortedBy-filter lt (ranks_by total (λ (f : Finding). f)) p a.all a.sorted;
+      stable = λ x. filter_turned (ties lt x) p a.all ∙ ap (filter p) (a.stable x) ∙ filter_turned p (ties lt x) whole ∙ ap (filter (ties lt x)) part;
+      kept = ap (filter p) a.kept ∙ filter_turned p loud a.all;
+    }

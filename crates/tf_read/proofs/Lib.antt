@@ -1,0 +1,2 @@
+mod BodyLemmas
+mod FileLemmas

@@ -1,0 +1,2 @@
+-- For proofs: what is found so far, beside the pure parser.
+pub mod Seeing

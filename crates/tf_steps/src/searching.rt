@@ -1,0 +1,66 @@
+//! A text with what the rules find in it.
+
+ghost use Rattle.std.specs.Prelude.{◌≡◌, ◌≢◌, ◌⊎◌, IfOk, IfErr};
+ghost use Rattle.tf_steps.specs.Reading.{Reads, IsUnread, NotRead};
+ghost use Rattle.tf_steps.specs.Searching.{IsOf};
+ghost use Rattle.tf_steps.specs.declared.fault.FixFault.{FixFault};
+ghost use Rattle.tf_steps.specs.declared.reading.Parsed.{Parsed};
+
+use crate::fault::FixFault;
+use crate::searched::Searched;
+use hcl_scan::laws::{no_cut_with_fault, one_cut};
+use hcl_scan::scan;
+use std::alloc::Global;
+use tf_rule::{Rule, RuleSet};
+
+/// The tokens of a text, if it parses, and what the rules of the set find in it.
+///
+/// The text is read once, and no tree of it is kept.
+pub fn search_text<'t>(
+    alloc: Global,
+    text: &'t [u8],
+    rules: RuleSet,
+) -> Result<Searched<'t>, FixFault>
+    ensures searched { IfOk result (λ searched. (p : Parsed) × Reads text.now p × IsOf p searched) }
+    ensures rules { IfOk result (λ searched. searched.rules ≡ rules) }
+    ensures fault { IfErr result (λ fault. NotRead text.now fault) }
+{
+    let scanned = scan(alloc, text)?;
+    match tf_read::findings(alloc, &scanned, rules) {
+        Ok(found) => Ok(Searched {
+            scanned,
+            rules,
+            found,
+        }),
+        Err(fault) => Err(FixFault::from(fault)),
+    }
+}
+
+// Why a text that the step of a rule made is not read.
+fn broken(fault: FixFault, rule: Rule) -> FixFault
+    ensures { ((fault ≡ FixFault.Memory) × (result ≡ FixFault.Memory)) ⊎ ((fault ≢ FixFault.Memory) × (result ≡ FixFault.FixBroken rule)) }
+{
+    match fault {
+        FixFault::Memory => FixFault::Memory,
+        _ => FixFault::FixBroken { rule },
+    }
+}
+
+/// The same of a text that the step of this rule made.
+pub fn search_made<'t>(
+    alloc: Global,
+    text: &'t [u8],
+    rules: RuleSet,
+    rule: Rule,
+) -> Result<Searched<'t>, FixFault>
+    ensures searched { IfOk result (λ searched. (p : Parsed) × Reads text.now p × IsOf p searched) }
+    ensures rules { IfOk result (λ searched. searched.rules ≡ rules) }
+    ensures fault { IfErr result (λ fault. (fault ≡ FixFault.Memory) ⊎ ((fault ≡ FixFault.FixBroken rule) × IsUnread text.now)) }
+{
+    no_cut_with_fault();
+    one_cut();
+    match search_text(alloc, text, rules) {
+        Ok(searched) => Ok(searched),
+        Err(fault) => Err(broken(fault, rule)),
+    }
+}
