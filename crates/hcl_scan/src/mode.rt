@@ -1,7 +1,8 @@
 //! The openings that are not closed, and what a token does to them.
 
-ghost use Rattle.std.specs.Prelude.{◌≡◌, ◌+◌, ◌≤◌, ◌∷◌, OnOk, drop, length};
+ghost use Rattle.std.specs.Prelude.{◌≡◌, ◌+◌, ◌≤◌, ◌∷◌, ℕ, List, false, OnOk, drop, length};
 ghost use Rattle.std.specs.List.{prefix_len};
+ghost use Rattle.hcl_scan.specs.Modes as spec;
 ghost use Rattle.hcl_scan.specs.Modes.{mode_of, is_braces, in_sequence, begins_line, marker_of, after};
 ghost use Rattle.hcl_scan.specs.Runs.{line_behind};
 ghost use Rattle.hcl_scan.specs.Fault.{places_after, innermost};
@@ -157,6 +158,26 @@ fn read_on<'t>(openings: &mut Vec<Opening<'t>>, fresh: bool) -> Result<(), Alloc
     }
 }
 
+// Whether a token of the kind can do anything to the openings.
+fn opens_or_closes(kind: Kind) -> bool
+    ensures modes { (spelling : List ℕ) (modes : List spec.Mode) → result ≡ false → after kind spelling modes ≡ modes }
+    ensures places { (at : ℕ) (modes : List spec.Mode) (places : List ℕ) → result ≡ false → places_after kind at modes places ≡ places }
+{
+    matches!(
+        kind,
+        Kind::QuoteOpen
+            | Kind::HereOpen
+            | Kind::InterpOpen
+            | Kind::DirectiveOpen
+            | Kind::QuoteClose
+            | Kind::HereClose
+            | Kind::SeqClose
+            | Kind::OpenBrace
+            | Kind::CloseBrace
+            | Kind::HereLit
+    )
+}
+
 /// What a token of this kind and spelling, which begins at a place, does to the openings.
 pub fn shift<'t>(
     openings: &mut Vec<Opening<'t>>,
@@ -167,6 +188,9 @@ pub fn shift<'t>(
     ensures modes { OnOk result (modes_of openings.new.items ≡ after kind spelling.now (modes_of openings.old.items)) }
     ensures places { OnOk result (places_of openings.new.items ≡ places_after kind at (modes_of openings.old.items) (places_of openings.old.items)) }
 {
+    if !opens_or_closes(kind) {
+        return Ok(());
+    }
     match kind {
         Kind::QuoteOpen => push(openings, at, Mode::Quoted)?,
         Kind::HereOpen => {

@@ -3,6 +3,7 @@
 ghost use Rattle.std.specs.Prelude.{◌≡◌, ◌+◌, ◌<◌, ◌≤◌, length, drop, IsUtf8};
 ghost use Rattle.hcl_scan.specs.Inner.Next.{inline_comment, punctuation, here_or_less, expression_token, quoted_token, gap_length, token};
 ghost use Rattle.hcl_scan.specs.Inner.Openings.{mode_view};
+ghost use Rattle.hcl_scan.specs.Modes.{closes_sequence};
 
 use crate::bytes::{blanks_end, byte, digits_end};
 use crate::here::{begins_intro, begins_opening, here_open, here_token, opening};
@@ -137,6 +138,13 @@ pub fn gap_end(text: &[u8], at: usize, mode: Mode<'_>) -> usize
     }
 }
 
+// A `}` here closes a template sequence.
+fn closes_sequence(mode: Mode<'_>) -> bool
+    ensures { result ≡ closes_sequence (mode_view mode.entry) }
+{
+    matches!(mode, Mode::Sequence)
+}
+
 /// The token at a place, as its kind and its length.
 pub fn token(text: &str, at: usize, mode: Mode<'_>) -> Option<(Kind, usize)>
     requires within { at < length text.now }
@@ -146,7 +154,6 @@ pub fn token(text: &str, at: usize, mode: Mode<'_>) -> Option<(Kind, usize)>
     match mode {
         Mode::Quoted => quoted_token(text.as_bytes(), at),
         Mode::Heredoc { marker, fresh } => here_token(text.as_bytes(), at, marker, fresh),
-        Mode::Sequence => expression_token(text, at, true),
-        _ => expression_token(text, at, false),
+        _ => expression_token(text, at, closes_sequence(mode)),
     }
 }

@@ -77,8 +77,8 @@ front_reached text items last n o =
 -- the milestones up to item `from`, and the place there
 pub record IsStored (text : List ℕ) (items : List Item) (milestones : List Milestone) (from : ℕ) (at : Place) : Type 0 where
   pub within : from ≤ length items
-  pub filled : from ≤ 16 * length milestones
-  pub even : from < length items → from ≡ 16 * length milestones
+  pub filled : from ≤ 64 * length milestones
+  pub even : from < length items → from ≡ 64 * length milestones
   pub right : (k : ℕ) → k < length milestones → IsMilestone (pairs_of text items) milestones k
   pub at_from : at ≡ after_pairs first_place (take from (pairs_of text items))
 
@@ -93,7 +93,7 @@ reached_fits at items text last from o r =
     (omega (arith, r.line, le, o.within, o.short), omega (arith, r.column, le, o.within, o.short))
 
 pub stored_step : (text : List ℕ) (items : List Item) (milestones more : List Milestone) (from to : ℕ) (at behind : Place) (milestone : Milestone)
-    → IsStored text items milestones from at → from < length items → to ≡ min (length items) (from + 16) → more ≡ milestones ++ milestone ∷ [] → milestone_place milestone ≡ at
+    → IsStored text items milestones from at → from < length items → to ≡ min (length items) (from + 64) → more ≡ milestones ++ milestone ∷ [] → milestone_place milestone ≡ at
     → behind ≡ after_pairs at (pairs_of text (slice_range items from to)) → IsStored text items more to behind
 stored_step text items milestones more from to at behind milestone s h to_is more_is stone_is behind_is =
     let pairs : List Pair = pairs_of text items in
@@ -102,7 +102,7 @@ stored_step text items milestones more from to at behind milestone s h to_is mor
     λ k inside d. ap (λ (l : List Milestone). milestone_place (get_or l k d)) more_is ∙ ap milestone_place (get_or_append_left milestones (milestone ∷ []) d k inside) ∙ s.right k inside d in
     let new : (k : ℕ) → length milestones ≡ k → IsMilestone pairs more k =
     λ k is d.
-    let same : from ≡ 16 * k = omega (arith, s.even h) in
+    let same : from ≡ 64 * k = omega (arith, s.even h) in
     ap (λ (l : List Milestone). milestone_place (get_or l k d)) more_is ∙ ap milestone_place (get_or_push milestones milestone d k is)
     ∙ stone_is ∙ s.at_from ∙ ap (λ n. after_pairs first_place (take n pairs)) same in
     let end : from + (to - from) ≡ to = omega arith in
@@ -137,10 +137,10 @@ plain_part text items from to at bytes s is plain none =
 
 -- the milestone before item i
 pub milestone_at : (text : List ℕ) (items : List Item) (milestones : List Milestone) (i : ℕ) (d : Milestone) → AreMilestones (pairs_of text items) milestones → i < length items
-    → (i / 16 < length milestones) × (milestone_place (get_or milestones (i / 16) d) ≡ after_pairs first_place (take (i / 16 * 16) (pairs_of text items)))
+    → (i / 64 < length milestones) × (milestone_place (get_or milestones (i / 64) d) ≡ after_pairs first_place (take (i / 64 * 64) (pairs_of text items)))
 milestone_at text items milestones i d m h =
-    let inside : i / 16 < length milestones = omega (arith, m.enough, length-map items (pair_at text)) in
-    (inside, m.right (i / 16) inside d ∙ ap (λ n. after_pairs first_place (take n (pairs_of text items))) (omega arith))
+    let inside : i / 64 < length milestones = omega (arith, m.enough, length-map items (pair_at text)) in
+    (inside, m.right (i / 64) inside d ∙ ap (λ n. after_pairs first_place (take n (pairs_of text items))) (omega arith))
 
 pub stored_none : (text : List ℕ) (items : List Item) (milestones : List Milestone) → milestones ≡ [] → IsStored text items milestones 0 first_place
 stored_none text items milestones none =

@@ -14,7 +14,7 @@ use memchr::memrchr;
 use std::alloc::{AllocError, Global};
 
 // How many tokens apart the places are that are kept.
-const SPACING: usize = 16;
+const SPACING: usize = 64;
 
 /// The place of the gap before a token; a text is so short that 32 bits hold its lines and columns.
 #[derive(Clone, Copy, Debug)]

@@ -156,7 +156,7 @@ impl<'t> Tokens<'t> {
         clusters(self.spelling(i))
     }
 
-    /// The line and the column of token `i`, from 1: found from a milestone at most 16 tokens before it.
+    /// The line and the column of token `i`, from 1: found from a milestone at most 63 tokens before it.
     pub fn place_of(&self, i: usize) -> Place
         requires { i < length self.now.pairs }
         ensures { result ≡ place_of self.now.pairs i }

@@ -53,14 +53,14 @@ offset (item ∷ items) last (suc i) = offset items last i
 abbrev pub milestone_place : Milestone → Place
 milestone_place milestone = record { line = milestone.line; column = milestone.column }
 
--- the k-th milestone is the place of the gap before the 16 * k-th token
+-- the k-th milestone is the place of the gap before the 64 * k-th token
 abbrev pub IsMilestone : List Pair → List Milestone → ℕ → Type 0
-IsMilestone pairs milestones k = (d : Milestone) → milestone_place (slice_index_or milestones k d) ≡ after_pairs first_place (take (16 * k) pairs)
+IsMilestone pairs milestones k = (d : Milestone) → milestone_place (slice_index_or milestones k d) ≡ after_pairs first_place (take (64 * k) pairs)
 
--- a milestone stands before each sixteenth token, the first among them
+-- a milestone stands before each 64th token, the first among them
 pub record AreMilestones (pairs : List Pair) (milestones : List Milestone) : Type 0 where
   pub right : (k : ℕ) → k < length milestones → IsMilestone pairs milestones k
-  pub enough : length pairs ≤ 16 * length milestones
+  pub enough : length pairs ≤ 64 * length milestones
 
 -- a text with items in order
 pub record IsOrdered (text : List ℕ) (items : List Item) (last_at : ℕ) : Type 0 where
