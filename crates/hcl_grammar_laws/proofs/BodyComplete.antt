@@ -54,7 +54,7 @@ module _ (ts : List Token) where
   eol-yes (eol_end {i} h) = let n = unlike k.LineComment i h in rw ((no_line_end i h).is, past-no ts false k.LineComment i n, h)
   eol-yes (eol_comment {i} q h) = rw (line-no i q h, past-yes ts false k.LineComment i q, h)
 
-  eol_stop : {i j : ℕ} → IsEol ts i j → Stops 8 ts false i
+  pub eol_stop : {i j : ℕ} → IsEol ts i j → Stops 8 ts false i
   eol_stop (eol_line (line_end q)) = stops_at 8 k.LineEnd q (omega arith)
   eol_stop (eol_line (comment q n)) = stops_at 8 k.LineComment q (omega arith)
   eol_stop (eol_end h) = record { at_token = λ t e. absurd (let clash : None ≡ Some t = sym h ∙ e in cc) }
@@ -123,7 +123,7 @@ module _ (ts : List Token) where
     pub no_line : NoLine ts i
     pub no_name : sees ts false k.Identifier i ≡ false
 
-  ends_brace : (i : ℕ) → At ts false k.CloseBrace i → Ends i
+  pub ends_brace : (i : ℕ) → At ts false k.CloseBrace i → Ends i
   unfolding same_kind
   ends_brace i h = record { no_line = no_line_brace i h; no_name = sees-other ts false k.CloseBrace k.Identifier i h refl }
 
@@ -145,12 +145,12 @@ module _ (ts : List Token) where
   unfolding bodies.members_from bodies.member_of
   members_more turns acc i q x more = rw ((no_line_name i q).is, sees-yes ts false k.Identifier i q, past-yes ts false k.Identifier i q) (bind _ (bind _ x found) more)
 
-  member_attribute : {d a : ℕ} {e : Expr} {j n : ℕ} (first i : ℕ) → At ts false k.Equal i → Answers d a e j (p.expr ts a false Whole (after ts false i)) → IsEol ts j n
+  pub member_attribute : {d a : ℕ} {e : Expr} {j n : ℕ} (first i : ℕ) → At ts false k.Equal i → Answers d a e j (p.expr ts a false Whole (after ts false i)) → IsEol ts j n
       → Answers d a (member.Attribute (node.attribute first n e)) n (bodies.named_member ts a (deeper_members ts a) first i)
   unfolding bodies.named_member bodies.attribute_by
   member_attribute first i e x l = rw (sees-yes ts false k.Equal i e, past-yes ts false k.Equal i e) (bind _ x (rw (eol-yes l) found))
 
-  member_block : {d : ℕ} {ls : List Label} {x : Content} {j o q : ℕ} (first i : ℕ) → IsLabels ts ls i j → At ts false k.OpenBrace j → At ts false k.CloseBrace o → IsEol ts (after ts false o) q → (b : ℕ)
+  pub member_block : {d : ℕ} {ls : List Label} {x : Content} {j o q : ℕ} (first i : ℕ) → IsLabels ts ls i j → At ts false k.OpenBrace j → At ts false k.CloseBrace o → IsEol ts (after ts false o) q → (b : ℕ)
       → ((a : ℕ) → Answers d a x o (bodies.block_content ts (suc a) (bodies.members ts a) (after ts false j)))
       → Answers (suc d) b (node.block first q ls x) q (bodies.named_member ts b (deeper_members ts b) first i)
   unfolding bodies.named_member bodies.block_by
@@ -160,7 +160,7 @@ module _ (ts : List Token) where
       rw (not_equals ls br, past-no ts false k.Equal i (not_equals ls br), labels_all ls br, expect-yes ts false k.OpenBrace j br)
       (bind _ (deeper_found (x a)) (rw (expect-yes ts false k.CloseBrace o cl, eol-yes el) found))
 
-  content_lines : {d a : ℕ} {bs : List Member} {n o : ℕ} (i : ℕ) → IsLine ts i n → Answers d a bs o (bodies.members ts a n)
+  pub content_lines : {d a : ℕ} {bs : List Member} {n o : ℕ} (i : ℕ) → IsLine ts i n → Answers d a bs o (bodies.members ts a n)
       → Answers d a (content.Lines (node.body (first_of ts false n o) o bs)) o (bodies.block_content ts (suc a) (bodies.members ts a) i)
   unfolding bodies.block_content bodies.nested_body
   content_lines i l x = rw (inner-yes l) (bind _ x found)
@@ -174,7 +174,7 @@ module _ (ts : List Token) where
   unfolding bodies.block_content bodies.on_line
   content_one i h q x = rw ((no_inner_name i h).is, sees-yes ts false k.Identifier i h, past-yes ts false k.Identifier i h, expect-yes ts false k.Equal (after ts false i) q) (bind _ x found)
 
-  c_on_line : {d : ℕ} {x : Option Attribute} {i j : ℕ} → IsOnLine ts d x i j → At ts false k.CloseBrace j → (a : ℕ) → Answers d a (content.Line x) j (bodies.block_content ts (suc a) (bodies.members ts a) i)
+  pub c_on_line : {d : ℕ} {x : Option Attribute} {i j : ℕ} → IsOnLine ts d x i j → At ts false k.CloseBrace j → (a : ℕ) → Answers d a (content.Line x) j (bodies.block_content ts (suc a) (bodies.members ts a) i)
   c_on_line (nothing {i}) h a = content_empty i h
   c_on_line (one {i} {j} n q x) h a = content_one i n q (nested ts false (after ts false (after ts false i)) a (c_expr ts x (stops_at 8 k.CloseBrace h (omega arith)) a))
 

@@ -20,7 +20,7 @@ use Rattle.hcl_grammar.specs.Tokens.{Token, start, next, after, first_of}
 use Rattle.hcl_grammar_laws.proofs.Inverts.{bind_inv, done, along, eaten, uneaten, eat_inv, expect_then, some_along, none_some, some_none, then_some, then, otherwise, chosen}
 use Rattle.hcl_grammar_laws.proofs.Sound.{sound, line-true, line-false, inner-true, inner-false}
 
-shut : {A B : Type 0} {y : B} {j : ℕ} (o : Outcome A) (x : TokenFault) → and_then o (λ _ i. Err x) ≡ done y j → ⊥
+pub shut : {A B : Type 0} {y : B} {j : ℕ} (o : Outcome A) (x : TokenFault) → and_then o (λ _ i. Err x) ≡ done y j → ⊥
 shut (Ok q) x e = absurd (cc)
 shut (Err f) x e = absurd (cc)
 
@@ -32,7 +32,7 @@ module _ (ts : List Token) where
       go None h f = (h, along (λ _ j. j ≡ i) f refl)
       go (Some t) h f = absurd (cc)
 
-  s_eol : (i : ℕ) {u : Unit {0}} {j : ℕ} → bodies.eol ts i ≡ done u j → IsEol ts i j
+  pub s_eol : (i : ℕ) {u : Unit {0}} {j : ℕ} → bodies.eol ts i ≡ done u j → IsEol ts i j
   unfolding bodies.eol
   s_eol i {u} {j} e =
       let w = bind_inv _ _ e in
@@ -92,7 +92,7 @@ module _ (ts : List Token) where
   s_labels zero acc i ys j e = along (λ ys j. Labels acc ys i j) e (record { more = []; is = sym (append-nil acc); labels = no_labels })
   s_labels (suc turns) acc i ys j e = let w = bind_inv _ _ e in labels_step turns acc i ys j (λ acc i. s_labels turns acc i ys j) w.value w.at w.is w.rest
 
-  all_labels : (i : ℕ) (ls : List Label) (j : ℕ) → bodies.labels_from ts (length ts) [] i ≡ done ls j → IsLabels ts ls i j
+  pub all_labels : (i : ℕ) (ls : List Label) (j : ℕ) → bodies.labels_from ts (length ts) [] i ≡ done ls j → IsLabels ts ls i j
   all_labels i ls j e = let r = s_labels (length ts) [] i ls j e in subst (λ xs. IsLabels ts xs i j) (sym r.is) r.labels
 
   -- ---- members
@@ -133,7 +133,7 @@ module _ (ts : List Token) where
     | uneaten s l ↦ along (λ x j. Inside a x i j) (rw (s, l) at e) (inside_line nothing)
   ]
 
-  s_content : (a : ℕ) → SoundBody a → (i : ℕ) (x : Content) (j : ℕ) → bodies.block_content ts (suc a) (bodies.members ts a) i ≡ done x j → Inside a x i j
+  pub s_content : (a : ℕ) → SoundBody a → (i : ℕ) (x : Content) (j : ℕ) → bodies.block_content ts (suc a) (bodies.members ts a) i ≡ done x j → Inside a x i j
   unfolding bodies.block_content bodies.nested_body
   s_content a z i x j e =
       let w = bind_inv _ _ e in

@@ -104,15 +104,17 @@ fn token_at(text: &str, at: usize, mode: Mode<'_>) -> Option<(Kind, usize)>
     }
 }
 
-// The items of a text, and where its last gap begins.
-fn cut(alloc: Global, text: &str) -> Result<(Vec<Item>, usize), ScanFault>
+// The items of a text, in a list that has room, and where its last gap begins.
+fn cut(alloc: Global, room: Vec<Item>, text: &str) -> Result<(Vec<Item>, usize), ScanFault>
     requires { length text.now ≤ MAX_TEXT }
     ensures cut { IfOk result (λ r. IsCut text.now (pairs_of text.now r.0.items) (drop r.1 text.now)) }
     ensures order { IfOk result (λ r. InOrder 0 r.0.items r.1 × (r.1 ≤ length text.now)) }
     ensures fault { IfErr result (λ e. (e ≡ Memory) ⊎ Stops text.now e) }
 {
     let bytes = text.as_bytes();
-    let mut items = Vec::with_capacity(alloc, text.len() / 8)?;
+    let mut items = room;
+    items.clear();
+    items.reserve(text.len() / 8)?;
     let mut openings: Vec<Opening<'_>> = Vec::new(alloc);
     let mut at = push_mark(&mut items, bytes)?;
     'tokens: loop {
@@ -141,8 +143,9 @@ fn cut(alloc: Global, text: &str) -> Result<(Vec<Item>, usize), ScanFault>
     }
 }
 
-/// The items of a text, and where its last gap begins; or its fault. A text that is too long or not UTF-8 takes no memory.
-pub fn cut_of(alloc: Global, text: &[u8]) -> Result<(Vec<Item>, usize), ScanFault>
+/// The items of a text, in a list that has room, and where its last gap begins; or its fault. A text that is too long or not UTF-8 takes no
+/// memory.
+pub fn cut_of(alloc: Global, room: Vec<Item>, text: &[u8]) -> Result<(Vec<Item>, usize), ScanFault>
     ensures cut { IfOk result (λ r. IsCut text.now (pairs_of text.now r.0.items) (drop r.1 text.now)) }
     ensures order { IfOk result (λ r. InOrder 0 r.0.items r.1 × (r.1 ≤ length text.now)) }
     ensures fault { IfErr result (λ e. ((e ≡ Memory) × (length text.now ≤ MAX_TEXT) × IsUtf8 text.now) ⊎ IsFault text.now e) }
@@ -154,6 +157,6 @@ pub fn cut_of(alloc: Global, text: &[u8]) -> Result<(Vec<Item>, usize), ScanFaul
         Err(e) => Err(ScanFault::NotUtf8 {
             at: e.valid_up_to(),
         }),
-        Ok(text) => cut(alloc, text),
+        Ok(text) => cut(alloc, room, text),
     }
 }

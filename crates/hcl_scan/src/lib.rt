@@ -19,4 +19,4 @@ mod token;
 
 pub use error::ScanFault;
 pub use hcl_token::{Item, Kind, MAX_TEXT, Place};
-pub use scanned::{Scanned, scan};
+pub use scanned::{Scanned, scan, scan_in};

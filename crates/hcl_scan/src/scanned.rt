@@ -39,12 +39,28 @@ pub fn scan<'t>(alloc: Global, text: &'t [u8]) -> Result<Scanned<'t>, ScanFault>
     ensures cut { IfOk result (λ s. IsCut text.now s.pairs s.last) }
     ensures fault { IfErr result (λ e. ((e ≡ Memory) × (length text.now ≤ MAX_TEXT) × IsUtf8 text.now) ⊎ IsFault text.now e) }
 {
-    let (items, last_at) = cut_of(alloc, text)?;
+    scan_in(alloc, Vec::new(alloc), text)
+}
+
+/// The same, with the tokens in a list that has room, as `Scanned::into_room` gives it back. What stands in the list is given up.
+pub fn scan_in<'t>(alloc: Global, room: Vec<Item>, text: &'t [u8]) -> Result<Scanned<'t>, ScanFault>
+    ensures text { IfOk result (λ s. s.text ≡ text.now) }
+    ensures cut { IfOk result (λ s. IsCut text.now s.pairs s.last) }
+    ensures fault { IfErr result (λ e. ((e ≡ Memory) × (length text.now ≤ MAX_TEXT) × IsUtf8 text.now) ⊎ IsFault text.now e) }
+{
+    let (items, last_at) = cut_of(alloc, room, text)?;
     let tokens = Tokens::new(alloc, text, items, last_at)?;
     Ok(Scanned { tokens })
 }
 
 impl<'t> Scanned<'t> {
+    /// The memory of the tokens, which are given up: an empty list with room for as many.
+    pub fn into_room(self) -> Vec<Item>
+        ensures { result.items ≡ [] }
+    {
+        self.tokens.into_room()
+    }
+
     /// The text: the gaps and the tokens, one behind the other.
     pub fn text(&self) -> &'t [u8]
         ensures text { result.now ≡ self.now.text }

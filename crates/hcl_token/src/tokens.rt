@@ -66,6 +66,15 @@ impl<'t> Tokens<'t> {
         })
     }
 
+    /// The memory of the tokens, which are given up: an empty list with room for as many.
+    pub fn into_room(self) -> Vec<Item>
+        ensures { result.items ≡ [] }
+    {
+        let mut room = self.items;
+        room.clear();
+        room
+    }
+
     /// The text: the gaps and the tokens, one behind the other.
     pub fn text(&self) -> &'t [u8]
         ensures text { result.now ≡ self.now.text }

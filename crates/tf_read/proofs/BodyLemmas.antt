@@ -1,17 +1,22 @@
 -- What is found in some members, and in one more.
 use Rattle.std.proofs.Common.{◌≡◌, ℕ, zero, suc, Bool, true, false, List, [], ◌∷◌, ◌++◌, length, Some, None, Result, Ok, Err, refl, sym, ap, subst, ◌∙◌, append_assoc, append-nil}
 use Rattle.std.proofs.lemmas.List.{map-append}
+use Rattle.std.proofs.lemmas.Grind.{flat_map-append}
 use Rattle.std.specs.List.{flat_map}
 use Rattle.hcl_grammar.specs.Pure.BodyParser.{deeper_members, member_of, members, members_from}
 use Rattle.hcl_grammar.specs.Pure.Parser.{line}
 use Rattle.hcl_grammar.specs.declared.error.TokenFault.{TokenFault}
 use Rattle.hcl_grammar.specs.Tokens.{Token}
 use Rattle.hcl_grammar.specs.declared.tree.Member.{Member}
+use Rattle.hcl_parses.specs.Parses.{MAX_NESTING}
+use Rattle.hcl_scan.specs.Follows.{tokens_of}
 use Rattle.hcl_token.specs.Tokens.{Pair}
 use Rattle.tf_find.specs.NodeFindings.{node_findings}
 use Rattle.tf_find.specs.Nodes.{Node, member, Stand, nothing, one}
-use Rattle.tf_find.specs.TreeFindings.{AreAdded}
-use Rattle.tf_read.specs.Inner.Seeing.{AreSeen}
+use Rattle.tf_find.specs.TreeFindings.{AreTreeFindings}
+use Rattle.tf_read.specs.Inner.Seeing.{AreOf}
+use Rattle.tf_read.specs.Seen.{IsSeen, AreSeen, nodes_of, blocks_of}
+use Rattle.tf_read.specs.declared.member.SeenMember.{SeenMember}
 use Rattle.tf_rule.specs.declared.finding.Finding.{Finding}
 use Rattle.tf_rule.specs.declared.rule_set.RuleSet.{RuleSet}
 use Rattle.tf_top.specs.TopFindings.{member_findings, top_findings}
@@ -22,31 +27,45 @@ stand-append nothing b = b
 stand-append {ms = ms} {ys = ys} (one {n = n} {ns = ns} {inside = inside} {others = others} a c) b =
     subst (λ l. Stand (n ∷ (ns ++ ms)) (n ∷ l)) (sym (append_assoc inside others ys)) (one a (stand-append c b))
 
-flat_map-append : {X Y : Type 0} (f : X → List Y) (xs ys : List X) → flat_map f (xs ++ ys) ≡ flat_map f xs ++ flat_map f ys
-flat_map-append f [] ys = refl
-flat_map-append f (x ∷ xs) ys = ap (λ l. f x ++ l) (flat_map-append f xs ys) ∙ sym (append_assoc (f x) _ _)
+some_same : {X : Type 0} (x y : X) → Some x ≡ Some y → x ≡ y
+some_same x y e = cc
 
 module _ {rules : RuleSet} {pairs : List Pair} where
-  added-append : {ns ms : List Node} {xs ys zs : List Finding} → AreAdded rules pairs ns xs ys → AreAdded rules pairs ms ys zs → AreAdded rules pairs (ns ++ ms) xs zs
-  added-append {xs = xs} a b =
+  both_trees : {ns ms : List Node} {xs ys : List Finding} → AreTreeFindings rules pairs ns xs → AreTreeFindings rules pairs ms ys → AreTreeFindings rules pairs (ns ++ ms) (xs ++ ys)
+  both_trees {ys = ys} a b =
       let f = node_findings rules pairs in
       record {
         nodes = a.nodes ++ b.nodes;
         stand = stand-append a.stand b.stand;
-        added = b.added ∙ (ap (λ l. l ++ flat_map f b.nodes) a.added ∙ (append_assoc xs (flat_map f a.nodes) (flat_map f b.nodes) ∙ ap (λ l. xs ++ l) (sym (flat_map-append f a.nodes b.nodes))));
+        are = ap (λ l. l ++ ys) a.are ∙ (ap (λ l. flat_map f a.nodes ++ l) b.are ∙ sym (flat_map-append f a.nodes b.nodes));
       }
 
-  pub none_seen : {nodes blocks : List Finding} → nodes ≡ [] → blocks ≡ [] → AreSeen rules pairs [] nodes blocks
-  none_seen n b = record { at_nodes = record { nodes = []; stand = nothing; added = n }; at_blocks = b }
+  -- one more member that is seen
+  each_more : (xs : List SeenMember) (x : SeenMember) → AreSeen rules pairs xs → IsSeen rules pairs x → AreSeen rules pairs (xs ++ x ∷ [])
+  each_more [] x seen is zero y e = subst (IsSeen rules pairs) (some_same x y e) is
+  each_more [] x seen is (suc i) y e = absurd (cc)
+  each_more (z ∷ xs) x seen is zero y e = seen zero y e
+  each_more (z ∷ xs) x seen is (suc i) y e = each_more xs x (λ i. seen (suc i)) is i y e
 
-  pub one_more : {ms : List Member} {x : Member} {nodes blocks more_nodes more_blocks : List Finding} → AreSeen rules pairs ms nodes blocks
-      → AreAdded rules pairs (member x ∷ []) nodes more_nodes → more_blocks ≡ blocks ++ member_findings rules pairs x
-      → AreSeen rules pairs (ms ++ x ∷ []) more_nodes more_blocks
-  one_more {ms} {x} {nodes} {blocks} {more_nodes} {more_blocks} seen a b = record {
-    at_nodes = subst (λ ns. AreAdded rules pairs ns [] more_nodes) (sym (map-append member ms (x ∷ []))) (added-append seen.at_nodes a);
-    at_blocks = b ∙ (ap (λ l. l ++ member_findings rules pairs x) seen.at_blocks
-        ∙ (ap (λ l. top_findings rules pairs ms ++ l) (sym (append-nil (member_findings rules pairs x))) ∙ sym (flat_map-append (member_findings rules pairs) ms (x ∷ []))));
+  pub none_seen : {xs : List SeenMember} → xs ≡ [] → AreOf rules pairs [] xs
+  none_seen e = rw e (record { each = λ i x e. absurd (cc); at_nodes = record { nodes = []; stand = nothing; are = refl }; at_blocks = refl })
+
+  pub one_more : {ms : List Member} {xs : List SeenMember} {x : SeenMember} → AreOf rules pairs ms xs → (is : IsSeen rules pairs x) → AreOf rules pairs (ms ++ is.member ∷ []) (xs ++ x ∷ [])
+  one_more {ms} {xs} {x} seen is = record {
+    each = each_more xs x seen.each is;
+    at_nodes =
+        rw (map-append member ms (is.member ∷ []), flat_map-append nodes_of xs (x ∷ []), append-nil x.nodes.items) (both_trees seen.at_nodes is.at_nodes);
+    at_blocks = flat_map-append blocks_of xs (x ∷ []) ∙ (ap (λ l. flat_map blocks_of xs ++ l) (append-nil x.blocks.items)
+        ∙ (ap (λ l. l ++ x.blocks.items) seen.at_blocks ∙ (ap (λ l. top_findings rules pairs ms ++ l) (is.at_block ∙ sym (append-nil (member_findings rules pairs is.member)))
+        ∙ sym (flat_map-append (member_findings rules pairs) ms (is.member ∷ [])))));
   }
+
+-- the member that comes next, as the parser answers it
+pub read_as : {rules : RuleSet} {pairs : List Pair} {from past : ℕ} {x : SeenMember} → (next : (x.from ≡ from) × (x.past ≡ past) × IsSeen rules pairs x)
+    → member_of (tokens_of pairs) MAX_NESTING (deeper_members (tokens_of pairs) MAX_NESTING) from ≡ Ok (Some next.2.member, past)
+read_as {pairs} {past} next =
+    subst (λ n. member_of (tokens_of pairs) MAX_NESTING (deeper_members (tokens_of pairs) MAX_NESTING) n ≡ Ok (Some next.2.member, past)) next.0
+    (next.2.read ∙ ap (λ n. Ok (Some next.2.member, n)) next.1)
 
 -- ---- a turn of the pure parser of bodies, of which so many are left
 

@@ -13,17 +13,20 @@ use Rattle.hcl_grammar.specs.declared.tree.Tree.{Tree}
 use Rattle.hcl_token.specs.declared.kind.Kind.TheVariants as k
 use Rattle.hcl_token.specs.Tokens.{Pair}
 use Rattle.tf_findings.specs.Findings.{AreAtNodesAndBlocks}
-use Rattle.tf_read.specs.Inner.Seeing.{AreSeen}
+use Rattle.std.specs.List.{flat_map}
+use Rattle.tf_read.specs.Inner.Seeing.{AreOf}
+use Rattle.tf_read.specs.Seen.{nodes_of, blocks_of}
+use Rattle.tf_read.specs.declared.member.SeenMember.{SeenMember}
 use Rattle.tf_rule.specs.declared.finding.Finding.{Finding}
 use Rattle.tf_rule.specs.declared.rule_set.RuleSet.{RuleSet}
 use Rattle.tf_top.specs.TopFindings.{top_findings}
 
-pub both_found : {rules : RuleSet} {pairs : List Pair} {ms : List Member} {nodes blocks all : List Finding} → AreSeen rules pairs ms nodes blocks
-    → all ≡ nodes ++ blocks → AreAtNodesAndBlocks rules pairs ms all
-both_found {rules} {pairs} {ms} {nodes} seen is = record {
+pub both_found : {rules : RuleSet} {pairs : List Pair} {ms : List Member} {xs : List SeenMember} {all : List Finding} → AreOf rules pairs ms xs
+    → all ≡ flat_map nodes_of xs ++ flat_map blocks_of xs → AreAtNodesAndBlocks rules pairs ms all
+both_found {rules} {pairs} {ms} {xs} seen is = record {
   nodes = seen.at_nodes.nodes;
   stand = seen.at_nodes.stand;
-  are = is ∙ (ap (λ l. nodes ++ l) seen.at_blocks ∙ ap (λ l. l ++ top_findings rules pairs ms) seen.at_nodes.added);
+  are = is ∙ (ap (λ l. flat_map nodes_of xs ++ l) seen.at_blocks ∙ ap (λ l. l ++ top_findings rules pairs ms) seen.at_nodes.are);
 }
 
 -- what `?` hands on

@@ -2,67 +2,75 @@
 //!
 //! HCL native syntax specification, Structural Elements.
 
-ghost use Rattle.std.specs.Prelude.{◌≡◌, ◌≢◌, ◌++◌, ◌∷◌, [], OnOk, IfOk, IfErr};
+ghost use Rattle.std.specs.Prelude.{◌≡◌, ◌≢◌, ◌++◌, OnOk, IfOk, IfErr, Err};
+ghost use Rattle.std.specs.List.{flat_map};
 ghost use Rattle.hcl_grammar.specs.Pure.BodyParser as spec;
 ghost use Rattle.hcl_grammar.specs.declared.error.TokenFault.TheVariants as fault;
+ghost use Rattle.hcl_parses.specs.Parses.{MAX_NESTING};
 ghost use Rattle.hcl_scan.specs.Follows.{tokens_of};
-ghost use Rattle.tf_find.specs.Nodes as node;
-ghost use Rattle.tf_find.specs.TreeFindings.{AreAdded};
-ghost use Rattle.tf_read.specs.Inner.Seeing.{IsSeen};
-ghost use Rattle.tf_top.specs.TopFindings.{member_findings};
+ghost use Rattle.tf_read.specs.Inner.Seeing.{AreRead};
+ghost use Rattle.tf_read.specs.Seen.{AreSeen, nodes_of, blocks_of};
 
+use crate::member::{SeenMember, next_member};
 use hcl_cursor::lines::line;
 use hcl_grammar::error::TokenFault;
-use hcl_grammar::tree::Member;
 use hcl_scan::Scanned;
-use hcl_tree::member;
 use std::alloc::{AllocError, Global};
 use tf_rule::{Finding, RuleSet};
 
-/// What is found in some members: at the nodes that stand in them, and at those of them that are blocks.
-#[derive(Drop)]
-pub struct Seen {
-    pub nodes: Vec<Finding>,
-    pub blocks: Vec<Finding>,
-}
-
-// Adds what the rules find in a member.
-fn look(
-    scanned: &Scanned<'_>,
-    rules: RuleSet,
-    x: &Member,
-    nodes: &mut Vec<Finding>,
-    blocks: &mut Vec<Finding>,
-) -> Result<(), AllocError>
-    ensures nodes { OnOk result (AreAdded rules scanned.now.pairs (node.member x.now ∷ []) nodes.old.items nodes.new.items) }
-    ensures blocks { OnOk result (blocks.new.items ≡ blocks.old.items ++ member_findings rules scanned.now.pairs x.now) }
-{
-    tf_find::add_member_findings(scanned, rules, x, nodes)?;
-    tf_top::add_member_findings(scanned, rules, x, blocks)?;
-    Ok(())
-}
-
-/// What the rules find in the members of a body, with no more constructs in one another than `depth`.
+/// The members of a body, each with what the rules find in it. Of another text that was read with the same rules its members are
+/// taken as they are, as long as their tokens stand in this one.
 pub fn body(
     alloc: Global,
     scanned: &Scanned<'_>,
     rules: RuleSet,
-    depth: usize,
+    old: &Scanned<'_>,
+    seen: &[SeenMember],
     at: &mut usize,
-) -> Result<Seen, TokenFault>
-    ensures seen { IfOk result (λ seen. IsSeen rules scanned.now.pairs (spec.members (tokens_of scanned.now.pairs) depth at.old) at.new seen.nodes.items seen.blocks.items) }
-    ensures fault { IfErr result (λ e. e ≢ fault.Memory → spec.members (tokens_of scanned.now.pairs) depth at.old ≡ Err e) }
+) -> Result<Vec<SeenMember>, TokenFault>
+    requires { AreSeen rules old.now.pairs seen.now }
+    ensures seen { IfOk result (λ found. AreRead rules scanned.now.pairs (spec.members (tokens_of scanned.now.pairs) MAX_NESTING at.old) at.new found.items) }
+    ensures fault { IfErr result (λ e. e ≢ fault.Memory → spec.members (tokens_of scanned.now.pairs) MAX_NESTING at.old ≡ Err e) }
 {
-    let mut nodes = Vec::new(alloc);
-    let mut blocks = Vec::new(alloc);
+    let mut members = Vec::new(alloc);
     for _turn in 0..scanned.len() {
         if line(scanned, at) {
             continue;
         }
-        let Some(x) = member(alloc, scanned, depth, at)? else {
-            return Ok(Seen { nodes, blocks });
+        let Some(x) = next_member(alloc, scanned, rules, old, seen, members.len(), at)? else {
+            return Ok(members);
         };
-        look(scanned, rules, &x, &mut nodes, &mut blocks)?;
+        members.push(x)?;
     }
-    Ok(Seen { nodes, blocks })
+    Ok(members)
+}
+
+// Adds what is found at the nodes that stand in some members.
+fn add_nodes(members: &[SeenMember], found: &mut Vec<Finding>) -> Result<(), AllocError>
+    ensures { OnOk result (found.new.items ≡ found.old.items ++ flat_map nodes_of members.now) }
+{
+    for x in members {
+        found.extend_from_slice(&x.nodes)?;
+    }
+    Ok(())
+}
+
+// Adds what is found at those of them that are blocks.
+fn add_blocks(members: &[SeenMember], found: &mut Vec<Finding>) -> Result<(), AllocError>
+    ensures { OnOk result (found.new.items ≡ found.old.items ++ flat_map blocks_of members.now) }
+{
+    for x in members {
+        found.extend_from_slice(&x.blocks)?;
+    }
+    Ok(())
+}
+
+/// What is found in some members: at the nodes that stand in them, and then at those of them that are blocks.
+pub fn gathered(alloc: Global, members: &[SeenMember]) -> Result<Vec<Finding>, AllocError>
+    ensures { IfOk result (λ all. all.items ≡ flat_map nodes_of members.now ++ flat_map blocks_of members.now) }
+{
+    let mut found = Vec::new(alloc);
+    add_nodes(members, &mut found)?;
+    add_blocks(members, &mut found)?;
+    Ok(found)
 }

@@ -3,6 +3,8 @@
 #![tactic(auto)]
 
 mod body;
+mod member;
 mod text;
 
-pub use text::findings;
+pub use member::SeenMember;
+pub use text::{Seen, findings};

@@ -1,5 +1,6 @@
 -- A text that was searched, and its tree.
 use Rattle.std.specs.Prelude.{◌≡◌, length}
+use Rattle.tf_read.specs.Seen.{AreSeen}
 use Rattle.tf_rule.specs.Findings.{AreSound}
 use Rattle.tf_steps.specs.Reading.{Reads}
 use Rattle.tf_steps.specs.Steps.{Finds}
@@ -12,3 +13,5 @@ pub record IsOf (p : Parsed) (searched : Searched) : Type 0 where
   pub reads : Reads p.scanned.text p
   pub finds : Finds searched.rules p searched.found.items
   pub sound : AreSound (length p.scanned.pairs) searched.found.items
+  -- and so they found in each attribute and block of its body
+  pub seen : AreSeen searched.rules searched.scanned.pairs searched.members.items

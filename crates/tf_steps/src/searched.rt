@@ -1,6 +1,7 @@
 //! A text that was searched.
 
 use hcl_scan::Scanned;
+use tf_read::SeenMember;
 use tf_rule::{Finding, RuleSet};
 
 /// A text that parses: its tokens, and what the rules find in it.
@@ -11,4 +12,6 @@ pub struct Searched<'t> {
     pub rules: RuleSet,
     /// What they find, in the order of a report, without what comments silence.
     pub found: Vec<Finding>,
+    /// The attributes and blocks of its body, each with what they find in it.
+    pub members: Vec<SeenMember>,
 }

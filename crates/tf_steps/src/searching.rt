@@ -9,8 +9,9 @@ ghost use Rattle.tf_steps.specs.declared.reading.Parsed.{Parsed};
 use crate::fault::FixFault;
 use crate::searched::Searched;
 use hcl_scan::laws::{no_cut_with_fault, one_cut};
-use hcl_scan::scan;
+use hcl_scan::{Item, scan, scan_in};
 use std::alloc::Global;
+use tf_read::findings;
 use tf_rule::{Rule, RuleSet};
 
 /// The tokens of a text, if it parses, and what the rules of the set find in it.
@@ -26,11 +27,37 @@ pub fn search_text<'t>(
     ensures fault { IfErr result (λ fault. NotRead text.now fault) }
 {
     let scanned = scan(alloc, text)?;
-    match tf_read::findings(alloc, &scanned, rules) {
-        Ok(found) => Ok(Searched {
+    match findings(alloc, &scanned, rules, &scanned, &[]) {
+        Ok(seen) => Ok(Searched {
             scanned,
             rules,
-            found,
+            found: seen.found,
+            members: seen.members,
+        }),
+        Err(fault) => Err(FixFault::from(fault)),
+    }
+}
+
+// The same of a text that came from one that was searched: what stayed as it was is not read again. Its tokens come into a list that has room.
+fn search_again<'t>(
+    alloc: Global,
+    text: &'t [u8],
+    before: &Searched<'_>,
+    room: Vec<Item>,
+) -> Result<Searched<'t>, FixFault>
+    requires { (p : Parsed) × IsOf p before.now }
+    ensures searched { IfOk result (λ searched. (p : Parsed) × Reads text.now p × IsOf p searched) }
+    ensures rules { IfOk result (λ searched. searched.rules ≡ before.now.rules) }
+    ensures fault { IfErr result (λ fault. NotRead text.now fault) }
+{
+    let scanned = scan_in(alloc, room, text)?;
+    let rules = before.rules;
+    match findings(alloc, &scanned, rules, &before.scanned, &before.members) {
+        Ok(seen) => Ok(Searched {
+            scanned,
+            rules,
+            found: seen.found,
+            members: seen.members,
         }),
         Err(fault) => Err(FixFault::from(fault)),
     }
@@ -46,20 +73,22 @@ fn broken(fault: FixFault, rule: Rule) -> FixFault
     }
 }
 
-/// The same of a text that the step of this rule made.
+/// The same of a text that the step of this rule made of one that was searched.
 pub fn search_made<'t>(
     alloc: Global,
     text: &'t [u8],
-    rules: RuleSet,
+    before: &Searched<'_>,
+    room: Vec<Item>,
     rule: Rule,
 ) -> Result<Searched<'t>, FixFault>
+    requires { (p : Parsed) × IsOf p before.now }
     ensures searched { IfOk result (λ searched. (p : Parsed) × Reads text.now p × IsOf p searched) }
-    ensures rules { IfOk result (λ searched. searched.rules ≡ rules) }
+    ensures rules { IfOk result (λ searched. searched.rules ≡ before.now.rules) }
     ensures fault { IfErr result (λ fault. (fault ≡ FixFault.Memory) ⊎ ((fault ≡ FixFault.FixBroken rule) × IsUnread text.now)) }
 {
     no_cut_with_fault();
     one_cut();
-    match search_text(alloc, text, rules) {
+    match search_again(alloc, text, before, room) {
         Ok(searched) => Ok(searched),
         Err(fault) => Err(broken(fault, rule)),
     }

@@ -18,6 +18,7 @@ use crate::step::{Change, Step, one_step};
 use edit_record::Edits;
 use edit_record::laws::turned_texts_have_the_lengths;
 use edit_squash::{Unmet, squash};
+use hcl_scan::Item;
 use std::alloc::Global;
 use tf_lint::{Issue, issues_of};
 use tf_rule::{Rule, RuleSet};
@@ -121,21 +122,34 @@ fn first_change<'o>(
     }
 }
 
-// The first of the rules that changes a text which the step of one made.
-fn pass<'o>(
+/// A text that a step made, and what the rules up to the first that changes it did.
+#[derive(Drop)]
+struct Searching<'t, 'o> {
+    searched: Searched<'t>,
+    passed: Passed<'o>,
+}
+
+// The first of the rules that changes a text which the step of one made of one that was searched. Its tokens come into a list that has room.
+fn pass<'t, 'o>(
     alloc: Global,
-    text: &[u8],
-    rules: RuleSet,
+    text: &'t [u8],
+    before: &Searched<'_>,
+    spare: Vec<Item>,
     order: &'o [Rule],
     by: Rule,
     count: usize,
-) -> Result<Passed<'o>, FixFault>
+) -> Result<Searching<'t, 'o>, FixFault>
+    requires searched { (p : Parsed) × IsOf p before.now }
     requires few { count + room order.now ≤ 16777216 * 16 }
-    ensures passes { IfOk result (λ passed. (parsed : Parsed) × Reads text.now parsed × Passes rules order.now parsed count passed) }
-    ensures fault { IfErr result (λ fault. RefusesFrom rules order.now text.now by fault) }
+    ensures passes { IfOk result (λ pass. (parsed : Parsed) × Reads text.now parsed × IsOf parsed pass.searched × Passes before.now.rules order.now parsed count pass.passed) }
+    ensures rules { IfOk result (λ pass. pass.searched.rules ≡ before.now.rules) }
+    ensures fault { IfErr result (λ fault. RefusesFrom before.now.rules order.now text.now by fault) }
 {
-    match search_made(alloc, text, rules, by) {
-        Ok(searched) => first_change(alloc, &searched, order, count),
+    match search_made(alloc, text, before, spare, by) {
+        Ok(searched) => {
+            let passed = first_change(alloc, &searched, order, count)?;
+            Ok(Searching { searched, passed })
+        }
         Err(fault) => Err(fault),
     }
 }
@@ -148,38 +162,62 @@ struct Ended {
     left: Vec<Issue>,
 }
 
-// The steps of these rules over a text that the step of one made, behind the edits so far.
+// The steps of these rules over a text that the step of one made of one that was searched, behind the edits so far.
 fn run(
     alloc: Global,
+    before: Searched<'_>,
+    spare: Vec<Item>,
     done: Change,
-    rules: RuleSet,
     order: &[Rule],
     by: Rule,
     count: usize,
 ) -> Result<Ended, FixFault>
+    requires searched { (p : Parsed) × IsOf p before }
     requires leads { (old : List ℕ) × Turns done.edits old done.text.items }
     requires few { count + room order.now ≤ 16777216 * 16 }
-    ensures made { IfOk result (λ ended. FixesFrom rules order.now done.text.items done.edits count (made_by ended)) }
+    ensures made { IfOk result (λ ended. FixesFrom before.entry.rules order.now done.text.items done.edits count (made_by ended)) }
     ensures turns { (old : List ℕ) → Turns done.edits old done.text.items → IfOk result (λ ended. Turns ended.change.edits old ended.change.text.items) }
-    ensures left { IfOk result (λ ended. IsReport rules ended.change.text.items ended.left.items) }
-    ensures fault { IfErr result (λ fault. RefusesFrom rules order.now done.text.items by fault) }
+    ensures left { IfOk result (λ ended. IsReport before.entry.rules ended.change.text.items ended.left.items) }
+    ensures fault { IfErr result (λ fault. RefusesFrom before.entry.rules order.now done.text.items by fault) }
 {
-    let passed = pass(alloc, &done.text, rules, order, by, count)?;
+    let Change {
+        text,
+        edits: so_far,
+    } = done;
+    let Searching { searched, passed } = pass(alloc, &text, &before, spare, order, by, count)?;
+    // The text before the last step is not asked any more: the tokens of the next one come into the memory of its tokens.
+    let spare = before.scanned.into_room();
     match passed {
-        Passed::Same { fixed, left } => Ok(Ended {
-            change: done,
-            fixed,
-            left,
-        }),
+        Passed::Same { fixed, left } => {
+            drop(searched);
+            Ok(Ended {
+                change: Change {
+                    text,
+                    edits: so_far,
+                },
+                fixed,
+                left,
+            })
+        }
         Passed::Changed {
             fixed,
             change,
             by: next,
             rest,
         } => {
-            let edits = gather(alloc, &done.edits, &change.edits)?;
-            let text = change.text;
-            run(alloc, Change { text, edits }, rules, rest, next, fixed)
+            let edits = gather(alloc, &so_far, &change.edits)?;
+            run(
+                alloc,
+                searched,
+                spare,
+                Change {
+                    text: change.text,
+                    edits,
+                },
+                rest,
+                next,
+                fixed,
+            )
         }
     }
 }
@@ -209,7 +247,7 @@ pub fn fix_text(alloc: Global, text: &[u8], rules: RuleSet) -> Result<Fixed, Fix
             by,
             rest,
         } => {
-            let ended = run(alloc, change, rules, rest, by, fixed)?;
+            let ended = run(alloc, searched, Vec::new(alloc), change, rest, by, fixed)?;
             Ok(Fixed {
                 change: Some(ended.change),
                 fixed: ended.fixed,

@@ -1,19 +1,22 @@
 -- What is found in the members that a parser reads.
-use Rattle.std.specs.Prelude.{◌≡◌, ℕ, List, [], Ok, map}
+use Rattle.std.specs.Prelude.{◌≡◌, ℕ, List, Ok, map}
+use Rattle.std.specs.List.{flat_map}
 use Rattle.hcl_grammar.specs.Pure.Reading.{Outcome}
 use Rattle.hcl_grammar.specs.declared.tree.Member.{Member}
 use Rattle.hcl_token.specs.Tokens.{Pair}
 use Rattle.tf_find.specs.Nodes.{member}
-use Rattle.tf_find.specs.TreeFindings.{AreAdded}
-use Rattle.tf_rule.specs.declared.finding.Finding.{Finding}
+use Rattle.tf_find.specs.TreeFindings.{AreTreeFindings}
+use Rattle.tf_read.specs.Seen.{AreSeen, nodes_of, blocks_of}
+use Rattle.tf_read.specs.declared.member.SeenMember.{SeenMember}
 use Rattle.tf_rule.specs.declared.rule_set.RuleSet.{RuleSet}
 use Rattle.tf_top.specs.TopFindings.{top_findings}
 
--- of these members: at the nodes that stand in them, and at those of them that are blocks
-pub record AreSeen (rules : RuleSet) (pairs : List Pair) (ms : List Member) (nodes blocks : List Finding) : Type 0 where
-  pub at_nodes : AreAdded rules pairs (map member ms) [] nodes
-  pub at_blocks : blocks ≡ top_findings rules pairs ms
+-- these members, with what is found in each, and in all
+pub record AreOf (rules : RuleSet) (pairs : List Pair) (ms : List Member) (xs : List SeenMember) : Type 0 where
+  pub each : AreSeen rules pairs xs
+  pub at_nodes : AreTreeFindings rules pairs (map member ms) (flat_map nodes_of xs)
+  pub at_blocks : flat_map blocks_of xs ≡ top_findings rules pairs ms
 
 -- the parser reads members up to this place, and this is found in them
-abbrev pub IsSeen : RuleSet → List Pair → Outcome (List Member) → ℕ → List Finding → List Finding → Type 0
-IsSeen rules pairs outcome new nodes blocks = (ms : List Member) × (outcome ≡ Ok (ms, new)) × AreSeen rules pairs ms nodes blocks
+abbrev pub AreRead : RuleSet → List Pair → Outcome (List Member) → ℕ → List SeenMember → Type 0
+AreRead rules pairs outcome new xs = (ms : List Member) × (outcome ≡ Ok (ms, new)) × AreOf rules pairs ms xs

@@ -17,7 +17,7 @@ use Rattle.hcl_scan.proofs.cut.cut.Goals as goal
 pub tokens-init : goal.tokens-init
 tokens-init c =
     let text = c.as_bytes-bytes.result.now in
-    let items = c.in_ok-at.ensures.items ∙ ap (λ (x : List Item). x ++ front_items text) c.in_ok-items.ensures.items in
+    let items = c.in_ok-at.ensures.items ∙ ap (λ (x : List Item). x ++ front_items text) (c.in_ok-reserve.ensures.items ∙ c.clear.ensures.items) in
     let none = c.new-openings.ensures.items in
     let begun = subst₂ (λ (x : List Item) n. IsCutTo text x n [] []) (sym items) (sym c.in_ok-at.ensures.length) (started text c.as_bytes-bytes.ensures.utf8) in
     subst (λ (o : List Opening). IsCutTo text c.push_mark.new.items.items c.in_ok-at.at (modes_of o) (places_of o)) (sym none) begun

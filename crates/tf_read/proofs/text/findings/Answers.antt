@@ -1,19 +1,17 @@
-use Rattle.std.proofs.Common.{Ok, Err}
-use Rattle.hcl_grammar.specs.Bodies.{IsFile}
-use Rattle.hcl_grammar.specs.declared.tree.Tree.{Tree}
+use Rattle.std.proofs.Common.{Ok, Err, sym, subst, List}
 use Rattle.hcl_parses.specs.Parses.{MAX_NESTING}
 use Rattle.hcl_scan.specs.Follows.{tokens_of}
 use Rattle.hcl_tree.proofs.FaultLemmas.{own_tokens, memory_in_bytes, deep_in_bytes}
-use Rattle.tf_findings.specs.Findings.{AreFindings}
-use Rattle.tf_read.proofs.FileLemmas.{if_ok}
+use Rattle.tf_read.specs.Inner.Seeing.{AreOf}
+use Rattle.tf_read.specs.declared.member.SeenMember.{SeenMember}
 use Rattle.tf_read.proofs.text.findings.Goals as goal
 
-pub returns-in-Ok-clause-found : goal.returns-in-Ok-clause-found
-returns-in-Ok-clause-found c =
+pub returns-in_ok-found-in-Ok-clause-found : goal.returns-in_ok-found-in-Ok-clause-found
+returns-in_ok-found-in-Ok-clause-found c =
     let ts = tokens_of c.args.scanned.now.pairs in
     let read = c.in-Ok.ensures.found in
-    if_ok c.in_order.result _ (λ found. (t : Tree) × IsFile ts MAX_NESTING t × AreFindings c.args.rules c.args.scanned.now.pairs t.body.members found.items)
-    (λ found are. (read.0, (c.file_answers.ensures ts MAX_NESTING (Ok read.0) _ read.1).derived, are)) (c.in_order.ensures.are read.0.body.members read.2)
+    let are = subst (λ (xs : List SeenMember). AreOf c.args.rules c.args.scanned.now.pairs read.0.body.members xs) (sym c.deref.ensures.value) read.2 in
+    (read.0, (c.file_answers.ensures ts MAX_NESTING (Ok read.0) _ read.1).derived, c.in_ok-found-in-Ok.ensures.are read.0.body.members are)
 
 pub returns-in-Err-clause-only : goal.returns-in-Err-clause-only
 returns-in-Err-clause-only c = λ t p.

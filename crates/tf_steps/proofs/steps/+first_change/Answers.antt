@@ -3,7 +3,7 @@ use Rattle.tf_rule.specs.RuleSets.{has_rule}
 use Rattle.tf_rule.specs.declared.rule.Rule.{Rule}
 use Rattle.tf_rule.specs.declared.rule.Rule.TheVariants.{CommentSyntax}
 use Rattle.tf_steps.specs.Inner.Passing.{Passes}
-use Rattle.tf_steps.proofs.RunLemmas.{split_first, skipped_pass, stayed_pass, changed_pass, changed_turns, GoesOn, if_ok}
+use Rattle.tf_steps.proofs.RunLemmas.{split_first, no_rules, skipped_pass, stayed_pass, changed_pass, changed_turns, GoesOn, if_ok}
 use Rattle.tf_steps.proofs.steps.+first_change.Goals as goal
 
 pub returns-then-not-has-clause-passes : goal.returns-then-not-has-clause-passes
@@ -42,3 +42,6 @@ returns-in-Some-clause-passes n c = λ p h.
     let on = subst (λ (rs : List Rule). GoesOn c.args.searched.now.rules rs rest rule p step.count c.in-Some.change) (sym split)
     (changed_pass c.args.searched.now.rules rule rest p step c.in-Some.change chosen (c.in_ok-taken.ensures.step p h) c.in-Some.is) in
     (step.count, refl, omega (arith, shorter, few, room), omega (arith, shorter), changed_turns rule p step c.in-Some.change (c.in_ok-taken.ensures.step p h) c.in-Some.is, on.0, on.1, on.2)
+
+pub returns-in_ok-left-clause-passes : goal.returns-in_ok-left-clause-passes
+returns-in_ok-left-clause-passes n c = λ p h. (0, omega arith, c.in_ok-left.ensures.issues p h, rw (no_rules c.args.order.now c.in_default.len_below) refl)

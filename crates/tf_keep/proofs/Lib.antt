@@ -1,0 +1,13 @@
+mod Window
+mod Moved
+mod MemberAnswers
+mod MoveLines
+mod MoveExpressions
+mod MoveBodies
+mod MovedSpans
+mod MovedFindings
+mod FoundNodes
+mod FoundBlocks
+mod FoundMember
+mod Keep
+mod TokenLemmas
