@@ -1,193 +1,202 @@
-//! Lists and comprehensions: what stands in brackets, over the expressions of one construct deeper.
+//! Lists and comprehensions: what stands in a construct that was opened.
 
-ghost use Rattle.std.specs.Prelude.{[], ◌∷◌, ◌≡◌, suc, length};
-ghost use Rattle.hcl_grammar.specs.Pure.Parser as spec;
 ghost use Rattle.hcl_grammar.specs.Pure.Reading.{Reads};
-ghost use Rattle.hcl_scan.specs.Follows.{tokens_of};
-ghost use Rattle.hcl_expr.specs.Inner.Nests.{NestsExpr};
+ghost use Rattle.hcl_expr.specs.Rules as spec;
 
-use crate::grammar::Inner;
-use hcl_cursor::{cursor, lines, names};
+use crate::reader::Reader;
 use hcl_grammar::error::TokenFault;
 use hcl_grammar::goal::Goal;
 use hcl_grammar::tree::{Elem, Expr, Intro, Shape, Term};
 use hcl_nodes::nodes;
-use hcl_scan::Scanned;
 use hcl_token::Kind;
 use plain_tree::{Boxed, Items};
-use std::alloc::Global;
 
-impl<
-    's,
-    't,
-    F: Fn(Global, &Scanned<'_>, usize, bool, Goal, &mut usize) -> Result<Expr, TokenFault>,
-> Inner<'s, 't, F> {
-    /// Expressions and the closing bracket behind them.
-    fn items(&self, at: &mut usize) -> Result<Items<Expr>, TokenFault>
-        requires { NestsExpr (suc self.now.depth) (F.pre self.now.expr) (F.post self.now.expr) }
-        ensures { let ts = tokens_of self.now.scanned.now.pairs in Reads (spec.items_from ts (spec.expr ts self.now.depth) (length ts) [] at.old) result at.new }
-    {
-        let mut found = Items::new(self.alloc);
-        for _turn in 0..self.scanned.len() {
-            if cursor::eat(self.scanned, true, Kind::CloseBracket, at) {
-                return Ok(found);
-            }
-            found.push(self.expr(true, Goal::Whole, at)?)?;
-            if !cursor::eat(self.scanned, true, Kind::Comma, at) {
-                cursor::expect(self.scanned, true, Kind::CloseBracket, at)?;
-                return Ok(found);
-            }
-        }
-        Err(cursor::refuse(self.scanned, true, *at))
-    }
-
+impl<'s, 't> Reader<'s, 't> {
     /// The arguments of a call and the parenthesis behind them; whether `...` stands behind the last.
+    #[cycle(nest)]
     pub fn arguments(&self, at: &mut usize) -> Result<(Items<Expr>, bool), TokenFault>
-        requires { NestsExpr (suc self.now.depth) (F.pre self.now.expr) (F.post self.now.expr) }
-        ensures { let ts = tokens_of self.now.scanned.now.pairs in Reads (spec.arguments_from ts (spec.expr ts self.now.depth) (length ts) [] at.old) result at.new }
+        ensures { Reads (spec.arguments self.now at.old) result at.new }
     {
-        let mut found = Items::new(self.alloc);
-        for _turn in 0..self.scanned.len() {
-            if cursor::eat(self.scanned, true, Kind::CloseParen, at) {
+        let inside = self.in_brackets();
+        let mut found = Items::new(self.alloc());
+        for _turn in 0..inside.len() {
+            if inside.eat(Kind::CloseParen, at) {
                 return Ok((found, false));
             }
-            found.push(self.expr(true, Goal::Whole, at)?)?;
-            if !cursor::eat(self.scanned, true, Kind::Comma, at) {
-                let spread = cursor::eat(self.scanned, true, Kind::Ellipsis, at);
-                cursor::expect(self.scanned, true, Kind::CloseParen, at)?;
+            found.push(inside.expr(Goal::Whole, at)?)?;
+            if !inside.eat(Kind::Comma, at) {
+                let spread = inside.eat(Kind::Ellipsis, at);
+                inside.expect(Kind::CloseParen, at)?;
                 return Ok((found, spread));
             }
         }
-        Err(cursor::refuse(self.scanned, true, *at))
+        Err(inside.refuse(*at))
+    }
+
+    /// Expressions and the closing bracket behind them.
+    #[cycle(nest)]
+    fn items(&self, at: &mut usize) -> Result<Items<Expr>, TokenFault>
+        ensures { Reads (spec.items self.now at.old) result at.new }
+    {
+        let inside = self.in_brackets();
+        let mut found = Items::new(self.alloc());
+        for _turn in 0..inside.len() {
+            if inside.eat(Kind::CloseBracket, at) {
+                return Ok(found);
+            }
+            found.push(inside.expr(Goal::Whole, at)?)?;
+            if !inside.eat(Kind::Comma, at) {
+                inside.expect(Kind::CloseBracket, at)?;
+                return Ok(found);
+            }
+        }
+        Err(inside.refuse(*at))
     }
 
     /// A key of an object and its value.
+    #[cycle(nest)]
     #[tactic(auto, unfolding(hcl_grammar::specs::Pure::Parser::element))]
     fn element(&self, at: &mut usize) -> Result<Elem, TokenFault>
-        requires { NestsExpr (suc self.now.depth) (F.pre self.now.expr) (F.post self.now.expr) }
-        ensures { let ts = tokens_of self.now.scanned.now.pairs in Reads (spec.element ts (spec.expr ts self.now.depth) at.old) result at.new }
+        ensures { Reads (spec.element self.now at.old) result at.new }
     {
-        let key = self.expr(false, Goal::Whole, at)?;
-        if !cursor::eat(self.scanned, false, Kind::Equal, at) {
-            cursor::expect(self.scanned, false, Kind::Colon, at)?;
+        let lines = self.on_lines();
+        let key = lines.boxed(Goal::Whole, at)?;
+        if !lines.eat(Kind::Equal, at) {
+            lines.expect(Kind::Colon, at)?;
         }
-        let value = self.expr(false, Goal::Whole, at)?;
-        Ok(nodes::elem(key, value))
+        let value = lines.expr(Goal::Whole, at)?;
+        Ok(nodes::elem(key.into_inner(), value))
     }
 
     /// Keys with their values, and the closing brace behind them.
+    #[cycle(nest)]
     fn elements(&self, at: &mut usize) -> Result<Items<Elem>, TokenFault>
-        requires { NestsExpr (suc self.now.depth) (F.pre self.now.expr) (F.post self.now.expr) }
-        ensures { let ts = tokens_of self.now.scanned.now.pairs in Reads (spec.elements_from ts (spec.expr ts self.now.depth) (length ts) [] at.old) result at.new }
+        ensures { Reads (spec.elements self.now at.old) result at.new }
     {
-        let mut found = Items::new(self.alloc);
-        for _turn in 0..self.scanned.len() {
-            if cursor::eat(self.scanned, false, Kind::CloseBrace, at) {
+        let lines = self.on_lines();
+        let mut found = Items::new(self.alloc());
+        for _turn in 0..lines.len() {
+            if lines.eat(Kind::CloseBrace, at) {
                 return Ok(found);
             }
-            found.push(self.element(at)?)?;
-            if !lines::separator_or_end(self.scanned, at)? {
+            found.push(lines.element(at)?)?;
+            if !lines.separator_or_end(at)? {
                 return Ok(found);
             }
         }
-        Err(cursor::refuse(self.scanned, false, *at))
+        Err(lines.refuse(*at))
     }
 
     /// What a `for` begins with, up to the colon.
+    #[cycle(nest)]
     #[tactic(auto, unfolding(hcl_grammar::specs::Pure::Parser::intro))]
-    pub fn intro(&self, at: &mut usize) -> Result<Intro, TokenFault>
-        requires { NestsExpr (suc self.now.depth) (F.pre self.now.expr) (F.post self.now.expr) }
-        ensures { let ts = tokens_of self.now.scanned.now.pairs in Reads (spec.intro ts (spec.expr ts self.now.depth) at.old) result at.new }
+    fn intro(&self, at: &mut usize) -> Result<Intro, TokenFault>
+        ensures { Reads (spec.intro self.now at.old) result at.new }
     {
-        let first = cursor::start(self.scanned, true, *at);
-        cursor::word(self.scanned, true, b"for", at)?;
-        let name = cursor::start(self.scanned, true, *at);
-        cursor::expect(self.scanned, true, Kind::Identifier, at)?;
-        let second = names::second(self.scanned, at)?;
-        cursor::word(self.scanned, true, b"in", at)?;
-        let source = self.expr(true, Goal::Whole, at)?;
+        let inside = self.in_brackets();
+        let first = inside.start(*at);
+        inside.word(b"for", at)?;
+        let name = inside.start(*at);
+        inside.expect(Kind::Identifier, at)?;
+        let second = inside.second(at)?;
+        inside.word(b"in", at)?;
+        let source = inside.expr(Goal::Whole, at)?;
         Ok(nodes::intro(first, *at, name, second, source))
     }
 
+    /// The same, in memory of its own.
+    #[cycle(nest)]
+    pub fn boxed_intro(&self, at: &mut usize) -> Result<Boxed<Intro>, TokenFault>
+        ensures { Reads (spec.intro self.now at.old) result at.new }
+    {
+        let intro = self.intro(at)?;
+        Ok(Boxed::new(self.alloc(), intro)?)
+    }
+
     /// The condition of a `for`, if it has one, and the bracket that closes it.
+    #[cycle(nest)]
     #[tactic(auto, unfolding(hcl_grammar::specs::Pure::Parser::filter))]
     fn filter(&self, close: Kind, at: &mut usize) -> Result<Option<Boxed<Expr>>, TokenFault>
-        requires { NestsExpr (suc self.now.depth) (F.pre self.now.expr) (F.post self.now.expr) }
-        ensures { let ts = tokens_of self.now.scanned.now.pairs in Reads (spec.filter ts (spec.expr ts self.now.depth) close at.old) result at.new }
+        ensures { Reads (spec.filter self.now close at.old) result at.new }
     {
-        if !names::eat_word(self.scanned, true, b"if", at) {
-            cursor::expect(self.scanned, true, close, at)?;
+        let inside = self.in_brackets();
+        if !inside.eat_word(b"if", at) {
+            inside.expect(close, at)?;
             return Ok(None);
         }
-        let condition = self.expr(true, Goal::Whole, at)?;
-        cursor::expect(self.scanned, true, close, at)?;
-        Ok(Some(Boxed::new(self.alloc, condition)?))
+        let condition = inside.boxed(Goal::Whole, at)?;
+        inside.expect(close, at)?;
+        Ok(Some(condition))
     }
 
     /// A tuple, after its bracket.
+    #[cycle(nest)]
     #[tactic(auto, unfolding(hcl_grammar::specs::Pure::Parser::tuple))]
     pub fn tuple(&self, first: usize, at: &mut usize) -> Result<Term, TokenFault>
-        requires { NestsExpr (suc self.now.depth) (F.pre self.now.expr) (F.post self.now.expr) }
-        ensures { let ts = tokens_of self.now.scanned.now.pairs in Reads (spec.tuple ts (spec.expr ts self.now.depth) first at.old) result at.new }
+        ensures { Reads (spec.tuple self.now first at.old) result at.new }
     {
         let found = self.items(at)?;
         Ok(nodes::term(first, *at, Shape::Tuple(found)))
     }
 
     /// An object, after its brace.
+    #[cycle(nest)]
     #[tactic(auto, unfolding(hcl_grammar::specs::Pure::Parser::object))]
     pub fn object(&self, first: usize, at: &mut usize) -> Result<Term, TokenFault>
-        requires { NestsExpr (suc self.now.depth) (F.pre self.now.expr) (F.post self.now.expr) }
-        ensures { let ts = tokens_of self.now.scanned.now.pairs in Reads (spec.object ts (spec.expr ts self.now.depth) first at.old) result at.new }
+        ensures { Reads (spec.object self.now first at.old) result at.new }
     {
-        lines::lines(self.scanned, at)?;
+        self.lines(at)?;
         let found = self.elements(at)?;
         Ok(nodes::term(first, *at, Shape::Object(found)))
     }
 
     /// A `for` in brackets, after the bracket.
+    #[cycle(nest)]
     #[tactic(auto, unfolding(hcl_grammar::specs::Pure::Parser::for_tuple))]
     pub fn for_tuple(&self, first: usize, at: &mut usize) -> Result<Term, TokenFault>
-        requires { NestsExpr (suc self.now.depth) (F.pre self.now.expr) (F.post self.now.expr) }
-        ensures { let ts = tokens_of self.now.scanned.now.pairs in Reads (spec.for_tuple ts (spec.expr ts self.now.depth) first at.old) result at.new }
+        ensures { Reads (spec.for_tuple self.now first at.old) result at.new }
     {
-        let intro = self.intro(at)?;
-        cursor::expect(self.scanned, true, Kind::Colon, at)?;
-        let value = self.expr(true, Goal::Whole, at)?;
-        let filter = self.filter(Kind::CloseBracket, at)?;
-        let shape = nodes::for_tuple(self.alloc, intro, value, filter)?;
+        let inside = self.in_brackets();
+        let intro = inside.boxed_intro(at)?;
+        inside.expect(Kind::Colon, at)?;
+        let value = inside.boxed(Goal::Whole, at)?;
+        let filter = inside.filter(Kind::CloseBracket, at)?;
+        let shape = nodes::for_tuple(self.alloc(), intro.into_inner(), value.into_inner(), filter)?;
         Ok(nodes::term(first, *at, shape))
     }
 
     /// A `for` in braces, after its key.
+    #[cycle(nest)]
     #[tactic(auto, unfolding(hcl_grammar::specs::Pure::Parser::for_value))]
     fn for_value(
         &self,
         first: usize,
-        intro: Intro,
-        key: Expr,
+        intro: Boxed<Intro>,
+        key: Boxed<Expr>,
         at: &mut usize,
     ) -> Result<Term, TokenFault>
-        requires { NestsExpr (suc self.now.depth) (F.pre self.now.expr) (F.post self.now.expr) }
-        ensures { let ts = tokens_of self.now.scanned.now.pairs in Reads (spec.for_value ts (spec.expr ts self.now.depth) first intro key at.old) result at.new }
+        ensures { Reads (spec.for_value self.now first intro key at.old) result at.new }
     {
-        cursor::expect(self.scanned, true, Kind::FatArrow, at)?;
-        let value = self.expr(true, Goal::Whole, at)?;
-        let grouped = cursor::eat(self.scanned, true, Kind::Ellipsis, at);
-        let filter = self.filter(Kind::CloseBrace, at)?;
-        let shape = nodes::for_object(self.alloc, intro, key, value, grouped, filter)?;
+        let inside = self.in_brackets();
+        inside.expect(Kind::FatArrow, at)?;
+        let value = inside.boxed(Goal::Whole, at)?;
+        let grouped = inside.eat(Kind::Ellipsis, at);
+        let filter = inside.filter(Kind::CloseBrace, at)?;
+        let (intro, key, value) = (intro.into_inner(), key.into_inner(), value.into_inner());
+        let shape = nodes::for_object(self.alloc(), intro, key, value, grouped, filter)?;
         Ok(nodes::term(first, *at, shape))
     }
 
     /// A `for` in braces, after the brace.
+    #[cycle(nest)]
     #[tactic(auto, unfolding(hcl_grammar::specs::Pure::Parser::for_object))]
     pub fn for_object(&self, first: usize, at: &mut usize) -> Result<Term, TokenFault>
-        requires { NestsExpr (suc self.now.depth) (F.pre self.now.expr) (F.post self.now.expr) }
-        ensures { let ts = tokens_of self.now.scanned.now.pairs in Reads (spec.for_object ts (spec.expr ts self.now.depth) first at.old) result at.new }
+        ensures { Reads (spec.for_object self.now first at.old) result at.new }
     {
-        let intro = self.intro(at)?;
-        cursor::expect(self.scanned, true, Kind::Colon, at)?;
-        let key = self.expr(true, Goal::Whole, at)?;
+        let inside = self.in_brackets();
+        let intro = inside.boxed_intro(at)?;
+        inside.expect(Kind::Colon, at)?;
+        let key = inside.boxed(Goal::Whole, at)?;
         self.for_value(first, intro, key, at)
     }
 }

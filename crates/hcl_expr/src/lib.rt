@@ -1,13 +1,17 @@
-//! The parser of expressions and of templates.
+//! The parser of expressions and of templates, over a reader of a text's tokens.
 //!
-//! HCL native syntax specification, Expressions and Templates. Each rule of the grammar is one function; `expr` and `parts`
-//! close the cycle of what nests.
+//! HCL native syntax specification, Expressions and Templates. Each rule of the grammar is one method of `Reader`; `expr` and
+//! `parts` close the cycle of what nests.
 #![tactic(auto)]
 
-pub mod expr;
-pub mod grammar;
 mod inner;
 mod levels;
+mod lines;
+pub mod reader;
+mod stream;
 mod tails;
 mod templates;
 mod terms;
+mod words;
+
+pub use reader::Reader;

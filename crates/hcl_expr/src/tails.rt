@@ -2,69 +2,58 @@
 //!
 //! HCL native syntax specification, Expressions.
 
-ghost use Rattle.std.specs.Prelude.{length, []};
-ghost use Rattle.hcl_grammar.specs.Pure.Parser as spec;
-ghost use Rattle.hcl_grammar.specs.Pure.Reading.{Reads};
-ghost use Rattle.hcl_scan.specs.Follows.{tokens_of};
-ghost use Rattle.hcl_expr.specs.Inner.Nests.{NestsExpr, NestsParts};
+ghost use Rattle.hcl_grammar.specs.Pure.Reading.{Gives, Reads};
+ghost use Rattle.hcl_expr.specs.Rules as spec;
 
-use crate::grammar::Grammar;
-use hcl_cursor::cursor;
+use crate::reader::Reader;
 use hcl_grammar::error::TokenFault;
 use hcl_grammar::goal::Goal;
-use hcl_grammar::tree::{Expr, Part, Tail};
+use hcl_grammar::tree::{Expr, Tail};
 use hcl_nodes::nodes;
-use hcl_scan::Scanned;
 use hcl_token::Kind;
 use plain_tree::Items;
-use std::alloc::Global;
 
-impl<
-    's,
-    't,
-    F: Copy + Fn(Global, &Scanned<'_>, usize, bool, Goal, &mut usize) -> Result<Expr, TokenFault>,
-    G: Fn(Global, &Scanned<'_>, usize, bool, &mut usize) -> Result<Items<Part>, TokenFault>,
-> Grammar<'s, 't, F, G> {
+impl<'s, 't> Reader<'s, 't> {
     /// What stands behind `.`: a name, or `*`.
     #[tactic(auto, unfolding(hcl_grammar::specs::Pure::Parser::dotted))]
-    fn dotted(&self, inside: bool, at: &mut usize) -> Result<Tail, TokenFault>
-        ensures { let ts = tokens_of self.now.scanned.now.pairs in Reads (spec.dotted ts self.now.depth (spec.deeper ts self.now.depth) inside at.old) result at.new }
+    fn dotted(&self, at: &mut usize) -> Result<Tail, TokenFault>
+        ensures { Gives (spec.dotted self.now at.old) result at.new }
     {
-        if cursor::eat(self.scanned, inside, Kind::Star, at) {
+        if self.eat(Kind::Star, at) {
             return Ok(Tail::AttributeSplat);
         }
-        let name = cursor::start(self.scanned, inside, *at);
-        cursor::expect(self.scanned, inside, Kind::Identifier, at)?;
+        let name = self.start(*at);
+        self.expect(Kind::Identifier, at)?;
         Ok(Tail::Name(name))
     }
 
     /// What stands behind `[`, at token `first`: `*`, or an expression.
+    #[cycle(nest)]
     #[tactic(auto, unfolding(hcl_grammar::specs::Pure::Parser::indexed))]
     fn indexed(&self, first: usize, at: &mut usize) -> Result<Tail, TokenFault>
-        requires exprs { NestsExpr self.now.depth (F.pre self.now.expr) (F.post self.now.expr) }
-        ensures { let ts = tokens_of self.now.scanned.now.pairs in Reads (spec.indexed ts self.now.depth (spec.deeper ts self.now.depth) first at.old) result at.new }
+        ensures { Reads (spec.indexed self.now first at.old) result at.new }
     {
-        self.enter(first, at)?;
-        if cursor::eat(self.scanned, true, Kind::Star, at) {
-            cursor::expect(self.scanned, true, Kind::CloseBracket, at)?;
+        let inner = self.enter(first, at)?.in_brackets();
+        if inner.eat(Kind::Star, at) {
+            inner.expect(Kind::CloseBracket, at)?;
             return Ok(Tail::FullSplat);
         }
-        let key = self.inner(true, Goal::Whole, at)?;
-        cursor::expect(self.scanned, true, Kind::CloseBracket, at)?;
-        Ok(nodes::index(self.alloc, key)?)
+        let key = inner.boxed(Goal::Whole, at)?;
+        inner.expect(Kind::CloseBracket, at)?;
+        Ok(Tail::Index(key))
     }
 
     /// A tail, if one comes next.
+    #[cycle(nest)]
     #[tactic(auto, unfolding(hcl_grammar::specs::Pure::Parser::tail_of, hcl_grammar::specs::Tokens::after))]
-    fn tail(&self, inside: bool, at: &mut usize) -> Result<Option<Tail>, TokenFault>
-        requires exprs { NestsExpr self.now.depth (F.pre self.now.expr) (F.post self.now.expr) }
-        ensures { let ts = tokens_of self.now.scanned.now.pairs in Reads (spec.tail_of ts self.now.depth (spec.deeper ts self.now.depth) inside at.old) result at.new }
+    fn tail(&self, at: &mut usize) -> Result<Option<Tail>, TokenFault>
+        ensures { Reads (spec.tail self.now at.old) result at.new }
     {
-        let (first, next) = cursor::token(self.scanned, inside, *at);
+        let (first, next) = self.token(*at);
         match next {
             Some(Kind::Dot) => {
                 *at = first + 1;
-                Ok(Some(self.dotted(inside, at)?))
+                Ok(Some(self.dotted(at)?))
             }
             Some(Kind::DotIndex) => {
                 *at = first + 1;
@@ -79,13 +68,13 @@ impl<
     }
 
     /// The tails that come next.
-    fn tails(&self, inside: bool, at: &mut usize) -> Result<Items<Tail>, TokenFault>
-        requires exprs { NestsExpr self.now.depth (F.pre self.now.expr) (F.post self.now.expr) }
-        ensures { let ts = tokens_of self.now.scanned.now.pairs in Reads (spec.tails_from ts self.now.depth (spec.deeper ts self.now.depth) inside (length ts) [] at.old) result at.new }
+    #[cycle(nest)]
+    fn tails(&self, at: &mut usize) -> Result<Items<Tail>, TokenFault>
+        ensures { Reads (spec.tails self.now at.old) result at.new }
     {
-        let mut found = Items::new(self.alloc);
-        for _turn in 0..self.scanned.len() {
-            let Some(tail) = self.tail(inside, at)? else {
+        let mut found = Items::new(self.alloc());
+        for _turn in 0..self.len() {
+            let Some(tail) = self.tail(at)? else {
                 return Ok(found);
             };
             found.push(tail)?;
@@ -94,15 +83,14 @@ impl<
     }
 
     /// A term with its tails.
+    #[cycle(nest)]
     #[tactic(auto, unfolding(hcl_grammar::specs::Pure::Parser::post))]
-    pub fn post(&self, inside: bool, at: &mut usize) -> Result<Expr, TokenFault>
-        requires exprs { NestsExpr self.now.depth (F.pre self.now.expr) (F.post self.now.expr) }
-        requires parts { NestsParts self.now.depth (G.pre self.now.parts) (G.post self.now.parts) }
-        ensures { let ts = tokens_of self.now.scanned.now.pairs in Reads (spec.post ts self.now.depth (spec.deeper ts self.now.depth) inside at.old) result at.new }
+    pub fn post(&self, at: &mut usize) -> Result<Expr, TokenFault>
+        ensures { Reads (spec.post self.now at.old) result at.new }
     {
-        let first = cursor::start(self.scanned, inside, *at);
-        let head = self.term(inside, at)?;
-        let tails = self.tails(inside, at)?;
-        Ok(nodes::tailed(self.alloc, first, *at, head, tails)?)
+        let first = self.start(*at);
+        let head = self.term(at)?;
+        let tails = self.tails(at)?;
+        Ok(nodes::tailed(self.alloc(), first, *at, head, tails)?)
     }
 }

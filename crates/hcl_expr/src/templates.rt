@@ -1,165 +1,154 @@
 //! Templates: literal text with interpolations and directives.
 
 ghost use Rattle.std.specs.Prelude.{[], ◌≡◌, true, false, codes, length};
-ghost use Rattle.hcl_grammar.specs.Pure.Parser as spec;
 ghost use Rattle.hcl_grammar.specs.Pure.Reading as reading;
-ghost use Rattle.hcl_grammar.specs.Pure.Reading.{Reads};
-ghost use Rattle.hcl_grammar.specs.Tokens as tokens;
-ghost use Rattle.hcl_scan.specs.Follows.{tokens_of};
-ghost use Rattle.hcl_expr.specs.Inner.Nests.{NestsExpr, NestsParts};
+ghost use Rattle.hcl_grammar.specs.Pure.Reading.{Gives, Reads};
+ghost use Rattle.hcl_expr.specs.Rules as spec;
 
-use crate::grammar::Grammar;
-use hcl_cursor::cursor;
-use hcl_cursor::span::first_of;
+use crate::reader::Reader;
 use hcl_grammar::error::TokenFault;
 use hcl_grammar::goal::Goal;
-use hcl_grammar::tree::{Expr, Part, Template};
+use hcl_grammar::tree::{Part, Template};
 use hcl_nodes::nodes;
-use hcl_scan::Scanned;
 use hcl_token::Kind;
 use plain_tree::Items;
-use std::alloc::Global;
 
-/// Takes a whole directive that has one word and nothing else.
-#[tactic(auto, unfolding(hcl_grammar::specs::Pure::Parser::keyword))]
-fn keyword(
-    scanned: &Scanned<'_>,
-    inside: bool,
-    word: &[u8],
-    at: &mut usize,
-) -> Result<(), TokenFault>
-    ensures { Reads (spec.keyword (tokens_of scanned.now.pairs) inside word.now at.old) result at.new }
-{
-    cursor::expect(scanned, inside, Kind::DirectiveOpen, at)?;
-    cursor::word(scanned, true, word, at)?;
-    cursor::expect(scanned, true, Kind::SeqClose, at)
-}
-
-/// Takes the next token, if this word stands behind it.
-#[tactic(auto, unfolding(hcl_grammar::specs::Tokens::after))]
-fn eat_opening(scanned: &Scanned<'_>, inside: bool, word: &[u8], at: &mut usize) -> bool
-    ensures found { let ts = tokens_of scanned.now.pairs in result ≡ reading.reads ts true word.now (tokens.after ts inside at.old) }
-    ensures taken { result ≡ true → at.new ≡ tokens.after (tokens_of scanned.now.pairs) inside at.old }
-    ensures kept { result ≡ false → at.new ≡ at.old }
-{
-    let (number, next) = cursor::token(scanned, inside, *at);
-    match next {
-        Some(_kind) => {
-            let found = cursor::reads(scanned, true, word, number + 1);
-            if found {
-                *at = number + 1;
-            }
-            found
-        }
-        None => false,
+impl<'s, 't> Reader<'s, 't> {
+    /// Takes a whole directive that has one word and nothing else.
+    #[tactic(auto, unfolding(hcl_grammar::specs::Pure::Parser::keyword))]
+    fn keyword(&self, word: &[u8], at: &mut usize) -> Result<(), TokenFault>
+        ensures { Gives (spec.keyword self.now word.now at.old) result at.new }
+    {
+        let braces = self.in_brackets();
+        self.expect(Kind::DirectiveOpen, at)?;
+        braces.word(word, at)?;
+        braces.expect(Kind::SeqClose, at)
     }
-}
 
-impl<
-    's,
-    't,
-    F: Copy + Fn(Global, &Scanned<'_>, usize, bool, Goal, &mut usize) -> Result<Expr, TokenFault>,
-    G: Fn(Global, &Scanned<'_>, usize, bool, &mut usize) -> Result<Items<Part>, TokenFault>,
-> Grammar<'s, 't, F, G> {
+    /// Takes the next token, if this word stands behind it.
+    #[tactic(auto, unfolding(hcl_grammar::specs::Tokens::after))]
+    fn eat_opening(&self, word: &[u8], at: &mut usize) -> bool
+        ensures found { result ≡ reading.reads self.now.tokens true word.now (spec.after self.now at.old) }
+        ensures taken { result ≡ true → at.new ≡ spec.after self.now at.old }
+        ensures kept { result ≡ false → at.new ≡ at.old }
+    {
+        let (number, next) = self.token(*at);
+        match next {
+            Some(_kind) => {
+                let found = self.in_brackets().reads(word, number + 1);
+                if found {
+                    *at = number + 1;
+                }
+                found
+            }
+            None => false,
+        }
+    }
+
+    /// The parts of a template up to this token, which it takes too.
+    #[cycle(nest)]
+    #[tactic(auto, unfolding(hcl_grammar::specs::Pure::Parser::closed))]
+    pub fn closed(&self, close: Kind, at: &mut usize) -> Result<Template, TokenFault>
+        ensures { Reads (spec.closed self.now close at.old) result at.new }
+    {
+        let from = *at;
+        let parts = self.parts(at)?;
+        let to = *at;
+        self.expect(close, at)?;
+        let first = self.first_of(from, to);
+        Ok(nodes::template(first, to, parts))
+    }
+
     /// An interpolation, after its opening.
+    #[cycle(nest)]
     #[tactic(auto, unfolding(hcl_grammar::specs::Pure::Parser::interp))]
     fn interp(&self, first: usize, at: &mut usize) -> Result<Part, TokenFault>
-        requires exprs { NestsExpr self.now.depth (F.pre self.now.expr) (F.post self.now.expr) }
-        ensures { let ts = tokens_of self.now.scanned.now.pairs in Reads (spec.interp ts self.now.depth (spec.deeper ts self.now.depth) first at.old) result at.new }
+        ensures { Reads (spec.interp self.now first at.old) result at.new }
     {
-        self.enter(first, at)?;
-        let value = self.inner(true, Goal::Whole, at)?;
-        cursor::expect(self.scanned, true, Kind::SeqClose, at)?;
-        Ok(nodes::interp(self.alloc, value)?)
+        let inner = self.enter(first, at)?.in_brackets();
+        let value = inner.boxed(Goal::Whole, at)?;
+        inner.expect(Kind::SeqClose, at)?;
+        Ok(Part::Interp(value))
     }
 
     /// What stands where the condition of an `if` directive does not hold, if it says so, and the directive's end.
+    #[cycle(nest)]
     #[tactic(auto, unfolding(hcl_grammar::specs::Pure::Parser::otherwise))]
-    fn otherwise(&self, inside: bool, at: &mut usize) -> Result<Option<Template>, TokenFault>
-        requires parts { NestsParts self.now.depth (G.pre self.now.parts) (G.post self.now.parts) }
-        ensures { let ts = tokens_of self.now.scanned.now.pairs in Reads (spec.otherwise ts self.now.depth (spec.deeper ts self.now.depth) inside at.old) result at.new }
+    fn otherwise(&self, at: &mut usize) -> Result<Option<Template>, TokenFault>
+        ensures { Reads (spec.otherwise self.now at.old) result at.new }
     {
         let mut behind = *at;
-        if !eat_opening(self.scanned, inside, b"else", &mut behind) {
-            keyword(self.scanned, inside, b"endif", at)?;
+        if !self.eat_opening(b"else", &mut behind) {
+            self.keyword(b"endif", at)?;
             return Ok(None);
         }
-        keyword(self.scanned, inside, b"else", at)?;
+        self.keyword(b"else", at)?;
         let from = *at;
-        let parts = self.inner_parts(inside, at)?;
+        let parts = self.parts(at)?;
         let to = *at;
-        keyword(self.scanned, inside, b"endif", at)?;
-        let first = first_of(self.scanned, inside, from, to);
+        self.keyword(b"endif", at)?;
+        let first = self.first_of(from, to);
         Ok(Some(nodes::template(first, to, parts)))
     }
 
     /// An `if` directive, after its opening.
+    #[cycle(nest)]
     #[tactic(auto, unfolding(hcl_grammar::specs::Pure::Parser::if_directive, hcl_grammar::specs::Pure::Reading::word))]
-    fn if_directive(&self, inside: bool, first: usize, at: &mut usize) -> Result<Part, TokenFault>
-        requires exprs { NestsExpr self.now.depth (F.pre self.now.expr) (F.post self.now.expr) }
-        requires parts { NestsParts self.now.depth (G.pre self.now.parts) (G.post self.now.parts) }
-        requires word { reading.reads (tokens_of self.now.scanned.now.pairs) true (codes "if") at.old ≡ true }
-        ensures { let ts = tokens_of self.now.scanned.now.pairs in Reads (spec.if_directive ts self.now.depth (spec.deeper ts self.now.depth) (spec.twice ts self.now.depth) inside first at.old) result at.new }
+    fn if_directive(&self, first: usize, at: &mut usize) -> Result<Part, TokenFault>
+        requires { reading.reads self.now.tokens true (codes "if") at.old ≡ true }
+        ensures { Reads (spec.if_directive self.now first at.old) result at.new }
     {
-        self.enter_two(first, at)?;
-        cursor::word(self.scanned, true, b"if", at)?;
-        let condition = self.below_two().expr(true, Goal::Whole, at)?;
-        cursor::expect(self.scanned, true, Kind::SeqClose, at)?;
+        let (inner, braces) = self.enter_two(first, at)?;
+        braces.word(b"if", at)?;
+        let condition = braces.boxed(Goal::Whole, at)?;
+        braces.expect(Kind::SeqClose, at)?;
         let from = *at;
-        let parts = self.inner_parts(inside, at)?;
+        let parts = inner.parts(at)?;
         let to = *at;
-        let unmet = self.otherwise(inside, at)?;
-        let met = nodes::template(first_of(self.scanned, inside, from, to), to, parts);
-        Ok(nodes::if_part(self.alloc, first, *at, condition, met, unmet)?)
+        let unmet = inner.otherwise(at)?;
+        let met = nodes::template(self.first_of(from, to), to, parts);
+        Ok(nodes::if_part(self.alloc(), first, *at, condition.into_inner(), met, unmet)?)
     }
 
     /// A `for` directive, after its opening.
+    #[cycle(nest)]
     #[tactic(auto, unfolding(hcl_grammar::specs::Pure::Parser::for_directive))]
-    fn for_directive(&self, inside: bool, first: usize, at: &mut usize) -> Result<Part, TokenFault>
-        requires exprs { NestsExpr self.now.depth (F.pre self.now.expr) (F.post self.now.expr) }
-        requires parts { NestsParts self.now.depth (G.pre self.now.parts) (G.post self.now.parts) }
-        ensures { let ts = tokens_of self.now.scanned.now.pairs in Reads (spec.for_directive ts self.now.depth (spec.deeper ts self.now.depth) (spec.twice ts self.now.depth) inside first at.old) result at.new }
+    fn for_directive(&self, first: usize, at: &mut usize) -> Result<Part, TokenFault>
+        ensures { Reads (spec.for_directive self.now first at.old) result at.new }
     {
-        self.enter_two(first, at)?;
-        let intro = self.below_two().intro(at)?;
-        cursor::expect(self.scanned, true, Kind::SeqClose, at)?;
+        let (inner, braces) = self.enter_two(first, at)?;
+        let intro = braces.boxed_intro(at)?;
+        braces.expect(Kind::SeqClose, at)?;
         let from = *at;
-        let parts = self.inner_parts(inside, at)?;
+        let parts = inner.parts(at)?;
         let to = *at;
-        keyword(self.scanned, inside, b"endfor", at)?;
-        let body = nodes::template(first_of(self.scanned, inside, from, to), to, parts);
-        Ok(nodes::for_part(self.alloc, first, *at, intro, body)?)
+        self.keyword(b"endfor", at)?;
+        let body = nodes::template(self.first_of(from, to), to, parts);
+        Ok(nodes::for_part(self.alloc(), first, *at, intro.into_inner(), body)?)
     }
 
     /// The directive that comes next, if it begins one.
+    #[cycle(nest)]
     #[tactic(auto, unfolding(hcl_grammar::specs::Pure::Parser::directive))]
-    fn directive(
-        &self,
-        inside: bool,
-        first: usize,
-        at: &mut usize,
-    ) -> Result<Option<Part>, TokenFault>
-        requires exprs { NestsExpr self.now.depth (F.pre self.now.expr) (F.post self.now.expr) }
-        requires parts { NestsParts self.now.depth (G.pre self.now.parts) (G.post self.now.parts) }
-        ensures { let ts = tokens_of self.now.scanned.now.pairs in Reads (spec.directive ts self.now.depth (spec.deeper ts self.now.depth) (spec.twice ts self.now.depth) inside first at.old) result at.new }
+    fn directive(&self, first: usize, at: &mut usize) -> Result<Option<Part>, TokenFault>
+        ensures { Reads (spec.directive self.now first at.old) result at.new }
     {
-        if eat_opening(self.scanned, inside, b"if", at) {
-            return Ok(Some(self.if_directive(inside, first, at)?));
+        if self.eat_opening(b"if", at) {
+            return Ok(Some(self.if_directive(first, at)?));
         }
-        if eat_opening(self.scanned, inside, b"for", at) {
-            return Ok(Some(self.for_directive(inside, first, at)?));
+        if self.eat_opening(b"for", at) {
+            return Ok(Some(self.for_directive(first, at)?));
         }
         Ok(None)
     }
 
     /// A part of a template, if one comes next.
+    #[cycle(nest)]
     #[tactic(auto, unfolding(hcl_grammar::specs::Pure::Parser::part_of, hcl_grammar::specs::Tokens::after))]
-    fn part_of(&self, inside: bool, at: &mut usize) -> Result<Option<Part>, TokenFault>
-        requires exprs { NestsExpr self.now.depth (F.pre self.now.expr) (F.post self.now.expr) }
-        requires parts { NestsParts self.now.depth (G.pre self.now.parts) (G.post self.now.parts) }
-        ensures { let ts = tokens_of self.now.scanned.now.pairs in Reads (spec.part_of ts self.now.depth (spec.deeper ts self.now.depth) (spec.twice ts self.now.depth) inside at.old) result at.new }
+    fn part(&self, at: &mut usize) -> Result<Option<Part>, TokenFault>
+        ensures { Reads (spec.part self.now at.old) result at.new }
     {
-        let (first, next) = cursor::token(self.scanned, inside, *at);
+        let (first, next) = self.token(*at);
         match next {
             Some(Kind::QuoteLit) | Some(Kind::HereLit) => {
                 *at = first + 1;
@@ -169,24 +158,31 @@ impl<
                 *at = first + 1;
                 Ok(Some(self.interp(first, at)?))
             }
-            Some(Kind::DirectiveOpen) => self.directive(inside, first, at),
+            Some(Kind::DirectiveOpen) => self.directive(first, at),
             _ => Ok(None),
         }
     }
 
-    /// The parts of a template, up to what ends them.
-    pub fn parts(&self, inside: bool, at: &mut usize) -> Result<Items<Part>, TokenFault>
-        requires exprs { NestsExpr self.now.depth (F.pre self.now.expr) (F.post self.now.expr) }
-        requires parts { NestsParts self.now.depth (G.pre self.now.parts) (G.post self.now.parts) }
-        ensures { let ts = tokens_of self.now.scanned.now.pairs in Reads (spec.parts_from ts self.now.depth (spec.deeper ts self.now.depth) (spec.twice ts self.now.depth) inside (length ts) [] at.old) result at.new }
+    /// The parts of a template, up to what ends them, one by one.
+    #[cycle(nest)]
+    fn each_part(&self, at: &mut usize) -> Result<Items<Part>, TokenFault>
+        ensures { Reads (spec.parts_from self.now (length self.now.tokens) [] at.old) result at.new }
     {
-        let mut found = Items::new(self.alloc);
-        for _turn in 0..self.scanned.len() {
-            let Some(part) = self.part_of(inside, at)? else {
+        let mut found = Items::new(self.alloc());
+        for _turn in 0..self.len() {
+            let Some(part) = self.part(at)? else {
                 return Ok(found);
             };
             found.push(part)?;
         }
         Ok(found)
+    }
+
+    /// The parts of a template, up to what ends them.
+    #[cycle(nest)]
+    pub fn parts(&self, at: &mut usize) -> Result<Items<Part>, TokenFault>
+        ensures { Reads (spec.parts self.now at.old) result at.new }
+    {
+        self.each_part(at)
     }
 }

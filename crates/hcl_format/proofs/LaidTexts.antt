@@ -11,7 +11,8 @@ use Rattle.hcl_layout.specs.declared.fault.LayoutFault.{LayoutFault}
 use Rattle.hcl_layout.specs.declared.fault.LayoutFault.TheVariants.{TooLong, Memory}
 use Rattle.hcl_grammar.specs.declared.tree.Tree.{Tree}
 use Rattle.hcl_grammar.specs.Bodies.{IsFile}
-use Rattle.hcl_parses.specs.Parses.{MAX_NESTING, Parses, ParsedApart}
+use Rattle.hcl_grammar.specs.declared.bounds.TheConstants.{MAX_NESTING}
+use Rattle.hcl_parses.specs.Parses.{Parses, ParsedApart}
 use Rattle.hcl_format.specs.Layouts.{IsLayout, LaysOut, IsTooLong}
 use Rattle.hcl_format.specs.LayoutLaws.{LayoutIsCut, LaidOutIsText, OneLayout, LayoutParses, LayoutKeepsTokens, LayoutIsLaidOut, LayoutOfLayout}
 use Rattle.hcl_format.proofs.Lower.{OneCut, KeepsTokens, OwnLayout}

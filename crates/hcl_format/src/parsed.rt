@@ -3,7 +3,7 @@
 ghost use Rattle.std.specs.Prelude.{◌≡◌, ◌⊎◌, ◌↔◌, IsTrue, IfOk, IfErr, OnOk};
 ghost use Rattle.hcl_scan.specs.Follows.{tokens_of};
 ghost use Rattle.hcl_grammar.specs.Bodies.{IsFile};
-ghost use Rattle.hcl_parses.specs.Parses.{MAX_NESTING};
+ghost use Rattle.hcl_grammar.specs.declared.bounds.TheConstants.{MAX_NESTING};
 ghost use Rattle.hcl_layout.specs.Layout.{layout_edits};
 ghost use Rattle.hcl_layout.specs.declared.fault.LayoutFault.TheVariants.{TooLong, Memory};
 ghost use Rattle.hcl_format.specs.Layouts.{IsLayout, IsTooLong, LaysOut};

@@ -4,6 +4,14 @@
 -- In `IsExpr ts d m e i j` the tokens are ts, and the expression e stands over those from place i up to place j. d: no more than d constructs stand in one another;
 -- what nests is a construct at `suc d` whose inside is at d. m: whether line ends and line comments are dropped here. `At ts m t i`: past what is dropped, a token of kind t
 -- comes next; `start ts m i` is its number, and `after ts m i` the place behind it.
+--
+-- What nests, each one construct, so that its inside is at d where it is at suc d: parentheses; the
+-- parentheses of a call; the brackets of a tuple, an object, a `for`, an index and `[*]`; an operand
+-- behind `-` or `!`; either branch of a conditional (its condition not); quoted text; a heredoc; an
+-- interpolation; the braces of a block. A directive counts twice: itself, and its braces, so that
+-- its expression is at d where it is at suc (suc d), and its parts, those of `else` too, at suc d.
+-- What does not nest: operators of a chain, attributes and splats by `.`, labels, `else`, `endif`,
+-- `endfor`.
 use Rattle.std.specs.Prelude.{◌≡◌, ◌≢◌, ℕ, zero, suc, Bool, true, false, List, [], ◌∷◌, Option, Some, None}
 use Rattle.hcl_token.specs.declared.kind.Kind.{Kind}
 use Rattle.hcl_token.specs.declared.kind.Kind.TheVariants as k

@@ -1,3 +1,4 @@
+pub mod Faults
 pub mod Tokens
 pub mod Operators
 pub mod Nodes

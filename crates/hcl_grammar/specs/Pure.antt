@@ -1,5 +1,4 @@
 -- For proofs: the parser as a function of lists of tokens, to which the code is proved equal.
-pub mod Faults
 pub mod Reading
 pub mod Parser
 pub mod BodyParser

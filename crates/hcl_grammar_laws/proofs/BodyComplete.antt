@@ -1,5 +1,5 @@
 -- The parser answers each derivation of a body, and of a whole text.
-use Rattle.std.proofs.Common.{◌≡◌, ℕ, zero, suc, ◌+◌, ◌≤◌, false, List, [], ◌∷◌, ◌++◌, length, Option, Some, None, Ok, refl, sym, ap, ◌∙◌, append_assoc, append-nil, arith}
+use Rattle.std.proofs.Common.{◌≡◌, ◌≢◌, ℕ, zero, suc, ◌+◌, ◌≤◌, false, List, [], ◌∷◌, ◌++◌, length, Option, Some, None, Ok, refl, sym, ap, ◌∙◌, append_assoc, append-nil, arith}
 use Rattle.hcl_token.specs.declared.kind.Kind.{Kind}
 use Rattle.hcl_token.specs.declared.kind.Kind.TheVariants as k
 use Rattle.hcl_grammar.specs.declared.goal.Goal.TheVariants.{Whole}
@@ -211,6 +211,37 @@ module _ (ts : List Token) where
       (members_more turns acc i h (member_block (start ts false i) (after ts false i) ls br cl el b (λ a. c_on_line x cl a))
       (c_members ms s b turns (acc ++ node.block (start ts false i) q ns (content.Line y) ∷ [])
       (omega (arith, (step ts false k.Identifier i h).forth, (span_labels ls).forth, (step ts false k.OpenBrace j br).forth, (span_on_line x).forth, (step ts false k.CloseBrace o cl).forth, (span_eol el).forth))))
+
+  -- ---- one member
+
+  no_blank : {i j : ℕ} → At ts false k.Identifier i → IsLine ts i j → ⊥
+  no_blank {i} h (line_end q) = let clash : Some k.Identifier ≡ Some k.LineEnd = sym h ∙ q in absurd (cc)
+  no_blank {i} h (comment q n) = let clash : Some k.Identifier ≡ Some k.LineComment = sym h ∙ q in absurd (cc)
+
+  -- the member that a body begins with, where no line end stands before it
+  c_named : {d : ℕ} {m : Member} {ms : List Member} {i l : ℕ} → At ts false k.Identifier i → IsMembers ts d (m ∷ ms) i l → (b : ℕ)
+      → (n : ℕ) × Answers d b m n (bodies.named_member ts b (deeper_members ts b) (start ts false i) (after ts false i))
+  c_named h (blank q ms) b = absurd (no_blank h q)
+  c_named h (attribute {i} {n = n} q e x el ms) b = (n, member_attribute (start ts false i) (after ts false i) e (nested ts false (after ts false (after ts false i)) b (c_expr ts x (eol_stop el) b)) el)
+  c_named h (block {i} {j} {n} {o} {q} g ls br nl bs cl el ms) b = (
+    q,
+    member_block (start ts false i) (after ts false i) ls br cl el b
+        (λ a. content_lines (after ts false j) nl (rw (members-is a n) (c_members bs (ends_brace o cl) a (length ts) [] (omega (arith, (span_members bs).within))))),
+  )
+  c_named h (line_block {i} {q = q} g ls br x cl el ms) b = (q, member_block (start ts false i) (after ts false i) ls br cl el b (λ a. c_on_line x cl a))
+
+  c_some : {d : ℕ} {m : Member} {n : ℕ} (b i : ℕ) → At ts false k.Identifier i → Answers d b m n (bodies.named_member ts b (deeper_members ts b) (start ts false i) (after ts false i))
+      → Answers d b (Some m) n (bodies.member_of ts b (deeper_members ts b) i)
+  unfolding bodies.member_of
+  c_some b i h x = rw (sees-yes ts false k.Identifier i h, past-yes ts false k.Identifier i h) (bind _ x found)
+
+  pub c_member : {d : ℕ} {m : Member} {ms : List Member} {l : ℕ} (i : ℕ) → At ts false k.Identifier i → IsMembers ts d (m ∷ ms) i l → (b : ℕ)
+      → (n : ℕ) × Answers d b (Some m) n (bodies.member_of ts b (deeper_members ts b) i)
+  c_member i h x b = let r = c_named h x b in (r.0, c_some b i h r.1)
+
+  pub c_none : (b i : ℕ) → next ts false i ≢ Some k.Identifier → Answers b b None i (bodies.member_of ts b (deeper_members ts b) i)
+  unfolding bodies.member_of
+  c_none b i h = let n = sees-not ts false k.Identifier i h in rw (n, past-no ts false k.Identifier i n) found
 
   -- ---- whole texts
 

@@ -1,5 +1,5 @@
 -- What the parser of bodies, and of whole texts, answers is derived.
-use Rattle.std.proofs.Common.{◌≡◌, ℕ, zero, suc, false, List, [], ◌∷◌, ◌++◌, length, Option, Some, None, Ok, Err, refl, sym, ap, ◌∙◌, subst, append_assoc, append-nil}
+use Rattle.std.proofs.Common.{◌≡◌, ◌≢◌, ℕ, zero, suc, Bool, true, false, List, [], ◌∷◌, ◌++◌, length, Option, Some, None, Ok, Err, refl, sym, ap, ◌∙◌, subst, append_assoc, append-nil}
 use Rattle.hcl_token.specs.declared.kind.Kind.{Kind}
 use Rattle.hcl_token.specs.declared.kind.Kind.TheVariants as k
 use Rattle.hcl_grammar.specs.declared.error.TokenFault.{TokenFault}
@@ -18,11 +18,15 @@ use Rattle.hcl_grammar.specs.Nodes as node
 use Rattle.hcl_grammar.specs.Pure.Reading.{Outcome, and_then, pure, expect, past}
 use Rattle.hcl_grammar.specs.Tokens.{Token, start, next, after, first_of}
 use Rattle.hcl_grammar_laws.proofs.Inverts.{bind_inv, done, along, eaten, uneaten, eat_inv, expect_then, some_along, none_some, some_none, then_some, then, otherwise, chosen}
+use Rattle.hcl_grammar_laws.proofs.Steps.{sees-yes}
 use Rattle.hcl_grammar_laws.proofs.Sound.{sound, line-true, line-false, inner-true, inner-false}
 
 pub shut : {A B : Type 0} {y : B} {j : ℕ} (o : Outcome A) (x : TokenFault) → and_then o (λ _ i. Err x) ≡ done y j → ⊥
 shut (Ok q) x e = absurd (cc)
 shut (Err f) x e = absurd (cc)
+
+unseen : {b : Bool} → b ≡ false → b ≡ true → ⊥
+unseen h g = absurd (cc)
 
 module _ (ts : List Token) where
   pub ended_inv : (i : ℕ) {u : Unit {0}} {j : ℕ} → bodies.ended ts (next ts false i) i ≡ done u j → (next ts false i ≡ None) × (j ≡ i)
@@ -100,12 +104,12 @@ module _ (ts : List Token) where
   pub record SoundBody (a : ℕ) : Type 0 where
     pub members : (i : ℕ) (ms : List Member) (j : ℕ) → bodies.members ts a i ≡ done ms j → IsMembers ts a ms i j
 
-  abbrev Below : ℕ → Type 0
+  abbrev pub Below : ℕ → Type 0
   Below zero = Unit {0}
   Below (suc a) = SoundBody a
 
   -- the member from i to j stands before those that follow it
-  abbrev Precedes : ℕ → ℕ → Member → ℕ → Type 0
+  abbrev pub Precedes : ℕ → ℕ → Member → ℕ → Type 0
   Precedes b i m j = (ms : List Member) (l : ℕ) → IsMembers ts b ms j l → IsMembers ts b (m ∷ ms) i l
 
   s_attribute : (b i : ℕ) → At ts false k.Identifier i → At ts false k.Equal (after ts false i) → (m : Member) (j : ℕ)
@@ -174,19 +178,30 @@ module _ (ts : List Token) where
     | uneaten s l ↦ s_block b z i h m j (rw (s, l) at e)
   ]
 
-  s_member_some : (b : ℕ) → Below b → (i : ℕ) (m : Member) (j : ℕ) → bodies.member_of ts b (deeper_members ts b) i ≡ done (Some m) j → Precedes b i m j
+  pub s_member_some : (b : ℕ) → Below b → (i : ℕ) (m : Member) (j : ℕ) → bodies.member_of ts b (deeper_members ts b) i ≡ done (Some m) j → Precedes b i m j
   unfolding bodies.member_of
   s_member_some b z i m j e = elim (eat_inv ts false k.Identifier i) [
     | eaten q s l ↦ (let w = bind_inv _ _ (rw (s, l) at e) in some_along (λ m j. Precedes b i m j) w.rest (s_named b z i q w.value w.at w.is))
     | uneaten s l ↦ absurd (none_some (rw (s, l) at e))
   ]
 
-  s_member_none : (b i j : ℕ) → bodies.member_of ts b (deeper_members ts b) i ≡ done None j → j ≡ i
+  pub s_member_none : (b i j : ℕ) → bodies.member_of ts b (deeper_members ts b) i ≡ done None j → j ≡ i
   unfolding bodies.member_of
   s_member_none b i j e = elim (eat_inv ts false k.Identifier i) [
     | eaten q s l ↦ absurd (then_some (bodies.named_member ts b (deeper_members ts b) (start ts false i) (after ts false i)) (λ m. m) (rw (s, l) at e))
     | uneaten s l ↦ along (λ _ j. j ≡ i) (rw (s, l) at e) refl
   ]
+
+  pub no_name : (b i j : ℕ) → bodies.member_of ts b (deeper_members ts b) i ≡ done None j → next ts false i ≢ Some k.Identifier
+  unfolding bodies.member_of
+  no_name b i j e h = elim (eat_inv ts false k.Identifier i) [
+    | eaten q s l ↦ then_some (bodies.named_member ts b (deeper_members ts b) (start ts false i) (after ts false i)) (λ m. m) (rw (s, l) at e)
+    | uneaten s l ↦ unseen s (sees-yes ts false k.Identifier i h)
+  ]
+
+  pub below : (b : ℕ) → ((a : ℕ) → SoundBody a) → Below b
+  below zero z = tt
+  below (suc a) z = z a
 
   pub record Members (b : ℕ) (acc ys : List Member) (i j : ℕ) : Type 0 where
     pub more : List Member

@@ -1,15 +1,18 @@
 -- What a parser of whole texts ensures that answers the pure one.
-use Rattle.std.proofs.Common.{◌≡◌, ◌≢◌, ℕ, ◌+◌, ◌≤◌, List, Result, Ok, Err, MatchResult, IfOk, refl, sym, ◌∙◌, arith}
+use Rattle.std.proofs.Common.{◌≡◌, ◌≢◌, ℕ, ◌+◌, ◌≤◌, false, List, ◌∷◌, Option, Some, None, Result, Ok, Err, MatchResult, IfOk, IfSome, IfNone, refl, sym, ◌∙◌, arith}
 use Rattle.hcl_grammar.specs.declared.error.TokenFault.{TokenFault}
 use Rattle.hcl_grammar.specs.declared.error.TokenFault.TheVariants.{Syntax, TooDeep, Memory}
+use Rattle.hcl_token.specs.declared.kind.Kind.TheVariants.{Identifier}
+use Rattle.hcl_grammar.specs.declared.tree.Member.{Member}
 use Rattle.hcl_grammar.specs.declared.tree.Tree.{Tree}
-use Rattle.hcl_grammar.specs.Bodies.{IsFile}
-use Rattle.hcl_grammar.specs.Pure.BodyParser.{file}
-use Rattle.hcl_grammar.specs.Pure.Faults.{IsMemory, IsMemoryOrDeep}
+use Rattle.hcl_grammar.specs.Bodies.{IsFile, IsMembers}
+use Rattle.hcl_grammar.specs.Pure.BodyParser.{deeper_members, file, member_of}
+use Rattle.hcl_grammar.specs.Faults.{IsMemory, IsMemoryOrDeep}
 use Rattle.hcl_grammar.specs.Pure.Reading.{Outcome, Reads}
-use Rattle.hcl_grammar.specs.Tokens.{Token}
-use Rattle.hcl_grammar_laws.proofs.BodyComplete.{file_answers}
-use Rattle.hcl_grammar_laws.proofs.BodySound.{file_derived}
+use Rattle.hcl_grammar.specs.Tokens.{Token, next}
+use Rattle.hcl_grammar_laws.proofs.BodyComplete.{c_member, c_none, file_answers}
+use Rattle.hcl_grammar_laws.proofs.BodySound.{below, file_derived, no_name, s_member_none, s_member_some, sound_body}
+use Rattle.hcl_grammar_laws.specs.Members.{IsMember}
 use Rattle.hcl_grammar_laws.proofs.Inverts.{done, along}
 use Rattle.hcl_grammar_laws.proofs.Steps.{Answers, found, deep}
 
@@ -44,6 +47,29 @@ module _ (ts : List Token) (b : ℕ) (r : Result Tree TokenFault) (new : ℕ) (h
   -- at whatever nesting: it is found, or that is the fault
   pub deeper_only : (d : ℕ) (t : Tree) → IsFile ts d t → MatchResult r (λ x. x ≡ t) IsMemoryOrDeep
   deeper_only d t w = deep_or r new (file_answers ts b d t w).1 h
+
+-- one member, likewise
+module _ (ts : List Token) (b i : ℕ) where
+  member_derived : (r : Result (Option Member) TokenFault) (new : ℕ) → Reads (member_of ts b (deeper_members ts b) i) r new
+      → IfOk r (λ o. IfSome o (λ m. (ms : List Member) (l : ℕ) → IsMembers ts b ms new l → IsMembers ts b (m ∷ ms) i l))
+  member_derived (Ok (Some m)) new h = s_member_some ts b (below ts b (sound_body ts)) i m new h
+  member_derived (Ok None) new h = tt
+  member_derived (Err f) new h = tt
+
+  member_none : (r : Result (Option Member) TokenFault) (new : ℕ) → Reads (member_of ts b (deeper_members ts b) i) r new
+      → IfOk r (λ o. IfNone o ((next ts false i ≢ Some Identifier) × (new ≡ i)))
+  member_none (Ok (Some m)) new h = tt
+  member_none (Ok None) new h = (no_name ts b i new h, s_member_none ts b i new h)
+  member_none (Err f) new h = tt
+
+  pub member_is : (r : Result (Option Member) TokenFault) (new : ℕ) → Reads (member_of ts b (deeper_members ts b) i) r new → IsMember ts b i r new
+  member_is r new h = record {
+    derived = member_derived r new h;
+    none = member_none r new h;
+    nothing = λ q. found_or r new (omega arith) (c_none ts b i q) h;
+    only = λ m ms l q w. found_or r new (omega arith) (c_member ts i q w b).1 h;
+    deeper = λ d m ms l q w. deep_or r new (c_member ts i q w b).1 h;
+  }
 
 -- over some tokens stands one tree at most
 pub found_at : {A : Type 0} {d b : ℕ} {x : A} {j : ℕ} {o : Outcome A} → d ≤ b → Answers d b x j o → o ≡ done x j

@@ -3,4 +3,5 @@ pub mod Nesting
 pub mod EachNode
 pub mod Comments
 pub mod Glue
+pub mod Members
 pub mod Pure

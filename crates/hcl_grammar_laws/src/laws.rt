@@ -5,7 +5,7 @@ ghost use Rattle.hcl_grammar_laws.specs.EachNode.{EachNode};
 ghost use Rattle.hcl_grammar_laws.specs.Glue.{NoGlue};
 ghost use Rattle.hcl_grammar_laws.specs.Nesting.{NestingIsABound};
 ghost use Rattle.hcl_grammar_laws.specs.OneTree.{OneTree};
-ghost use Rattle.hcl_grammar_laws.specs.Pure.Answering.{FileAnswers};
+ghost use Rattle.hcl_grammar_laws.specs.Pure.Answering.{FileAnswers, MemberAnswers};
 ghost use Rattle.hcl_grammar_laws.specs.Pure.Climbing.{Climbing};
 
 /// Over the same tokens stands one tree at most.
@@ -43,4 +43,10 @@ pub fn file_answers()
 /// For a parser: one look behind an operand tells which levels of operators have anything there.
 pub fn climbing()
     ensures { Climbing }
+{}
+
+/// For a parser: an answer that is the pure parser's at one member of a body, memory aside, is the member that stands there, or
+/// the fault.
+pub fn member_answers()
+    ensures { MemberAnswers }
 {}

@@ -2,7 +2,7 @@
 //!
 //! `first` is the number of a node's first token, `past` the number past its last.
 
-ghost use Rattle.std.specs.Prelude.{◌≡◌, Some, IfOk};
+ghost use Rattle.std.specs.Prelude.{◌≡◌, ◌^◌, ◌≤◌, ◌⊎◌, [], Ok, Some, IfOk, IfErr, IsOk};
 ghost use Rattle.hcl_grammar.specs.declared.tree.Content.TheVariants as content;
 ghost use Rattle.hcl_grammar.specs.declared.tree.Part.TheVariants as part;
 ghost use Rattle.hcl_grammar.specs.declared.tree.Tail.TheVariants as tail;
@@ -55,7 +55,8 @@ pub fn chain(
     head: Expr,
     links: Items<Link>,
 ) -> Result<Expr, AllocError>
-    ensures { IfOk result (λ e. e ≡ nodes.chain first past head links) }
+    ensures ok { IfOk result (λ e. e ≡ nodes.chain first past head links) }
+    ensures alone { links ≡ [] → result ≡ Ok head }
 {
     if links.is_empty() {
         Ok(head)
@@ -72,7 +73,8 @@ pub fn tailed(
     head: Term,
     tails: Items<Tail>,
 ) -> Result<Expr, AllocError>
-    ensures { IfOk result (λ e. e ≡ nodes.tailed first past head tails) }
+    ensures ok { IfOk result (λ e. e ≡ nodes.tailed first past head tails) }
+    ensures alone { tails ≡ [] → IsOk result }
 {
     if tails.is_empty() {
         Ok(expr(first, past, Form::Plain(head)))
@@ -259,7 +261,8 @@ pub fn label(first: usize, past: usize, name: Option<usize>) -> Label
 
 /// The number of a token, in 32 bits; `AllocError` past them, where no list of tokens has room for so many.
 fn narrow(number: usize) -> Result<u32, AllocError>
-    ensures { IfOk result (λ n. n ≡ number) }
+    ensures ok { IfOk result (λ n. n ≡ number) }
+    ensures err { IfErr result (λ _. 2 ^ 32 ≤ number) }
 {
     if number <= u32::MAX as usize {
         Ok(number as u32)
@@ -276,7 +279,8 @@ pub fn block(
     labels: Items<Label>,
     content: Content,
 ) -> Result<Member, AllocError>
-    ensures { IfOk result (λ m. m ≡ nodes.block first past labels content) }
+    ensures ok { IfOk result (λ m. m ≡ nodes.block first past labels content) }
+    ensures err { IfErr result (λ _. (2 ^ 32 ≤ first) ⊎ (2 ^ 32 ≤ past)) }
 {
     let first = narrow(first)?;
     let past = narrow(past)?;

@@ -5,7 +5,8 @@ use Rattle.hcl_scan.specs.Cut.{MAX_TEXT, IsCut}
 use Rattle.hcl_scan.specs.Follows.{Follows, AreApart, AreGaps, tokens_of}
 use Rattle.hcl_grammar.specs.Bodies.{IsFile}
 use Rattle.hcl_grammar_laws.specs.OneTree.{OneTree}
-use Rattle.hcl_parses.specs.Parses.{MAX_NESTING, OneParse, Regapped}
+use Rattle.hcl_grammar.specs.declared.bounds.TheConstants.{MAX_NESTING}
+use Rattle.hcl_parses.specs.Parses.{OneParse, Regapped}
 
 -- what is known of texts and their cuts
 abbrev OneCut : Type 0

@@ -3,12 +3,9 @@ use Rattle.std.specs.Prelude.{◌≡◌, ℕ, ◌≤◌, false, List, length}
 use Rattle.hcl_token.specs.Tokens.{Pair, whole_text}
 use Rattle.hcl_scan.specs.Cut.{MAX_TEXT, IsCut}
 use Rattle.hcl_scan.specs.Follows.{AreApart, AreGaps, tokens_of}
+use Rattle.hcl_grammar.specs.declared.bounds.TheConstants.{MAX_NESTING}
 use Rattle.hcl_grammar.specs.declared.tree.Tree.{Tree}
 use Rattle.hcl_grammar.specs.Bodies.{IsFile}
-
--- the greatest number of constructs in one another
-abbrev pub MAX_NESTING : ℕ
-MAX_NESTING = 100
 
 -- the text is cut into tokens, and this tree stands over them
 pub record Parses (text : List ℕ) (t : Tree) : Type 0 where

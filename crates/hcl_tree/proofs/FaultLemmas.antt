@@ -7,8 +7,9 @@ use Rattle.hcl_grammar.specs.declared.error.TokenFault.{TokenFault}
 use Rattle.hcl_grammar.specs.declared.error.TokenFault.TheVariants as token
 use Rattle.hcl_grammar.specs.declared.tree.Tree.{Tree}
 use Rattle.hcl_grammar.specs.Bodies.{IsFile}
-use Rattle.hcl_grammar.specs.Pure.Faults as pure
-use Rattle.hcl_parses.specs.Parses.{Parses, MAX_NESTING}
+use Rattle.hcl_grammar.specs.Faults as pure
+use Rattle.hcl_grammar.specs.declared.bounds.TheConstants.{MAX_NESTING}
+use Rattle.hcl_parses.specs.Parses.{Parses}
 use Rattle.hcl_tree.specs.Faults.{IsMemory, IsMemoryOrDeep, in_bytes}
 
 -- the text's own tokens are those of its cut

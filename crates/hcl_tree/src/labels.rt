@@ -2,40 +2,37 @@
 //!
 //! HCL native syntax specification, Blocks.
 
-ghost use Rattle.std.specs.Prelude.{length, []};
-ghost use Rattle.hcl_grammar.specs.Pure.BodyParser as spec;
-ghost use Rattle.hcl_grammar.specs.Pure.Reading.{Reads};
-ghost use Rattle.hcl_scan.specs.Follows.{tokens_of};
+ghost use Rattle.hcl_grammar.specs.Pure.Reading.{Gives, Reads};
+ghost use Rattle.hcl_tree.specs.Rules as spec;
 
-use hcl_cursor::cursor;
+use hcl_expr::Reader;
 use hcl_grammar::error::TokenFault;
 use hcl_grammar::tree::Label;
 use hcl_nodes::nodes;
-use hcl_scan::Scanned;
 use hcl_token::Kind;
 use plain_tree::Items;
-use std::alloc::Global;
 
 /// A label in quotes, behind the opening quote, which is token `first`. It has no interpolation.
 #[tactic(auto, unfolding(hcl_grammar::specs::Pure::BodyParser::quoted_label))]
-fn quoted_label(scanned: &Scanned<'_>, first: usize, at: &mut usize) -> Result<Label, TokenFault>
-    ensures { Reads (spec.quoted_label (tokens_of scanned.now.pairs) first at.old) result at.new }
+fn quoted_label(reader: &Reader<'_, '_>, first: usize, at: &mut usize) -> Result<Label, TokenFault>
+    ensures { Gives (spec.quoted_label reader.now first at.old) result at.new }
 {
-    let number = cursor::start(scanned, false, *at);
-    if cursor::eat(scanned, false, Kind::QuoteLit, at) {
-        cursor::expect(scanned, false, Kind::QuoteClose, at)?;
+    let lines = reader.on_lines();
+    let number = lines.start(*at);
+    if lines.eat(Kind::QuoteLit, at) {
+        lines.expect(Kind::QuoteClose, at)?;
         return Ok(nodes::label(first, *at, Some(number)));
     }
-    cursor::expect(scanned, false, Kind::QuoteClose, at)?;
+    lines.expect(Kind::QuoteClose, at)?;
     Ok(nodes::label(first, *at, None))
 }
 
 /// A label, if one comes next.
 #[tactic(auto, unfolding(hcl_grammar::specs::Pure::BodyParser::label_of, hcl_grammar::specs::Tokens::after))]
-fn label(scanned: &Scanned<'_>, at: &mut usize) -> Result<Option<Label>, TokenFault>
-    ensures { Reads (spec.label_of (tokens_of scanned.now.pairs) at.old) result at.new }
+fn label(reader: &Reader<'_, '_>, at: &mut usize) -> Result<Option<Label>, TokenFault>
+    ensures { Gives (spec.label reader.now at.old) result at.new }
 {
-    let (first, next) = cursor::token(scanned, false, *at);
+    let (first, next) = reader.on_lines().token(*at);
     match next {
         Some(Kind::Identifier) => {
             *at = first + 1;
@@ -43,23 +40,19 @@ fn label(scanned: &Scanned<'_>, at: &mut usize) -> Result<Option<Label>, TokenFa
         }
         Some(Kind::QuoteOpen) => {
             *at = first + 1;
-            Ok(Some(quoted_label(scanned, first, at)?))
+            Ok(Some(quoted_label(reader, first, at)?))
         }
         _ => Ok(None),
     }
 }
 
 /// The labels that come next.
-pub fn labels(
-    alloc: Global,
-    scanned: &Scanned<'_>,
-    at: &mut usize,
-) -> Result<Items<Label>, TokenFault>
-    ensures { let ts = tokens_of scanned.now.pairs in Reads (spec.labels_from ts (length ts) [] at.old) result at.new }
+pub fn labels(reader: &Reader<'_, '_>, at: &mut usize) -> Result<Items<Label>, TokenFault>
+    ensures { Reads (spec.labels reader.now at.old) result at.new }
 {
-    let mut found = Items::new(alloc);
-    for _turn in 0..scanned.len() {
-        let Some(label) = label(scanned, at)? else {
+    let mut found = Items::new(reader.alloc());
+    for _turn in 0..reader.len() {
+        let Some(label) = label(reader, at)? else {
             return Ok(found);
         };
         found.push(label)?;

@@ -11,6 +11,7 @@ mod parsing;
 
 pub use bodies::{ended, member};
 pub use error::ParseFault;
-pub use hcl_grammar::tree;
+pub use hcl_expr::Reader;
 pub use hcl_grammar::tree::{Attribute, Block, Body, Expr, Template, Term, Tree};
-pub use parsing::{MAX_NESTING, in_bytes, parse};
+pub use hcl_grammar::{MAX_NESTING, tree};
+pub use parsing::{in_bytes, parse};

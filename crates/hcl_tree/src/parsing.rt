@@ -4,16 +4,17 @@
 
 ghost use Rattle.std.specs.Prelude.{◌≡◌, ℕ, IfOk, MatchResult};
 ghost use Rattle.hcl_grammar.specs.Bodies.{IsFile};
-ghost use Rattle.hcl_grammar.specs.Pure.BodyParser as spec;
 ghost use Rattle.hcl_grammar.specs.Pure.Reading.{Reads};
 ghost use Rattle.hcl_grammar.specs.declared.tree.Tree as tree;
 ghost use Rattle.hcl_parses.specs.Parses.{Parses};
 ghost use Rattle.hcl_scan.specs.Follows.{tokens_of};
+ghost use Rattle.hcl_tree.specs.Rules as spec;
 ghost use Rattle.hcl_tree.specs.Faults.{IsMemory, IsMemoryOrDeep, start_of, in_bytes};
 
 use crate::bodies::{ended, members};
 use crate::error::ParseFault;
-use hcl_cursor::{cursor, span};
+use hcl_expr::Reader;
+use hcl_grammar::MAX_NESTING;
 use hcl_grammar::error::TokenFault;
 use hcl_grammar::tree::Tree;
 use hcl_nodes::nodes;
@@ -21,22 +22,20 @@ use hcl_scan::Scanned;
 use hcl_token::Kind;
 use std::alloc::Global;
 
-/// How many constructs may stand in one another.
-pub const MAX_NESTING: usize = 100;
-
 /// The tree over all the tokens.
 #[tactic(auto, unfolding(hcl_grammar::specs::Pure::BodyParser::file))]
-fn file(alloc: Global, scanned: &Scanned<'_>, at: &mut usize) -> Result<Tree, TokenFault>
-    ensures { Reads (spec.file (tokens_of scanned.now.pairs) MAX_NESTING at.old) result at.new }
+fn file(reader: &Reader<'_, '_>, at: &mut usize) -> Result<Tree, TokenFault>
+    ensures { Reads (spec.file reader.now at.old) result at.new }
 {
-    let _is_mark = cursor::eat(scanned, false, Kind::Mark, at);
+    let lines = reader.on_lines();
+    let _is_mark = lines.eat(Kind::Mark, at);
     let from = *at;
-    let members = members(alloc, scanned, MAX_NESTING, at)?;
+    let members = members(reader, at)?;
     let to = *at;
-    let _is_comment = cursor::eat(scanned, false, Kind::LineComment, at);
-    ended(scanned, at)?;
-    let first = span::first_of(scanned, false, from, to);
-    Ok(nodes::tree(scanned.len(), nodes::body(first, to, members)))
+    let _is_comment = lines.eat(Kind::LineComment, at);
+    ended(reader, at)?;
+    let first = lines.first_of(from, to);
+    Ok(nodes::tree(reader.len(), nodes::body(first, to, members)))
 }
 
 /// The byte where a token begins; the length of the text, if there is none.
@@ -81,7 +80,7 @@ pub fn parse(alloc: Global, scanned: &Scanned<'_>) -> Result<Tree, ParseFault>
     hcl_scan::laws::one_cut();
     let _count = scanned.len();
     let mut at = 0;
-    match file(alloc, scanned, &mut at) {
+    match file(&Reader::new(alloc, scanned), &mut at) {
         Ok(tree) => Ok(tree),
         Err(fault) => Err(in_bytes(scanned, fault)),
     }

@@ -21,7 +21,7 @@ use Rattle.hcl_grammar.specs.Grammar.{IsExpr, IsTerm}
 use Rattle.hcl_grammar.specs.Tokens.{Token}
 use Rattle.hcl_grammar_laws.specs.EachNode as g
 use Rattle.hcl_grammar_laws.specs.EachNode.{EachNode, Derives}
-use Rattle.hcl_parses.specs.Parses.{MAX_NESTING}
+use Rattle.hcl_grammar.specs.declared.bounds.TheConstants.{MAX_NESTING}
 use Rattle.hcl_scan.specs.Follows.{tokens_of}
 use Rattle.hcl_token.specs.Tokens.{Pair}
 use Rattle.tf_find.specs.declared.role.Role.{Role}

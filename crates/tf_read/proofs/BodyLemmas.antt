@@ -8,7 +8,7 @@ use Rattle.hcl_grammar.specs.Pure.Parser.{line}
 use Rattle.hcl_grammar.specs.declared.error.TokenFault.{TokenFault}
 use Rattle.hcl_grammar.specs.Tokens.{Token}
 use Rattle.hcl_grammar.specs.declared.tree.Member.{Member}
-use Rattle.hcl_parses.specs.Parses.{MAX_NESTING}
+use Rattle.hcl_grammar.specs.declared.bounds.TheConstants.{MAX_NESTING}
 use Rattle.hcl_scan.specs.Follows.{tokens_of}
 use Rattle.hcl_token.specs.Tokens.{Pair}
 use Rattle.tf_find.specs.NodeFindings.{node_findings}

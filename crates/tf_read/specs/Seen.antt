@@ -2,7 +2,7 @@
 use Rattle.std.specs.Prelude.{◌≡◌, ℕ, List, [], ◌∷◌, slice_get, Option, Some, None, Ok}
 use Rattle.hcl_grammar.specs.Pure.BodyParser.{deeper_members, member_of}
 use Rattle.hcl_grammar.specs.declared.tree.Member.{Member}
-use Rattle.hcl_parses.specs.Parses.{MAX_NESTING}
+use Rattle.hcl_grammar.specs.declared.bounds.TheConstants.{MAX_NESTING}
 use Rattle.hcl_scan.specs.Follows.{tokens_of}
 use Rattle.hcl_token.specs.Tokens.{Pair}
 use Rattle.tf_find.specs.Nodes as node

@@ -6,15 +6,15 @@ ghost use Rattle.std.specs.Prelude.{◌≡◌, ◌≢◌, ◌++◌, OnOk, IfOk, 
 ghost use Rattle.std.specs.List.{flat_map};
 ghost use Rattle.hcl_grammar.specs.Pure.BodyParser as spec;
 ghost use Rattle.hcl_grammar.specs.declared.error.TokenFault.TheVariants as fault;
-ghost use Rattle.hcl_parses.specs.Parses.{MAX_NESTING};
+ghost use Rattle.hcl_grammar.specs.declared.bounds.TheConstants.{MAX_NESTING};
 ghost use Rattle.hcl_scan.specs.Follows.{tokens_of};
 ghost use Rattle.tf_read.specs.Inner.Seeing.{AreRead};
 ghost use Rattle.tf_read.specs.Seen.{AreSeen, nodes_of, blocks_of};
 
 use crate::member::{SeenMember, next_member};
-use hcl_cursor::lines::line;
 use hcl_grammar::error::TokenFault;
 use hcl_scan::Scanned;
+use hcl_tree::Reader;
 use std::alloc::{AllocError, Global};
 use tf_rule::{Finding, RuleSet};
 
@@ -32,9 +32,10 @@ pub fn body(
     ensures seen { IfOk result (λ found. AreRead rules scanned.now.pairs (spec.members (tokens_of scanned.now.pairs) MAX_NESTING at.old) at.new found.items) }
     ensures fault { IfErr result (λ e. e ≢ fault.Memory → spec.members (tokens_of scanned.now.pairs) MAX_NESTING at.old ≡ Err e) }
 {
+    let reader = Reader::new(alloc, scanned);
     let mut members = Vec::new(alloc);
     for _turn in 0..scanned.len() {
-        if line(scanned, at) {
+        if reader.line(at) {
             continue;
         }
         let Some(x) = next_member(alloc, scanned, rules, old, seen, members.len(), at)? else {

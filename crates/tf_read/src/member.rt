@@ -4,7 +4,7 @@ ghost use Rattle.std.specs.Prelude.{◌≡◌, ◌≢◌, ◌+◌, ◌-◌, ◌<
 ghost use Rattle.hcl_grammar.specs.Pure.BodyParser as spec;
 ghost use Rattle.hcl_grammar.specs.Tokens as tokens;
 ghost use Rattle.hcl_grammar.specs.declared.error.TokenFault.TheVariants as fault;
-ghost use Rattle.hcl_parses.specs.Parses.{MAX_NESTING};
+ghost use Rattle.hcl_grammar.specs.declared.bounds.TheConstants.{MAX_NESTING};
 ghost use Rattle.hcl_scan.specs.Follows.{tokens_of};
 ghost use Rattle.tf_find.specs.Nodes as node;
 ghost use Rattle.tf_find.specs.TreeFindings.{AreTreeFindings};
@@ -13,11 +13,10 @@ ghost use Rattle.tf_read.specs.Seen.{IsSeen, AreSeen, IsNext};
 ghost use Rattle.tf_rule.specs.declared.rule_set.RuleSet.{RuleSet};
 ghost use Rattle.tf_top.specs.TopFindings.{member_findings};
 
-use hcl_cursor::cursor::next;
 use hcl_grammar::error::TokenFault;
 use hcl_grammar::tree::Member;
 use hcl_scan::Scanned;
-use hcl_tree::{MAX_NESTING, member};
+use hcl_tree::{MAX_NESTING, Reader, member};
 use std::alloc::{AllocError, Global};
 use tf_keep::laws::members_keep;
 use tf_keep::{moved_findings, same_tokens};
@@ -36,35 +35,32 @@ pub struct SeenMember {
     pub blocks: Vec<Finding>,
 }
 
-// What the rules find at the nodes that stand in a member.
-fn at_nodes(
+/// A member that was read between two places, and what the rules find in it.
+fn looked_at(
     alloc: Global,
     scanned: &Scanned<'_>,
     rules: RuleSet,
+    from: usize,
+    past: usize,
     x: &Member,
-) -> Result<Vec<Finding>, AllocError>
-    ensures { IfOk result (λ found. AreTreeFindings rules scanned.now.pairs (node.member x.now ∷ []) found.items) }
+) -> Result<SeenMember, AllocError>
+    ensures place { IfOk result (λ seen. (seen.from ≡ from) × (seen.past ≡ past)) }
+    ensures at_nodes { IfOk result (λ seen. AreTreeFindings rules scanned.now.pairs (node.member x.now ∷ []) seen.nodes.items) }
+    ensures at_block { IfOk result (λ seen. seen.blocks.items ≡ member_findings rules scanned.now.pairs x.now) }
 {
-    let mut found = Vec::new(alloc);
-    tf_find::add_member_findings(scanned, rules, x, &mut found)?;
-    Ok(found)
+    let mut nodes = Vec::new(alloc);
+    tf_find::add_member_findings(scanned, rules, x, &mut nodes)?;
+    let mut blocks = Vec::new(alloc);
+    tf_top::add_member_findings(scanned, rules, x, &mut blocks)?;
+    Ok(SeenMember {
+        from,
+        past,
+        nodes,
+        blocks,
+    })
 }
 
-// What they find at a member that is a block.
-fn at_block(
-    alloc: Global,
-    scanned: &Scanned<'_>,
-    rules: RuleSet,
-    x: &Member,
-) -> Result<Vec<Finding>, AllocError>
-    ensures { IfOk result (λ found. found.items ≡ member_findings rules scanned.now.pairs x.now) }
-{
-    let mut found = Vec::new(alloc);
-    tf_top::add_member_findings(scanned, rules, x, &mut found)?;
-    Ok(found)
-}
-
-// The member that comes next, if one does, read and looked at.
+/// The member that comes next, if one does, read and looked at.
 fn new_member(
     alloc: Global,
     scanned: &Scanned<'_>,
@@ -75,22 +71,21 @@ fn new_member(
     ensures fault { let ts = tokens_of scanned.now.pairs in IfErr result (λ e. e ≢ fault.Memory → spec.member_of ts MAX_NESTING (spec.deeper_members ts MAX_NESTING) at.old ≡ Err e) }
 {
     let from = *at;
-    let Some(x) = member(alloc, scanned, MAX_NESTING, at)? else {
+    let Some(x) = member(&Reader::new(alloc, scanned), at)? else {
         return Ok(None);
     };
-    let nodes = at_nodes(alloc, scanned, rules, &x)?;
-    let blocks = at_block(alloc, scanned, rules, &x)?;
-    Ok(Some(SeenMember {
-        from,
-        past: *at,
-        nodes,
-        blocks,
-    }))
+    Ok(Some(looked_at(alloc, scanned, rules, from, *at, &x)?))
 }
 
-// Whether the tokens of a member of the old text stand in the new one from number `at` on. The last member of a text is read again: what ends it may be the
-// end of the text.
-fn stands(old: &Scanned<'_>, scanned: &Scanned<'_>, seen: &SeenMember, at: usize) -> bool
+/// Whether the tokens of a member of the old text stand in the new one from number `at` on. The last member of a text is read again: what ends it may be the
+/// end of the text.
+fn stands(
+    alloc: Global,
+    old: &Scanned<'_>,
+    scanned: &Scanned<'_>,
+    seen: &SeenMember,
+    at: usize,
+) -> bool
     ensures same { result ≡ true → SameTokens (tokens_of old.now.pairs) (tokens_of scanned.now.pairs) seen.now.from at (seen.now.past - seen.now.from) }
     ensures whole { result ≡ true → seen.now.from + (seen.now.past - seen.now.from) ≡ seen.now.past }
     ensures more { result ≡ true → tokens.next (tokens_of old.now.pairs) false seen.now.past ≢ None }
@@ -100,13 +95,13 @@ fn stands(old: &Scanned<'_>, scanned: &Scanned<'_>, seen: &SeenMember, at: usize
     if seen.past < seen.from {
         return false;
     }
-    if next(old, false, seen.past).is_none() {
+    if Reader::new(alloc, old).next(seen.past).is_none() {
         return false;
     }
     same_tokens(old, scanned, seen.from, at, seen.past - seen.from)
 }
 
-// A member of the old text as it stands in the new one from number `at` on, if it does.
+/// A member of the old text as it stands in the new one from number `at` on, if it does.
 fn kept(
     alloc: Global,
     old: &Scanned<'_>,
@@ -117,7 +112,7 @@ fn kept(
     ensures { (rules : RuleSet) → IsSeen rules old.now.pairs seen.now → IfOk result (λ o. IfSome o (λ x. (x.from ≡ at) × IsSeen rules scanned.now.pairs x)) }
 {
     members_keep();
-    if !stands(old, scanned, seen, at) {
+    if !stands(alloc, old, scanned, seen, at) {
         return Ok(None);
     }
     let nodes = moved_findings(alloc, &seen.nodes, seen.from, at)?;
@@ -130,7 +125,7 @@ fn kept(
     }))
 }
 
-// The member with this index of the old text, if there is one, and it stands in the new one from number `at` on.
+/// The member with this index of the old text, if there is one, and it stands in the new one from number `at` on.
 fn old_member(
     alloc: Global,
     old: &Scanned<'_>,

@@ -6,7 +6,8 @@ ghost use Rattle.hcl_grammar.specs.Pure.BodyParser as spec;
 ghost use Rattle.hcl_grammar.specs.declared.error.TokenFault.TheVariants as fault;
 ghost use Rattle.hcl_grammar.specs.declared.tree.Member.{Member};
 ghost use Rattle.hcl_grammar.specs.declared.tree.Tree.{Tree};
-ghost use Rattle.hcl_parses.specs.Parses.{Parses, MAX_NESTING};
+ghost use Rattle.hcl_grammar.specs.declared.bounds.TheConstants.{MAX_NESTING};
+ghost use Rattle.hcl_parses.specs.Parses.{Parses};
 ghost use Rattle.hcl_scan.specs.Follows.{tokens_of};
 ghost use Rattle.hcl_tree.specs.Faults.{IsMemory, IsMemoryOrDeep};
 ghost use Rattle.hcl_tree.specs.declared.error.ParseFault.TheVariants.{Memory};
@@ -17,10 +18,9 @@ ghost use Rattle.tf_rule.specs.Findings.{AreSound};
 
 use crate::body::{body, gathered};
 use crate::member::SeenMember;
-use hcl_cursor::cursor;
 use hcl_grammar::error::TokenFault;
 use hcl_scan::{Kind, Scanned};
-use hcl_tree::{MAX_NESTING, ParseFault, ended, in_bytes};
+use hcl_tree::{MAX_NESTING, ParseFault, Reader, ended, in_bytes};
 use std::alloc::Global;
 use tf_findings::told;
 use tf_rule::{Finding, RuleSet};
@@ -47,10 +47,11 @@ fn file(
     ensures found { IfOk result (λ found. (t : Tree) × (spec.file (tokens_of scanned.now.pairs) MAX_NESTING at.old ≡ Ok (t, at.new)) × AreOf rules scanned.now.pairs t.body.members found.items) }
     ensures fault { IfErr result (λ e. e ≢ fault.Memory → spec.file (tokens_of scanned.now.pairs) MAX_NESTING at.old ≡ Err e) }
 {
-    let _is_mark = cursor::eat(scanned, false, Kind::Mark, at);
+    let reader = Reader::new(alloc, scanned);
+    let _is_mark = reader.eat(Kind::Mark, at);
     let members = body(alloc, scanned, rules, old, seen, at)?;
-    let _is_comment = cursor::eat(scanned, false, Kind::LineComment, at);
-    ended(scanned, at)?;
+    let _is_comment = reader.eat(Kind::LineComment, at);
+    ended(&reader, at)?;
     Ok(members)
 }
 

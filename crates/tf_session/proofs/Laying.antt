@@ -5,7 +5,8 @@ use Rattle.hcl_token.specs.Tokens.{Pair}
 use Rattle.hcl_token.specs.CutText.{CutText}
 use Rattle.hcl_scan.specs.Cut.{IsCut, MAX_TEXT}
 use Rattle.hcl_grammar.specs.declared.tree.Tree.{Tree}
-use Rattle.hcl_parses.specs.Parses.{MAX_NESTING, ParsedApart}
+use Rattle.hcl_grammar.specs.declared.bounds.TheConstants.{MAX_NESTING}
+use Rattle.hcl_parses.specs.Parses.{ParsedApart}
 use Rattle.hcl_layout.specs.Layout.{layout_text, layout_edits, gap_piece, pieces, IsLaidOut}
 use Rattle.hcl_format.specs.Layouts.{IsLayout, LaysOut}
 use Rattle.hcl_format.specs.LayoutLaws.{LaidOutIsText, OneLayout}

@@ -5,7 +5,7 @@ ghost use Rattle.edit_record.specs.Pieces.{Turns};
 ghost use Rattle.hcl_format.specs.Layouts.{IsLayout, IsTooLong};
 ghost use Rattle.hcl_grammar.specs.Bodies.{IsFile};
 ghost use Rattle.hcl_layout.specs.Layout.{layout_edits};
-ghost use Rattle.hcl_parses.specs.Parses.{MAX_NESTING};
+ghost use Rattle.hcl_grammar.specs.declared.bounds.TheConstants.{MAX_NESTING};
 ghost use Rattle.hcl_scan.specs.Cut.{MAX_TEXT};
 ghost use Rattle.hcl_scan.specs.Follows.{tokens_of};
 ghost use Rattle.tf_session.specs.Reading.{DoesParse};

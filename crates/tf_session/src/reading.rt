@@ -2,7 +2,7 @@
 
 ghost use Rattle.std.specs.Prelude.{◌≡◌, IfOk, IfErr, OnOk};
 ghost use Rattle.hcl_grammar.specs.Bodies.{IsFile};
-ghost use Rattle.hcl_parses.specs.Parses.{MAX_NESTING};
+ghost use Rattle.hcl_grammar.specs.declared.bounds.TheConstants.{MAX_NESTING};
 ghost use Rattle.hcl_scan.specs.Follows.{tokens_of};
 ghost use Rattle.tf_session.specs.Makes.{NotRead};
 ghost use Rattle.tf_session.specs.Reading.{DoesParse};

@@ -3,7 +3,8 @@ use Rattle.std.proofs.Common.{◌≡◌, ◌⊎◌, ◌<◌, ◌≤◌, ℕ, Lis
 use Rattle.std.specs.Prelude.{filter, IfOk}
 use Rattle.hcl_grammar.specs.Bodies.{IsFile}
 use Rattle.hcl_grammar.specs.declared.tree.Tree.{Tree}
-use Rattle.hcl_parses.specs.Parses.{Parses, MAX_NESTING}
+use Rattle.hcl_grammar.specs.declared.bounds.TheConstants.{MAX_NESTING}
+use Rattle.hcl_parses.specs.Parses.{Parses}
 use Rattle.hcl_scan.specs.Cut.{MAX_TEXT, IsCut}
 use Rattle.hcl_scan.specs.Follows.{tokens_of}
 use Rattle.hcl_tree.specs.Faults.{IsMemory, IsMemoryOrDeep}

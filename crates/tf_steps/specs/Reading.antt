@@ -6,7 +6,8 @@ use Rattle.hcl_scan.specs.Fault.{IsFault}
 use Rattle.hcl_scan.specs.Follows.{tokens_of}
 use Rattle.hcl_grammar.specs.declared.tree.Tree.{Tree}
 use Rattle.hcl_grammar.specs.Bodies.{IsFile}
-use Rattle.hcl_parses.specs.Parses.{Parses, MAX_NESTING}
+use Rattle.hcl_grammar.specs.declared.bounds.TheConstants.{MAX_NESTING}
+use Rattle.hcl_parses.specs.Parses.{Parses}
 use Rattle.hcl_tree.specs.declared.error.ParseFault.{ParseFault}
 use Rattle.hcl_tree.specs.declared.error.ParseFault.TheVariants.{Syntax, TooDeep, Memory}
 use Rattle.tf_steps.specs.declared.fault.FixFault.{FixFault}

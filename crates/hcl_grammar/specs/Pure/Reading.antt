@@ -101,3 +101,8 @@ enter_two (suc (suc depth)) opening = λ i. Ok (tt, i)
 abbrev pub Reads : {A : Type 0} → Outcome A → Result A TokenFault → ℕ → Type 0
 Reads outcome (Ok a) new = outcome ≡ Ok (a, new)
 Reads outcome (Err e) new = e ≢ Memory → outcome ≡ Err e
+
+-- what a step answers that takes no memory: the parser's outcome, whatever it is
+abbrev pub Gives : {A : Type 0} → Outcome A → Result A TokenFault → ℕ → Type 0
+Gives outcome (Ok a) new = outcome ≡ Ok (a, new)
+Gives outcome (Err e) new = outcome ≡ Err e

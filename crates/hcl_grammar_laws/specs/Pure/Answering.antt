@@ -1,12 +1,14 @@
 -- For proofs: what an answer to a list of tokens has to be, and that an answer of the pure parser is such a one.
-use Rattle.std.specs.Prelude.{◌≡◌, ℕ, List, Result, MatchResult, IfOk}
+use Rattle.std.specs.Prelude.{◌≡◌, ℕ, List, Option, Result, MatchResult, IfOk}
 use Rattle.hcl_grammar.specs.declared.error.TokenFault.{TokenFault}
+use Rattle.hcl_grammar.specs.declared.tree.Member.{Member}
 use Rattle.hcl_grammar.specs.declared.tree.Tree.{Tree}
 use Rattle.hcl_grammar.specs.Bodies.{IsFile}
-use Rattle.hcl_grammar.specs.Pure.BodyParser.{file}
-use Rattle.hcl_grammar.specs.Pure.Faults.{IsMemory, IsMemoryOrDeep}
+use Rattle.hcl_grammar.specs.Pure.BodyParser.{deeper_members, file, member_of}
+use Rattle.hcl_grammar.specs.Faults.{IsMemory, IsMemoryOrDeep}
 use Rattle.hcl_grammar.specs.Pure.Reading.{Reads}
 use Rattle.hcl_grammar.specs.Tokens.{Token}
+use Rattle.hcl_grammar_laws.specs.Members.{IsMember}
 
 -- the answer to the tokens where b constructs may stand in one another
 pub record IsAnswer (ts : List Token) (b : ℕ) (answer : Result Tree TokenFault) : Type 0 where
@@ -19,3 +21,7 @@ pub record IsAnswer (ts : List Token) (b : ℕ) (answer : Result Tree TokenFault
 
 abbrev pub FileAnswers : Type 0
 FileAnswers = (ts : List Token) (b : ℕ) (answer : Result Tree TokenFault) (new : ℕ) → Reads (file ts b 0) answer new → IsAnswer ts b answer
+
+-- the same of one member
+abbrev pub MemberAnswers : Type 0
+MemberAnswers = (ts : List Token) (b i : ℕ) (answer : Result (Option Member) TokenFault) (new : ℕ) → Reads (member_of ts b (deeper_members ts b) i) answer new → IsMember ts b i answer new

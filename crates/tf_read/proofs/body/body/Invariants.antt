@@ -1,7 +1,7 @@
 use Rattle.std.proofs.Common.{◌≡◌, ◌-◌, length, List, []}
 use Rattle.hcl_grammar.specs.Pure.BodyParser.{deeper_members, members_from}
 use Rattle.hcl_grammar.specs.declared.tree.Member.{Member}
-use Rattle.hcl_parses.specs.Parses.{MAX_NESTING}
+use Rattle.hcl_grammar.specs.declared.bounds.TheConstants.{MAX_NESTING}
 use Rattle.hcl_scan.specs.Follows.{tokens_of}
 use Rattle.tf_read.specs.Inner.Seeing.{AreOf}
 use Rattle.tf_read.proofs.body.body.Given as goal

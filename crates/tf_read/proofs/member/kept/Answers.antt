@@ -1,6 +1,6 @@
 -- The member of the new text is the old one, its numbers moved.
 use Rattle.std.proofs.Common.{refl, sym, map, ap, ◌∙◌, ◌-◌}
-use Rattle.hcl_parses.specs.Parses.{MAX_NESTING}
+use Rattle.hcl_grammar.specs.declared.bounds.TheConstants.{MAX_NESTING}
 use Rattle.tf_keep.specs.Moving.{moved_finding}
 use Rattle.tf_read.proofs.member.kept.Goals as goal
 

@@ -4,7 +4,7 @@ use Rattle.hcl_grammar.specs.Pure.BodyParser as spec
 use Rattle.hcl_grammar.specs.declared.error.TokenFault.{TokenFault}
 use Rattle.hcl_grammar.specs.declared.error.TokenFault.TheVariants.{Memory}
 use Rattle.hcl_grammar.specs.declared.tree.Member.{Member}
-use Rattle.hcl_parses.specs.Parses.{MAX_NESTING}
+use Rattle.hcl_grammar.specs.declared.bounds.TheConstants.{MAX_NESTING}
 use Rattle.hcl_scan.specs.Follows.{tokens_of}
 use Rattle.tf_read.specs.Inner.Seeing.{AreOf}
 use Rattle.tf_read.proofs.FileLemmas.{residual, body_refused, end_refused, file_read, file_tree, its_members}
@@ -16,7 +16,7 @@ returns-in_err-members-clause-fault c =
     let i = c.args.at.now in
     let f = c.in_err-members.field-0.0 in
     residual c.from_residual.result f (λ (e : TokenFault). e ≢ Memory → spec.file ts MAX_NESTING i ≡ Err e) c.from_residual.ensures
-    (body_refused ts MAX_NESTING i f c.eat-is_mark.new.at c.eat-is_mark.ensures.after c.in_err-members.ensures.fault)
+    (body_refused ts MAX_NESTING i f c.eat-is_mark.new.at (rw c.new-reader.ensures at c.eat-is_mark.ensures.after) c.in_err-members.ensures.fault)
 
 pub returns-in_err-ended-clause-fault : goal.returns-in_err-ended-clause-fault
 returns-in_err-ended-clause-fault c =
@@ -25,7 +25,7 @@ returns-in_err-ended-clause-fault c =
     let f = c.in_err-ended.field-0.0 in
     let seen = c.in_ok-members.ensures.seen in
     residual c.from_residual-in_err-ended.result f (λ (e : TokenFault). e ≢ Memory → spec.file ts MAX_NESTING i ≡ Err e) c.from_residual-in_err-ended.ensures
-    (end_refused ts MAX_NESTING i seen.0 f c.eat-is_mark.new.at c.body.new.at c.eat-is_comment.new.at c.eat-is_mark.ensures.after seen.1 c.eat-is_comment.ensures.after c.in_err-ended.ensures)
+    (end_refused ts MAX_NESTING i seen.0 f c.eat-is_mark.new.at c.body.new.at c.eat-is_comment.new.at (rw c.new-reader.ensures at c.eat-is_mark.ensures.after) seen.1 (rw c.new-reader.ensures at c.eat-is_comment.ensures.after) (λ _. rw c.new-reader.ensures at c.in_err-ended.ensures))
 
 pub returns-clause-found : goal.returns-clause-found
 returns-clause-found c =
@@ -34,6 +34,6 @@ returns-clause-found c =
     let seen = c.in_ok-members.ensures.seen in
     let j = c.body.new.at in (
       file_tree ts MAX_NESTING i seen.0 j,
-      file_read ts MAX_NESTING i seen.0 c.eat-is_mark.new.at j c.eat-is_comment.new.at c.ended.new.at c.eat-is_mark.ensures.after seen.1 c.eat-is_comment.ensures.after c.in_ok-ended.ensures,
+      file_read ts MAX_NESTING i seen.0 c.eat-is_mark.new.at j c.eat-is_comment.new.at c.ended.new.at (rw c.new-reader.ensures at c.eat-is_mark.ensures.after) seen.1 (rw c.new-reader.ensures at c.eat-is_comment.ensures.after) (rw c.new-reader.ensures at c.in_ok-ended.ensures),
       subst (λ (ms : List Member). AreOf c.args.rules c.args.scanned.now.pairs ms c.in_ok-members.members.items) (sym (its_members ts MAX_NESTING i seen.0 j)) seen.2,
     )

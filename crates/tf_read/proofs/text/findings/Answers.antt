@@ -1,5 +1,5 @@
 use Rattle.std.proofs.Common.{Ok, Err, sym, subst, List}
-use Rattle.hcl_parses.specs.Parses.{MAX_NESTING}
+use Rattle.hcl_grammar.specs.declared.bounds.TheConstants.{MAX_NESTING}
 use Rattle.hcl_scan.specs.Follows.{tokens_of}
 use Rattle.hcl_tree.proofs.FaultLemmas.{own_tokens, memory_in_bytes, deep_in_bytes}
 use Rattle.tf_read.specs.Inner.Seeing.{AreOf}

@@ -1,0 +1,30 @@
+-- A loop that counts up, beside a recursion on the turns that are left; and what a step that was refused answers.
+use Rattle.std.proofs.Common.{◌≡◌, ℕ, zero, suc, ◌+◌, ◌-◌, ◌<◌, ◌≤◌, List, Result, Err, refl, ap, sym, subst, ◌∙◌, arith}
+use Rattle.hcl_grammar.specs.declared.error.TokenFault.{TokenFault}
+use Rattle.hcl_grammar.specs.Pure.BodyParser.{one_less}
+use Rattle.hcl_grammar.specs.Pure.Reading.{Outcome, Parser, and_then, Gives, Reads}
+use Rattle.hcl_grammar.specs.Tokens.{Token}
+
+-- in a turn, one more is left
+pub turn_left : {X : Type 0} {r : X} (left : ℕ → X) {turns turn : ℕ} → turn < turns → r ≡ left (turns - turn) → r ≡ left (suc (turns - (turn + 1)))
+turn_left left {turns} {turn} inside e = let count : turns - turn ≡ suc (turns - (turn + 1)) = omega (arith, inside) in e ∙ ap left count
+
+-- behind the last, none is
+pub none_left : {X : Type 0} {r : X} (left : ℕ → X) {turns turn : ℕ} → turns ≤ turn → r ≡ left (turns - turn) → r ≡ left 0
+none_left left {turns} {turn} over e = let count : turns - turn ≡ 0 = omega (arith, over) in e ∙ ap left count
+
+-- what is left to nest, as one more than the rest
+pub one_nests : {X : Type 0} (f : ℕ → X) (n : ℕ) → 0 < n → f n ≡ f (suc (n - 1))
+one_nests f n some = let e : n ≡ suc (n - 1) = omega (arith, some) in ap f e
+
+pub one_less_is : (ts : List Token) (d : ℕ) → one_less ts d ≡ d - 1
+one_less_is ts zero = refl
+one_less_is ts (suc d) = omega arith
+
+-- a first step that is refused is the fault of all
+pub refused : {A B : Type 0} {p : Outcome A} {q : Outcome B} {e : TokenFault} {r : Result B TokenFault} (f : A → Parser B) (at new : ℕ) → r ≡ Err e → q ≡ and_then p f → Reads p (Err e) at → Reads q r new
+refused {q} f at new same e h = subst (λ r. Reads q r new) (sym same) (λ no. e ∙ ap (λ o. and_then o f) (h no))
+
+-- the same of steps that take no memory
+pub gives_refused : {A B : Type 0} {p : Outcome A} {q : Outcome B} {e : TokenFault} {r : Result B TokenFault} (f : A → Parser B) (at new : ℕ) → r ≡ Err e → q ≡ and_then p f → Gives p (Err e) at → Gives q r new
+gives_refused {q} f at new same e h = subst (λ r. Gives q r new) (sym same) (e ∙ ap (λ o. and_then o f) h)

@@ -1,0 +1,206 @@
+//! A text, as it is read at one place: its next token, and constructs that open there.
+//!
+//! What a place is stands in `specs/Rules`. The place itself goes beside the reader, as `at`.
+
+ghost use Rattle.std.specs.Prelude.{◌≡◌, ◌<◌, ◌+◌, ◌^◌, false, length, slice_get, OnSome};
+ghost use Rattle.hcl_expr.specs.Rules as spec;
+ghost use Rattle.hcl_expr.specs.Rules.{Opens, OpensTwo};
+ghost use Rattle.hcl_grammar.specs.Pure.Reading.{Gives};
+ghost use Rattle.hcl_grammar.specs.Tokens as tokens;
+ghost use Rattle.hcl_grammar.specs.declared.error.TokenFault.TheVariants as fault;
+ghost use Rattle.hcl_scan.specs.Follows.{tokens_of};
+
+use crate::stream;
+use hcl_grammar::MAX_NESTING;
+use hcl_grammar::error::TokenFault;
+use hcl_scan::Scanned;
+use hcl_token::Kind;
+use std::alloc::Global;
+use std::marker::Model;
+
+/// A text, as it is read at one place.
+#[derive(Drop)]
+pub struct Reader<'s, 't> {
+    alloc: Global,
+    scanned: &'s Scanned<'t>,
+    /// Whether line ends and line comments are dropped here.
+    inside: bool,
+    /// How many constructs may still nest.
+    depth: usize,
+}
+
+impl<'s, 't> Model for Reader<'s, 't> {
+    ghost use Rattle.hcl_expr.specs.Rules.{Here};
+    ghost use Rattle.hcl_scan.specs.Follows.{tokens_of};
+
+    ghost Value = { Here };
+
+    ghost view = { λ r. record { tokens = tokens_of r.scanned.now.pairs; inside = r.inside; depth = r.depth } };
+}
+
+impl<'s, 't> Reader<'s, 't> {
+    /// The text as it is read outside of all constructs.
+    pub fn new(alloc: Global, scanned: &'s Scanned<'t>) -> Reader<'s, 't>
+        ensures { result ≡ record { tokens = tokens_of scanned.now.pairs; inside = false; depth = MAX_NESTING } }
+    {
+        Reader {
+            alloc,
+            scanned,
+            inside: false,
+            depth: MAX_NESTING,
+        }
+    }
+
+    /// Memory for nodes.
+    pub fn alloc(&self) -> Global {
+        self.alloc
+    }
+
+    /// How many tokens the text has.
+    pub fn len(&self) -> usize
+        ensures { result ≡ length self.now.tokens }
+    {
+        self.scanned.len()
+    }
+
+    /// The number of the next token that is not dropped, and its kind; the number of all tokens, if there is none.
+    pub fn token(&self, at: usize) -> (usize, Option<Kind>)
+        ensures number { result.0 ≡ spec.start self.now at }
+        ensures kind { result.1 ≡ spec.next self.now at }
+        ensures within { OnSome result.1 (result.0 < length self.now.tokens) }
+        ensures fits { OnSome result.1 (result.0 + 1 < 2 ^ 64) }
+    {
+        stream::next_token(self.scanned, self.inside, at)
+    }
+
+    /// The number of the next token.
+    pub fn start(&self, at: usize) -> usize
+        ensures { result ≡ spec.start self.now at }
+    {
+        self.token(at).0
+    }
+
+    /// The kind of the next token.
+    pub fn next(&self, at: usize) -> Option<Kind>
+        ensures { result ≡ spec.next self.now at }
+    {
+        self.token(at).1
+    }
+
+    /// Takes a token of this kind, if it comes next.
+    #[tactic(auto, unfolding(hcl_grammar::specs::Pure::Reading::sees, hcl_grammar::specs::Pure::Reading::past, hcl_grammar::specs::Tokens::after))]
+    pub fn eat(&self, kind: Kind, at: &mut usize) -> bool
+        ensures found { result ≡ spec.sees self.now kind at.old }
+        ensures after { at.new ≡ spec.past self.now kind at.old }
+    {
+        let (number, next) = self.token(*at);
+        let Some(found) = next else {
+            return false;
+        };
+        if !stream::same_kind(found, kind) {
+            return false;
+        }
+        *at = number + 1;
+        true
+    }
+
+    /// That the next token fits nothing.
+    pub fn refuse(&self, at: usize) -> TokenFault
+        ensures { result ≡ fault.Syntax (spec.start self.now at) }
+    {
+        TokenFault::Syntax(self.start(at))
+    }
+
+    /// Takes a token of this kind, which must come next.
+    #[tactic(auto, unfolding(hcl_grammar::specs::Pure::Reading::expect, hcl_grammar::specs::Pure::Reading::past))]
+    pub fn expect(&self, kind: Kind, at: &mut usize) -> Result<(), TokenFault>
+        ensures { Gives (spec.expect self.now kind at.old) result at.new }
+    {
+        if self.eat(kind, at) {
+            Ok(())
+        } else {
+            Err(self.refuse(*at))
+        }
+    }
+
+    /// The same place in brackets, where line ends are dropped.
+    pub fn in_brackets(&self) -> Reader<'s, 't>
+        ensures { result ≡ spec.in_brackets self.now }
+    {
+        Reader {
+            alloc: self.alloc,
+            scanned: self.scanned,
+            inside: true,
+            depth: self.depth,
+        }
+    }
+
+    /// Opens a construct at this token, if one more may nest.
+    pub fn enter(&self, opening: usize, at: &mut usize) -> Result<Reader<'s, 't>, TokenFault>
+        ensures { Opens self.now opening at.old result at.new }
+    {
+        if self.depth == 0 {
+            return Err(TokenFault::TooDeep(opening));
+        }
+        Ok(Reader {
+            alloc: self.alloc,
+            scanned: self.scanned,
+            inside: self.inside,
+            depth: self.depth - 1,
+        })
+    }
+
+    /// The same place outside of brackets, where line ends count.
+    pub fn on_lines(&self) -> Reader<'s, 't>
+        ensures { result ≡ spec.on_lines self.now }
+    {
+        Reader {
+            alloc: self.alloc,
+            scanned: self.scanned,
+            inside: false,
+            depth: self.depth,
+        }
+    }
+
+    /// Opens a directive and its braces at this token, if two more constructs may nest.
+    pub fn enter_two(
+        &self,
+        opening: usize,
+        at: &mut usize,
+    ) -> Result<(Reader<'s, 't>, Reader<'s, 't>), TokenFault>
+        ensures { OpensTwo self.now opening at.old result at.new }
+    {
+        if self.depth < 2 {
+            return Err(TokenFault::TooDeep(opening));
+        }
+        let directive = Reader {
+            alloc: self.alloc,
+            scanned: self.scanned,
+            inside: self.inside,
+            depth: self.depth - 1,
+        };
+        let braces = Reader {
+            alloc: self.alloc,
+            scanned: self.scanned,
+            inside: true,
+            depth: self.depth - 2,
+        };
+        Ok((directive, braces))
+    }
+
+    /// Whether token `number` is an identifier with this spelling.
+    pub fn is_word(&self, number: usize, word: &[u8]) -> bool
+        requires { number < length self.now.tokens }
+        ensures { result ≡ tokens.is_word word.now (slice_get self.now.tokens number) }
+    {
+        stream::is_word(self.scanned, number, word)
+    }
+
+    /// The number of the first token of what stands between two places; the first place, if nothing does.
+    #[tactic(auto, unfolding(hcl_grammar::specs::Tokens::first_of))]
+    pub fn first_of(&self, from: usize, to: usize) -> usize
+        ensures { result ≡ tokens.first_of self.now.tokens self.now.inside from to }
+    {
+        if from == to { from } else { self.start(from) }
+    }
+}

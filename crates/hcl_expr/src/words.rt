@@ -1,0 +1,95 @@
+//! Words that have a meaning where they stand, and names.
+
+ghost use Rattle.std.specs.Prelude.{[], ◌∷◌, ◌≡◌, true, false, IfOk, length, drop};
+ghost use Rattle.std.specs.Result.{result_map_both};
+ghost use Rattle.hcl_expr.specs.Rules as spec;
+ghost use Rattle.hcl_grammar.specs.Pure.Reading.{Gives, Reads};
+
+use crate::reader::Reader;
+use hcl_grammar::error::TokenFault;
+use hcl_token::Kind;
+use plain_tree::Items;
+
+impl<'s, 't> Reader<'s, 't> {
+    /// Whether this word comes next.
+    #[tactic(auto, unfolding(hcl_grammar::specs::Pure::Reading::reads, hcl_grammar::specs::Tokens::token))]
+    pub fn reads(&self, word: &[u8], at: usize) -> bool
+        ensures { result ≡ spec.reads self.now word.now at }
+    {
+        let (number, next) = self.token(at);
+        match next {
+            Some(_kind) => self.is_word(number, word),
+            None => false,
+        }
+    }
+
+    /// Takes this word, which must come next.
+    #[tactic(auto, unfolding(hcl_grammar::specs::Pure::Reading::word, hcl_grammar::specs::Pure::Reading::reads, hcl_grammar::specs::Tokens::token, hcl_grammar::specs::Tokens::after))]
+    pub fn word(&self, word: &[u8], at: &mut usize) -> Result<(), TokenFault>
+        ensures { Gives (spec.word self.now word.now at.old) result at.new }
+    {
+        let (number, next) = self.token(*at);
+        match next {
+            Some(_kind) => {
+                if !self.is_word(number, word) {
+                    return Err(TokenFault::Syntax(number));
+                }
+                *at = number + 1;
+                Ok(())
+            }
+            None => Err(TokenFault::Syntax(number)),
+        }
+    }
+
+    /// Takes a word, if it comes next.
+    #[tactic(auto, unfolding(hcl_grammar::specs::Pure::Reading::reads, hcl_grammar::specs::Tokens::token, hcl_grammar::specs::Tokens::after))]
+    pub fn eat_word(&self, word: &[u8], at: &mut usize) -> bool
+        ensures found { result ≡ spec.reads self.now word.now at.old }
+        ensures taken { result ≡ true → at.new ≡ spec.after self.now at.old }
+        ensures kept { result ≡ false → at.new ≡ at.old }
+    {
+        let (number, next) = self.token(*at);
+        match next {
+            Some(_kind) => {
+                let found = self.is_word(number, word);
+                if found {
+                    *at = number + 1;
+                }
+                found
+            }
+            None => false,
+        }
+    }
+
+    /// The second name of a `for`, if it has one.
+    #[tactic(auto, unfolding(hcl_grammar::specs::Pure::Parser::second))]
+    pub fn second(&self, at: &mut usize) -> Result<Option<usize>, TokenFault>
+        ensures { Gives (spec.second self.now at.old) result at.new }
+    {
+        let inside = self.in_brackets();
+        if !inside.eat(Kind::Comma, at) {
+            return Ok(None);
+        }
+        let name = inside.start(*at);
+        inside.expect(Kind::Identifier, at)?;
+        Ok(Some(name))
+    }
+
+    /// The names of a function: the first, which was read, and those behind it.
+    pub fn names(&self, first: usize, at: &mut usize) -> Result<Items<usize>, TokenFault>
+        ensures first { IfOk result (λ names. names ≡ first ∷ drop 1 names) }
+        ensures reads { Reads (spec.names self.now at.old) (result_map_both (drop 1) (λ e. e) result) at.new }
+    {
+        let mut found = Items::new(self.alloc());
+        found.push(first)?;
+        for _turn in 0..self.len() {
+            if !self.eat(Kind::DoubleColon, at) {
+                return Ok(found);
+            }
+            let name = self.start(*at);
+            self.expect(Kind::Identifier, at)?;
+            found.push(name)?;
+        }
+        Ok(found)
+    }
+}
