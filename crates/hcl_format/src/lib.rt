@@ -1,11 +1,11 @@
 //! Formatting of texts that parse: their layout has the same tokens and the same tree, and is its own layout.
 //!
-//! `layout` answers the edits that lay out a text with its tree, `is_laid_out` whether it is its own layout. `laws` says what holds
-//! of the layouts of texts.
+//! `layout` answers the edits that lay out a text with its tree, `is_laid_out` whether it is its own layout; `layout_of_parsed` and
+//! `is_parsed_laid_out` want no tree, only that there is one. `laws` says what holds of the layouts of texts.
 #![tactic(auto)]
 
 pub mod laws;
 mod parsed;
 
 pub use hcl_layout::LayoutFault;
-pub use parsed::{is_laid_out, layout};
+pub use parsed::{is_laid_out, is_parsed_laid_out, layout, layout_of_parsed};

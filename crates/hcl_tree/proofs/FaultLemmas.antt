@@ -1,5 +1,6 @@
 -- The tokens of a text that parses, and faults by numbers of tokens and by bytes.
-use Rattle.std.proofs.Common.{◌≡◌, List, sym, subst}
+use Rattle.std.proofs.Common.{◌≡◌, false, List, Result, sym, subst}
+use Rattle.hcl_expr.specs.Rules.{Here}
 use Rattle.hcl_token.specs.CutText.{CutText}
 use Rattle.hcl_token.specs.Tokens.{Pair}
 use Rattle.hcl_scan.specs.Follows.{tokens_of}
@@ -8,6 +9,8 @@ use Rattle.hcl_grammar.specs.declared.error.TokenFault.TheVariants as token
 use Rattle.hcl_grammar.specs.declared.tree.Tree.{Tree}
 use Rattle.hcl_grammar.specs.Bodies.{IsFile}
 use Rattle.hcl_grammar.specs.Faults as pure
+use Rattle.hcl_grammar.specs.Tokens.{Token}
+use Rattle.hcl_grammar_laws.specs.Pure.Answering.{IsAnswer}
 use Rattle.hcl_grammar.specs.declared.bounds.TheConstants.{MAX_NESTING}
 use Rattle.hcl_parses.specs.Parses.{Parses}
 use Rattle.hcl_tree.specs.Faults.{IsMemory, IsMemoryOrDeep, in_bytes}
@@ -15,6 +18,10 @@ use Rattle.hcl_tree.specs.Faults.{IsMemory, IsMemoryOrDeep, in_bytes}
 -- the text's own tokens are those of its cut
 pub own_tokens : (s : CutText) (t : Tree) (p : Parses s.text t) → s.pairs ≡ p.pairs → IsFile (tokens_of s.pairs) MAX_NESTING t
 own_tokens s t p e = subst (λ (ps : List Pair). IsFile (tokens_of ps) MAX_NESTING t) (sym e) p.derived
+
+-- an answer over a reader of a text is one to the text's own tokens
+pub its_answer : (ts : List Token) {here : Here} {r q : Result Tree TokenFault} → here ≡ record { tokens = ts; inside = false; depth = MAX_NESTING } → r ≡ q → IsAnswer here.tokens here.depth r → IsAnswer ts MAX_NESTING q
+its_answer ts {here} {r} {q} e same a = subst (λ (h : Here). IsAnswer h.tokens h.depth q) e (subst (λ (o : Result Tree TokenFault). IsAnswer here.tokens here.depth o) same a)
 
 -- ---- faults by bytes
 

@@ -1,12 +1,14 @@
 -- For proofs: the rules of the pure parser of bodies, over a text as it is read at one place.
-use Rattle.std.specs.Prelude.{ℕ, suc, false, List, [], length, Option}
+use Rattle.std.specs.Prelude.{◌≡◌, ◌≢◌, ℕ, suc, false, List, [], length, Option, Result, Ok, Err}
 use Rattle.hcl_expr.specs.Rules.{Here}
+use Rattle.hcl_grammar.specs.declared.error.TokenFault.{TokenFault}
+use Rattle.hcl_grammar.specs.declared.error.TokenFault.TheVariants.{Memory}
 use Rattle.hcl_grammar.specs.declared.tree.Content.{Content}
 use Rattle.hcl_grammar.specs.declared.tree.Label.{Label}
 use Rattle.hcl_grammar.specs.declared.tree.Member.{Member}
 use Rattle.hcl_grammar.specs.declared.tree.Tree.{Tree}
 use Rattle.hcl_grammar.specs.Pure.BodyParser as b
-use Rattle.hcl_grammar.specs.Pure.Reading.{Parser}
+use Rattle.hcl_grammar.specs.Pure.Reading.{Outcome, Parser}
 use Rattle.hcl_grammar.specs.Tokens as tokens
 
 module _ (t : Here) where
@@ -60,3 +62,8 @@ module _ (t : Here) where
 
   abbrev pub block_content : Parser Content
   block_content = b.block_content t.tokens (suc t.depth) (b.members t.tokens t.depth)
+
+-- what a function that reads and keeps nothing ensures: the parser's place behind what it reads, or its fault, unless memory fails
+abbrev pub Passes : {A : Type 0} → Outcome A → Result (Unit {0}) TokenFault → ℕ → Type 0
+Passes {A} outcome (Ok u) new = (a : A) × (outcome ≡ Ok (a, new))
+Passes outcome (Err e) new = e ≢ Memory → outcome ≡ Err e

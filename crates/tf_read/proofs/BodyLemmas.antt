@@ -1,12 +1,9 @@
 -- What is found in some members, and in one more.
-use Rattle.std.proofs.Common.{◌≡◌, ℕ, zero, suc, Bool, true, false, List, [], ◌∷◌, ◌++◌, length, Some, None, Result, Ok, Err, refl, sym, ap, subst, ◌∙◌, append_assoc, append-nil}
+use Rattle.std.proofs.Common.{◌≡◌, ℕ, zero, suc, List, [], ◌∷◌, ◌++◌, Some, Ok, refl, sym, ap, subst, ◌∙◌, append_assoc, append-nil}
 use Rattle.std.proofs.lemmas.List.{map-append}
 use Rattle.std.proofs.lemmas.Grind.{flat_map-append}
 use Rattle.std.specs.List.{flat_map}
-use Rattle.hcl_grammar.specs.Pure.BodyParser.{deeper_members, member_of, members, members_from}
-use Rattle.hcl_grammar.specs.Pure.Parser.{line}
-use Rattle.hcl_grammar.specs.declared.error.TokenFault.{TokenFault}
-use Rattle.hcl_grammar.specs.Tokens.{Token}
+use Rattle.hcl_grammar.specs.Pure.BodyParser.{deeper_members, member_of}
 use Rattle.hcl_grammar.specs.declared.tree.Member.{Member}
 use Rattle.hcl_grammar.specs.declared.bounds.TheConstants.{MAX_NESTING}
 use Rattle.hcl_scan.specs.Follows.{tokens_of}
@@ -66,39 +63,3 @@ pub read_as : {rules : RuleSet} {pairs : List Pair} {from past : ℕ} {x : SeenM
 read_as {pairs} {past} next =
     subst (λ n. member_of (tokens_of pairs) MAX_NESTING (deeper_members (tokens_of pairs) MAX_NESTING) n ≡ Ok (Some next.2.member, past)) next.0
     (next.2.read ∙ ap (λ n. Ok (Some next.2.member, n)) next.1)
-
--- ---- a turn of the pure parser of bodies, of which so many are left
-
-at_depth : (ts : List Token) (d i : ℕ) → members ts d i ≡ members_from ts d (deeper_members ts d) (length ts) [] i
-unfolding members
-at_depth ts zero i = refl
-at_depth ts (suc d) i = refl
-
-module _ (ts : List Token) (d : ℕ) where
-  abbrev pub left : ℕ → List Member → ℕ → Result (List Member × ℕ) TokenFault
-  left n ms at = members_from ts d (deeper_members ts d) n ms at
-
-  -- a body's parser begins with no member
-  pub begins : (i : ℕ) → members ts d i ≡ left (length ts) [] i
-  begins i = at_depth ts d i
-
-  module _ (n : ℕ) (ms : List Member) (at : ℕ) {b : Bool} {behind : ℕ} (e : line ts at ≡ Ok (b, behind)) where
-    pub at_line : b ≡ true → left (suc n) ms at ≡ left n ms behind
-    unfolding members_from
-    at_line is = rw (e, is) refl
-
-    pub at_member : b ≡ false → {x : Member} {past : ℕ} → member_of ts d (deeper_members ts d) behind ≡ Ok (Some x, past) → left (suc n) ms at ≡ left n (ms ++ x ∷ []) past
-    unfolding members_from
-    at_member is found = rw (e, is, found) refl
-
-    pub at_none : b ≡ false → {past : ℕ} → member_of ts d (deeper_members ts d) behind ≡ Ok (None, past) → left (suc n) ms at ≡ Ok (ms, past)
-    unfolding members_from
-    at_none is found = rw (e, is, found) refl
-
-    pub at_fault : b ≡ false → {f : TokenFault} → member_of ts d (deeper_members ts d) behind ≡ Err f → left (suc n) ms at ≡ Err f
-    unfolding members_from
-    at_fault is found = rw (e, is, found) refl
-
-  pub at_end : (ms : List Member) (at : ℕ) → left 0 ms at ≡ Ok (ms, at)
-  unfolding members_from
-  at_end ms at = refl

@@ -4,6 +4,7 @@ ghost use Rattle.std.specs.Prelude.{◌≡◌, ◌≤◌, ◌⊎◌, ◌↔◌, 
 ghost use Rattle.edit_record.specs.Pieces.{Turns};
 ghost use Rattle.hcl_format.specs.Layouts.{IsLayout, IsTooLong};
 ghost use Rattle.hcl_grammar.specs.Bodies.{IsFile};
+ghost use Rattle.hcl_grammar.specs.declared.tree.Tree as tree;
 ghost use Rattle.hcl_layout.specs.Layout.{layout_edits};
 ghost use Rattle.hcl_grammar.specs.declared.bounds.TheConstants.{MAX_NESTING};
 ghost use Rattle.hcl_scan.specs.Cut.{MAX_TEXT};
@@ -18,10 +19,9 @@ use crate::command::Fault;
 use crate::reading::read_text;
 use edit_record::Change as _;
 use edit_record::laws::{apply_is_exact, sides_fix_each_other};
-use hcl_format::{is_laid_out, laws, layout};
+use hcl_format::{is_parsed_laid_out, laws, layout_of_parsed};
 use hcl_parses::laws::parsed_apart;
 use hcl_scan::Scanned;
-use hcl_tree::Tree;
 use std::alloc::Global;
 use tf_steps::{Change, Fixed};
 
@@ -34,8 +34,8 @@ pub fn fmt_text(alloc: Global, text: &[u8]) -> Result<Fixed, Fault>
     laws::laid_out_is_text();
     laws::one_layout();
     parsed_apart();
-    let parsed = read_text(alloc, text)?;
-    let change = layout_change(alloc, &parsed.scanned, &parsed.tree)?;
+    let scanned = read_text(alloc, text)?;
+    let change = layout_change(alloc, &scanned)?;
     if change.text.as_slice() == text {
         return Ok(Fixed {
             change: None,
@@ -50,16 +50,16 @@ pub fn fmt_text(alloc: Global, text: &[u8]) -> Result<Fixed, Fault>
     })
 }
 
-// The layout of a text with this tree.
-fn layout_change(alloc: Global, scanned: &Scanned<'_>, tree: &Tree) -> Result<Change, Fault>
-    requires { IsFile (tokens_of scanned.now.pairs) MAX_NESTING tree.now }
+/// The layout of a text that parses.
+fn layout_change(alloc: Global, scanned: &Scanned<'_>) -> Result<Change, Fault>
+    requires { (t : tree.Tree) × IsFile (tokens_of scanned.now.pairs) MAX_NESTING t }
     ensures layout { IfOk result (λ change. IsLayout scanned.now.text change.text.items) }
     ensures short { IfOk result (λ change. length change.text.items ≤ MAX_TEXT) }
     ensures edits { IfOk result (λ change. change.edits ≡ layout_edits scanned.now) }
     ensures turns { IfOk result (λ change. Turns change.edits scanned.now.text change.text.items) }
     ensures fault { IfErr result (λ fault. (fault ≡ Memory) ⊎ ((fault ≡ TooLong) × IsTooLong scanned.now.text)) }
 {
-    let edits = layout(alloc, scanned, tree)?;
+    let edits = layout_of_parsed(alloc, scanned)?;
     apply_is_exact(&edits);
     sides_fix_each_other(&edits);
     match edits.apply(alloc, scanned.text()) {
@@ -75,7 +75,7 @@ pub fn has_own_layout(alloc: Global, text: &[u8]) -> Result<bool, Fault>
     ensures answer { IfOk result (λ yes. IsTrue yes ↔ IsLayout text.now text.now) }
     ensures fault { IfErr result (λ fault. RefusesText Fmt text.now fault) }
 {
-    let parsed = read_text(alloc, text)?;
-    let yes = is_laid_out(alloc, &parsed.scanned, &parsed.tree)?;
+    let scanned = read_text(alloc, text)?;
+    let yes = is_parsed_laid_out(alloc, &scanned)?;
     Ok(yes)
 }

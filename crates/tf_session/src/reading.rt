@@ -1,8 +1,9 @@
-//! A text with its tokens and its tree.
+//! A text with its tokens, and what the rules find in it.
 
 ghost use Rattle.std.specs.Prelude.{◌≡◌, IfOk, IfErr, OnOk};
 ghost use Rattle.hcl_grammar.specs.Bodies.{IsFile};
 ghost use Rattle.hcl_grammar.specs.declared.bounds.TheConstants.{MAX_NESTING};
+ghost use Rattle.hcl_grammar.specs.declared.tree.Tree as tree;
 ghost use Rattle.hcl_scan.specs.Follows.{tokens_of};
 ghost use Rattle.tf_session.specs.Makes.{NotRead};
 ghost use Rattle.tf_session.specs.Reading.{DoesParse};
@@ -11,20 +12,21 @@ ghost use Rattle.tf_steps.specs.Searching.{IsOf};
 ghost use Rattle.tf_steps.specs.declared.reading.Parsed.{Parsed};
 
 use crate::command::Fault;
+use hcl_scan::Scanned;
 use std::alloc::Global;
 use tf_rule::RuleSet;
-use tf_steps::{Parsed, Searched};
+use tf_steps::Searched;
 
-/// The tokens and the tree of a text, if it parses.
-pub fn read_text<'t>(alloc: Global, text: &'t [u8]) -> Result<Parsed<'t>, Fault>
-    ensures reads { IfOk result (λ parsed. Reads text.now parsed) }
-    ensures text { IfOk result (λ parsed. parsed.scanned.text ≡ text.now) }
-    ensures derived { IfOk result (λ parsed. IsFile (tokens_of parsed.scanned.pairs) MAX_NESTING parsed.tree) }
+/// The tokens of a text, if it parses.
+pub fn read_text<'t>(alloc: Global, text: &'t [u8]) -> Result<Scanned<'t>, Fault>
+    ensures reads { IfOk result (λ scanned. (t : tree.Tree) × Reads text.now (record { scanned = scanned; tree = t })) }
+    ensures text { IfOk result (λ scanned. scanned.text ≡ text.now) }
+    ensures derived { IfOk result (λ scanned. (t : tree.Tree) × IsFile (tokens_of scanned.pairs) MAX_NESTING t) }
     ensures parses { OnOk result (DoesParse text.now) }
     ensures fault { IfErr result (λ fault. NotRead text.now fault) }
 {
-    match tf_steps::read_text(alloc, text) {
-        Ok(parsed) => Ok(parsed),
+    match tf_steps::check_text(alloc, text) {
+        Ok(scanned) => Ok(scanned),
         Err(fault) => Err(Fault::from(fault)),
     }
 }

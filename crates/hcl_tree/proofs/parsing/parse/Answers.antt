@@ -1,5 +1,4 @@
 use Rattle.std.proofs.Common.{◌≡◌, false, List, Result, Ok, Err, sym, subst}
-use Rattle.hcl_expr.specs.Rules.{Here}
 use Rattle.hcl_token.specs.CutText.{CutText}
 use Rattle.hcl_token.specs.Tokens.{Pair}
 use Rattle.hcl_scan.specs.Follows.{tokens_of}
@@ -13,13 +12,8 @@ use Rattle.hcl_grammar_laws.specs.Pure.Answering.{IsAnswer}
 use Rattle.hcl_grammar.specs.declared.bounds.TheConstants.{MAX_NESTING}
 use Rattle.hcl_parses.specs.Parses.{Parses}
 use Rattle.hcl_tree.specs.Faults.{IsMemory, IsMemoryOrDeep, in_bytes}
-use Rattle.hcl_tree.proofs.FaultLemmas.{own_tokens, memory_in_bytes, deep_in_bytes}
+use Rattle.hcl_tree.proofs.FaultLemmas.{its_answer, own_tokens, memory_in_bytes, deep_in_bytes}
 use Rattle.hcl_tree.proofs.parsing.parse.Goals as goal
-
--- ---- an answer that is there, to the text's own tokens
-
-its_answer : (ts : List Token) {here : Here} {r q : Result Tree TokenFault} → here ≡ record { tokens = ts; inside = false; depth = MAX_NESTING } → r ≡ q → IsAnswer here.tokens here.depth r → IsAnswer ts MAX_NESTING q
-its_answer ts {here} {r} {q} e same a = subst (λ (h : Here). IsAnswer h.tokens h.depth q) e (subst (λ (o : Result Tree TokenFault). IsAnswer here.tokens here.depth o) same a)
 
 pub returns-in-Ok-clause-parses : goal.returns-in-Ok-clause-parses
 returns-in-Ok-clause-parses c = record {

@@ -8,7 +8,8 @@ use Rattle.hcl_grammar.specs.declared.error.TokenFault.{TokenFault}
 use Rattle.hcl_grammar.specs.declared.error.TokenFault.TheVariants.{Memory}
 use Rattle.hcl_grammar.specs.declared.bounds.TheConstants.{MAX_NESTING}
 use Rattle.hcl_scan.specs.Follows.{tokens_of}
-use Rattle.tf_read.proofs.BodyLemmas.{left, begins, at_line, at_member, at_none, at_fault, at_end, none_seen, one_more, read_as}
+use Rattle.hcl_tree.proofs.Passing.{left, begins, at_line, at_member, at_none, at_fault, at_end}
+use Rattle.tf_read.proofs.BodyLemmas.{none_seen, one_more, read_as}
 use Rattle.tf_read.proofs.FileLemmas.{residual}
 use Rattle.tf_read.proofs.body.body.Goals as goal
 

@@ -7,7 +7,8 @@ use Rattle.hcl_grammar.specs.declared.tree.Member.{Member}
 use Rattle.hcl_grammar.specs.declared.bounds.TheConstants.{MAX_NESTING}
 use Rattle.hcl_scan.specs.Follows.{tokens_of}
 use Rattle.tf_read.specs.Inner.Seeing.{AreOf}
-use Rattle.tf_read.proofs.FileLemmas.{residual, body_refused, end_refused, file_read, file_tree, its_members}
+use Rattle.hcl_tree.proofs.Passing.{body_refused, end_refused, file_read, file_tree}
+use Rattle.tf_read.proofs.FileLemmas.{residual, its_members}
 use Rattle.tf_read.proofs.text.file.Goals as goal
 
 pub returns-in_err-members-clause-fault : goal.returns-in_err-members-clause-fault
@@ -25,7 +26,7 @@ returns-in_err-ended-clause-fault c =
     let f = c.in_err-ended.field-0.0 in
     let seen = c.in_ok-members.ensures.seen in
     residual c.from_residual-in_err-ended.result f (λ (e : TokenFault). e ≢ Memory → spec.file ts MAX_NESTING i ≡ Err e) c.from_residual-in_err-ended.ensures
-    (end_refused ts MAX_NESTING i seen.0 f c.eat-is_mark.new.at c.body.new.at c.eat-is_comment.new.at (rw c.new-reader.ensures at c.eat-is_mark.ensures.after) seen.1 (rw c.new-reader.ensures at c.eat-is_comment.ensures.after) (λ _. rw c.new-reader.ensures at c.in_err-ended.ensures))
+    (λ _. end_refused ts MAX_NESTING i seen.0 f c.eat-is_mark.new.at c.body.new.at c.eat-is_comment.new.at (rw c.new-reader.ensures at c.eat-is_mark.ensures.after) seen.1 (rw c.new-reader.ensures at c.eat-is_comment.ensures.after) (rw c.new-reader.ensures at c.in_err-ended.ensures))
 
 pub returns-clause-found : goal.returns-clause-found
 returns-clause-found c =

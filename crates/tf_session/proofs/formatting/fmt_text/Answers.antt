@@ -14,10 +14,10 @@ told text new edits left none = subst (λ (issues : List Issue). Formats text (r
 
 pub returns-then-eq-clause-made : goal.returns-then-eq-clause-made
 returns-then-eq-clause-made c =
-    told _ _ _ c.new.result (search rules) (stays c.parsed_apart.ensures c.laid_out_is_text.ensures c.one_layout.ensures c.args.text.now c.in_ok-change.change.text.items c.in_ok-parsed.parsed
-    c.in_ok-parsed.ensures.reads c.in_ok-change.ensures.layout c.in_ok-change.ensures.short (search rules))
+    told _ _ _ c.new.result (search rules) (stays c.parsed_apart.ensures c.laid_out_is_text.ensures c.one_layout.ensures c.args.text.now c.in_ok-change.change.text.items (record { scanned = c.in_ok-scanned.scanned; tree = c.in_ok-scanned.ensures.reads.0 })
+    c.in_ok-scanned.ensures.reads.1 c.in_ok-change.ensures.layout c.in_ok-change.ensures.short (search rules))
 
 pub returns-clause-made : goal.returns-clause-made
 returns-clause-made c =
-    told _ _ _ c.new-2.result (search rules) (changes c.args.text.now c.in_ok-change.change.text.items c.in_ok-change.change.edits c.in_ok-parsed.parsed
-    c.in_ok-parsed.ensures.reads c.in_ok-change.ensures.layout c.in_ok-change.ensures.short c.in_ok-change.ensures.edits)
+    told _ _ _ c.new-2.result (search rules) (changes c.args.text.now c.in_ok-change.change.text.items c.in_ok-change.change.edits (record { scanned = c.in_ok-scanned.scanned; tree = c.in_ok-scanned.ensures.reads.0 })
+    c.in_ok-scanned.ensures.reads.1 c.in_ok-change.ensures.layout c.in_ok-change.ensures.short c.in_ok-change.ensures.edits)

@@ -8,14 +8,14 @@ use Rattle.tf_session.proofs.formatting.layout_change.Goals as goal
 pub returns-in-Ok-clause-layout : goal.returns-in-Ok-clause-layout
 returns-in-Ok-clause-layout c =
     let turns : Turns c.in_ok-edits.edits c.args.scanned.now.text c.in-Ok.text.items = search rules in
-    (made c.in_ok-edits.edits c.args.scanned.now.text c.in-Ok.text.items c.args.tree.now c.in_ok-edits.ensures.edits (c.sides_fix_each_other.ensures.new c.args.scanned.now.text) turns).0
+    (made c.in_ok-edits.edits c.args.scanned.now.text c.in-Ok.text.items c.requires.0 (c.in_ok-edits.ensures.edits c.requires.0 c.requires.1) (c.sides_fix_each_other.ensures.new c.args.scanned.now.text) turns).0
 
 pub returns-in-Ok-clause-short : goal.returns-in-Ok-clause-short
 returns-in-Ok-clause-short c =
     let turns : Turns c.in_ok-edits.edits c.args.scanned.now.text c.in-Ok.text.items = search rules in
-    (made c.in_ok-edits.edits c.args.scanned.now.text c.in-Ok.text.items c.args.tree.now c.in_ok-edits.ensures.edits (c.sides_fix_each_other.ensures.new c.args.scanned.now.text) turns).1
+    (made c.in_ok-edits.edits c.args.scanned.now.text c.in-Ok.text.items c.requires.0 (c.in_ok-edits.ensures.edits c.requires.0 c.requires.1) (c.sides_fix_each_other.ensures.new c.args.scanned.now.text) turns).1
 
 pub returns-in-Err-clause-fault : goal.returns-in-Err-clause-fault
 returns-in-Err-clause-fault c =
-    let memory = only_memory _ c.in_ok-edits.edits c.args.scanned.now.text c.text.result.now c.args.tree.now c.in-Err.refused c.apply_is_exact.ensures c.in_ok-edits.ensures.edits c.text.ensures.text c.in-Err.ensures.gives in
+    let memory = only_memory _ c.in_ok-edits.edits c.args.scanned.now.text c.text.result.now c.requires.0 c.in-Err.refused c.apply_is_exact.ensures (c.in_ok-edits.ensures.edits c.requires.0 c.requires.1) c.text.ensures.text c.in-Err.ensures.gives in
     inl (c.from.ensures ∙ ap fault_of_refused memory)

@@ -6,13 +6,13 @@ use Rattle.tf_session.proofs.ReadTexts.{does_parse, not_read}
 use Rattle.tf_session.proofs.reading.read_text.Goals as goal
 
 pub returns-in-Ok-clause-text : goal.returns-in-Ok-clause-text
-returns-in-Ok-clause-text c = c.in-Ok.ensures.reads.0
+returns-in-Ok-clause-text c = c.in-Ok.ensures.reads.1.0
 
 pub returns-in-Ok-clause-derived : goal.returns-in-Ok-clause-derived
-returns-in-Ok-clause-derived c = c.in-Ok.ensures.reads.2
+returns-in-Ok-clause-derived c = (c.in-Ok.ensures.reads.0, c.in-Ok.ensures.reads.1.2)
 
 pub returns-in-Ok-clause-parses : goal.returns-in-Ok-clause-parses
-returns-in-Ok-clause-parses c = does_parse c.args.text.now c.in-Ok.parsed c.in-Ok.ensures.reads
+returns-in-Ok-clause-parses c = does_parse c.args.text.now (record { scanned = c.in-Ok.scanned; tree = c.in-Ok.ensures.reads.0 }) c.in-Ok.ensures.reads.1
 
 pub returns-in-Err-clause-fault : goal.returns-in-Err-clause-fault
 returns-in-Err-clause-fault c =
