@@ -5,7 +5,6 @@ mod command_line;
 mod files;
 mod help;
 mod journals;
-mod outcome;
 mod rule_choice;
 mod worker;
 
