@@ -5,7 +5,13 @@ mod command_line;
 mod files;
 mod help;
 mod journals;
+mod listing;
+mod overwriting;
+mod parts;
+mod places;
+mod replacing;
 mod rule_choice;
+mod saving;
 mod worker;
 
 pub use worker::work;
