@@ -54,6 +54,8 @@ impl World {
             "help" => return self.help(rt, row),
             "usage" => return self.usage(rt, row),
             "holds" => return self.holds(rt, row),
+            "has mode" => return self.has_mode(rt, row),
+            "leads to" => return self.leads_to(rt, row),
             "absent" => return self.absent(rt, row),
             _ => prepare(rt, row)?,
         }
@@ -133,9 +135,27 @@ impl World {
         Ok(Some(String::from_str(self.alloc, from_utf8(&text)?)?))
     }
 
+    /// `has mode | FILE | MODE`.
+    fn has_mode(&self, rt: &HostRuntime, row: &Row) -> Result<Option<String>> {
+        let mode = fs::metadata(rt, row.word(1)?)?.permissions().mode() & 0o7777;
+        if mode == mode_of(row.word(2)?)? {
+            return Ok(None);
+        }
+        Ok(Some(format!(in self.alloc; "{mode:o}")?))
+    }
+
+    /// `leads to | LINK | NAME`: it is a link with this text.
+    fn leads_to(&self, rt: &HostRuntime, row: &Row) -> Result<Option<String>> {
+        let name = fs::read_link(rt, row.word(1)?)?;
+        if name.as_str() == row.word(2)? {
+            return Ok(None);
+        }
+        Ok(Some(name.into_string()))
+    }
+
     /// `absent | FILE`.
     fn absent(&self, rt: &HostRuntime, row: &Row) -> Result<Option<String>> {
-        if fs::open(rt, row.word(1)?).is_err() {
+        if fs::symlink_metadata(rt, row.word(1)?).is_err() {
             return Ok(None);
         }
         Ok(Some(String::from_str(self.alloc, "it is there")?))
@@ -149,6 +169,7 @@ fn prepare(rt: &HostRuntime, row: &Row) -> Result<()> {
         "file" => fs::write(rt, name, row.text(2)?)?,
         "folder" => fs::create_dir_all(rt, name)?,
         "link" => symlink(rt, row.word(2)?, name)?,
+        "hard link" => fs::hard_link(rt, row.word(2)?, name)?,
         "mode" => fs::set_permissions(rt, name, Permissions::from_mode(mode_of(row.word(2)?)?))?,
         "remove" => fs::remove_file(rt, name)?,
         "remove folder" => fs::remove_dir_all(rt, name)?,
@@ -157,12 +178,12 @@ fn prepare(rt: &HostRuntime, row: &Row) -> Result<()> {
     Ok(())
 }
 
-/// Whom a file lets do what: its owner nothing, read, or read and write.
+/// Whom a file lets do what: its owner nothing, read, or read and write, or what the octal digits say.
 fn mode_of(word: &str) -> Result<u32> {
     match word {
         "none" => Ok(0),
         "read" => Ok(0o400),
         "write" => Ok(0o600),
-        _ => Err(anyhow!("no such mode")),
+        digits => Ok(u32::from_str_radix(digits, 8)?),
     }
 }

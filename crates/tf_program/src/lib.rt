@@ -5,8 +5,13 @@ mod command_line;
 mod files;
 mod help;
 mod journals;
-mod outcome;
+mod listing;
+mod overwriting;
+mod parts;
+mod places;
+mod replacing;
 mod rule_choice;
+mod saving;
 mod worker;
 
 pub use worker::work;

@@ -1,0 +1,192 @@
+/*
+ * Ends a program at a call that changes files, or refuses the call, to see what is lost by that: a library to be preloaded
+ * (LD_PRELOAD).
+ *
+ * It counts the calls of the kinds that STOP_CALLS has letters of, from 1 on:
+ *
+ *   o  opening for writing        r  rename        t  setting the length
+ *   w  write                      u  unlink        m  setting the mode
+ *   s  sync                                        c  setting the owner
+ *
+ * What goes to standard output or standard error, and what stands in /dev or /proc, does not count. It reads the environment:
+ *
+ *   STOP=N          call number N is met: the program ends there, before the call
+ *   STOP_ERROR=E    the call is refused instead, with this number for errno
+ *   STOP=N-         and so is each call behind it
+ *   STOP_HALF=1     the first call that is met, if it is a write, takes half of its bytes
+ *   STOP_TOLD=F     the letter of each call that was met is written behind what the file F holds
+ *
+ * It includes nothing, so that a compiler that comes without headers, as that of the toolchain, compiles it.
+ */
+
+typedef unsigned long size_t;
+
+char *getenv(const char *name);
+int *__errno_location(void);
+long syscall(long number, ...);
+
+enum {
+    SYSCALL_WRITE = 1,
+    SYSCALL_OPEN = 2,
+    SYSCALL_FSYNC = 74,
+    SYSCALL_FTRUNCATE = 77,
+    SYSCALL_RENAME = 82,
+    SYSCALL_UNLINK = 87,
+    SYSCALL_FCHMOD = 91,
+    SYSCALL_CHOWN = 92,
+    SYSCALL_EXIT_GROUP = 231,
+    SYSCALL_OPENAT = 257,
+    FOR_WRITING = 03,
+    TO_WRITE_BEHIND = 01 | 0100 | 02000,
+    HERE = -100,
+    ENDED = 137
+};
+
+static const char *counted;
+static long first, seen;
+static int goes_on, error, takes_half;
+
+static long number_of(const char *text)
+{
+    long number = 0;
+    for (; text && *text >= '0' && *text <= '9'; text++)
+        number = 10 * number + (*text - '0');
+    return number;
+}
+
+__attribute__((constructor)) static void begin(void)
+{
+    const char *stop = getenv("STOP");
+    counted = getenv("STOP_CALLS");
+    first = number_of(stop);
+    for (; stop && *stop; stop++)
+        goes_on = *stop == '-';
+    error = (int)number_of(getenv("STOP_ERROR"));
+    takes_half = number_of(getenv("STOP_HALF")) == 1;
+}
+
+static void tell(char letter)
+{
+    const char *name = getenv("STOP_TOLD");
+    if (name)
+        syscall(SYSCALL_WRITE, syscall(SYSCALL_OPEN, name, TO_WRITE_BEHIND, 0600), &letter, 1L);
+}
+
+/* Whether the call of this kind is met; where it is to be, the program ends. */
+static int is_met(char letter)
+{
+    const char *kind = counted;
+    while (kind && *kind && *kind != letter)
+        kind++;
+    if (!first || !kind || !*kind)
+        return 0;
+    seen++;
+    if (seen < first || (seen > first && !goes_on))
+        return 0;
+    tell(letter);
+    return 1;
+}
+
+static int refused(void)
+{
+    if (!error)
+        syscall(SYSCALL_EXIT_GROUP, ENDED);
+    *__errno_location() = error;
+    return -1;
+}
+
+static int is_outside(const char *name)
+{
+    const char *const outside[] = {"/dev/", "/proc/"};
+    for (int i = 0; i < 2; i++) {
+        const char *at = name;
+        const char *front = outside[i];
+        while (*front && *front == *at)
+            front++, at++;
+        if (!*front)
+            return 1;
+    }
+    return 0;
+}
+
+int openat(int folder, const char *name, int flags, ...)
+{
+    __builtin_va_list rest;
+    __builtin_va_start(rest, flags);
+    int mode = __builtin_va_arg(rest, int);
+    __builtin_va_end(rest);
+    if ((flags & FOR_WRITING) && !is_outside(name) && is_met('o'))
+        return refused();
+    return (int)syscall(SYSCALL_OPENAT, folder, name, flags, mode);
+}
+
+int open(const char *name, int flags, ...)
+{
+    __builtin_va_list rest;
+    __builtin_va_start(rest, flags);
+    int mode = __builtin_va_arg(rest, int);
+    __builtin_va_end(rest);
+    return openat(HERE, name, flags, mode);
+}
+
+int openat64(int folder, const char *name, int flags, ...)
+{
+    __builtin_va_list rest;
+    __builtin_va_start(rest, flags);
+    int mode = __builtin_va_arg(rest, int);
+    __builtin_va_end(rest);
+    return openat(folder, name, flags, mode);
+}
+
+int open64(const char *name, int flags, ...)
+{
+    __builtin_va_list rest;
+    __builtin_va_start(rest, flags);
+    int mode = __builtin_va_arg(rest, int);
+    __builtin_va_end(rest);
+    return openat(HERE, name, flags, mode);
+}
+
+long write(int file, const void *bytes, size_t count)
+{
+    if (file > 2 && is_met('w')) {
+        long taken = takes_half && seen == first ? syscall(SYSCALL_WRITE, file, bytes, count / 2) : 0;
+        return error && taken > 0 ? taken : refused();
+    }
+    return syscall(SYSCALL_WRITE, file, bytes, count);
+}
+
+int rename(const char *from, const char *to)
+{
+    return is_met('r') ? refused() : (int)syscall(SYSCALL_RENAME, from, to);
+}
+
+int unlink(const char *name)
+{
+    return is_met('u') ? refused() : (int)syscall(SYSCALL_UNLINK, name);
+}
+
+int fsync(int file)
+{
+    return is_met('s') ? refused() : (int)syscall(SYSCALL_FSYNC, file);
+}
+
+int ftruncate(int file, long length)
+{
+    return is_met('t') ? refused() : (int)syscall(SYSCALL_FTRUNCATE, file, length);
+}
+
+int ftruncate64(int file, long length)
+{
+    return ftruncate(file, length);
+}
+
+int fchmod(int file, unsigned mode)
+{
+    return is_met('m') ? refused() : (int)syscall(SYSCALL_FCHMOD, file, mode);
+}
+
+int chown(const char *name, unsigned owner, unsigned group)
+{
+    return is_met('c') ? refused() : (int)syscall(SYSCALL_CHOWN, name, owner, group);
+}
