@@ -1,5 +1,6 @@
 -- What `last` lent is what `pop` takes, and it turns just one text into this one, or none.
-use Rattle.std.proofs.Common.{◌≡◌, ◌-◌, ◌↔◌, List, ℕ, length, take, slice_get, Some, Ok, Err, refl, rules, subst, sym}
+use Rattle.std.proofs.Common.{◌≡◌, ◌-◌, ◌↔◌, List, ℕ, length, take, slice_get, Some, Ok, Err, refl, rules, arith, subst, sym}
+use Rattle.std.proofs.lemmas.Grind.{common_steps}
 use Rattle.edit_record.specs.Journal.{Entered, record_backward, record_turns}
 use Rattle.edit_record.specs.Refusals.{Gives, HasLen}
 use Rattle.edit_record.specs.declared.change.Refused.{Refused}
@@ -43,3 +44,7 @@ returns-in-Err-clause-refused c =
     c.in-Err.ensures.gives c.in-Err.ensures.memory c.undo_is_exact.ensures in
     subst (λ (fault : Fault). RefusesTake (text_of c.args.self.now) records fault) (sym c.from.ensures)
     (subst (λ (t : List ℕ). RefusesTake t records (fault_of_refused c.in-Err.refused)) c.as_slice.ensures.value refuses)
+
+-- what the check tries anyway: with an answer here, a wrong body is refused without a second search
+pub returns-in-Err-clause-journal : goal.returns-in-Err-clause-journal
+returns-in-Err-clause-journal c = first_of (search rules, grind (arith, common_steps))
