@@ -91,7 +91,7 @@ fn journal_push(rt: HostRuntime) {
 
 // Edits of both lists meet, each kind of them begins an edit, and others stay alone.
 
-const FIRST_ROWS: [Row; 5] = [
+const SQUASH_FIRST: [Row; 5] = [
     (0, "a", "bb"),
     (3, "d", "xyz"),
     (6, "g", ""),
@@ -99,7 +99,7 @@ const FIRST_ROWS: [Row; 5] = [
     (15, "p", "P"),
 ];
 
-const SECOND_ROWS: [Row; 6] = [
+const SQUASH_SECOND: [Row; 6] = [
     (1, "bbc", "q"),
     (6, "z", "z"),
     (7, "ef", "fe"),
@@ -108,7 +108,7 @@ const SECOND_ROWS: [Row; 6] = [
     (20, "s", ""),
 ];
 
-const SQUASHED_ROWS: [Row; 5] = [
+const SQUASHED: [Row; 5] = [
     (0, "abcdefg", "bqxyzfe"),
     (9, "", "-"),
     (11, "l", "m"),
@@ -118,22 +118,31 @@ const SQUASHED_ROWS: [Row; 5] = [
 
 #[test]
 fn squash(rt: HostRuntime) {
-    let first = edits_of(&rt, 20, &FIRST_ROWS);
-    let second = edits_of(&rt, 22, &SECOND_ROWS);
-    let right = edits_of(&rt, 20, &SQUASHED_ROWS);
+    let first = edits_of(&rt, 20, &SQUASH_FIRST);
+    let second = edits_of(&rt, 22, &SQUASH_SECOND);
+    let right = edits_of(&rt, 20, &SQUASHED);
     begin(&rt);
     let answer = edit_squash::squash(rt.alloc(), &first, &second);
     let edits = answered(&rt, answer, Unmet::Memory, true);
     assert!(rt; are_same_edits(&edits, &right));
 }
 
-/// Between `abcdefghi` and `aBBcegh12` stands `aBBcdeghi`, or `abcefgh12` in the other order.
+// Between `abcdefghi` and `aBBcegh12` stands `aBBcdeghi`, or `abcefgh12` in the other order.
+
+const SWAP_FIRST: [Row; 2] = [(1, "b", "BB"), (5, "f", "")];
+
+const SWAP_SECOND: [Row; 3] = [(4, "d", ""), (8, "i", "1"), (9, "", "2")];
+
+const SWAP_SECOND_BEFORE: [Row; 3] = [(3, "d", ""), (8, "i", "1"), (9, "", "2")];
+
+const SWAP_FIRST_BEHIND: [Row; 2] = [(1, "b", "BB"), (4, "f", "")];
+
 #[test]
 fn swap(rt: HostRuntime) {
-    let first = edits_of(&rt, 9, &[(1, "b", "BB"), (5, "f", "")]);
-    let second = edits_of(&rt, 9, &[(4, "d", ""), (8, "i", "1"), (9, "", "2")]);
-    let second_before = edits_of(&rt, 9, &[(3, "d", ""), (8, "i", "1"), (9, "", "2")]);
-    let first_behind = edits_of(&rt, 9, &[(1, "b", "BB"), (4, "f", "")]);
+    let first = edits_of(&rt, 9, &SWAP_FIRST);
+    let second = edits_of(&rt, 9, &SWAP_SECOND);
+    let second_before = edits_of(&rt, 9, &SWAP_SECOND_BEFORE);
+    let first_behind = edits_of(&rt, 9, &SWAP_FIRST_BEHIND);
     begin(&rt);
     let answer = edit_swap::swap(rt.alloc(), &first, &second);
     let (before, behind) = answered(&rt, answer, SwapFault::Memory, true);

@@ -3,7 +3,7 @@
 use super::{Host, given};
 use edit_record::{Edit, Edits, Journal};
 use edit_text::decode;
-use tf_session::{Command, Done, RuleSet, Session, Told};
+use tf_session::{Command, Done, RuleSet, Session};
 
 /// A text with each construct of the grammar, lists that grow more than once, an issue of each rule, and gaps that a layout sets.
 pub const TEXT: &[u8] = b"\
@@ -144,7 +144,7 @@ pub fn edits_of(rt: &impl Host, old_len: usize, rows: &[Row]) -> Edits {
     given(rt, Edits::make(old_len, edits))
 }
 
-/// A writer that takes no memory while it is written to.
-pub fn writer(rt: &impl Host) -> Told<Vec<u8>> {
-    Told::new(given(rt, Vec::with_capacity(rt.alloc(), ROOM)))
+/// A list that takes no memory while it is written to.
+pub fn roomy(rt: &impl Host) -> Vec<u8> {
+    given(rt, Vec::with_capacity(rt.alloc(), ROOM))
 }

@@ -1,7 +1,7 @@
 //! Calls on the text of a journal, and on a text with it.
 
 use super::alike::{are_same_records, are_same_sessions};
-use super::inputs::{JOURNAL, LAST, MIGRATED, OLD_JOURNAL, journal_of, session_of, writer};
+use super::inputs::{JOURNAL, LAST, MIGRATED, OLD_JOURNAL, journal_of, roomy, session_of};
 use super::{Host, answered, begin, gave};
 use edit_text::RecordFault;
 use std::alloc::AllocError;
@@ -66,8 +66,8 @@ fn load_version_1(rt: HostRuntime) {
 #[test]
 fn save(rt: HostRuntime) {
     let session = session_of(&rt, LAST, JOURNAL);
-    let mut journal = writer(&rt);
-    let mut text = writer(&rt);
+    let mut journal = Told::new(roomy(&rt));
+    let mut text = Told::new(roomy(&rt));
     begin(&rt);
     let answer = tf_journal::save(rt.alloc(), &session, &mut journal, &mut text);
     let (journal, text) = (journal.into_inner(), text.into_inner());

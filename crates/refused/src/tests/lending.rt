@@ -1,6 +1,6 @@
 //! Calls that take no memory, and answer what is right where every growth is refused.
 
-use super::inputs::{FIRST, JOURNAL, LAST, LINE, TEXT, bytes_of, edits_of, journal_of, writer};
+use super::inputs::{FIRST, JOURNAL, LAST, LINE, TEXT, bytes_of, edits_of, journal_of, roomy};
 use super::{Host, begin, given};
 use edit_record::{Edit, Edits, Journal, MAX_TEXT, Record, Word};
 use hcl_scan::{Kind, Place, ScanFault, Scanned, scan};
@@ -10,28 +10,43 @@ use tf_journal::journal_text;
 use tf_lint::{Rule, RuleSet};
 use tf_session::{Command, Fault, RunFault, Session, Told, put_journal, put_text};
 
-/// The calls of a text with its tokens: gaps and tokens make the text, and the last token is where it is.
+/// The calls of a text with its tokens: gaps and tokens make the text, and the comment is where it is and ends its line.
 #[test]
 fn no_memory_scanned(rt: HostRuntime) {
     let scanned = given(&rt, scan(rt.alloc(), LINE));
     let all = given(&rt, scan(rt.alloc(), TEXT));
     begin(&rt);
+    assert!(rt; scanned.len() == 5);
     let kinds = [
+        scanned.kind(0),
+        scanned.kind(1),
+        scanned.kind(2),
+        scanned.kind(3),
+        scanned.kind(4),
+    ];
+    let right = [
         Kind::Identifier,
         Kind::Equal,
         Kind::Number,
         Kind::LineComment,
         Kind::LineEnd,
     ];
-    assert!(rt; scanned.len() == kinds.len());
-    assert!(rt; !scanned.is_empty());
-    for (i, kind) in (0..scanned.len()).zip(kinds) {
-        assert!(rt; scanned.kind(i) == kind);
-    }
-    assert!(rt; scanned.last_gap().is_empty());
-    assert!(rt; makes(&scanned, LINE));
-    assert!(rt; comment_is_there(&scanned));
-    assert!(rt; makes(&all, TEXT));
+    let comment = scanned.item(3);
+    let seen = [
+        !scanned.is_empty(),
+        kinds == right,
+        scanned.last_gap().is_empty(),
+        comment.gap_at == 5,
+        comment.start == 6,
+        comment.stop == 12,
+        scanned.clusters(3) == 6,
+        scanned.place_of(3) == Place { line: 1, column: 7 },
+        scanned.joins(0, 2),
+        !scanned.joins(0, 1),
+        makes(&scanned, LINE),
+        makes(&all, TEXT),
+    ];
+    assert!(rt; seen == [true; 12]);
 }
 
 // Whether the gaps and tokens are this text, one behind the other.
@@ -46,21 +61,6 @@ fn makes(scanned: &Scanned<'_>, text: &[u8]) -> bool {
         }
     }
     left == scanned.last_gap()
-}
-
-// The comment of the line: its places, its width, and that it could not stand at the line end's place with no line end.
-fn comment_is_there(scanned: &Scanned<'_>) -> bool {
-    if scanned.len() < 4 {
-        return false;
-    }
-    let item = scanned.item(3);
-    item.gap_at == 5
-        && item.start == 6
-        && item.stop == 12
-        && scanned.clusters(3) == 6
-        && scanned.place_of(3) == Place { line: 1, column: 7 }
-        && scanned.joins(0, 2)
-        && !scanned.joins(0, 1)
 }
 
 /// A text that is too long, and one that is not UTF-8.
@@ -79,14 +79,17 @@ fn no_memory_rules(rt: HostRuntime) {
     begin(&rt);
     let rule = Rule::DeprecatedIndex;
     let others = RuleSet::all().without(rule);
-    assert!(rt; rule.name() == "terraform_deprecated_index");
-    assert!(rt; Rule::by_name("terraform_deprecated_index") == Some(rule));
-    assert!(rt; Rule::by_name("terraform_required_version").is_none());
-    assert!(rt; rule.severity().label() == "Warning");
-    assert!(rt; !others.has(rule));
-    assert!(rt; others.has(Rule::CommentSyntax));
-    assert!(rt; others.with(rule).has(rule));
-    assert!(rt; !RuleSet::none().has(rule));
+    let seen = [
+        rule.name() == "terraform_deprecated_index",
+        Rule::by_name("terraform_deprecated_index") == Some(rule),
+        Rule::by_name("terraform_required_version").is_none(),
+        rule.severity().label() == "Warning",
+        !others.has(rule),
+        others.has(Rule::CommentSyntax),
+        others.with(rule).has(rule),
+        !RuleSet::none().has(rule),
+    ];
+    assert!(rt; seen == [true; 8]);
 }
 
 fn one_edit(rt: &impl Host) -> Vec<Edit> {
@@ -103,25 +106,28 @@ fn no_memory_edits(rt: HostRuntime) {
     let edits = one_edit(&rt);
     let past_end = one_edit(&rt);
     begin(&rt);
-    assert!(rt; Edits::make(1, past_end).is_err());
+    let is_refused = Edits::make(1, past_end).is_err();
     let edits = given(&rt, Edits::make(3, edits));
-    assert!(rt; edits.old_len() == 3);
-    assert!(rt; edits.new_len() == 5);
-    assert!(rt; edits.edits().len() == 1);
+    let lengths = [edits.old_len(), edits.new_len(), edits.edits().len()];
     let record = Record::make(Word::Fmt, edits);
-    assert!(rt; record.word() == Word::Fmt);
-    assert!(rt; record.edits().old_len() == 3);
+    let seen = [
+        is_refused,
+        lengths == [3, 5, 1],
+        record.word() == Word::Fmt,
+        record.edits().old_len() == 3,
+    ];
+    assert!(rt; seen == [true; 4]);
 }
 
 #[test]
 fn no_memory_journal(rt: HostRuntime) {
     let mut journal = journal_of(&rt, JOURNAL);
     begin(&rt);
-    assert!(rt; Journal::empty(rt.alloc()).records().is_empty());
-    assert!(rt; journal.records().len() == 3);
+    let none = Journal::empty(rt.alloc()).records().len();
+    let all = journal.records().len();
     let last = journal.pop().expect(&rt, "there is no record");
-    assert!(rt; journal.records().len() == 2);
-    assert!(rt; last.edits().old_len() == 10);
+    let left = journal.records().len();
+    assert!(rt; [none, all, left, last.edits().old_len()] == [0, 3, 2, 10]);
 }
 
 /// Revert finds no record; the text of an empty journal is empty.
@@ -131,17 +137,20 @@ fn no_memory_session(rt: HostRuntime) {
     begin(&rt);
     let mut session = Session::start(text, Journal::empty(rt.alloc()));
     let reply = session.step(rt.alloc(), Command::Revert);
-    assert!(rt; reply == Err(Fault::NoRecord));
-    assert!(rt; session.text() == FIRST);
-    assert!(rt; session.journal().records().is_empty());
     let written = given(&rt, journal_text(rt.alloc(), &session));
-    assert!(rt; written.is_empty());
+    let seen = [
+        reply == Err(Fault::NoRecord),
+        session.text() == FIRST,
+        session.journal().records().is_empty(),
+        written.is_empty(),
+    ];
+    assert!(rt; seen == [true; 4]);
 }
 
 #[test]
 fn no_memory_put(rt: HostRuntime) {
-    let mut text = writer(&rt);
-    let mut journal = writer(&rt);
+    let mut text = Told::new(roomy(&rt));
+    let mut journal = Told::new(roomy(&rt));
     begin(&rt);
     given(&rt, put_text(LAST, &mut text));
     given(&rt, put_journal(JOURNAL, &mut journal));
@@ -174,15 +183,22 @@ fn no_memory_told(rt: HostRuntime) {
     begin(&rt);
     let mut reader = Told::new(LAST);
     let mut front = [0u8; 3];
-    assert!(rt; given(&rt, reader.read(&mut front)) == 3);
-    assert!(rt; !reader.failed());
+    let read = given(&rt, reader.read(&mut front));
     let mut writer = Told::new(Full { held });
-    assert!(rt; given(&rt, writer.write(&front)) == 3);
+    let written = given(&rt, writer.write(&front));
     given(&rt, writer.flush());
-    assert!(rt; !writer.failed());
-    assert!(rt; writer.write(&front).is_err());
-    assert!(rt; writer.failed());
-    assert!(rt; writer.into_inner().held.as_slice() == b"x =".as_slice());
+    let had_failed = writer.failed();
+    let is_refused = writer.write(&front).is_err();
+    let seen = [
+        read == 3,
+        !reader.failed(),
+        written == 3,
+        !had_failed,
+        is_refused,
+        writer.failed(),
+        writer.into_inner().held.as_slice() == b"x =".as_slice(),
+    ];
+    assert!(rt; seen == [true; 7]);
 }
 
 /// A journal whose text would be too long to be read.
