@@ -1,5 +1,5 @@
 //! Tests over several crates, of what no row of `session_rows` shows: that calls go on to readers and writers once, journals over the
-//! limit, journals squashed to one list, and what stands after a refused growth.
+//! limit, and journals squashed to one list.
 #![tactic(auto)]
 
 #[cfg(test)]

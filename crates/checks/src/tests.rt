@@ -1,13 +1,22 @@
 //! Readers and writers that fail at one call and then work, and the tests over them.
 
+ghost use Rattle.std.specs.Prelude.{◌≡◌, Ok};
+
 mod journals;
-mod memory;
 mod squashing;
 mod told;
 mod whole;
 
 use std::io;
 use std::io::{Error, ErrorKind, Read, Write};
+use std::process::Abort;
+
+/// The value of a call that is to succeed.
+pub fn given<T, E: Drop>(rt: &impl Abort, answer: Result<T, E>) -> T
+    ensures { answer ≡ Ok result }
+{
+    answer.ok().expect(rt, "a call failed")
+}
 
 /// Gives at most `step` bytes a read, `left` in all; the read of number `fails_at` fails, and those behind it work.
 #[derive(Drop)]

@@ -2,10 +2,10 @@
 
 ghost use Rattle.std.specs.Prelude.{Some};
 
-use super::{Hashes, Narrow};
+use super::{Hashes, Narrow, given};
 use edit_record::{Edit, Edits, Record, Word};
 use std::alloc::Global;
-use std::test::Fail;
+use std::process::Abort;
 use tf_journal::{load, save};
 use tf_session::{Journal, RunFault, Session, Told};
 
@@ -22,27 +22,24 @@ fn a_journal_that_does_not_end_is_told(rt: HostRuntime) {
 }
 
 /// A record that removes a text as long as a text may be.
-fn long_record(alloc: Global) -> Result<Record, Fail> {
+fn long_record(rt: &impl Abort, alloc: Global) -> Record {
     let len = 16_777_216;
-    let mut removed = Vec::with_capacity(alloc, len)?;
-    for _ in 0..len {
-        removed.push(b'#')?;
-    }
-    let mut list = Vec::new(alloc);
-    list.push(Edit {
+    let removed = given(rt, vec![in alloc; b'#'; len]);
+    let edit = Edit {
         at: 0,
         removed,
         added: Vec::new(alloc),
-    })?;
-    Ok(Record::make(Word::Fix, Edits::make(len, list)?))
+    };
+    let edits = given(rt, vec![in alloc; edit]);
+    Record::make(Word::Fix, given(rt, Edits::make(len, edits)))
 }
 
 #[test]
-fn a_journal_over_the_limit_is_not_saved(rt: HostRuntime) -> Result<(), Fail> {
+fn a_journal_over_the_limit_is_not_saved(rt: HostRuntime) {
     let alloc = rt.alloc();
     let mut journal = Journal::empty(alloc);
     for _ in 0..16 {
-        journal.push(long_record(alloc)?)?;
+        given(&rt, journal.push(long_record(&rt, alloc)));
     }
     let session = Session::start(Vec::new(alloc), journal);
     let mut journal_out = Told::new(Narrow::new(Vec::new(alloc), 1000, 5));
@@ -51,5 +48,4 @@ fn a_journal_over_the_limit_is_not_saved(rt: HostRuntime) -> Result<(), Fail> {
     assert!(rt; answer == Err(RunFault::Endless));
     assert_eq!(rt; journal_out.into_inner().writes, 0);
     assert_eq!(rt; text_out.into_inner().writes, 0);
-    Ok(())
 }

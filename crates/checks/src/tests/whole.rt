@@ -2,17 +2,16 @@
 
 ghost use Rattle.std.specs.Prelude.{Some};
 
-use super::{Hashes, Narrow};
-use std::test::Fail;
+use super::{Hashes, Narrow, given};
 use tf_stream::{PutFault, TakeFault, Told, put, take_up_to};
 
 const TEXT: &[u8] = b"a   = 1\nbcd = 2\n";
 
 #[test]
-fn a_text_is_put_and_flushed_once(rt: HostRuntime) -> Result<(), Fail> {
+fn a_text_is_put_and_flushed_once(rt: HostRuntime) {
     for step in 1..18usize {
         let mut told = Told::new(Narrow::new(Vec::new(rt.alloc()), 100, step));
-        put(TEXT, &mut told)?;
+        given(&rt, put(TEXT, &mut told));
         let writer = told.into_inner();
         assert!(rt; writer.held.as_slice() == TEXT);
         assert_eq!(rt; writer.writes, 16usize.div_ceil(step) as u64);
@@ -23,7 +22,6 @@ fn a_text_is_put_and_flushed_once(rt: HostRuntime) -> Result<(), Fail> {
     let mut told = Told::new(writer);
     assert_eq!(rt; put(TEXT, &mut told), Err(PutFault { sent: 16 }));
     assert_eq!(rt; told.into_inner().flushes, 1);
-    Ok(())
 }
 
 #[test]
@@ -43,10 +41,10 @@ fn a_write_that_fails_or_takes_nothing_is_the_last(rt: HostRuntime) {
 }
 
 #[test]
-fn a_text_is_taken_up_to_its_limit(rt: HostRuntime) -> Result<(), Fail> {
+fn a_text_is_taken_up_to_its_limit(rt: HostRuntime) {
     for step in [1000usize, 65_536, 100_000] {
         let mut told = Told::new(Hashes::new(200_001, step));
-        let taken = take_up_to(rt.alloc(), 200_001, &mut told)?;
+        let taken = given(&rt, take_up_to(rt.alloc(), 200_001, &mut told));
         assert_eq!(rt; taken.len(), 200_001);
         assert!(rt; taken.iter().all(|byte| *byte == b'#'));
         let mut told = Told::new(Hashes::new(1 << 40, step));
@@ -54,7 +52,6 @@ fn a_text_is_taken_up_to_its_limit(rt: HostRuntime) -> Result<(), Fail> {
         assert!(rt; taken.err() == Some(TakeFault::Endless), "at {step}");
         assert_eq!(rt; told.into_inner().left, (1 << 40) - 200_002);
     }
-    Ok(())
 }
 
 #[test]

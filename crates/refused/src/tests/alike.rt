@@ -1,6 +1,7 @@
-//! Edits and records that are the same, seen without taking memory.
+//! Edits, records and sessions that are the same, seen without taking memory.
 
 use edit_record::{Edit, Edits, Record};
+use tf_session::Session;
 
 fn is_same_edit(one: &Edit, other: &Edit) -> bool {
     one.at == other.at
@@ -25,7 +26,18 @@ pub fn is_same_record(one: &Record, other: &Record) -> bool {
     one.word() == other.word() && are_same_edits(one.edits(), other.edits())
 }
 
+/// Whether both begin with the same records, as far as both have some.
+pub fn begin_alike(one: &[Record], other: &[Record]) -> bool {
+    one.iter().zip(other).all(|(a, b)| is_same_record(a, b))
+}
+
 /// Whether these are the same records.
 pub fn are_same_records(one: &[Record], other: &[Record]) -> bool {
-    one.len() == other.len() && one.iter().zip(other).all(|(a, b)| is_same_record(a, b))
+    one.len() == other.len() && begin_alike(one, other)
+}
+
+/// Whether these sessions are in the same state.
+pub fn are_same_sessions(one: &Session, other: &Session) -> bool {
+    one.text() == other.text()
+        && are_same_records(one.journal().records(), other.journal().records())
 }

@@ -1,10 +1,9 @@
 //! What the calls are made on.
 
-use anyhow::Result;
-use edit_record::{Edit, Edits, Journal, Record, Word};
+use super::{Host, given};
+use edit_record::{Edit, Edits, Journal};
 use edit_text::decode;
-use std::alloc::{AllocError, Global};
-use tf_session::{Command, RuleSet, Session};
+use tf_session::{Command, Done, RuleSet, Session};
 
 /// A text with each construct of the grammar, lists that grow more than once, an issue of each rule, and gaps that a layout sets.
 pub const TEXT: &[u8] = b"\
@@ -97,39 +96,55 @@ pub const LEFT_JOURNAL: &[u8] = b"tfrec 2 fmt 6 1\n0 1 2\naAA\nend\n\
 
 pub const LEFT: &[u8] = b"AAbcdf!";
 
+/// More bytes than come to any writer here.
+const ROOM: usize = 100_000;
+
 /// All rules.
 pub fn fix_all() -> Command {
     Command::Fix(RuleSet::all())
 }
 
 /// A journal from its text.
-pub fn journal_of(alloc: Global, text: &[u8]) -> Result<Journal> {
-    Ok(decode(alloc, text)?)
+pub fn journal_of(rt: &impl Host, text: &[u8]) -> Journal {
+    given(rt, decode(rt.alloc(), text))
+}
+
+/// Bytes of a list of their own.
+pub fn bytes_of(rt: &impl Host, bytes: &[u8]) -> Vec<u8> {
+    given(rt, Vec::from_slice(rt.alloc(), bytes))
 }
 
 /// A session over a text and a journal.
-pub fn session_of(alloc: Global, text: &[u8], journal: &[u8]) -> Result<Session> {
-    Ok(Session::start(Vec::from_slice(alloc, text)?, journal_of(alloc, journal)?))
+pub fn session_of(rt: &impl Host, text: &[u8], journal: &[u8]) -> Session {
+    Session::start(bytes_of(rt, text), journal_of(rt, journal))
 }
 
-/// The edits of rows of a place, what is removed there, and what is added.
-pub fn edits_of(alloc: Global, old_len: usize, rows: &[(usize, &str, &str)]) -> Result<Edits> {
-    let mut edits = Vec::new(alloc);
+/// The session over a text and a journal behind a command that changes the text, and what that did.
+pub fn changed(rt: &impl Host, text: &[u8], journal: &[u8], command: Command) -> (Session, Done) {
+    let mut session = session_of(rt, text, journal);
+    let done = given(rt, session.step(rt.alloc(), command));
+    assert!(rt; done.changed, "the text does not change");
+    (session, done)
+}
+
+/// An edit: its place, what is removed there, and what is added.
+pub type Row = (usize, &'static str, &'static str);
+
+/// The edits of these rows.
+pub fn edits_of(rt: &impl Host, old_len: usize, rows: &[Row]) -> Edits {
+    let mut edits = Vec::new(rt.alloc());
     for (at, removed, added) in rows {
-        edits.push(edit_of(alloc, *at, removed, added)?)?;
+        let edit = Edit {
+            at: *at,
+            removed: bytes_of(rt, removed.as_bytes()),
+            added: bytes_of(rt, added.as_bytes()),
+        };
+        given(rt, edits.push(edit));
     }
-    Ok(Edits::make(old_len, edits)?)
+    given(rt, Edits::make(old_len, edits))
 }
 
-fn edit_of(alloc: Global, at: usize, removed: &str, added: &str) -> Result<Edit, AllocError> {
-    Ok(Edit {
-        at,
-        removed: Vec::from_slice(alloc, removed.as_bytes())?,
-        added: Vec::from_slice(alloc, added.as_bytes())?,
-    })
-}
-
-/// The record of number `n` of some that add one byte each.
-pub fn record_of(alloc: Global, n: usize) -> Result<Record> {
-    Ok(Record::make(Word::Fix, edits_of(alloc, n, &[(0, "", "x")])?))
+/// A list that takes no memory while it is written to.
+pub fn roomy(rt: &impl Host) -> Vec<u8> {
+    given(rt, Vec::with_capacity(rt.alloc(), ROOM))
 }
