@@ -1,5 +1,8 @@
 //! The lines of a journal's records.
 
+ghost use Rattle.std.specs.Prelude.{◌≡◌, IfOk, string_bytes};
+ghost use Rattle.tf_program.specs.Lines.{line_of, name_of, unit_of};
+
 use edit_record::{Record, Word};
 use std::alloc::{AllocError, Global};
 
@@ -14,16 +17,25 @@ pub fn record_lines(alloc: Global, records: &[Record]) -> Result<String, AllocEr
     Ok(lines)
 }
 
-fn record_line(
-    alloc: Global,
-    number: usize,
-    word: Word,
-    edits: usize,
-) -> Result<String, AllocError> {
-    let word = match word {
+fn record_line(alloc: Global, number: usize, word: Word, edits: usize) -> Result<String, AllocError>
+    ensures { IfOk result (λ line. string_bytes line ≡ line_of number word edits) }
+{
+    let word = name_of(word);
+    let unit = unit_of(edits);
+    format!(in alloc; "{number} {word} {edits} {unit}\n")
+}
+
+fn name_of(word: Word) -> &'static str
+    ensures { result.now ≡ name_of word }
+{
+    match word {
         Word::Fmt => "fmt",
         Word::Fix => "fix",
-    };
-    let plural = if edits == 1 { "" } else { "s" };
-    format!(in alloc; "{number} {word} {edits} edit{plural}\n")
+    }
+}
+
+fn unit_of(count: usize) -> &'static str
+    ensures { result.now ≡ unit_of count }
+{
+    if count == 1 { "edit" } else { "edits" }
 }
