@@ -19,9 +19,6 @@ pub trait Host: Abort + AllocGlobal + Print {}
 
 impl<R: Abort + AllocGlobal + Print> Host for R {}
 
-/// The status of a test whose call wanted memory.
-const WANTED: i32 = 3;
-
 /// What an input is made of.
 pub fn given<T, E: Drop>(rt: &impl Host, made: Result<T, E>) -> T
     ensures { made ≡ Ok result }
@@ -34,7 +31,7 @@ pub fn begin(rt: &impl Host) {
     given(rt, println!(rt; "called"));
 }
 
-/// The value that a call gave. Where the call wanted memory, and all that was lent to it is as it was, the test ends here.
+/// The value that a call gave. Where the call wanted memory, the test stops here.
 pub fn answered<T, E: PartialEq + Drop>(
     rt: &impl Host,
     answer: Result<T, E>,
@@ -61,12 +58,8 @@ pub fn gave<E: PartialEq + Drop>(
     assert!(rt; text.as_slice() == right, "another text");
 }
 
-/// The call wanted memory: the test ends, with a status of its own.
+/// The call wanted memory: the test stops, and says so where all that was lent is as it was.
 pub fn wanted(rt: &impl Host, is_as_before: bool) -> ! {
-    assert!(rt;
-        is_as_before,
-        "want of memory, and what was lent is changed"
-    );
-    given(rt, println!(rt; "memory"));
-    rt.exit(WANTED)
+    assert!(rt; is_as_before, "what was lent is changed");
+    panic!(rt; "memory")
 }

@@ -24,7 +24,10 @@ fn a_journal_that_does_not_end_is_told(rt: HostRuntime) {
 /// A record that removes a text as long as a text may be.
 fn long_record(rt: &impl Abort, alloc: Global) -> Record {
     let len = 16_777_216;
-    let removed = given(rt, vec![in alloc; b'#'; len]);
+    let mut removed = given(rt, Vec::with_capacity(alloc, len));
+    for _ in 0..len {
+        given(rt, removed.push(b'#'));
+    }
     let edit = Edit {
         at: 0,
         removed,

@@ -3,20 +3,29 @@
 use super::inputs::{FIRST, JOURNAL, LAST, LINE, TEXT, bytes_of, edits_of, journal_of, roomy};
 use super::{Host, begin, given};
 use edit_record::{Edit, Edits, Journal, MAX_TEXT, Record, Word};
-use hcl_scan::{Kind, Place, ScanFault, Scanned, scan};
+use hcl_scan::{Item, Kind, Place, ScanFault, Scanned, scan};
 use std::io;
 use std::io::{Error, ErrorKind, Read, Write};
 use tf_journal::journal_text;
 use tf_lint::{Rule, RuleSet};
 use tf_session::{Command, Fault, RunFault, Session, Told, put_journal, put_text};
 
-/// The calls of a text with its tokens: gaps and tokens make the text, and the comment is where it is and ends its line.
+/// The calls of a text with its tokens: gaps and tokens make the text, and the comment is where it is.
 #[test]
 fn no_memory_scanned(rt: HostRuntime) {
     let scanned = given(&rt, scan(rt.alloc(), LINE));
     let all = given(&rt, scan(rt.alloc(), TEXT));
     begin(&rt);
-    assert!(rt; scanned.len() == 5);
+    assert!(rt; is_the_line(&scanned));
+    assert!(rt; makes(&scanned, LINE));
+    assert!(rt; makes(&all, TEXT));
+}
+
+// The tokens of the line. The comment is at its places and has its width, and could not stand at the line end's place with no line end.
+fn is_the_line(scanned: &Scanned<'_>) -> bool {
+    if scanned.len() != 5 {
+        return false;
+    }
     let kinds = [
         scanned.kind(0),
         scanned.kind(1),
@@ -31,22 +40,18 @@ fn no_memory_scanned(rt: HostRuntime) {
         Kind::LineComment,
         Kind::LineEnd,
     ];
-    let comment = scanned.item(3);
-    let seen = [
-        !scanned.is_empty(),
-        kinds == right,
-        scanned.last_gap().is_empty(),
-        comment.gap_at == 5,
-        comment.start == 6,
-        comment.stop == 12,
-        scanned.clusters(3) == 6,
-        scanned.place_of(3) == Place { line: 1, column: 7 },
-        scanned.joins(0, 2),
-        !scanned.joins(0, 1),
-        makes(&scanned, LINE),
-        makes(&all, TEXT),
-    ];
-    assert!(rt; seen == [true; 12]);
+    kinds == right
+        && !scanned.is_empty()
+        && scanned.last_gap().is_empty()
+        && is_the_comment(scanned.item(3))
+        && scanned.clusters(3) == 6
+        && scanned.place_of(3) == Place { line: 1, column: 7 }
+        && scanned.joins(0, 2)
+        && !scanned.joins(0, 1)
+}
+
+fn is_the_comment(item: Item) -> bool {
+    item.gap_at == 5 && item.start == 6 && item.stop == 12
 }
 
 // Whether the gaps and tokens are this text, one behind the other.
