@@ -1,8 +1,8 @@
 //! Issues, counted by their rules.
 
 use anyhow::Result;
-use std::alloc::Global;
 use std::fmt::Write;
+use text_trials::Report;
 use tf_lint::{Issue, Rule};
 
 const RULES: [Rule; 9] = [
@@ -38,17 +38,16 @@ fn short(rule: Rule) -> &'static str {
     name.strip_prefix("terraform_").unwrap_or(name)
 }
 
-/// The rules of the issues in their order, each with the number of its issues.
-pub fn told(alloc: Global, issues: &[Issue]) -> Result<String> {
-    let mut counts = String::new(alloc);
+/// Writes the rules of the issues behind the line, in their order, each with the number of its issues.
+pub fn tell(issues: &[Issue], line: &mut String, report: &mut Report) {
     for rule in RULES {
         let count = issues.iter().filter(|issue| issue.rule == rule).count();
         if count > 0 {
             let name = short(rule);
-            write!(counts, " {name}={count}")?;
+            let is_put = write!(line, " {name}={count}").is_ok();
+            report.hold(is_put, "memory is wanting");
         }
     }
-    Ok(counts)
 }
 
 /// In how many texts the rules have issues that count for them, in the order of `RULES`.

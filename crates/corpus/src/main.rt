@@ -15,11 +15,12 @@ mod walk;
 
 use anyhow::Result;
 use counts::Tally;
-use hcl_scan::scan;
+use hcl_scan::{Scanned, scan};
 use hcl_tree::parse;
 use seen::Seen;
-use std::alloc::Global;
+use std::fmt::Write;
 use std::fs;
+use text_trials::Report;
 use tf_lint::{RuleSet, issues};
 
 fn main(rt: HostRuntime) -> Result<()> {
@@ -37,38 +38,69 @@ fn main(rt: HostRuntime) -> Result<()> {
     Ok(())
 }
 
-/// Tells a text of which something else comes than its line says.
 fn run(rt: &HostRuntime, line: &str, seen: &mut Seen, tally: &mut Tally) -> Result<()> {
     let (name, _) = line.split_once(' ').unwrap_or((line, ""));
     let text = fs::read(rt, name)?;
-    match line_of(rt.alloc(), name, &text, seen, tally) {
-        Ok(found) if found.as_str() == line => {}
-        Ok(found) => println!(rt; "{line}\n  found: {found}")?,
-        Err(error) => println!(rt; "{name}: {error}")?,
+    let mut report = Report::new(rt.alloc());
+    let found = line_of(name, &text, seen, tally, &mut report);
+    tell(rt, line, found.as_str(), &report)
+}
+
+/// Tells a text of which something else comes than its line says.
+fn tell(rt: &HostRuntime, line: &str, found: &str, report: &Report) -> Result<()> {
+    if found != line {
+        println!(rt; "{line}\n  found: {found}")?;
+    }
+    if let Some(wrong) = report.wrong() {
+        println!(rt; "{line}\n  {wrong}")?;
     }
     Ok(())
 }
 
 /// The line of a text.
 fn line_of(
-    alloc: Global,
     name: &str,
     text: &[u8],
     seen: &mut Seen,
     tally: &mut Tally,
-) -> Result<String> {
-    let counts = look(alloc, text, seen, tally)?;
-    let left = course::run(alloc, text, seen)?;
-    Ok(format!(in alloc; "{name}{counts} left={left}")?)
+    report: &mut Report,
+) -> String {
+    let mut line = String::new(report.alloc);
+    let has_name = line.push_str(name).is_ok();
+    look(text, &mut line, seen, tally, report);
+    let left = course::run(text, seen, report);
+    let has_left = write!(line, " left={left}").is_ok();
+    report.hold(has_name && has_left, "memory is wanting");
+    line
 }
 
-/// How many issues of each rule a text has; notes what occurs in it.
-fn look(alloc: Global, text: &[u8], seen: &mut Seen, tally: &mut Tally) -> Result<String> {
-    let scanned = scan(alloc, text)?;
-    let tree = parse(alloc, &scanned)?;
-    forms::see(&scanned, seen);
-    walk::see(&scanned, &tree, seen);
-    let found = issues(alloc, &scanned, &tree, RuleSet::all())?;
-    tally.add(&found);
-    counts::told(alloc, &found)
+/// Notes what occurs in a text, and writes how many issues of each rule it has behind its line.
+fn look(text: &[u8], line: &mut String, seen: &mut Seen, tally: &mut Tally, report: &mut Report) {
+    match scan(report.alloc, text) {
+        Ok(scanned) => look_at(&scanned, line, seen, tally, report),
+        Err(_) => report.hold(false, "it has no tokens"),
+    }
+}
+
+fn look_at(
+    scanned: &Scanned<'_>,
+    line: &mut String,
+    seen: &mut Seen,
+    tally: &mut Tally,
+    report: &mut Report,
+) {
+    match parse(report.alloc, scanned) {
+        Ok(tree) => {
+            forms::see(scanned, seen);
+            walk::see(scanned, &tree, seen, report);
+            match issues(report.alloc, scanned, &tree, RuleSet::all()) {
+                Ok(found) => {
+                    tally.add(&found);
+                    counts::tell(&found, line, report);
+                }
+                Err(_) => report.hold(false, "its issues are not found"),
+            }
+        }
+        Err(_) => report.hold(false, "it has no tree"),
+    }
 }

@@ -2,48 +2,93 @@
 
 use crate::seen::Seen;
 use hcl_grammar::tree::{
-    Attribute, Call, Content, Elem, Expr, ForDirective, ForObject, ForTuple, Form, IfDirective,
-    Intro, Label, Link, Member, Operator, Part, Prefix, Shape, Tail, Template, Term, Tree,
+    Attribute, Block, Call, Content, Elem, Expr, ForDirective, ForObject, ForTuple, Form,
+    IfDirective, Intro, Label, Link, Member, Operator, Part, Prefix, Shape, Tail, Template, Tree,
 };
 use hcl_scan::{Kind, Scanned};
 use plain_tree::{Boxed, Items};
+use text_trials::Report;
+
+/// More nodes than the tree of any of the texts has.
+const NODES: usize = 1_000_000;
+
+/// A node that is still to be looked at.
+#[derive(Clone, Copy)]
+enum Node<'t> {
+    Member(&'t Member),
+    Expr(&'t Expr),
+    Tail(&'t Tail),
+    Elem(&'t Elem),
+    Part(&'t Part),
+}
+
+/// The nodes that are still to be looked at, and whether there was memory for all of them.
+#[derive(Drop)]
+struct Left<'t> {
+    nodes: Vec<Node<'t>>,
+    is_whole: bool,
+}
 
 /// Notes the nodes of a text's tree.
-pub fn see(scanned: &Scanned<'_>, tree: &Tree, seen: &mut Seen) {
-    let walk = Walk { scanned };
-    walk.members(&tree.body.members, seen);
+pub fn see(scanned: &Scanned<'_>, tree: &Tree, seen: &mut Seen, report: &mut Report) {
+    let mut left = Left {
+        nodes: Vec::new(report.alloc),
+        is_whole: true,
+    };
+    left.members(&tree.body.members);
+    for _ in 0..NODES {
+        match left.nodes.pop() {
+            Some(node) => see_node(scanned, node, &mut left, seen),
+            None => break,
+        }
+    }
+    let is_whole = left.is_whole && left.nodes.is_empty();
+    report.hold(is_whole, "it has too many nodes");
 }
 
-#[derive(Drop)]
-struct Walk<'s, 't> {
-    scanned: &'s Scanned<'t>,
+fn see_node<'t>(scanned: &Scanned<'_>, node: Node<'t>, left: &mut Left<'t>, seen: &mut Seen) {
+    match node {
+        Node::Member(Member::Attribute(attribute)) => left.attribute(attribute, seen),
+        Node::Member(Member::Block(block)) => left.block(block, seen),
+        Node::Expr(expr) => left.form(&expr.form, seen),
+        Node::Tail(tail) => left.tail(tail, seen),
+        Node::Elem(elem) => {
+            see_elem(scanned, elem, seen);
+            left.expr(&elem.key);
+            left.expr(&elem.value);
+        }
+        Node::Part(part) => left.part(part, seen),
+    }
 }
 
-impl<'s, 't> Walk<'s, 't> {
-    #[cycle(bodies)]
-    fn members(&self, members: &Items<Member>, seen: &mut Seen) {
+impl<'t> Left<'t> {
+    fn put(&mut self, node: Node<'t>) {
+        let is_put = self.nodes.push(node).is_ok();
+        self.is_whole = self.is_whole && is_put;
+    }
+
+    fn expr(&mut self, expr: &'t Expr) {
+        self.put(Node::Expr(expr));
+    }
+
+    fn members(&mut self, members: &'t Items<Member>) {
         for member in members.as_slice() {
-            self.member(member, seen);
+            self.put(Node::Member(member));
         }
     }
 
-    #[cycle(bodies)]
-    fn member(&self, member: &Member, seen: &mut Seen) {
-        match member {
-            Member::Attribute(attribute) => self.attribute(attribute, seen),
-            Member::Block(block) => {
-                see_labels(&block.labels, seen);
-                self.content(&block.content, seen);
-            }
+    fn exprs(&mut self, exprs: &'t Items<Expr>) {
+        for expr in exprs.as_slice() {
+            self.expr(expr);
         }
     }
 
-    #[cycle(bodies)]
-    fn content(&self, content: &Content, seen: &mut Seen) {
-        match content {
+    fn block(&mut self, block: &'t Block, seen: &mut Seen) {
+        see_labels(&block.labels, seen);
+        match &block.content {
             Content::Lines(body) => {
                 seen.form("a block on lines");
-                self.members(&body.get().members, seen);
+                self.members(&body.get().members);
             }
             Content::Line(Some(attribute)) => {
                 seen.form("a block on a line, with an attribute");
@@ -53,58 +98,49 @@ impl<'s, 't> Walk<'s, 't> {
         }
     }
 
-    fn attribute(&self, attribute: &Attribute, seen: &mut Seen) {
+    fn attribute(&mut self, attribute: &'t Attribute, seen: &mut Seen) {
         seen.form("NAME = A");
-        self.expr(attribute.value.get(), seen);
+        self.expr(attribute.value.get());
     }
 
-    #[cycle(expressions)]
-    fn expr(&self, expr: &Expr, seen: &mut Seen) {
-        self.form(&expr.form, seen);
-    }
-
-    #[cycle(expressions)]
-    fn form(&self, form: &Form, seen: &mut Seen) {
+    fn form(&mut self, form: &'t Form, seen: &mut Seen) {
         match form {
             Form::Conditional(condition, met, unmet) => {
                 seen.form("A ? B : C");
-                self.expr(condition.get(), seen);
-                self.expr(met.get(), seen);
-                self.expr(unmet.get(), seen);
+                self.expr(condition.get());
+                self.expr(met.get());
+                self.expr(unmet.get());
             }
             Form::Chain(head, links) => {
-                self.expr(head.get(), seen);
+                self.expr(head.get());
                 self.links(links, seen);
             }
             Form::Prefixed(prefix, operand) => {
                 seen.form(name_of_prefix(*prefix));
-                self.expr(operand.get(), seen);
+                self.expr(operand.get());
             }
             Form::Tailed(term, tails) => {
-                self.term(term.get(), seen);
-                self.tails(tails, seen);
+                self.shape(&term.get().shape, seen);
+                self.tails(tails);
             }
-            Form::Plain(term) => self.term(term, seen),
+            Form::Plain(term) => self.shape(&term.shape, seen),
         }
     }
 
-    #[cycle(expressions)]
-    fn links(&self, links: &Items<Link>, seen: &mut Seen) {
+    fn links(&mut self, links: &'t Items<Link>, seen: &mut Seen) {
         for link in links.as_slice() {
             seen.form(name_of(link.operator));
-            self.expr(&link.operand, seen);
+            self.expr(&link.operand);
         }
     }
 
-    #[cycle(expressions)]
-    fn tails(&self, tails: &Items<Tail>, seen: &mut Seen) {
+    fn tails(&mut self, tails: &'t Items<Tail>) {
         for tail in tails.as_slice() {
-            self.tail(tail, seen);
+            self.put(Node::Tail(tail));
         }
     }
 
-    #[cycle(expressions)]
-    fn tail(&self, tail: &Tail, seen: &mut Seen) {
+    fn tail(&mut self, tail: &'t Tail, seen: &mut Seen) {
         match tail {
             Tail::Name(_) => seen.form("A.NAME"),
             Tail::Legacy(_) => seen.form("A.0"),
@@ -112,194 +148,140 @@ impl<'s, 't> Walk<'s, 't> {
             Tail::FullSplat => seen.form("A[*]"),
             Tail::Index(expr) => {
                 seen.form("A[B]");
-                self.expr(expr.get(), seen);
+                self.expr(expr.get());
             }
         }
     }
 
-    #[cycle(expressions)]
-    fn exprs(&self, exprs: &Items<Expr>, seen: &mut Seen) {
-        for expr in exprs.as_slice() {
-            self.expr(expr, seen);
-        }
-    }
-
-    #[cycle(expressions)]
-    fn elems(&self, elems: &Items<Elem>, seen: &mut Seen) {
-        for elem in elems.as_slice() {
-            self.see_elem(elem, seen);
-            self.expr(&elem.key, seen);
-            self.expr(&elem.value, seen);
-        }
-    }
-
-    fn see_elem(&self, elem: &Elem, seen: &mut Seen) {
-        let is_colon = self.stands(Kind::Colon, elem.key.past, elem.value.first);
-        seen.form(if is_colon { "KEY : A" } else { "KEY = A" });
-        let behind = elem.value.past.saturating_add(1);
-        let is_comma = self.stands(Kind::Comma, elem.value.past, behind);
-        seen.form_if(is_comma, "elements behind a comma");
-        let is_end = self.stands(Kind::LineEnd, elem.value.past, behind);
-        seen.form_if(is_end, "elements behind a line end");
-    }
-
-    /// Whether a token of this kind stands among these of the text.
-    fn stands(&self, kind: Kind, first: usize, past: usize) -> bool {
-        (first..past.min(self.scanned.len())).any(|i| i < self.scanned.len()
-            && self.scanned.kind(i) == kind)
-    }
-
-    #[cycle(expressions)]
-    fn filter(&self, filter: &Option<Boxed<Expr>>, seen: &mut Seen) {
-        match filter {
-            Some(expr) => self.expr(expr.get(), seen),
-            None => {}
-        }
-    }
-
-    #[cycle(expressions)]
-    fn term(&self, term: &Term, seen: &mut Seen) {
-        self.shape(&term.shape, seen);
-    }
-
-    #[cycle(expressions)]
-    fn shape(&self, shape: &Shape, seen: &mut Seen) {
+    fn shape(&mut self, shape: &'t Shape, seen: &mut Seen) {
+        seen.form(name_of_shape(shape));
         match shape {
-            Shape::Number => seen.form("a number"),
-            Shape::Identifier => seen.form("a name"),
+            Shape::Number | Shape::Identifier => {}
             Shape::Call(call) => self.call(call.get(), seen),
-            Shape::Tuple(exprs) => {
-                seen.form(if exprs.is_empty() {
-                    "a tuple without elements"
-                } else {
-                    "a tuple"
-                });
-                self.exprs(exprs, seen);
-            }
-            Shape::Object(elems) => {
-                seen.form(if elems.is_empty() {
-                    "an object without elements"
-                } else {
-                    "an object"
-                });
-                self.elems(elems, seen);
-            }
+            Shape::Tuple(exprs) => self.exprs(exprs),
+            Shape::Object(elems) => self.elems(elems),
             Shape::ForTuple(each) => self.for_tuple(each.get(), seen),
             Shape::ForObject(each) => self.for_object(each.get(), seen),
-            Shape::Quoted(template) => self.quoted(template, seen),
-            Shape::Heredoc(template) => self.heredoc(template, seen),
-            Shape::Parens(expr) => {
-                seen.form("( )");
-                self.expr(expr.get(), seen);
-            }
+            Shape::Quoted(template) | Shape::Heredoc(template) => self.parts(template),
+            Shape::Parens(expr) => self.expr(expr.get()),
         }
     }
 
-    #[cycle(expressions)]
-    fn call(&self, call: &Call, seen: &mut Seen) {
-        seen.form(if call.names.len() > 1 {
-            "a call of a name with ::"
-        } else {
-            "a call"
-        });
-        seen.form_if(call.arguments.is_empty(), "a call without arguments");
-        seen.form_if(call.spread, "a call with ...");
-        self.exprs(&call.arguments, seen);
+    fn elems(&mut self, elems: &'t Items<Elem>) {
+        for elem in elems.as_slice() {
+            self.put(Node::Elem(elem));
+        }
     }
 
-    #[cycle(expressions)]
-    fn intro(&self, intro: &Intro, seen: &mut Seen) {
+    fn call(&mut self, call: &'t Call, seen: &mut Seen) {
+        seen.form_if(call.arguments.is_empty(), "a call without arguments");
+        seen.form_if(call.spread, "a call with ...");
+        self.exprs(&call.arguments);
+    }
+
+    fn intro(&mut self, intro: &'t Intro, seen: &mut Seen) {
         seen.form(match intro.second {
             Some(_) => "for NAME, NAME in A",
             None => "for NAME in A",
         });
-        self.expr(&intro.source, seen);
+        self.expr(&intro.source);
     }
 
-    #[cycle(expressions)]
-    fn for_tuple(&self, each: &ForTuple, seen: &mut Seen) {
-        seen.form("[for");
-        seen.form_if(each.filter.is_some(), "[for with if");
-        self.intro(&each.intro, seen);
-        self.expr(&each.value, seen);
-        self.filter(&each.filter, seen);
-    }
-
-    #[cycle(expressions)]
-    fn for_object(&self, each: &ForObject, seen: &mut Seen) {
-        seen.form("{for");
-        seen.form_if(each.filter.is_some(), "{for with if");
-        seen.form_if(each.grouped, "{for with ...");
-        self.intro(&each.intro, seen);
-        self.expr(&each.key, seen);
-        self.expr(&each.value, seen);
-        self.filter(&each.filter, seen);
-    }
-
-    #[cycle(expressions)]
-    fn quoted(&self, template: &Template, seen: &mut Seen) {
-        seen.form(if template.parts.is_empty() {
-            "quotes alone"
-        } else {
-            "quoted text"
-        });
-        self.parts(&template.parts, seen);
-    }
-
-    #[cycle(expressions)]
-    fn heredoc(&self, template: &Template, seen: &mut Seen) {
-        seen.form(if template.parts.is_empty() {
-            "a heredoc without a line"
-        } else {
-            "a heredoc"
-        });
-        self.parts(&template.parts, seen);
-    }
-
-    #[cycle(expressions)]
-    fn parts(&self, parts: &Items<Part>, seen: &mut Seen) {
-        for part in parts.as_slice() {
-            self.part(part, seen);
+    fn filter(&mut self, filter: &'t Option<Boxed<Expr>>) {
+        if let Some(expr) = filter {
+            self.expr(expr.get());
         }
     }
 
-    #[cycle(expressions)]
-    fn part(&self, part: &Part, seen: &mut Seen) {
+    fn for_tuple(&mut self, each: &'t ForTuple, seen: &mut Seen) {
+        seen.form_if(each.filter.is_some(), "[for with if");
+        self.intro(&each.intro, seen);
+        self.expr(&each.value);
+        self.filter(&each.filter);
+    }
+
+    fn for_object(&mut self, each: &'t ForObject, seen: &mut Seen) {
+        seen.form_if(each.filter.is_some(), "{for with if");
+        seen.form_if(each.grouped, "{for with ...");
+        self.intro(&each.intro, seen);
+        self.expr(&each.key);
+        self.expr(&each.value);
+        self.filter(&each.filter);
+    }
+
+    fn parts(&mut self, template: &'t Template) {
+        for part in template.parts.as_slice() {
+            self.put(Node::Part(part));
+        }
+    }
+
+    fn part(&mut self, part: &'t Part, seen: &mut Seen) {
         match part {
             Part::Literal(_) => seen.form("literal text"),
             Part::Interp(expr) => {
                 seen.form("an interpolation");
-                self.expr(expr.get(), seen);
+                self.expr(expr.get());
             }
             Part::If(choice) => self.if_directive(choice.get(), seen),
             Part::For(each) => self.for_directive(each.get(), seen),
         }
     }
 
-    #[cycle(expressions)]
-    fn if_directive(&self, choice: &IfDirective, seen: &mut Seen) {
-        seen.form(if choice.unmet.is_some() {
-            "%{if with else"
-        } else {
-            "%{if"
-        });
-        self.expr(&choice.condition, seen);
-        self.parts(&choice.met.parts, seen);
-        self.unmet(&choice.unmet, seen);
-    }
-
-    #[cycle(expressions)]
-    fn unmet(&self, unmet: &Option<Template>, seen: &mut Seen) {
-        if let Some(template) = unmet {
-            self.parts(&template.parts, seen);
+    fn if_directive(&mut self, choice: &'t IfDirective, seen: &mut Seen) {
+        self.expr(&choice.condition);
+        self.parts(&choice.met);
+        match &choice.unmet {
+            Some(unmet) => {
+                seen.form("%{if with else");
+                self.parts(unmet);
+            }
+            None => seen.form("%{if"),
         }
     }
 
-    #[cycle(expressions)]
-    fn for_directive(&self, each: &ForDirective, seen: &mut Seen) {
+    fn for_directive(&mut self, each: &'t ForDirective, seen: &mut Seen) {
         seen.form("%{for");
         self.intro(&each.intro, seen);
-        self.parts(&each.body.parts, seen);
+        self.parts(&each.body);
+    }
+}
+
+fn see_elem(scanned: &Scanned<'_>, elem: &Elem, seen: &mut Seen) {
+    let is_colon = stands(scanned, Kind::Colon, elem.key.past, elem.value.first);
+    seen.form(if is_colon { "KEY : A" } else { "KEY = A" });
+    let behind = elem.value.past.saturating_add(1);
+    let is_comma = stands(scanned, Kind::Comma, elem.value.past, behind);
+    seen.form_if(is_comma, "elements behind a comma");
+    let is_end = stands(scanned, Kind::LineEnd, elem.value.past, behind);
+    seen.form_if(is_end, "elements behind a line end");
+}
+
+/// Whether a token of this kind stands among these of the text.
+fn stands(scanned: &Scanned<'_>, kind: Kind, first: usize, past: usize) -> bool {
+    let mut stands = false;
+    for i in first..past {
+        stands = stands || (i < scanned.len() && scanned.kind(i) == kind);
+    }
+    stands
+}
+
+fn name_of_shape(shape: &Shape) -> &'static str {
+    match shape {
+        Shape::Number => "a number",
+        Shape::Identifier => "a name",
+        Shape::Call(call) if call.get().names.len() > 1 => "a call of a name with ::",
+        Shape::Call(_) => "a call",
+        Shape::Tuple(exprs) if exprs.is_empty() => "a tuple without elements",
+        Shape::Tuple(_) => "a tuple",
+        Shape::Object(elems) if elems.is_empty() => "an object without elements",
+        Shape::Object(_) => "an object",
+        Shape::ForTuple(_) => "[for",
+        Shape::ForObject(_) => "{for",
+        Shape::Quoted(template) if template.parts.is_empty() => "quotes alone",
+        Shape::Quoted(_) => "quoted text",
+        Shape::Heredoc(template) if template.parts.is_empty() => "a heredoc without a line",
+        Shape::Heredoc(_) => "a heredoc",
+        Shape::Parens(_) => "( )",
     }
 }
 

@@ -1,6 +1,6 @@
 //! The damaged forms of bytes: each front, and each byte with another in its place.
 
-use std::alloc::{AllocError, Global};
+use text_trials::Report;
 
 /// What stands in the place of a byte; last comes the byte and one.
 const OTHERS: [u8; 5] = [0, 0xff, b'"', b'{', b'\n'];
@@ -19,17 +19,17 @@ pub fn front(len: usize, number: usize) -> Option<usize> {
 }
 
 /// The form of this number: the fronts come first, the shortest first.
-pub fn of(alloc: Global, bytes: &[u8], number: usize) -> Result<Vec<u8>, AllocError> {
+pub fn of(bytes: &[u8], number: usize, report: &mut Report) -> Vec<u8> {
     if number <= bytes.len() {
-        return Vec::from_slice(alloc, &bytes[..number]);
+        return report.copy(&bytes[..number]);
     }
     let rest = number.saturating_sub(bytes.len()).saturating_sub(1);
-    let mut changed = Vec::from_slice(alloc, bytes)?;
+    let mut changed = report.copy(bytes);
     if let Some(byte) = changed.get_mut(rest / CHOICES) {
         *byte = match OTHERS.get(rest % CHOICES) {
             Some(other) => *other,
             None => byte.wrapping_add(1),
         };
     }
-    Ok(changed)
+    changed
 }

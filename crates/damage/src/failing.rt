@@ -1,111 +1,137 @@
-//! Readers that fail behind each byte: no call goes on, and nothing is written.
+//! Readers that fail behind each byte, and one that never ends: no call goes on, and nothing is written. No call takes more than one byte
+//! over the limit of a text.
 
-use crate::outer::{reader, stream};
-use crate::sessions::{State, hold as holds};
-use crate::streams::{Drops, Room};
-use anyhow::Result;
-use std::alloc::Global;
+use crate::outer::stream;
+use crate::streams::{Behind, Drops, Room};
+use text_trials::{Report, State};
 use tf_journal::load;
 use tf_session::{
     Command, RuleSet, RunFault, Told, check_stream, lint_stream, step_stream, take_text,
 };
 
+/// One more than a text may have.
+const TAKEN: usize = 16_777_217;
+
 /// Tries each front of the text of a state, and each of its journal.
-pub fn hold(alloc: Global, state: &State) -> Result<()> {
-    for len in 0..=state.text.len() {
-        text_fails(alloc, state, &state.text[..len])?;
+pub fn hold(state: &State, report: &mut Report) {
+    let (text, journal) = (state.text.as_slice(), state.journal.as_slice());
+    for len in 0..=text.len() {
+        let front = Drops::new(&text[..len], Behind::Failure);
+        alone(front, RunFault::Read, report);
+        beside(
+            front,
+            Drops::new(journal, Behind::Nothing),
+            RunFault::Read,
+            report,
+        );
     }
-    for len in 0..=state.journal.len() {
-        journal_fails(alloc, state, &state.journal[..len])?;
+    for len in 0..=journal.len() {
+        let front = Drops::new(&journal[..len], Behind::Failure);
+        beside(
+            Drops::new(text, Behind::Nothing),
+            front,
+            RunFault::Read,
+            report,
+        );
     }
-    Ok(())
 }
 
-fn text_fails(alloc: Global, state: &State, front: &[u8]) -> Result<()> {
-    takes(alloc, front)?;
-    lints(alloc, front)?;
-    steps(alloc, front)?;
-    not_loaded(alloc, Drops::failing(front), Drops::new(&state.journal))?;
-    not_streamed(alloc, (front, true), (&state.journal, false))
+/// Tries a text that never ends.
+pub fn hold_endless(report: &mut Report) {
+    let endless = Drops::new(b"", Behind::Hashes);
+    alone(endless, RunFault::Endless, report);
+    beside(
+        endless,
+        Drops::new(b"", Behind::Nothing),
+        RunFault::Endless,
+        report,
+    );
 }
 
-fn journal_fails(alloc: Global, state: &State, front: &[u8]) -> Result<()> {
-    not_loaded(alloc, Drops::new(&state.text), Drops::failing(front))?;
-    not_streamed(alloc, (&state.text, false), (front, true))
+/// Whether this fault is told, and the reader gave as much as the fault says.
+fn is_told(fault: Option<RunFault>, reader: &Drops<'_>, wanted: RunFault, report: &mut Report) {
+    report.hold(
+        fault == Some(wanted),
+        "a call tells another fault of a reader",
+    );
+    let taken = if wanted == RunFault::Endless {
+        TAKEN
+    } else {
+        0
+    };
+    report.hold(reader.given == taken, "another number of bytes is taken");
 }
 
-fn takes(alloc: Global, front: &[u8]) -> Result<()> {
-    let taken = take_text(alloc, &mut Told::new(reader(front, true)));
-    holds(
-        taken.err() == Some(RunFault::Read),
-        "a text is taken from a read that fails",
-    )?;
-    let checked = check_stream(alloc, &mut Told::new(reader(front, true)));
-    holds(
-        checked == Err(RunFault::Read),
-        "a check goes on over a read that fails",
-    )
+/// The calls over a text alone.
+fn alone(text: Drops<'_>, wanted: RunFault, report: &mut Report) {
+    takes(text, wanted, report);
+    lints(text, wanted, report);
+    steps(text, wanted, report);
 }
 
-fn lints(alloc: Global, front: &[u8]) -> Result<()> {
-    let mut out = Room::ample(alloc);
+fn takes(text: Drops<'_>, wanted: RunFault, report: &mut Report) {
+    let mut reader = text;
+    let taken = take_text(report.alloc, &mut Told::new(&mut reader));
+    is_told(taken.err(), &reader, wanted, report);
+    let mut reader = text;
+    let checked = check_stream(report.alloc, &mut Told::new(&mut reader));
+    is_told(checked.err(), &reader, wanted, report);
+}
+
+fn lints(text: Drops<'_>, wanted: RunFault, report: &mut Report) {
+    let mut reader = text;
+    let mut out = Room::ample(report.alloc);
     let linted = lint_stream(
-        alloc,
+        report.alloc,
         "f",
-        &mut Told::new(reader(front, true)),
+        &mut Told::new(&mut reader),
         &mut Told::new(&mut out),
         RuleSet::all(),
     );
-    let is_unwritten = out.held.is_empty();
-    holds(
-        linted == Err(RunFault::Read) && is_unwritten,
-        "a lint goes on over a read that fails",
-    )
+    is_told(linted.err(), &reader, wanted, report);
+    report.hold(
+        out.held.is_empty(),
+        "a lint of a text that is not read writes",
+    );
 }
 
-fn steps(alloc: Global, front: &[u8]) -> Result<()> {
-    let mut out = Room::ample(alloc);
+fn steps(text: Drops<'_>, wanted: RunFault, report: &mut Report) {
+    let mut reader = text;
+    let mut out = Room::ample(report.alloc);
     let stepped = step_stream(
-        alloc,
+        report.alloc,
         Command::Fmt,
-        &mut Told::new(reader(front, true)),
+        &mut Told::new(&mut reader),
         &mut Told::new(&mut out),
     );
-    let is_unwritten = out.held.is_empty();
-    let is_read = stepped.err() == Some(RunFault::Read);
-    holds(
-        is_read && is_unwritten,
-        "a fmt goes on over a read that fails",
-    )
+    is_told(stepped.err(), &reader, wanted, report);
+    report.hold(
+        out.held.is_empty(),
+        "a fmt of a text that is not read writes",
+    );
 }
 
-fn not_loaded(alloc: Global, text: Drops<'_>, journal: Drops<'_>) -> Result<()> {
-    let loaded = load(alloc, &mut Told::new(text), &mut Told::new(journal));
-    holds(
-        loaded.err() == Some(RunFault::Read),
-        "a session is loaded from a read that fails",
-    )
-}
-
-/// No stream goes on; of text and journal it is said whether a read fails behind them.
-fn not_streamed(alloc: Global, text: (&[u8], bool), journal: (&[u8], bool)) -> Result<()> {
+/// The calls over a text and its journal.
+fn beside(text: Drops<'_>, journal: Drops<'_>, wanted: RunFault, report: &mut Report) {
+    let (mut text_in, mut journal_in) = (text, journal);
+    let loaded = load(
+        report.alloc,
+        &mut Told::new(&mut text_in),
+        &mut Told::new(&mut journal_in),
+    );
+    is_told(loaded.err(), &text_in, wanted, report);
     for command in [Command::Fmt, Command::Fix(RuleSet::all()), Command::Revert] {
-        let mut journal_out = Room::ample(alloc);
-        let mut text_out = Room::ample(alloc);
-        let answer = stream(
-            alloc,
+        let (mut text_in, mut journal_in) = (text, journal);
+        let (to_journal, to_text) = (Room::ample(report.alloc), Room::ample(report.alloc));
+        let came = stream(
             command,
-            &mut reader(text.0, text.1),
-            &mut reader(journal.0, journal.1),
-            &mut journal_out,
-            &mut text_out,
+            &mut text_in,
+            &mut journal_in,
+            to_journal,
+            to_text,
+            report.alloc,
         );
-        let is_unwritten = text_out.held.is_empty() && journal_out.held.is_empty();
-        let is_read = answer == Err(RunFault::Read);
-        holds(
-            is_read && is_unwritten,
-            "a stream goes on over a read that fails",
-        )?;
+        came.refuses(wanted, report, "a stream goes on over a read that fails");
+        is_told(came.answer.err(), &text_in, wanted, report);
     }
-    Ok(())
 }

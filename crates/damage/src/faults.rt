@@ -1,58 +1,61 @@
 //! Why a text is not read, and what stands at the place that is told.
 
-use crate::sessions::hold;
-use anyhow::{Result, anyhow};
 use hcl_scan::{Scanned, scan};
 use hcl_tree::parse;
-use std::alloc::Global;
 use std::str::from_utf8;
+use text_trials::Report;
 use tf_session::{Fault, ParseFault, ScanFault};
 
 /// Why no command reads a text; none if it parses. What is told of the text is held against the text.
-pub fn refusal(alloc: Global, text: &[u8]) -> Result<Option<Fault>> {
-    match scan(alloc, text) {
+pub fn refusal(text: &[u8], report: &mut Report) -> Option<Fault> {
+    match scan(report.alloc, text) {
         Ok(scanned) => {
-            hold(
-                is_cut(alloc, &scanned, text)?,
-                "the tokens make another text",
-            )?;
-            no_tree(alloc, &scanned)
+            is_cut(&scanned, text, report);
+            no_tree(&scanned, report)
         }
         Err(fault) => {
-            hold(is_at(fault, text)?, "another place has that fault")?;
-            Ok(Some(Fault::Scan(fault)))
+            report.hold(is_at(fault, text), "another place has that fault");
+            Some(Fault::Scan(fault))
         }
     }
 }
 
 /// Whether gaps and tokens are the text, which is UTF-8.
-fn is_cut(alloc: Global, scanned: &Scanned<'_>, text: &[u8]) -> Result<bool> {
-    let mut whole = Vec::new(alloc);
+fn is_cut(scanned: &Scanned<'_>, text: &[u8], report: &mut Report) {
+    let mut at = 0usize;
     for i in 0..scanned.len() {
-        whole.extend_from_slice(scanned.gap(i))?;
-        whole.extend_from_slice(scanned.spelling(i))?;
+        at = past(text, at, scanned.gap(i), report);
+        at = past(text, at, scanned.spelling(i), report);
     }
-    whole.extend_from_slice(scanned.last_gap())?;
-    Ok(whole.as_slice() == text && from_utf8(text).is_ok())
+    at = past(text, at, scanned.last_gap(), report);
+    let is_whole = at == text.len() && from_utf8(text).is_ok();
+    report.hold(is_whole, "the tokens make another text");
 }
 
-fn no_tree(alloc: Global, scanned: &Scanned<'_>) -> Result<Option<Fault>> {
-    match parse(alloc, scanned) {
-        Ok(_) => Ok(None),
+/// The place behind these bytes, which stand at this place of the text.
+fn past(text: &[u8], at: usize, bytes: &[u8], report: &mut Report) -> usize {
+    report.hold(stands(text, at, bytes), "the tokens make another text");
+    at.saturating_add(bytes.len())
+}
+
+fn no_tree(scanned: &Scanned<'_>, report: &mut Report) -> Option<Fault> {
+    match parse(report.alloc, scanned) {
+        Ok(_) => None,
         Err(fault) => {
-            hold(is_at_token(fault, scanned)?, "no token has that fault")?;
-            Ok(Some(Fault::Parse(fault)))
+            report.hold(is_at_token(fault, scanned), "no token has that fault");
+            Some(Fault::Parse(fault))
         }
     }
 }
 
 /// Whether a token begins at the fault, or the text ends there.
-fn is_at_token(fault: ParseFault, scanned: &Scanned<'_>) -> Result<bool> {
-    let at = match fault {
-        ParseFault::Syntax { at } | ParseFault::TooDeep { at } => at,
-        ParseFault::Memory => return Err(anyhow!("out of memory")),
-    };
-    Ok(at == scanned.text().len() || (0..scanned.len()).any(|i| starts_at(scanned, i, at)))
+fn is_at_token(fault: ParseFault, scanned: &Scanned<'_>) -> bool {
+    match fault {
+        ParseFault::Syntax { at } | ParseFault::TooDeep { at } => {
+            at == scanned.text().len() || (0..scanned.len()).any(|i| starts_at(scanned, i, at))
+        }
+        ParseFault::Memory => false,
+    }
 }
 
 fn starts_at(scanned: &Scanned<'_>, i: usize, at: usize) -> bool {
@@ -60,9 +63,9 @@ fn starts_at(scanned: &Scanned<'_>, i: usize, at: usize) -> bool {
 }
 
 /// Whether what stands at the fault can have it.
-fn is_at(fault: ScanFault, text: &[u8]) -> Result<bool> {
+fn is_at(fault: ScanFault, text: &[u8]) -> bool {
     let is_utf8 = from_utf8(text).is_ok();
-    Ok(match fault {
+    match fault {
         ScanFault::NotUtf8 { at } => !is_utf8 && is_first_ill_formed(text, at),
         ScanFault::BadCharacter { at } => is_utf8 && at < text.len(),
         ScanFault::BadEscape { at } => is_utf8 && stands(text, at, b"\\"),
@@ -72,8 +75,8 @@ fn is_at(fault: ScanFault, text: &[u8]) -> Result<bool> {
         }
         ScanFault::OpenHeredoc { at } => is_utf8 && stands(text, at, b"<<"),
         ScanFault::OpenComment { at } => is_utf8 && stands(text, at, b"/*"),
-        ScanFault::TooLong | ScanFault::Memory => return Err(anyhow!("{fault}")),
-    })
+        ScanFault::TooLong | ScanFault::Memory => false,
+    }
 }
 
 /// Whether the text is UTF-8 up to this place, and no more with the next byte and those that go on with it.

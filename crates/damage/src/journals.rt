@@ -2,58 +2,49 @@
 
 use crate::damaged;
 use crate::outer::{can_stay, outside};
-use crate::sessions::{State, hold as holds, take_back};
-use crate::streams::Drops;
-use anyhow::{Result, anyhow};
-use std::alloc::Global;
+use crate::sessions::take_back;
+use crate::streams::{Behind, Drops};
+use text_trials::{Report, State};
 use tf_journal::{RecordFault, load};
 use tf_session::{Command, RunFault, Session, Told};
 
 /// Tries the journal in all its damaged forms.
-pub fn hold(alloc: Global, state: &State) -> Result<()> {
-    let ends = ends(alloc, state)?;
+pub fn hold(state: &State, report: &mut Report) {
+    let ends = ends(state, report);
     for number in 0..damaged::count(state.journal.len()) {
-        try_one(alloc, state, &ends, number)?;
+        try_one(state, &ends, number, report);
     }
-    Ok(())
 }
 
 /// The lengths of the journal's fronts that are journals.
-fn ends(alloc: Global, state: &State) -> Result<Vec<usize>> {
-    let mut session = state.session(alloc)?;
-    let mut ends = Vec::new(alloc);
-    ends.push(state.journal.len())?;
-    for _ in 0..session.journal().records().len() {
-        session.step(alloc, Command::Revert)?;
-        ends.push(State::of(alloc, &session)?.journal.len())?;
+fn ends(state: &State, report: &mut Report) -> Vec<usize> {
+    let mut session = state.session(report);
+    let mut ends = Vec::new(report.alloc);
+    for _ in 0..=session.journal().records().len() {
+        let is_put = ends.push(State::of(&session, report).journal.len()).is_ok();
+        report.hold(is_put, "memory is wanting");
+        let _ = session.step(report.alloc, Command::Revert);
     }
-    Ok(ends)
+    ends
 }
 
-fn try_one(alloc: Global, state: &State, ends: &[usize], number: usize) -> Result<()> {
-    let journal = damaged::of(alloc, &state.journal, number)?;
+fn try_one(state: &State, ends: &[usize], number: usize, report: &mut Report) {
+    let journal = damaged::of(&state.journal, number, report);
     let front = damaged::front(state.journal.len(), number);
-    let answer = load(
-        alloc,
-        &mut Told::new(Drops::new(&state.text)),
-        &mut Told::new(Drops::new(&journal)),
-    );
-    match answer {
+    let mut text_in = Told::new(Drops::new(&state.text, Behind::Nothing));
+    let mut journal_in = Told::new(Drops::new(&journal, Behind::Nothing));
+    match load(report.alloc, &mut text_in, &mut journal_in) {
         Ok(session) => {
-            holds(
-                front.is_none_or(|len| ends.contains(&len)),
-                "a part of a record is read",
-            )?;
-            is_read(alloc, &session, state, &journal)
+            let is_end = front.is_none_or(|len| ends.contains(&len));
+            report.hold(is_end, "a part of a record is read");
+            is_read(&session, state, &journal, report);
         }
         Err(RunFault::BadJournal(fault)) => {
-            holds(
-                is_told(fault, front, &journal),
-                "another fault of a journal is told",
-            )?;
-            is_refused(alloc, state, &journal, fault)
+            let is_told = is_told(fault, front, &journal);
+            report.hold(is_told, "another fault of a journal is told");
+            is_refused(state, &journal, fault, report);
         }
-        Err(fault) => Err(anyhow!("damage {number}: {fault}")),
+        Err(_) => report.hold(false, "a damaged journal is refused otherwise"),
     }
 }
 
@@ -78,88 +69,69 @@ fn place_of(fault: RecordFault) -> Option<usize> {
 }
 
 /// No stream over a journal that is refused writes anything.
-fn is_refused(alloc: Global, state: &State, journal: &[u8], fault: RecordFault) -> Result<()> {
+fn is_refused(state: &State, journal: &[u8], fault: RecordFault, report: &mut Report) {
     for command in [Command::Fmt, Command::Revert] {
-        let came = outside(alloc, command, &state.text, journal)?;
-        let refused = came.answer == Err(RunFault::BadJournal(fault));
-        holds(
-            refused && came.is_unwritten(),
-            "a stream goes on over a refused journal",
-        )?;
+        let came = outside(command, &state.text, journal, report.alloc);
+        let fault = RunFault::BadJournal(fault);
+        came.refuses(fault, report, "a stream goes on over a refused journal");
     }
-    Ok(())
 }
 
 /// What is read is the journal, and each command over it answers as over any journal.
-fn is_read(alloc: Global, session: &Session, state: &State, journal: &[u8]) -> Result<()> {
-    let read = State::of(alloc, session)?;
-    holds(
-        read.journal.as_slice() == journal,
-        "another journal is read",
-    )?;
-    holds(
-        read.text.as_slice() == state.text.as_slice(),
-        "another text is read",
-    )?;
-    takes_out(alloc, &read)?;
-    same_outside(alloc, &read, Command::Fmt)?;
-    same_outside(alloc, &read, Command::Revert)
+fn is_read(session: &Session, state: &State, journal: &[u8], report: &mut Report) {
+    let read = State::of(session, report);
+    let is_journal = read.journal.as_slice() == journal;
+    report.hold(is_journal, "another journal is read");
+    let is_text = read.text.as_slice() == state.text.as_slice();
+    report.hold(is_text, "another text is read");
+    takes_out(&read, report);
+    same_outside(&read, Command::Fmt, report);
+    same_outside(&read, Command::Revert, report);
 }
 
 /// Taken out, a command leaves others that are taken back where all were, to the same text.
-fn takes_out(alloc: Global, state: &State) -> Result<()> {
-    let mut session = state.session(alloc)?;
+fn takes_out(state: &State, report: &mut Report) {
+    let mut session = state.session(report);
     let count = session.journal().records().len();
-    let goes = take_back(alloc, &mut session)?;
+    let goes = take_back(&mut session, report);
     for number in 1..=count {
-        take_out(alloc, state, number, goes, session.text())?;
+        take_out(state, number, goes, session.text(), report);
     }
-    Ok(())
 }
 
-fn take_out(alloc: Global, state: &State, number: usize, goes: bool, first: &[u8]) -> Result<()> {
-    let mut session = state.session(alloc)?;
-    match session.step(alloc, Command::Take(u32::try_from(number)?)) {
+fn take_out(state: &State, number: usize, goes: bool, first: &[u8], report: &mut Report) {
+    let mut session = state.session(report);
+    let command = Command::Take(u32::try_from(number).unwrap_or(0));
+    match session.step(report.alloc, command) {
         Ok(_) => {
-            let again = take_back(alloc, &mut session)?;
-            holds(again == goes, "what is left is taken back otherwise")?;
-            holds(
-                !goes || session.text() == first,
-                "what is left leads to another text",
-            )
+            let again = take_back(&mut session, report);
+            report.hold(again == goes, "what is left is taken back otherwise");
+            let is_first = !goes || session.text() == first;
+            report.hold(is_first, "what is left leads to another text");
         }
         Err(fault) => {
-            holds(
-                can_stay(fault, number),
-                "a command is not taken out otherwise",
-            )?;
-            holds(
-                state.is_of(alloc, &session)?,
-                "a refused take changes something",
-            )
+            let can_stay = can_stay(fault, number);
+            report.hold(can_stay, "a command is not taken out otherwise");
+            state.hold(&session, report, "a refused take changes something");
         }
     }
 }
 
 /// A stream does what a session does, and writes what lies in it then, or tells the same fault and writes nothing.
-fn same_outside(alloc: Global, state: &State, command: Command) -> Result<()> {
-    let mut session = state.session(alloc)?;
-    let answer = session.step(alloc, command);
-    let came = outside(alloc, command, &state.text, &state.journal)?;
+fn same_outside(state: &State, command: Command, report: &mut Report) {
+    let mut session = state.session(report);
+    let answer = session.step(report.alloc, command);
+    let came = outside(command, &state.text, &state.journal, report.alloc);
     match answer {
         Ok(done) => {
-            holds(came.answer == Ok(done), "a stream answers otherwise")?;
-            holds(
-                came.written.is_of(alloc, &session)?,
-                "a stream writes something else",
-            )
+            report.hold(came.answer == Ok(done), "a stream answers otherwise");
+            came.written
+                .hold(&session, report, "a stream writes something else");
         }
-        Err(fault) => {
-            let is_same = came.answer == Err(RunFault::from(fault));
-            holds(
-                is_same && came.is_unwritten(),
-                "a stream tells another fault",
-            )
-        }
+        Err(fault) => came.refuses(
+            RunFault::from(fault),
+            report,
+            "a stream tells another fault",
+        ),
     }
 }

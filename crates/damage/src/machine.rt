@@ -1,55 +1,41 @@
 //! Commands over a text: what each answers and leaves, by why the text is not read.
 
-use crate::sessions::{State, hold, start, take_back};
-use anyhow::Result;
-use std::alloc::Global;
+use crate::sessions::take_back;
+use text_trials::{Report, State, start};
 use tf_session::{Command, Done, Fault, RuleSet, Session};
 
 /// Does commands over a text, of which it is known why it is not read, and takes them back.
-pub fn serves(alloc: Global, text: &[u8], refusal: Option<Fault>) -> Result<()> {
-    let mut session = start(alloc, text)?;
-    has_none(alloc, &mut session)?;
+pub fn serves(text: &[u8], refusal: Option<Fault>, report: &mut Report) {
+    let mut session = start(text, report);
+    has_none(&mut session, report);
     let fix = Command::Fix(RuleSet::all());
     for command in [fix, Command::Fmt, fix, Command::Fmt] {
-        serve(alloc, &mut session, command, refusal)?;
+        serve(&mut session, command, refusal, report);
     }
-    hold(
-        take_back(alloc, &mut session)?,
-        "a command is not taken back",
-    )?;
-    hold(session.text() == text, "the reverts lead to another text")
+    let goes_back = take_back(&mut session, report);
+    report.hold(goes_back, "a command is not taken back");
+    report.hold(session.text() == text, "the reverts lead to another text");
 }
 
 /// No command can be taken back or out where there is none.
-fn has_none(alloc: Global, session: &mut Session) -> Result<()> {
+fn has_none(session: &mut Session, report: &mut Report) {
     for command in [Command::Revert, Command::Take(0), Command::Take(1)] {
-        let answer = session.step(alloc, command);
-        hold(
-            answer == Err(Fault::NoRecord),
-            "there is a record in an empty journal",
-        )?;
+        let answer = session.step(report.alloc, command);
+        let is_none = answer == Err(Fault::NoRecord);
+        report.hold(is_none, "there is a record in an empty journal");
     }
-    Ok(())
 }
 
-fn serve(
-    alloc: Global,
-    session: &mut Session,
-    command: Command,
-    refusal: Option<Fault>,
-) -> Result<()> {
-    let before = State::of(alloc, session)?;
-    match session.step(alloc, command) {
+fn serve(session: &mut Session, command: Command, refusal: Option<Fault>, report: &mut Report) {
+    let before = State::of(session, report);
+    match session.step(report.alloc, command) {
         Ok(done) => {
-            hold(refusal.is_none(), "a text that is not read is changed")?;
-            is_done(alloc, session, &before, command, done)
+            report.hold(refusal.is_none(), "a text that is not read is changed");
+            is_done(session, &before, command, done, report);
         }
         Err(fault) => {
-            hold(is_refused(command, refusal, fault), "another fault is told")?;
-            hold(
-                before.is_of(alloc, session)?,
-                "a refused command changes something",
-            )
+            report.hold(is_refused(command, refusal, fault), "another fault is told");
+            before.hold(session, report, "a refused command changes something");
         }
     }
 }
@@ -63,22 +49,16 @@ fn is_refused(command: Command, refusal: Option<Fault>, fault: Fault) -> bool {
 }
 
 /// Whether the answer tells whether the text changed, and the journal goes on exactly there.
-fn is_done(
-    alloc: Global,
-    session: &Session,
-    before: &State,
-    command: Command,
-    done: Done,
-) -> Result<()> {
-    let after = State::of(alloc, session)?;
+fn is_done(session: &Session, before: &State, command: Command, done: Done, report: &mut Report) {
+    let after = State::of(session, report);
     let differs = after.text.as_slice() != before.text.as_slice();
-    hold(done.changed == differs, "the answer tells another change")?;
+    report.hold(done.changed == differs, "the answer tells another change");
     let goes_on = after.journal.len() > before.journal.len();
     let is_front = after.journal.starts_with(&before.journal);
-    hold(
+    report.hold(
         is_front && goes_on == differs,
         "the journal goes on otherwise",
-    )?;
+    );
     let counts = done.fixed > 0 || done.left > 0;
-    hold(command != Command::Fmt || !counts, "a fmt counts issues")
+    report.hold(command != Command::Fmt || !counts, "a fmt counts issues");
 }

@@ -6,7 +6,6 @@
 #![tactic(auto)]
 
 mod damaged;
-mod endless;
 mod failing;
 mod faults;
 mod journals;
@@ -17,9 +16,9 @@ mod sessions;
 mod streams;
 mod texts;
 
-use anyhow::{Result, anyhow};
-use std::alloc::Global;
+use anyhow::Result;
 use std::{env, fs};
+use text_trials::Report;
 
 fn main(rt: HostRuntime) -> Result<()> {
     let words: Vec<String> = env::args(&rt)?.collect(rt.alloc())?;
@@ -27,11 +26,18 @@ fn main(rt: HostRuntime) -> Result<()> {
     for name in words.iter().skip(1) {
         texts = texts.saturating_add(run(&rt, name.as_str())?);
     }
-    if let Err(error) = endless::hold(rt.alloc()) {
-        println!(rt; "a reader without an end: {error}")?;
-    }
+    let mut report = Report::new(rt.alloc());
+    failing::hold_endless(&mut report);
+    tell(&rt, "a reader without an end", &report)?;
     let count = words.len().saturating_sub(1);
     println!(rt; "{count} texts, {texts} damaged ones")?;
+    Ok(())
+}
+
+fn tell(rt: &HostRuntime, what: &str, report: &Report) -> Result<()> {
+    if let Some(wrong) = report.wrong() {
+        println!(rt; "{what}: {wrong}")?;
+    }
     Ok(())
 }
 
@@ -39,29 +45,30 @@ fn main(rt: HostRuntime) -> Result<()> {
 fn run(rt: &HostRuntime, name: &str) -> Result<usize> {
     let file = format!(in rt.alloc(); "{name}.tf")?;
     let text = fs::read(rt, file.as_str())?;
-    if let Err(error) = damaged_texts(rt.alloc(), &text) {
-        println!(rt; "{file}: {error}")?;
-    }
-    if let Err(error) = worked_text(rt.alloc(), &text) {
-        println!(rt; "{file}, with its journal: {error}")?;
-    }
+    damaged_texts(rt, name, &text)?;
+    let mut report = Report::new(rt.alloc());
+    worked_text(&text, &mut report);
+    tell(rt, name, &report)?;
     Ok(damaged::count(text.len()))
 }
 
-fn damaged_texts(alloc: Global, text: &[u8]) -> Result<()> {
+/// Tells the damaged texts at which something is wrong.
+fn damaged_texts(rt: &HostRuntime, name: &str, text: &[u8]) -> Result<()> {
     for number in 0..damaged::count(text.len()) {
-        let changed = damaged::of(alloc, text, number)?;
-        if let Err(error) = texts::hold(alloc, &changed) {
-            return Err(anyhow!("damage {number}: {error}"));
+        let mut report = Report::new(rt.alloc());
+        let changed = damaged::of(text, number, &mut report);
+        texts::hold(&changed, &mut report);
+        if let Some(wrong) = report.wrong() {
+            println!(rt; "{name}, damage {number}: {wrong}")?;
         }
     }
     Ok(())
 }
 
 /// What can be done to the text, and its journal.
-fn worked_text(alloc: Global, text: &[u8]) -> Result<()> {
-    let state = sessions::worked(alloc, text)?;
-    journals::hold(alloc, &state)?;
-    failing::hold(alloc, &state)?;
-    narrow::hold(alloc, text, &state)
+fn worked_text(text: &[u8], report: &mut Report) {
+    let state = sessions::worked(text, report);
+    journals::hold(&state, report);
+    failing::hold(&state, report);
+    narrow::hold(text, &state, report);
 }

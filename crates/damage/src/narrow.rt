@@ -1,10 +1,9 @@
 //! Writers that fail at each byte: what is told to have gone out is what went out, and nothing behind it.
 
-use crate::outer::{outside, reader, stream};
-use crate::sessions::{State, hold as holds};
-use crate::streams::{Full, Room};
-use anyhow::Result;
+use crate::outer::{Came, outside, stream};
+use crate::streams::{Behind, Drops, Full, Room};
 use std::alloc::Global;
+use text_trials::{Report, State};
 use tf_session::{Command, Part, RuleSet, RunFault, Told, lint_stream, put_journal, put_text};
 
 /// A writer that fails in some way behind so many bytes.
@@ -44,145 +43,108 @@ impl Narrow {
 }
 
 /// Tries the lines of the text, what a command writes over the state, and the state's bytes by themselves.
-pub fn hold(alloc: Global, text: &[u8], state: &State) -> Result<()> {
+pub fn hold(text: &[u8], state: &State, report: &mut Report) {
     for way in [Full::Fails, Full::TakesNothing, Full::FailsToFlush] {
-        lines(alloc, text, way)?;
-        puts(alloc, &state.journal, Part::Journal, way)?;
-        puts(alloc, &state.text, Part::Text, way)?;
-        streams(alloc, state, way)?;
+        lines(text, way, report);
+        puts(&state.journal, Part::Journal, way, report);
+        puts(&state.text, Part::Text, way, report);
+        for command in [Command::Fmt, Command::Fix(RuleSet::all()), Command::Revert] {
+            let right = outside(command, &state.text, &state.journal, report.alloc).written;
+            journals(state, command, &right, way, report);
+            texts(state, command, &right, way, report);
+        }
     }
-    Ok(())
 }
 
-fn lines(alloc: Global, text: &[u8], way: Full) -> Result<()> {
-    let mut out = Room::ample(alloc);
-    let count = lint_stream(
-        alloc,
-        "f",
-        &mut Told::new(reader(text, false)),
-        &mut Told::new(&mut out),
-        RuleSet::all(),
-    )?;
+fn lines(text: &[u8], way: Full, report: &mut Report) {
+    let mut out = Room::ample(report.alloc);
+    let fault = lint(text, &mut out, report.alloc);
+    let has_lines = fault.is_none() && !out.held.is_empty();
+    report.hold(has_lines, "there is no issue");
     let right = out.held;
-    holds(count > 0 && !right.is_empty(), "there is no issue")?;
     for room in 0..=right.len() {
-        narrow_lines(alloc, text, &right, Narrow { room, way })?;
+        let narrow = Narrow { room, way };
+        let mut out = narrow.writer(report.alloc);
+        let fault = lint(text, &mut out, report.alloc);
+        let is_told = narrow.is_told(Part::Text, &right, fault, &out.held);
+        report.hold(is_told, "lines are told otherwise");
     }
-    Ok(())
 }
 
-fn narrow_lines(alloc: Global, text: &[u8], right: &[u8], narrow: Narrow) -> Result<()> {
-    let mut out = narrow.writer(alloc);
-    let answer = lint_stream(
-        alloc,
-        "f",
-        &mut Told::new(reader(text, false)),
-        &mut Told::new(&mut out),
-        RuleSet::all(),
-    );
-    let held = out.held;
-    holds(
-        narrow.is_told(Part::Text, right, answer.err(), &held),
-        "lines are told otherwise",
-    )
+fn lint(text: &[u8], out: &mut Room, alloc: Global) -> Option<RunFault> {
+    let mut reader = Told::new(Drops::new(text, Behind::Nothing));
+    lint_stream(alloc, "f", &mut reader, &mut Told::new(out), RuleSet::all()).err()
 }
 
-fn puts(alloc: Global, bytes: &[u8], part: Part, way: Full) -> Result<()> {
+fn puts(bytes: &[u8], part: Part, way: Full, report: &mut Report) {
     for room in 0..=bytes.len() {
-        put(alloc, bytes, part, Narrow { room, way })?;
+        let narrow = Narrow { room, way };
+        let mut out = narrow.writer(report.alloc);
+        let answer = match part {
+            Part::Journal => put_journal(bytes, &mut Told::new(&mut out)),
+            Part::Text => put_text(bytes, &mut Told::new(&mut out)),
+        };
+        let is_told = narrow.is_told(part, bytes, answer.err(), &out.held);
+        report.hold(is_told, "bytes are told otherwise");
     }
-    Ok(())
 }
 
-fn put(alloc: Global, bytes: &[u8], part: Part, narrow: Narrow) -> Result<()> {
-    let mut out = narrow.writer(alloc);
-    let answer = match part {
-        Part::Journal => put_journal(bytes, &mut Told::new(&mut out)),
-        Part::Text => put_text(bytes, &mut Told::new(&mut out)),
-    };
-    let held = out.held;
-    holds(
-        narrow.is_told(part, bytes, answer.err(), &held),
-        "bytes are told otherwise",
-    )
-}
-
-fn streams(alloc: Global, state: &State, way: Full) -> Result<()> {
-    for command in [Command::Fmt, Command::Fix(RuleSet::all()), Command::Revert] {
-        let right = outside(alloc, command, &state.text, &state.journal)?.written;
-        journals(alloc, state, command, &right, way)?;
-        texts(alloc, state, command, &right, way)?;
-    }
-    Ok(())
-}
-
-fn journals(
-    alloc: Global,
-    state: &State,
-    command: Command,
-    right: &State,
-    way: Full,
-) -> Result<()> {
+/// A journal whose writer fails; the text stands behind a whole journal alone.
+fn journals(state: &State, command: Command, right: &State, way: Full, report: &mut Report) {
     for room in 0..=right.journal.len() {
         let narrow = Narrow { room, way };
-        let ample = Room::ample(alloc);
-        let came = try_stream(alloc, state, command, narrow.writer(alloc), ample);
-        let is_told = narrow.is_told(Part::Journal, &right.journal, came.fault, &came.journal);
-        holds(is_told, "a journal is told otherwise")?;
-        let wanted = if came.fault.is_none() {
+        let ample = Room::ample(report.alloc);
+        let came = came(
+            state,
+            command,
+            narrow.writer(report.alloc),
+            ample,
+            report.alloc,
+        );
+        let fault = came.answer.err();
+        let is_told = narrow.is_told(Part::Journal, &right.journal, fault, &came.written.journal);
+        report.hold(is_told, "a journal is told otherwise");
+        let wanted = if fault.is_none() {
             right.text.as_slice()
         } else {
             b"".as_slice()
         };
-        holds(
-            came.text.as_slice() == wanted,
-            "a text is written before its journal",
-        )?;
+        let is_behind = came.written.text.as_slice() == wanted;
+        report.hold(is_behind, "a text is written before its journal");
     }
-    Ok(())
 }
 
-fn texts(alloc: Global, state: &State, command: Command, right: &State, way: Full) -> Result<()> {
+fn texts(state: &State, command: Command, right: &State, way: Full, report: &mut Report) {
     for room in 0..=right.text.len() {
         let narrow = Narrow { room, way };
-        let ample = Room::ample(alloc);
-        let came = try_stream(alloc, state, command, ample, narrow.writer(alloc));
-        let is_told = narrow.is_told(Part::Text, &right.text, came.fault, &came.text);
-        holds(is_told, "a text is told otherwise")?;
-        let is_whole = came.journal.as_slice() == right.journal.as_slice();
-        holds(is_whole, "the journal before a text is not whole")?;
+        let ample = Room::ample(report.alloc);
+        let came = came(
+            state,
+            command,
+            ample,
+            narrow.writer(report.alloc),
+            report.alloc,
+        );
+        let is_told = narrow.is_told(
+            Part::Text,
+            &right.text,
+            came.answer.err(),
+            &came.written.text,
+        );
+        report.hold(is_told, "a text is told otherwise");
+        let is_whole = came.written.journal.as_slice() == right.journal.as_slice();
+        report.hold(is_whole, "the journal before a text is not whole");
     }
-    Ok(())
 }
 
-/// The fault of a stream, if there was one, and what its writers hold.
-#[derive(Drop)]
-struct Streamed {
-    fault: Option<RunFault>,
-    text: Vec<u8>,
-    journal: Vec<u8>,
-}
-
-fn try_stream(
-    alloc: Global,
-    state: &State,
-    command: Command,
-    journal_out: Room,
-    text_out: Room,
-) -> Streamed {
-    let mut journal_out = journal_out;
-    let mut text_out = text_out;
-    let answer = stream(
-        alloc,
+/// A command over the state, to these writers.
+fn came(state: &State, command: Command, journal_out: Room, text_out: Room, alloc: Global) -> Came {
+    stream(
         command,
-        &mut reader(&state.text, false),
-        &mut reader(&state.journal, false),
-        &mut journal_out,
-        &mut text_out,
-    );
-    Streamed {
-        fault: answer.err(),
-        text: text_out.held,
-        journal: journal_out.held,
-    }
+        &mut Drops::new(&state.text, Behind::Nothing),
+        &mut Drops::new(&state.journal, Behind::Nothing),
+        journal_out,
+        text_out,
+        alloc,
+    )
 }

@@ -1,10 +1,8 @@
 //! One command from readers to writers.
 
-use crate::sessions::State;
-use crate::streams::{Drops, Room};
-use anyhow::Result;
+use crate::streams::{Behind, Drops, Room};
 use std::alloc::Global;
-use std::io::{Read, Write};
+use text_trials::{Report, State};
 use tf_journal::{fix_stream, fmt_stream, revert_stream};
 use tf_session::{Command, Done, Fault, RuleSet, RunFault, Told};
 
@@ -16,62 +14,54 @@ pub struct Came {
 }
 
 impl Came {
-    /// Whether nothing was written.
-    pub fn is_unwritten(&self) -> bool {
-        self.written.text.is_empty() && self.written.journal.is_empty()
+    /// Notes where another fault was told than this, or something was written.
+    pub fn refuses(&self, fault: RunFault, report: &mut Report, what: &'static str) {
+        let is_unwritten = self.written.text.is_empty() && self.written.journal.is_empty();
+        report.hold(self.answer == Err(fault) && is_unwritten, what);
     }
 }
 
-/// The stream of a command; that of a fix takes all rules, and a take, which has none, reverts.
-pub fn stream<R: Read, J: Read, K: Write, W: Write>(
-    alloc: Global,
+/// What the stream of a command over these readers answers, and what it writes to these writers. That of a fix takes all rules, and
+/// a take, which has none, reverts.
+pub fn stream(
     command: Command,
-    text: &mut R,
-    journal: &mut J,
-    journal_out: &mut K,
-    text_out: &mut W,
-) -> std::result::Result<Done, RunFault> {
+    text: &mut Drops<'_>,
+    journal: &mut Drops<'_>,
+    journal_out: Room,
+    text_out: Room,
+    alloc: Global,
+) -> Came {
     let text = &mut Told::new(text);
     let journal = &mut Told::new(journal);
-    let journal_out = &mut Told::new(journal_out);
-    let text_out = &mut Told::new(text_out);
-    match command {
-        Command::Fmt => fmt_stream(alloc, text, journal, journal_out, text_out),
-        Command::Fix(_) => fix_stream(alloc, text, journal, journal_out, text_out, RuleSet::all()),
+    let mut journal_out = Told::new(journal_out);
+    let mut text_out = Told::new(text_out);
+    let (to_journal, to_text) = (&mut journal_out, &mut text_out);
+    let answer = match command {
+        Command::Fmt => fmt_stream(alloc, text, journal, to_journal, to_text),
+        Command::Fix(_) => fix_stream(alloc, text, journal, to_journal, to_text, RuleSet::all()),
         Command::Revert | Command::Take(_) => {
-            revert_stream(alloc, text, journal, journal_out, text_out)
+            revert_stream(alloc, text, journal, to_journal, to_text)
         }
-    }
-}
-
-/// A reader of these bytes, which come one by one, and which fails behind them where it is to.
-pub fn reader(bytes: &[u8], fails: bool) -> Drops<'_> {
-    if fails {
-        Drops::failing(bytes)
-    } else {
-        Drops::new(bytes)
-    }
-}
-
-/// What a stream over these bytes, which come one by one, answers and writes.
-pub fn outside(alloc: Global, command: Command, text: &[u8], journal: &[u8]) -> Result<Came> {
-    let mut journal_out = Room::ample(alloc);
-    let mut text_out = Room::ample(alloc);
-    let answer = stream(
-        alloc,
-        command,
-        &mut Drops::new(text),
-        &mut Drops::new(journal),
-        &mut journal_out,
-        &mut text_out,
-    );
-    Ok(Came {
+    };
+    Came {
         answer,
         written: State {
-            text: text_out.held,
-            journal: journal_out.held,
+            text: text_out.into_inner().held,
+            journal: journal_out.into_inner().held,
         },
-    })
+    }
+}
+
+/// The same, where neither readers nor writers fail.
+pub fn outside(command: Command, text: &[u8], journal: &[u8], alloc: Global) -> Came {
+    stream(
+        command,
+        &mut Drops::new(text, Behind::Nothing),
+        &mut Drops::new(journal, Behind::Nothing),
+        Room::ample(alloc),
+        Room::ample(alloc),
+        alloc,
+    )
 }
 
 /// Whether a command of this number can stay for that reason.

@@ -3,55 +3,51 @@
 use std::alloc::Global;
 use std::io::{self, Error, ErrorKind, Read, Write};
 
-/// Gives these bytes one by one, and then ends or fails.
-#[derive(Drop)]
+/// What comes behind the bytes of a reader.
+#[derive(Clone, Copy, Debug, PartialEq, Eq)]
+pub enum Behind {
+    Nothing,
+    /// A read that fails.
+    Failure,
+    /// `#` for ever.
+    Hashes,
+}
+
+/// Gives these bytes one by one, and then what comes behind them.
+#[derive(Clone, Copy)]
 pub struct Drops<'a> {
     left: &'a [u8],
-    fails: bool,
+    behind: Behind,
+    /// How many bytes were given of those behind.
+    pub given: usize,
 }
 
 impl<'a> Drops<'a> {
-    pub fn new(bytes: &'a [u8]) -> Drops<'a> {
+    pub fn new(bytes: &'a [u8], behind: Behind) -> Drops<'a> {
         Drops {
             left: bytes,
-            fails: false,
-        }
-    }
-
-    /// Fails behind these bytes.
-    pub fn failing(bytes: &'a [u8]) -> Drops<'a> {
-        Drops {
-            left: bytes,
-            fails: true,
+            behind,
+            given: 0,
         }
     }
 }
 
 impl Read for Drops<'_> {
     fn read(&mut self, buf: &mut [u8]) -> io::Result<usize> {
-        if self.left.is_empty() && self.fails {
+        if self.left.is_empty() && self.behind == Behind::Failure {
             return Err(Error::from(ErrorKind::Interrupted));
+        }
+        if self.left.is_empty() && self.behind == Behind::Hashes {
+            for byte in buf.iter_mut() {
+                *byte = b'#';
+            }
+            self.given = self.given.saturating_add(buf.len());
+            return Ok(buf.len());
         }
         let n = buf.len().min(1).min(self.left.len());
         buf[..n].copy_from_slice(&self.left[..n]);
         self.left = &self.left[n..];
         Ok(n)
-    }
-}
-
-/// Gives `#` for ever, and counts.
-#[derive(Drop)]
-pub struct Hashes {
-    pub given: usize,
-}
-
-impl Read for Hashes {
-    fn read(&mut self, buf: &mut [u8]) -> io::Result<usize> {
-        for byte in buf.iter_mut() {
-            *byte = b'#';
-        }
-        self.given = self.given.saturating_add(buf.len());
-        Ok(buf.len())
     }
 }
 

@@ -40,9 +40,9 @@ impl Row {
     }
 
     /// Whether this is to be answered.
-    pub fn says(&self, found: &str) -> bool {
+    pub fn says(&self, found: &[u8]) -> bool {
         match self.fields.last() {
-            Some(field) => field.as_slice() == found.as_bytes(),
+            Some(field) => field.as_slice() == found,
             None => false,
         }
     }

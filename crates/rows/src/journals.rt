@@ -1,55 +1,56 @@
 //! The text of journals.
 
+use crate::answer::Answer;
+use crate::fields::{text, word};
 use crate::spelled::journal_of;
-use anyhow::{Result, anyhow};
+use edit_record::Journal;
 use edit_text::laws::{old_records_turn_alike, text_begins_alike, text_is_one};
 use edit_text::{RecordFault, decode, encode, encoded_len};
 use row_text::Row;
 use std::alloc::Global;
-use std::str::from_utf8;
+use std::fmt::Write;
 
-pub fn answer(alloc: Global, row: &Row) -> Result<String> {
-    match row.word(0)? {
-        "read" => read(alloc, row.text(1)?),
-        "written" => written(alloc, row),
-        "fronts" => fronts(alloc, row.text(1)?),
-        "marks" => marks(alloc, row),
-        "bytes" => bytes(alloc, row.text(1)?),
-        _ => memory(alloc),
+pub fn answer(row: &Row, out: &mut Answer) {
+    match word(row, 0) {
+        "read" => read(text(row, 1), out),
+        "written" => written(&journal_of(word(row, 1), out), out),
+        "fronts" => fronts(text(row, 1), out),
+        "marks" => marks(text(row, 1), text(row, 2), out),
+        "bytes" => bytes(text(row, 1), out),
+        _ => out.show(&RecordFault::Memory),
     }
 }
 
 /// What is read of a text, as it is written.
-fn read(alloc: Global, text: &[u8]) -> Result<String> {
+fn read(text: &[u8], out: &mut Answer) {
     text_is_one();
     text_begins_alike();
     old_records_turn_alike();
-    match decode(alloc, text) {
-        Ok(journal) => {
-            let again = encode(alloc, &journal)?;
-            if encoded_len(&journal) == again.len() {
-                Ok(String::from_str(alloc, from_utf8(&again)?)?)
-            } else {
-                Err(anyhow!("the text has another length"))
-            }
-        }
-        Err(fault) => Ok(format!(in alloc; "refused: {fault}")?),
+    match decode(out.alloc, text) {
+        Ok(journal) => written(&journal, out),
+        Err(fault) => out.refuse(&fault),
     }
 }
 
-fn written(alloc: Global, row: &Row) -> Result<String> {
-    let text = encode(alloc, &journal_of(alloc, row.word(1)?)?)?;
-    Ok(String::from_str(alloc, from_utf8(&text)?)?)
+fn written(journal: &Journal, out: &mut Answer) {
+    match encode(out.alloc, journal) {
+        Ok(text) => {
+            out.put_bytes(&text);
+            let has_len = encoded_len(journal) == text.len();
+            out.hold(has_len, "the text has another length");
+        }
+        Err(fault) => out.refuse(&fault),
+    }
 }
 
-/// Whether each front of the text but the empty one is cut short, at its end.
-fn fronts(alloc: Global, text: &[u8]) -> Result<String> {
+/// Whether each front of the text but the empty one is cut short, at its end; the places of those that are not.
+fn fronts(text: &[u8], out: &mut Answer) {
     for at in 1..text.len() {
-        if decode(alloc, &text[..at]).err() != Some(RecordFault::CutShort { at }) {
-            return Ok(format!(in alloc; "byte {at}")?);
+        if decode(out.alloc, &text[..at]).err() != Some(RecordFault::CutShort { at }) {
+            let _ = write!(out, "byte {at}, ");
         }
     }
-    Ok(format!(in alloc; "cut short")?)
+    out.put("cut short");
 }
 
 /// What an `x` in the place of the byte at this place leads to, where `mark` says what the byte belongs to; the last
@@ -67,58 +68,66 @@ fn fault_at(mark: u8, at: usize, end: usize) -> Option<RecordFault> {
     }
 }
 
-/// Whether an `x` in the place of each byte is refused as the marks say.
-fn marks(alloc: Global, row: &Row) -> Result<String> {
-    let (text, marks) = (row.text(1)?, row.text(2)?);
+/// Whether an `x` in the place of each byte is refused as the marks say; the places where it is not.
+fn marks(text: &[u8], marks: &[u8], out: &mut Answer) {
     let end = text.len().saturating_sub(4);
     for (at, mark) in marks.iter().enumerate() {
-        let changed = with_byte(alloc, text, at, b'x')?;
-        if decode(alloc, &changed).err() != fault_at(*mark, at, end) {
-            return Ok(format!(in alloc; "byte {at}")?);
+        let changed = with_byte(text, at, b'x', out);
+        if decode(out.alloc, &changed).err() != fault_at(*mark, at, end) {
+            let _ = write!(out, "byte {at}, ");
         }
     }
     let count = marks.len();
-    Ok(format!(in alloc; "{count} marks")?)
+    let _ = write!(out, "{count} marks");
 }
 
 /// The text with another byte at this place.
-pub fn with_byte(alloc: Global, text: &[u8], at: usize, byte: u8) -> Result<Vec<u8>> {
-    let mut changed = Vec::from_slice(alloc, text)?;
+pub fn with_byte(text: &[u8], at: usize, byte: u8, out: &mut Answer) -> Vec<u8> {
+    let mut changed = Vec::new(out.alloc);
+    let is_put = changed.extend_from_slice(text).is_ok();
+    out.hold(is_put, "a text is too long");
     if let Some(place) = changed.get_mut(at) {
         *place = byte;
     }
-    Ok(changed)
+    changed
 }
 
 /// Whether the text with another byte at any place is that of a journal, which is written so again, or is refused at one of
-/// its places.
-fn bytes(alloc: Global, text: &[u8]) -> Result<String> {
+/// its places; where it is not so.
+fn bytes(text: &[u8], out: &mut Answer) {
     for at in 0..text.len() {
         for byte in 0..=255 {
-            if !is_one_spelling(alloc, &with_byte(alloc, text, at, byte)?)? {
-                return Ok(format!(in alloc; "{byte} at {at}")?);
+            let changed = with_byte(text, at, byte, out);
+            if !is_one_spelling(out.alloc, &changed) {
+                let _ = write!(out, "{byte} at {at}, ");
             }
         }
     }
-    Ok(format!(in alloc; "one spelling")?)
+    out.put("one spelling");
 }
 
-fn is_one_spelling(alloc: Global, text: &[u8]) -> Result<bool> {
+fn is_one_spelling(alloc: Global, text: &[u8]) -> bool {
     match decode(alloc, text) {
-        Ok(journal) => Ok(encode(alloc, &journal)?.as_slice() == text),
-        Err(RecordFault::Memory) => Ok(false),
-        Err(
-            RecordFault::BadHead { at }
-            | RecordFault::BadNumber { at }
-            | RecordFault::CutShort { at }
-            | RecordFault::BadEdits { at }
-            | RecordFault::BadEnd { at }
-            | RecordFault::BadSteps { at },
-        ) => Ok(at <= text.len()),
+        Ok(journal) => is_written(alloc, &journal, text),
+        Err(fault) => place_of(fault).is_some_and(|at| at <= text.len()),
     }
 }
 
-fn memory(alloc: Global) -> Result<String> {
-    let fault = RecordFault::Memory;
-    Ok(format!(in alloc; "{fault}")?)
+fn is_written(alloc: Global, journal: &Journal, text: &[u8]) -> bool {
+    match encode(alloc, journal) {
+        Ok(again) => again.as_slice() == text,
+        Err(_) => false,
+    }
+}
+
+fn place_of(fault: RecordFault) -> Option<usize> {
+    match fault {
+        RecordFault::Memory => None,
+        RecordFault::BadHead { at }
+        | RecordFault::BadNumber { at }
+        | RecordFault::CutShort { at }
+        | RecordFault::BadEdits { at }
+        | RecordFault::BadEnd { at }
+        | RecordFault::BadSteps { at } => Some(at),
+    }
 }

@@ -1,15 +1,14 @@
 //! Rules, issues and the steps of fixes.
 
-use crate::layouts::said;
-use anyhow::{Result, anyhow};
-use edit_record::Change;
-use hcl_scan::scan;
+use crate::answer::Answer;
+use crate::fields::{number, text, word};
+use crate::records::turned;
+use hcl_scan::{Scanned, scan};
 use hcl_tree::parse;
 use row_text::Row;
-use std::alloc::Global;
 use std::fmt::Write;
 use tf_lint::{Issue, LintFault, Place, Rule, RuleSet, issues};
-use tf_steps::fix_text;
+use tf_steps::{Fixed, fix_text};
 
 const RULES: [Rule; 9] = [
     Rule::CommentSyntax,
@@ -23,110 +22,135 @@ const RULES: [Rule; 9] = [
     Rule::DocumentedOutputs,
 ];
 
-pub fn answer(alloc: Global, row: &Row) -> Result<String> {
-    match row.word(0)? {
-        "rule" => rule(alloc, row.word(1)?),
-        "set" => names(alloc, set_of(row.word(1)?)?),
-        "line" => line(alloc, row),
-        "issues" => found(alloc, set_of(row.word(1)?)?, row.text(2)?),
-        "fix" => fixed(alloc, rule_of(row.word(1)?)?, row.text(2)?),
-        "step" => counts(alloc, rule_of(row.word(1)?)?, row.text(2)?),
-        _ => faults(alloc),
+pub fn answer(row: &Row, out: &mut Answer) {
+    match word(row, 0) {
+        "rule" => rule(word(row, 1), out),
+        "set" => names(set_of(word(row, 1)), out),
+        "line" => line(row, out),
+        "issues" => found(set_of(word(row, 1)), text(row, 2), out),
+        "fix" | "step" => fix(row, out),
+        _ => out.show(&LintFault::Memory),
     }
 }
 
 /// The rule of this name, and the weight of its issues.
-fn rule(alloc: Global, name: &str) -> Result<String> {
+fn rule(name: &str, out: &mut Answer) {
     match Rule::by_name(name) {
         Some(rule) => {
-            let (name, label) = (rule.name(), rule.severity().label());
-            Ok(format!(in alloc; "{name}: {label}")?)
+            out.put(rule.name());
+            out.put(": ");
+            out.put(rule.severity().label());
         }
-        None => Ok(format!(in alloc; "no rule")?),
+        None => out.put("no rule"),
     }
 }
 
-fn rule_of(name: &str) -> Result<Rule> {
-    Rule::by_name(name).ok_or_else(|| anyhow!("no such rule"))
-}
-
-/// A set spelled `all`, `none`, `+RULE` (that one alone) or `-RULE` (all others).
-fn set_of(spelled: &str) -> Result<RuleSet> {
+/// A set spelled `all`, `none`, `+RULE` (that one alone) or `-RULE` (all others); any other word is none.
+fn set_of(spelled: &str) -> RuleSet {
+    if let Some(rule) = spelled.strip_prefix('+').and_then(Rule::by_name) {
+        return RuleSet::none().with(rule);
+    }
+    if let Some(rule) = spelled.strip_prefix('-').and_then(Rule::by_name) {
+        return RuleSet::all().without(rule);
+    }
     if spelled == "all" {
-        return Ok(RuleSet::all());
+        RuleSet::all()
+    } else {
+        RuleSet::none()
     }
-    if let Some(name) = spelled.strip_prefix('+') {
-        return Ok(RuleSet::none().with(rule_of(name)?));
-    }
-    if let Some(name) = spelled.strip_prefix('-') {
-        return Ok(RuleSet::all().without(rule_of(name)?));
-    }
-    Ok(RuleSet::none())
 }
 
-fn names(alloc: Global, set: RuleSet) -> Result<String> {
-    let mut found = String::new(alloc);
+fn names(set: RuleSet, out: &mut Answer) {
     for rule in RULES {
         if set.has(rule) {
-            let name = rule.name();
-            write!(found, "{name} ")?;
+            out.put(rule.name());
+            out.put(" ");
         }
     }
-    Ok(found)
 }
 
-fn line(alloc: Global, row: &Row) -> Result<String> {
+fn line(row: &Row, out: &mut Answer) {
+    let mut text = String::new(out.alloc);
+    let is_put = text.push_str(word(row, 4)).is_ok();
+    out.hold(is_put, "a text is too long");
     let issue = Issue {
-        rule: rule_of(row.word(1)?)?,
+        rule: Rule::by_name(word(row, 1)).unwrap_or(Rule::CommentSyntax),
         first: 0,
         past: 1,
         place: Place {
-            line: row.number(2)?,
-            column: row.number(3)?,
+            line: number(row, 2),
+            column: number(row, 3),
         },
-        text: String::from_str(alloc, row.word(4)?)?,
+        text,
         fixable: false,
     };
-    Ok(issue.line(alloc, row.word(5)?)?)
+    tell_line(&issue, word(row, 5), out);
 }
 
-/// The issues of a text: for each its tokens, whether it can be fixed, and its line.
-fn found(alloc: Global, rules: RuleSet, text: &[u8]) -> Result<String> {
-    let scanned = scan(alloc, text)?;
-    let tree = parse(alloc, &scanned)?;
-    let mut told = String::new(alloc);
-    for issue in issues(alloc, &scanned, &tree, rules)? {
+fn tell_line(issue: &Issue, file: &str, out: &mut Answer) {
+    match issue.line(out.alloc, file) {
+        Ok(line) => out.put(line.as_str()),
+        Err(fault) => out.refuse(&fault),
+    }
+}
+
+/// The issues of a text.
+fn found(rules: RuleSet, text: &[u8], out: &mut Answer) {
+    match scan(out.alloc, text) {
+        Ok(scanned) => parsed(rules, &scanned, out),
+        Err(fault) => out.refuse(&fault),
+    }
+}
+
+fn parsed(rules: RuleSet, scanned: &Scanned<'_>, out: &mut Answer) {
+    match parse(out.alloc, scanned) {
+        Ok(tree) => match issues(out.alloc, scanned, &tree, rules) {
+            Ok(issues) => tell_issues(&issues, out),
+            Err(fault) => out.refuse(&fault),
+        },
+        Err(fault) => out.refuse(&fault),
+    }
+}
+
+/// For each issue its tokens, whether it can be fixed, and its line.
+fn tell_issues(issues: &[Issue], out: &mut Answer) {
+    for issue in issues {
         let (first, past, fixable) = (issue.first, issue.past, issue.fixable);
-        let line = issue.line(alloc, "f")?;
-        write!(told, "{first} {past} {fixable} {line}; ")?;
-    }
-    Ok(told)
-}
-
-/// The text as the rule fixes it, which goes back.
-fn fixed(alloc: Global, rule: Rule, text: &[u8]) -> Result<String> {
-    let fixed = fix_text(alloc, text, RuleSet::none().with(rule))?;
-    match &fixed.change {
-        Some(change) => {
-            let back = change.edits.undo(alloc, &change.text)?;
-            said(alloc, &change.text, back.as_slice() == text)
-        }
-        None => said(alloc, text, true),
+        let _ = write!(out, "{first} {past} {fixable} ");
+        tell_line(issue, "f", out);
+        out.put("; ");
     }
 }
 
-/// How many issues the rule's fix mends, and how many edits it makes.
-fn counts(alloc: Global, rule: Rule, text: &[u8]) -> Result<String> {
-    let fixed = fix_text(alloc, text, RuleSet::none().with(rule))?;
-    let mended = fixed.fixed;
-    let count = match &fixed.change {
-        Some(change) => change.edits.edits().len(),
-        None => 0,
+/// What the fix of one rule makes of a text.
+fn fix(row: &Row, out: &mut Answer) {
+    let Some(rule) = Rule::by_name(word(row, 1)) else {
+        return out.put("no rule");
     };
-    Ok(format!(in alloc; "{mended} {count}")?)
+    match fix_text(out.alloc, text(row, 2), RuleSet::none().with(rule)) {
+        Ok(fixed) => tell_fixed(row, &fixed, out),
+        Err(fault) => out.refuse(&fault),
+    }
 }
 
-fn faults(alloc: Global) -> Result<String> {
-    let memory = LintFault::Memory;
-    Ok(format!(in alloc; "{memory}")?)
+/// The new text, where the old one comes back, or how many issues the fix mends, and how many edits it makes.
+fn tell_fixed(row: &Row, fixed: &Fixed, out: &mut Answer) {
+    match &fixed.change {
+        Some(change) if word(row, 0) == "fix" => {
+            turned(&change.edits, "both", text(row, 2), out);
+            out.hold(
+                out.text() == change.text.as_slice(),
+                "the edits make another text",
+            );
+        }
+        Some(change) => {
+            let (mended, count) = (fixed.fixed, change.edits.edits().len());
+            let _ = write!(out, "{mended} {count}");
+        }
+        None if word(row, 0) == "fix" => out.put_bytes(text(row, 2)),
+        None => {
+            let mended = fixed.fixed;
+            let _ = write!(out, "{mended} 0");
+        }
+    }
 }

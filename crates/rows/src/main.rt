@@ -4,6 +4,8 @@
 //! another answer, each with that answer, and the number of rows.
 #![tactic(auto)]
 
+mod answer;
+mod fields;
 mod journals;
 mod layouts;
 mod lints;
@@ -14,9 +16,9 @@ mod squashes;
 mod swaps;
 mod tokens;
 
-use anyhow::{Result, anyhow};
+use answer::Answer;
+use anyhow::Result;
 use row_text::Row;
-use std::alloc::Global;
 use std::{env, fs};
 
 fn main(rt: HostRuntime) -> Result<()> {
@@ -28,41 +30,47 @@ fn main(rt: HostRuntime) -> Result<()> {
 }
 
 fn run(rt: &HostRuntime, subject: &str) -> Result<()> {
-    let alloc = rt.alloc();
-    let name = format!(in alloc; "{subject}.rows")?;
+    let name = format!(in rt.alloc(); "{subject}.rows")?;
     let text = fs::read_to_string(rt, name.as_str())?;
-    let mut count = 0u64;
-    for (number, line) in text.lines().enumerate() {
-        if line.is_empty() || line.starts_with('#') {
-            continue;
-        }
-        count = count.saturating_add(1);
-        if let Some(found) = miss(alloc, subject, line)? {
-            let number = number.saturating_add(1);
-            println!(rt; "{name}:{number}: {line}\n  answered: {found}")?;
-        }
-    }
+    let count = try_rows(rt, subject, text.as_str())?;
     println!(rt; "{name}: {count} rows")?;
     Ok(())
 }
 
-/// What is answered in place of what the row says.
-fn miss(alloc: Global, subject: &str, line: &str) -> Result<Option<String>> {
-    let row = Row::read(alloc, line)?;
-    let found = match subject {
-        "records" => records::answer(alloc, &row)?,
-        "squashes" => squashes::answer(alloc, &row)?,
-        "swaps" => swaps::answer(alloc, &row)?,
-        "journals" => journals::answer(alloc, &row)?,
-        "tokens" => tokens::answer(alloc, &row)?,
-        "parses" => parses::answer(alloc, &row)?,
-        "layouts" => layouts::answer(alloc, &row)?,
-        "lints" => lints::answer(alloc, &row)?,
-        _ => return Err(anyhow!("no such subject")),
-    };
-    Ok(if row.says(found.as_str()) {
-        None
-    } else {
-        Some(found)
-    })
+/// Tries the rows of a text, and answers how many there are.
+fn try_rows(rt: &HostRuntime, subject: &str, text: &str) -> Result<u64> {
+    let mut count = 0u64;
+    for (number, line) in text.lines().enumerate() {
+        if !line.is_empty() && !line.starts_with('#') {
+            count = count.saturating_add(1);
+            try_row(rt, subject, number.saturating_add(1), line)?;
+        }
+    }
+    Ok(count)
+}
+
+/// Tells what is answered in place of what the row says.
+fn try_row(rt: &HostRuntime, subject: &str, number: usize, line: &str) -> Result<()> {
+    let row = Row::read(rt.alloc(), line)?;
+    let mut out = Answer::new(rt.alloc());
+    ask(subject, &row, &mut out);
+    if !out.is_of(&row) {
+        let found = out.told();
+        println!(rt; "{subject}.rows:{number}: {line}\n  answered: {found}")?;
+    }
+    Ok(())
+}
+
+fn ask(subject: &str, row: &Row, out: &mut Answer) {
+    match subject {
+        "records" => records::answer(row, out),
+        "squashes" => squashes::answer(row, out),
+        "swaps" => swaps::answer(row, out),
+        "journals" => journals::answer(row, out),
+        "tokens" => tokens::answer(row, out),
+        "parses" => parses::answer(row, out),
+        "layouts" => layouts::answer(row, out),
+        "lints" => lints::answer(row, out),
+        _ => out.hold(false, "no such subject"),
+    }
 }

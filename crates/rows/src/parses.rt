@@ -1,36 +1,32 @@
 //! Texts that parse or not, and where they do not.
 
-use anyhow::Result;
+use crate::answer::Answer;
+use crate::fields::{text, word};
+use hcl_grammar::tree::Tree;
 use hcl_scan::scan;
 use hcl_tree::{ParseFault, parse};
 use row_text::Row;
-use std::alloc::Global;
+use std::fmt::Write;
 
-pub fn answer(alloc: Global, row: &Row) -> Result<String> {
-    match row.word(0)? {
-        "parse" => said(alloc, row.text(1)?),
-        "body" => body(alloc, row.text(1)?),
-        _ => memory(alloc),
+pub fn answer(row: &Row, out: &mut Answer) {
+    if word(row, 0) == "memory" {
+        return out.show(&ParseFault::Memory);
+    }
+    match scan(out.alloc, text(row, 1)) {
+        Ok(scanned) => match parse(out.alloc, &scanned) {
+            Ok(tree) => tell(word(row, 0), &tree, out),
+            Err(fault) => out.show(&fault),
+        },
+        Err(fault) => out.refuse(&fault),
     }
 }
 
-fn said(alloc: Global, text: &[u8]) -> Result<String> {
-    let scanned = scan(alloc, text)?;
-    match parse(alloc, &scanned) {
-        Ok(_tree) => Ok(String::from_str(alloc, "parses")?),
-        Err(fault) => Ok(format!(in alloc; "{fault}")?),
+/// That there is a tree, or how many tokens it has, how many its body, and how many members that has.
+fn tell(call: &str, tree: &Tree, out: &mut Answer) {
+    if call == "parse" {
+        out.put("parses");
+    } else {
+        let (all, past, members) = (tree.past, tree.body.past, tree.body.members.len());
+        let _ = write!(out, "{all} {past} {members}");
     }
-}
-
-/// How many tokens the tree has, how many its body, and how many members that has.
-fn body(alloc: Global, text: &[u8]) -> Result<String> {
-    let scanned = scan(alloc, text)?;
-    let tree = parse(alloc, &scanned)?;
-    let (all, past, members) = (tree.past, tree.body.past, tree.body.members.len());
-    Ok(format!(in alloc; "{all} {past} {members}")?)
-}
-
-fn memory(alloc: Global) -> Result<String> {
-    let fault = ParseFault::Memory;
-    Ok(format!(in alloc; "{fault}")?)
 }

@@ -1,77 +1,70 @@
 //! Lists that change places, and records that are taken out.
 
-use crate::spelled::{journal_of, list_of, name_of, rising, spell, spell_as};
-use anyhow::Result;
-use edit_record::{Edits, Journal};
+use crate::answer::Answer;
+use crate::fields::word;
+use crate::spelled::{journal_of, list_of, name_of, spell};
+use edit_record::{Edits, Record};
 use edit_swap::laws::{swap_is_one, taking_out_is_one};
 use edit_swap::{SwapFault, TakeFault, swap, take_out};
 use row_text::Row;
-use std::alloc::Global;
+use std::fmt::Write;
 
-pub fn answer(alloc: Global, row: &Row) -> Result<String> {
-    match row.word(0)? {
-        "second" => swapped(alloc, row, true),
-        "first" => swapped(alloc, row, false),
-        "others" => others(alloc, row, &journal_of(alloc, row.word(2)?)?),
-        "moved" => moved(alloc, row, &journal_of(alloc, row.word(2)?)?),
-        "others of many" => others(alloc, row, &many(alloc, row)?),
-        "moved past many" => moved(alloc, row, &many(alloc, row)?),
-        _ => memory(alloc),
+pub fn answer(row: &Row, out: &mut Answer) {
+    match word(row, 0) {
+        "second" | "first" => swapped(row, out),
+        "others" | "moved" => taken_out(row, out),
+        _ => {
+            out.show(&SwapFault::Memory);
+            out.put(", ");
+            out.show(&TakeFault::Memory);
+        }
     }
 }
 
 /// The second list as it comes first, or the first as it comes second.
-fn swapped(alloc: Global, row: &Row, is_second: bool) -> Result<String> {
-    let first = list_of(alloc, row.word(1)?)?;
-    let second = list_of(alloc, row.word(2)?)?;
+fn swapped(row: &Row, out: &mut Answer) {
+    let first = list_of(word(row, 1), out);
+    let second = list_of(word(row, 2), out);
     swap_is_one();
-    match swap(alloc, &first, &second) {
-        Ok(lists) => spell_as(alloc, of_both(&lists, is_second), row.word(3)?),
-        Err(fault) => Ok(format!(in alloc; "refused: {fault}")?),
+    match swap(out.alloc, &first, &second) {
+        Ok((second, first)) => {
+            let is_second = word(row, 0) == "second";
+            spell(if is_second { &second } else { &first }, out);
+        }
+        Err(fault) => out.refuse(&fault),
     }
 }
 
-fn of_both(lists: &(Edits, Edits), is_first: bool) -> &Edits {
-    if is_first { &lists.0 } else { &lists.1 }
-}
-
-/// So many records that each put a `y` at byte 501 of texts that a byte was put before.
-fn many(alloc: Global, row: &Row) -> Result<Journal> {
-    rising(alloc, row.number(2)?, 1_001, (501, 1), ("", "y"))
-}
-
-/// How many records there are behind the edits, and the last without them.
-fn others(alloc: Global, row: &Row, journal: &Journal) -> Result<String> {
-    let first = list_of(alloc, row.word(1)?)?;
-    match take_out(alloc, &first, journal.records()) {
-        Ok((others, _)) => {
-            let count = others.len();
-            match others.last() {
-                Some(last) => {
-                    let (word, list) = (name_of(last.word()), spell(alloc, last.edits())?);
-                    Ok(format!(in alloc; "{count}, {word} {list}")?)
-                }
-                None => Ok(format!(in alloc; "{count}")?),
+/// The records without the edits before them, or what the edits are behind the records.
+fn taken_out(row: &Row, out: &mut Answer) {
+    let first = list_of(word(row, 1), out);
+    let journal = journal_of(word(row, 2), out);
+    taking_out_is_one();
+    match take_out(out.alloc, &first, journal.records()) {
+        Ok((others, moved)) => {
+            if word(row, 0) == "others" {
+                tell_others(&others, out);
+            } else {
+                tell_moved(&moved, out);
             }
         }
-        Err(fault) => Ok(format!(in alloc; "refused: {fault}")?),
+        Err(fault) => out.refuse(&fault),
     }
 }
 
-/// What the edits are behind the records.
-fn moved(alloc: Global, row: &Row, journal: &Journal) -> Result<String> {
-    let first = list_of(alloc, row.word(1)?)?;
-    taking_out_is_one();
-    match take_out(alloc, &first, journal.records()) {
-        Ok((_, moved)) => match moved {
-            Some(list) => spell(alloc, &list),
-            None => Ok(format!(in alloc; "stays")?),
-        },
-        Err(fault) => Ok(format!(in alloc; "refused: {fault}")?),
+/// How many records there are, and the last of them.
+fn tell_others(others: &[Record], out: &mut Answer) {
+    out.show(&others.len());
+    if let Some(last) = others.last() {
+        let word = name_of(last.word());
+        let _ = write!(out, ", {word} ");
+        spell(last.edits(), out);
     }
 }
 
-fn memory(alloc: Global) -> Result<String> {
-    let (swap, take) = (SwapFault::Memory, TakeFault::Memory);
-    Ok(format!(in alloc; "{swap}, {take}")?)
+fn tell_moved(moved: &Option<Edits>, out: &mut Answer) {
+    match moved {
+        Some(list) => spell(list, out),
+        None => out.put("stays"),
+    }
 }

@@ -1,156 +1,155 @@
 //! Tokens: the cuts of texts, places, and what joins.
 
+use crate::answer::Answer;
+use crate::fields::{number, text, word};
 use crate::journals::with_byte;
-use anyhow::{Result, anyhow};
 use hcl_scan::laws::{
     cut_follows, gaps_of, no_cut_with_fault, one_cut, one_fault, other_gaps, writes_back,
 };
 use hcl_scan::{Kind, ScanFault, Scanned, scan};
 use hcl_token::{clusters, joins};
 use row_text::Row;
-use std::alloc::Global;
 use std::fmt::Write;
-use std::str::from_utf8;
 
-pub fn answer(alloc: Global, row: &Row) -> Result<String> {
-    match row.word(0)? {
-        "cut" => cut(alloc, row.text(1)?),
-        "gaps" => gaps(alloc, &scan(alloc, row.text(1)?)?),
-        "places" => places(alloc, &scan(alloc, row.text(1)?)?),
-        "count" => count(alloc, row.text(1)?),
-        "token" => token(alloc, &scan(alloc, row.text(1)?)?, row.number(2)?),
-        "joined" => {
-            let scanned = scan(alloc, row.text(1)?)?;
-            joined(alloc, &scanned, row.number(2)?, row.number(3)?)
-        }
+pub fn answer(row: &Row, out: &mut Answer) {
+    match word(row, 0) {
         "joins" => {
-            let (first, second) = (kind_of(alloc, row.word(1)?)?, kind_of(alloc, row.word(3)?)?);
-            yes_or_no(alloc, joins(first, row.text(2)?, second, row.text(4)?))
+            let (first, second) = (kind_of(word(row, 1), out), kind_of(word(row, 3), out));
+            yes_or_no(joins(first, text(row, 2), second, text(row, 4)), out);
         }
-        "clusters" => {
-            let count = clusters(row.word(1)?.as_bytes());
-            Ok(format!(in alloc; "{count}")?)
-        }
-        "fronts" => fronts(alloc, row.text(1)?),
-        "others" => others(alloc, row.text(1)?, row.text(2)?),
-        "laws" => laws(alloc),
-        _ => memory(alloc),
+        "clusters" => out.show(&clusters(word(row, 1).as_bytes())),
+        "fronts" => fronts(text(row, 1), out),
+        "others" => others(text(row, 1), text(row, 2), out),
+        "laws" => laws(out),
+        "memory" => out.show(&ScanFault::Memory),
+        _ => match scan(out.alloc, text(row, 1)) {
+            Ok(scanned) => tell(row, &scanned, out),
+            Err(fault) => out.refuse(&fault),
+        },
     }
 }
 
-fn yes_or_no(alloc: Global, yes: bool) -> Result<String> {
-    Ok(String::from_str(alloc, if yes { "yes" } else { "no" })?)
+fn yes_or_no(yes: bool, out: &mut Answer) {
+    out.put(if yes { "yes" } else { "no" });
+}
+
+fn tell(row: &Row, scanned: &Scanned<'_>, out: &mut Answer) {
+    match word(row, 0) {
+        "cut" => cut(scanned, out),
+        "gaps" => gaps(scanned, out),
+        "places" => places(scanned, out),
+        "count" => count(scanned, text(row, 1), out),
+        "token" => token(scanned, number(row, 2), out),
+        _ => joined(scanned, number(row, 2), number(row, 3), out),
+    }
 }
 
 /// The tokens of a text, each with its kind.
-fn cut(alloc: Global, text: &[u8]) -> Result<String> {
-    match scan(alloc, text) {
-        Ok(scanned) => kinds(alloc, &scanned),
-        Err(fault) => Ok(format!(in alloc; "refused: {fault}")?),
-    }
-}
-
-fn kinds(alloc: Global, scanned: &Scanned<'_>) -> Result<String> {
-    let mut found = String::new(alloc);
+fn cut(scanned: &Scanned<'_>, out: &mut Answer) {
     for i in 0..scanned.len() {
         let kind = scanned.kind(i);
-        let spelling = from_utf8(scanned.spelling(i))?;
-        write!(found, "{kind:?}({spelling}) ")?;
+        let _ = write!(out, "{kind:?}(");
+        out.put_bytes(scanned.spelling(i));
+        out.put(") ");
     }
-    Ok(found)
 }
 
 /// The gaps, the last one too.
-fn gaps(alloc: Global, scanned: &Scanned<'_>) -> Result<String> {
-    let mut found = String::new(alloc);
+fn gaps(scanned: &Scanned<'_>, out: &mut Answer) {
     for i in 0..scanned.len() {
-        let gap = from_utf8(scanned.gap(i))?;
-        write!(found, "({gap})")?;
+        gap(scanned.gap(i), out);
     }
-    let gap = from_utf8(scanned.last_gap())?;
-    write!(found, "({gap})")?;
-    Ok(found)
+    gap(scanned.last_gap(), out);
+}
+
+fn gap(gap: &[u8], out: &mut Answer) {
+    out.put("(");
+    out.put_bytes(gap);
+    out.put(")");
 }
 
 /// The line and the column of each token.
-fn places(alloc: Global, scanned: &Scanned<'_>) -> Result<String> {
-    let mut found = String::new(alloc);
+fn places(scanned: &Scanned<'_>, out: &mut Answer) {
     for i in 0..scanned.len() {
         let place = scanned.place_of(i);
         let (line, column) = (place.line, place.column);
-        write!(found, "{line}:{column} ")?;
+        let _ = write!(out, "{line}:{column} ");
     }
-    Ok(found)
 }
 
 /// How many tokens there are, of the whole text.
-fn count(alloc: Global, text: &[u8]) -> Result<String> {
-    let scanned = scan(alloc, text)?;
-    let (len, is_empty) = (scanned.len(), scanned.is_empty());
-    if scanned.text() == text && is_empty == (len == 0) {
-        Ok(format!(in alloc; "{len}")?)
-    } else {
-        Err(anyhow!("another text"))
-    }
+fn count(scanned: &Scanned<'_>, text: &[u8], out: &mut Answer) {
+    out.show(&scanned.len());
+    out.hold(scanned.text() == text, "another text");
+    let is_told = scanned.is_empty() == (scanned.len() == 0);
+    out.hold(is_told, "it is told otherwise whether there is a token");
 }
 
 /// Where a token stands, how many clusters it has, and its gap.
-fn token(alloc: Global, scanned: &Scanned<'_>, i: usize) -> Result<String> {
+fn token(scanned: &Scanned<'_>, i: usize, out: &mut Answer) {
     if i >= scanned.len() {
-        return Err(anyhow!("no such token"));
+        return out.put("no such token");
     }
     let item = scanned.item(i);
     let (kind, gap_at, start, stop) = (item.kind, item.gap_at, item.start, item.stop);
-    let (clusters, gap) = (scanned.clusters(i), from_utf8(scanned.gap(i))?);
-    Ok(format!(in alloc; "{kind:?} {gap_at} {start} {stop}, {clusters} clusters behind ({gap})")?)
+    let clusters = scanned.clusters(i);
+    let _ = write!(
+        out,
+        "{kind:?} {gap_at} {start} {stop}, {clusters} clusters behind "
+    );
+    gap(scanned.gap(i), out);
 }
 
-fn joined(alloc: Global, scanned: &Scanned<'_>, i: usize, j: usize) -> Result<String> {
+fn joined(scanned: &Scanned<'_>, i: usize, j: usize, out: &mut Answer) {
     if i >= scanned.len() || j >= scanned.len() {
-        return Err(anyhow!("no such token"));
+        return out.put("no such token");
     }
-    yes_or_no(alloc, scanned.joins(i, j))
+    yes_or_no(scanned.joins(i, j), out);
 }
 
 /// Whether the text has a cut that gives it back, or a fault, but not for want of memory.
-fn has_cut_or_fault(alloc: Global, text: &[u8]) -> Result<bool> {
-    match scan(alloc, text) {
-        Ok(scanned) => {
-            let mut whole = Vec::new(alloc);
-            for i in 0..scanned.len() {
-                whole.extend_from_slice(scanned.gap(i))?;
-                whole.extend_from_slice(scanned.spelling(i))?;
-            }
-            whole.extend_from_slice(scanned.last_gap())?;
-            Ok(whole.as_slice() == text)
-        }
-        Err(fault) => Ok(fault != ScanFault::Memory),
+fn has_cut_or_fault(text: &[u8], out: &Answer) -> bool {
+    match scan(out.alloc, text) {
+        Ok(scanned) => is_whole(&scanned, text, Answer::new(out.alloc)),
+        Err(fault) => fault != ScanFault::Memory,
     }
 }
 
-/// Each front of the text.
-fn fronts(alloc: Global, text: &[u8]) -> Result<String> {
+/// Whether gaps and tokens are the text.
+fn is_whole(scanned: &Scanned<'_>, text: &[u8], whole: Answer) -> bool {
+    let mut whole = whole;
+    for i in 0..scanned.len() {
+        whole.put_bytes(scanned.gap(i));
+        whole.put_bytes(scanned.spelling(i));
+    }
+    whole.put_bytes(scanned.last_gap());
+    whole.text() == text
+}
+
+/// Each front of the text; the lengths of those that have neither.
+fn fronts(text: &[u8], out: &mut Answer) {
     for len in 0..=text.len() {
-        if !has_cut_or_fault(alloc, &text[..len])? {
-            return Ok(format!(in alloc; "{len} bytes")?);
+        if !has_cut_or_fault(&text[..len], out) {
+            let _ = write!(out, "{len} bytes, ");
         }
     }
-    Ok(format!(in alloc; "cuts and faults")?)
+    out.put("cuts and faults");
 }
 
-/// The text with each of these bytes at each place.
-fn others(alloc: Global, text: &[u8], bytes: &[u8]) -> Result<String> {
+/// The text with each of these bytes at each place; where it has neither.
+fn others(text: &[u8], bytes: &[u8], out: &mut Answer) {
     for at in 0..text.len() {
         for byte in bytes {
-            if !has_cut_or_fault(alloc, &with_byte(alloc, text, at, *byte)?)? {
-                return Ok(format!(in alloc; "{byte} at {at}")?);
+            let changed = with_byte(text, at, *byte, out);
+            if !has_cut_or_fault(&changed, out) {
+                let _ = write!(out, "{byte} at {at}, ");
             }
         }
     }
-    Ok(format!(in alloc; "cuts and faults")?)
+    out.put("cuts and faults");
 }
 
-fn laws(alloc: Global) -> Result<String> {
+fn laws(out: &mut Answer) {
     one_cut();
     no_cut_with_fault();
     one_fault();
@@ -158,12 +157,7 @@ fn laws(alloc: Global) -> Result<String> {
     cut_follows();
     gaps_of();
     other_gaps();
-    Ok(format!(in alloc; "hold")?)
-}
-
-fn memory(alloc: Global) -> Result<String> {
-    let fault = ScanFault::Memory;
-    Ok(format!(in alloc; "{fault}")?)
+    out.put("hold");
 }
 
 /// The kinds that tokens join in, and some that they do not.
@@ -199,11 +193,14 @@ const KINDS: [Kind; 29] = [
     Kind::HereLit,
 ];
 
-fn kind_of(alloc: Global, name: &str) -> Result<Kind> {
+fn kind_of(name: &str, out: &mut Answer) -> Kind {
     for kind in KINDS {
-        if format!(in alloc; "{kind:?}")?.as_str() == name {
-            return Ok(kind);
+        let mut spelled = Answer::new(out.alloc);
+        let _ = write!(spelled, "{kind:?}");
+        if spelled.text() == name.as_bytes() {
+            return kind;
         }
     }
-    Err(anyhow!("no such kind"))
+    out.hold(false, "no such kind");
+    Kind::Mark
 }
