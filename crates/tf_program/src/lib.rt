@@ -1,16 +1,13 @@
 //! The work of the program `tfk`, from the words of its command line to its exit status.
 #![tactic(auto)]
 
-mod command_line;
 mod files;
-mod help;
 mod journals;
 mod listing;
 mod overwriting;
 mod parts;
 mod places;
 mod replacing;
-mod rule_choice;
 mod saving;
 mod worker;
 

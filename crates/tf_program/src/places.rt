@@ -32,7 +32,7 @@ pub struct Places<'a> {
 }
 
 /// What a command that was stopped has left beside a file.
-#[derive(Clone, Copy, Debug, PartialEq, Eq)]
+#[derive(Clone, Copy)]
 enum Left {
     Nothing,
     /// The new text took its place; the new journal still has to.

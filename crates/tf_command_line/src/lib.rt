@@ -1,0 +1,8 @@
+//! What the words of the command line of `tfk` ask for.
+#![tactic(auto)]
+
+mod command_line;
+mod help;
+mod rule_choice;
+
+pub use command_line::{Action, Stop, Task, task_from, words_of};
