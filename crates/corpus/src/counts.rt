@@ -5,18 +5,6 @@ use std::fmt::Write;
 use text_trials::Report;
 use tf_lint::{Issue, Rule};
 
-const RULES: [Rule; 9] = [
-    Rule::CommentSyntax,
-    Rule::DeprecatedIndex,
-    Rule::DeprecatedInterpolation,
-    Rule::EmptyListEquality,
-    Rule::DeprecatedLookup,
-    Rule::NamingConvention,
-    Rule::TypedVariables,
-    Rule::DocumentedVariables,
-    Rule::DocumentedOutputs,
-];
-
 /// How many texts a rule is to have an issue in that can be fixed; one without a fix, an issue.
 fn wanted(rule: Rule) -> u64 {
     match rule {
@@ -40,7 +28,7 @@ fn short(rule: Rule) -> &'static str {
 
 /// Writes the rules of the issues behind the line, in their order, each with the number of its issues.
 pub fn tell(issues: &[Issue], line: &mut String, report: &mut Report) {
-    for rule in RULES {
+    for rule in Rule::ALL {
         let count = issues.iter().filter(|issue| issue.rule == rule).count();
         if count > 0 {
             let name = short(rule);
@@ -50,10 +38,10 @@ pub fn tell(issues: &[Issue], line: &mut String, report: &mut Report) {
     }
 }
 
-/// In how many texts the rules have issues that count for them, in the order of `RULES`.
+/// In how many texts the rules have issues that count for them, in the order of the rules.
 #[derive(Drop)]
 pub struct Tally {
-    texts: [u64; 9],
+    texts: [u64; Rule::COUNT],
 }
 
 /// Whether the issue is one of the rule, and can be fixed if the rule has a fix.
@@ -63,12 +51,14 @@ fn counts_for(issue: &Issue, rule: Rule) -> bool {
 
 impl Tally {
     pub fn new() -> Tally {
-        Tally { texts: [0; 9] }
+        Tally {
+            texts: [0; Rule::COUNT],
+        }
     }
 
     /// Counts a text with these issues.
     pub fn add(&mut self, issues: &[Issue]) {
-        for (i, rule) in RULES.iter().enumerate() {
+        for (i, rule) in Rule::ALL.iter().enumerate() {
             let occurs = issues.iter().any(|issue| counts_for(issue, *rule));
             if let Some(texts) = self.texts.get_mut(i) {
                 *texts = texts.saturating_add(u64::from(occurs));
@@ -78,7 +68,7 @@ impl Tally {
 
     /// Tells the rules that occur too seldom.
     pub fn tell_rare(&self, rt: &HostRuntime) -> Result<()> {
-        for (rule, texts) in RULES.iter().zip(self.texts.iter()) {
+        for (rule, texts) in Rule::ALL.iter().zip(self.texts.iter()) {
             if *texts < wanted(*rule) {
                 let name = short(*rule);
                 println!(rt; "{name}: in {texts} texts")?;

@@ -1,5 +1,6 @@
-//! What the rules find in texts that are read line by line, where `\n` in a line stands for a line end: each text, and below it a
-//! line for each finding with its place, its rule, its tokens, whether a fix can mend it, and what is wrong.
+//! What the rules find in texts that are read line by line, where `\n` in a line stands for a
+//! line end: each text, and below it a line for each finding with its place, its rule, its tokens,
+//! whether a fix can mend it, what its message names, and its fix.
 #![tactic(auto)]
 
 use anyhow::Result;
@@ -26,14 +27,18 @@ fn text_of(alloc: Global, row: &str) -> Result<Vec<u8>, AllocError> {
 /// The line of a finding.
 fn line_of(alloc: Global, scanned: &Scanned<'_>, f: &Finding) -> Result<String, AllocError> {
     let rule = f.rule.name();
-    let mends = if f.fixable { "fixable" } else { "not fixable" };
+    let mends = if f.is_fixable() {
+        "fixable"
+    } else {
+        "not fixable"
+    };
     if f.first >= scanned.len() {
         return format!(in alloc; "no token {}", f.first);
     }
     let place = scanned.place_of(f.first);
     format!(in alloc;
-        "  {}:{} {rule} {}..{} {mends} {:?}",
-        place.line, place.column, f.first, f.past, f.matter
+        "  {}:{} {rule} {}..{} {mends} {:?} {:?}",
+        place.line, place.column, f.first, f.past, f.message, f.fix
     )
 }
 

@@ -10,18 +10,6 @@ use std::fmt::Write;
 use tf_lint::{Issue, LintFault, Place, Rule, RuleSet, issues};
 use tf_steps::{Fixed, fix_text};
 
-const RULES: [Rule; 9] = [
-    Rule::CommentSyntax,
-    Rule::DeprecatedIndex,
-    Rule::DeprecatedInterpolation,
-    Rule::EmptyListEquality,
-    Rule::DeprecatedLookup,
-    Rule::NamingConvention,
-    Rule::TypedVariables,
-    Rule::DocumentedVariables,
-    Rule::DocumentedOutputs,
-];
-
 pub fn answer(row: &Row, out: &mut Answer) {
     match word(row, 0) {
         "rule" => rule(word(row, 1), out),
@@ -61,7 +49,7 @@ fn set_of(spelled: &str) -> RuleSet {
 }
 
 fn names(set: RuleSet, out: &mut Answer) {
-    for rule in RULES {
+    for rule in Rule::ALL {
         if set.has(rule) {
             out.put(rule.name());
             out.put(" ");

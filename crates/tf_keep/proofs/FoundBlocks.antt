@@ -1,6 +1,5 @@
 -- What the rules on blocks find in a member whose tokens stand elsewhere: the same, its numbers moved.
-use Rattle.std.proofs.Common.{◌≡◌, ℕ, zero, suc, ◌+◌, ◌<◌, Bool, true, false, not, ◌&&◌, ◌||◌, List, [], ◌∷◌, ◌++◌, map, slice_get, Option, Some, None, unwrap_or, codes, if◌then◌else◌, refl, sym, ap, ap₂, ◌∙◌, arith}
-use Rattle.std.proofs.lemmas.List.{map-append}
+use Rattle.std.proofs.Common.{◌≡◌, ℕ, zero, suc, ◌+◌, ◌<◌, Bool, true, false, not, ◌&&◌, ◌||◌, List, [], ◌∷◌, map, length, slice_get, Option, Some, None, unwrap_or, codes, refl, sym, ap, ap₂, ◌∙◌, subst, arith}
 use Rattle.std.specs.List.{flat_map}
 use Rattle.std.specs.Option.{option_map}
 use Rattle.std.specs.Str.{bytes_eq}
@@ -19,39 +18,31 @@ use Rattle.hcl_grammar_laws.proofs.Opens as opens
 use Rattle.hcl_scan.specs.Follows.{tokens_of}
 use Rattle.hcl_token.specs.Tokens.{Pair}
 use Rattle.tf_keep.specs.Keeping.{SameTokens}
-use Rattle.tf_keep.specs.Moving.{moved, moved_finding, moved_matter}
-use Rattle.tf_keep.proofs.Moved as moves
+use Rattle.tf_keep.specs.Moving.{moved, moved_finding}
+use Rattle.tf_keep.proofs.Moved as moves_as
 use Rattle.tf_keep.proofs.Moved.{MovedNumber, MovedExpr, MovedForm, MovedTerm, MovedShape, MovedParts, MovedLabels, MovedOnLine, MovedMember, MovedContent, MovedMembers}
-use Rattle.tf_keep.proofs.MovedSpans.{moved_token, spelling_moved, finding_moves}
+use Rattle.tf_keep.proofs.MovedSpans.{moved_token, spelling_moved}
+use Rattle.tf_keep.proofs.Moves.{Moves, either, append, finding_moves, no_fix}
+use Rattle.tf_keep.proofs.Moves as moves
 use Rattle.tf_keep.proofs.Window.{Here, Same}
-use Rattle.tf_rule.specs.declared.finding.Finding.{Finding}
-use Rattle.tf_rule.specs.declared.finding.Matter.{Matter}
-use Rattle.tf_rule.specs.declared.finding.Matter.TheVariants.{Name, Untyped, Undocumented}
+use Rattle.tf_rule.specs.declared.finding.Message.{Message}
 use Rattle.tf_rule.specs.declared.finding.Named.{Named}
 use Rattle.tf_rule.specs.declared.finding.Named.TheVariants.{Local}
 use Rattle.tf_rule.specs.declared.rule.Rule.{Rule}
 use Rattle.tf_rule.specs.declared.rule.Rule.TheVariants.{NamingConvention, TypedVariables, DocumentedVariables, DocumentedOutputs}
 use Rattle.tf_rule.specs.declared.rule_set.RuleSet.{RuleSet}
-use Rattle.tf_rule.specs.Findings.{is_in_order}
+use Rattle.tf_rule.specs.Findings.{sound}
 use Rattle.tf_rule.specs.RuleSets.{has_rule}
 use Rattle.tf_top.specs.Attributes.{attributes, attributes_in, member_attributes, is_none_of, is_empty_text_shape, is_empty_text_form, is_empty_text, has_attribute}
 use Rattle.tf_top.specs.Layers.{FormLayer, ShapeLayer}
 use Rattle.tf_top.specs.Missing.{is_undocumented, missing, untyped_findings, undocumented_findings, missing_findings}
 use Rattle.tf_top.specs.Naming.{naming_finding, declaration, label_findings, declared_findings, local_findings, naming_findings}
 use Rattle.tf_top.specs.SnakeCase.{is_snake_case}
-use Rattle.tf_top.specs.TopFindings.{block_findings, member_findings_in, member_findings}
+use Rattle.tf_top.specs.TopFindings.{block_findings, member_findings}
 use Rattle.tf_top.specs.Words.{word, name_at}
 
--- ---- lists
-
-if_lists : (M : Finding → Finding) (b b' : Bool) (xs xs' ys ys' : List Finding) → b' ≡ b → xs' ≡ map M xs → ys' ≡ map M ys → (if b' then xs' else ys') ≡ map M (if b then xs else ys)
-if_lists M true true xs xs' ys ys' e p q = p
-if_lists M false false xs xs' ys ys' e p q = q
-if_lists M true false xs xs' ys ys' e p q = absurd (cc)
-if_lists M false true xs xs' ys ys' e p q = absurd (cc)
-
-both : (M : Finding → Finding) (xs xs' ys ys' : List Finding) → xs' ≡ map M xs → ys' ≡ map M ys → xs' ++ ys' ≡ map M (xs ++ ys)
-both M xs xs' ys ys' p q = ap₂ (λ a b. a ++ b) p q ∙ sym (map-append M xs ys)
+abbrev message : Option Named → Option ℕ → Message
+message named name = record { named = named; name = name }
 
 -- ---- `""`
 
@@ -65,41 +56,38 @@ same_form x x' s s' p q e = ap is_empty_text_form q ∙ e ∙ sym (ap is_empty_t
 
 module _ (R T : ℕ → ℕ → Type 0) where
   empty_parts : {ps ps' : List Part} → MovedParts R T ps ps' → is_none_of ps' ≡ is_none_of ps
-  empty_parts moves.no_parts = refl
-  empty_parts (moves.parts x xs) = refl
+  empty_parts moves_as.no_parts = refl
+  empty_parts (moves_as.parts x xs) = refl
 
   empty_shape : {x x' : Shape} → MovedShape R T x x' → is_empty_text_shape (out-Shape x') ≡ is_empty_text_shape (out-Shape x)
   unfolding node.call node.for_tuple node.for_object node.template
-  empty_shape moves.number = refl
-  empty_shape moves.identifier = refl
-  empty_shape (moves.call s ns es) = same_shape _ _ _ _ (opens.open_call _) (opens.open_call _) refl
-  empty_shape (moves.tuple es) = same_shape _ _ _ _ (opens.open_tuple _) (opens.open_tuple _) refl
-  empty_shape (moves.object xs) = same_shape _ _ _ _ (opens.open_object _) (opens.open_object _) refl
-  empty_shape (moves.for_tuple x v o) = same_shape _ _ _ _ (opens.open_for_tuple _) (opens.open_for_tuple _) refl
-  empty_shape (moves.for_object g x key v o) = same_shape _ _ _ _ (opens.open_for_object _) (opens.open_for_object _) refl
-  empty_shape (moves.quoted (moves.template p q xs)) = same_shape _ _ _ _ (opens.open_quoted _) (opens.open_quoted _) (empty_parts xs)
-  empty_shape (moves.heredoc t) = same_shape _ _ _ _ (opens.open_heredoc _) (opens.open_heredoc _) refl
-  empty_shape (moves.parens e) = same_shape _ _ _ _ (opens.open_parens _) (opens.open_parens _) refl
+  empty_shape moves_as.number = refl
+  empty_shape moves_as.identifier = refl
+  empty_shape (moves_as.call s ns es) = same_shape _ _ _ _ (opens.open_call _) (opens.open_call _) refl
+  empty_shape (moves_as.tuple es) = same_shape _ _ _ _ (opens.open_tuple _) (opens.open_tuple _) refl
+  empty_shape (moves_as.object xs) = same_shape _ _ _ _ (opens.open_object _) (opens.open_object _) refl
+  empty_shape (moves_as.for_tuple x v o) = same_shape _ _ _ _ (opens.open_for_tuple _) (opens.open_for_tuple _) refl
+  empty_shape (moves_as.for_object g x key v o) = same_shape _ _ _ _ (opens.open_for_object _) (opens.open_for_object _) refl
+  empty_shape (moves_as.quoted (moves_as.template p q xs)) = same_shape _ _ _ _ (opens.open_quoted _) (opens.open_quoted _) (empty_parts xs)
+  empty_shape (moves_as.heredoc t) = same_shape _ _ _ _ (opens.open_heredoc _) (opens.open_heredoc _) refl
+  empty_shape (moves_as.parens e) = same_shape _ _ _ _ (opens.open_parens _) (opens.open_parens _) refl
 
   empty_term : {t t' : Term} → MovedTerm R T t t' → is_empty_text_shape (out-Shape t'.shape) ≡ is_empty_text_shape (out-Shape t.shape)
   unfolding node.term
-  empty_term (moves.moved_term p q l x) = empty_shape x
+  empty_term (moves_as.moved_term p q l x) = empty_shape x
 
   empty_form : {x x' : Form} → MovedForm R T x x' → is_empty_text_form (out-Form x') ≡ is_empty_text_form (out-Form x)
-  empty_form (moves.conditional c a b) = same_form _ _ _ _ (opens.open_conditional _ _ _) (opens.open_conditional _ _ _) refl
-  empty_form (moves.chain h ls) = same_form _ _ _ _ (opens.open_chain _ _) (opens.open_chain _ _) refl
-  empty_form (moves.prefixed op e) = same_form _ _ _ _ (opens.open_prefixed _ _) (opens.open_prefixed _ _) refl
-  empty_form (moves.tailed t xs) = same_form _ _ _ _ (opens.open_tailed _ _) (opens.open_tailed _ _) refl
-  empty_form (moves.plain t) = same_form _ _ _ _ (opens.open_plain _) (opens.open_plain _) (empty_term t)
+  empty_form (moves_as.conditional c a b) = same_form _ _ _ _ (opens.open_conditional _ _ _) (opens.open_conditional _ _ _) refl
+  empty_form (moves_as.chain h ls) = same_form _ _ _ _ (opens.open_chain _ _) (opens.open_chain _ _) refl
+  empty_form (moves_as.prefixed op e) = same_form _ _ _ _ (opens.open_prefixed _ _) (opens.open_prefixed _ _) refl
+  empty_form (moves_as.tailed t xs) = same_form _ _ _ _ (opens.open_tailed _ _) (opens.open_tailed _ _) refl
+  empty_form (moves_as.plain t) = same_form _ _ _ _ (opens.open_plain _) (opens.open_plain _) (empty_term t)
 
   empty_expr : {e e' : Expr} → MovedExpr R T e e' → is_empty_text e' ≡ is_empty_text e
   unfolding node.expr
-  empty_expr (moves.moved_expr p q l x) = empty_form x
+  empty_expr (moves_as.moved_expr p q l x) = empty_form x
 
 module _ (old new : List Pair) {from to count : ℕ} (w : SameTokens (tokens_of old) (tokens_of new) from to count) where
-  abbrev M : Finding → Finding
-  M = moved_finding from to
-
   -- ---- words
 
   first_same : {i i' j j' : ℕ} → Here w i i' → Here w j j' → i < j → Same w i i'
@@ -115,12 +103,12 @@ module _ (old new : List Pair) {from to count : ℕ} (w : SameTokens (tokens_of 
   word_moves h = ap (λ (o : Option (List ℕ)). unwrap_or o []) (spelling_moved old new w h)
 
   name_moves : {o o' : Option ℕ} → MovedNumber (Here w) (Same w) o o' → name_at new o' ≡ name_at old o
-  name_moves moves.no_number = refl
-  name_moves (moves.one_number h) = word_moves h
+  name_moves moves_as.no_number = refl
+  name_moves (moves_as.one_number h) = word_moves h
 
   number_moves : {o o' : Option ℕ} → MovedNumber (Here w) (Same w) o o' → o' ≡ option_map (moved from to) o
-  number_moves moves.no_number = refl
-  number_moves (moves.one_number h) = ap Some (moved_token old new w h)
+  number_moves moves_as.no_number = refl
+  number_moves (moves_as.one_number h) = ap Some (moved_token old new w h)
 
   -- ---- attributes
 
@@ -139,17 +127,17 @@ module _ (old new : List Pair) {from to count : ℕ} (w : SameTokens (tokens_of 
 
   members_attributes : {ms ms' : List Member} → MovedMembers (Here w) (Same w) ms ms' → SameAttributes (flat_map member_attributes ms) (flat_map member_attributes ms')
   unfolding node.block rolled
-  members_attributes moves.no_members = none
-  members_attributes (moves.members (moves.attribute {i} {i'} {j} {j'} {e} {e'} h g l x) r) =
+  members_attributes moves_as.no_members = none
+  members_attributes (moves_as.members (moves_as.attribute {i} {i'} {j} {j'} {e} {e'} h g l x) r) =
       rw (opens.open_attribute (node.attribute i j e), opens.open_attribute (node.attribute i' j' e')) (attribute_moves h g l x (members_attributes r))
-  members_attributes (moves.members (moves.block {i} {i'} {j} {j'} {ls} {ls'} {x} {x'} h g l n c) r) =
+  members_attributes (moves_as.members (moves_as.block {i} {i'} {j} {j'} {ls} {ls'} {x} {x'} h g l n c) r) =
       rw (opens.open_block (rolled i j ls x), opens.open_block (rolled i' j' ls' x')) (members_attributes r)
 
   content_attributes : {x x' : Content} → MovedContent (Here w) (Same w) x x' → SameAttributes (attributes_in (out-Content x)) (attributes_in (out-Content x'))
   unfolding node.body
-  content_attributes (moves.body {i} {i'} {j} {j'} {ms} {ms'} h g ns) = rw (opens.open_lines (node.body i j ms), opens.open_lines (node.body i' j' ms')) (members_attributes ns)
-  content_attributes (moves.on_line moves.nothing) = rw (opens.open_line None) none
-  content_attributes (moves.on_line (moves.one {i} {i'} {j} {j'} {e} {e'} h g l x)) =
+  content_attributes (moves_as.body {i} {i'} {j} {j'} {ms} {ms'} h g ns) = rw (opens.open_lines (node.body i j ms), opens.open_lines (node.body i' j' ms')) (members_attributes ns)
+  content_attributes (moves_as.on_line moves_as.nothing) = rw (opens.open_line None) none
+  content_attributes (moves_as.on_line (moves_as.one {i} {i'} {j} {j'} {e} {e'} h g l x)) =
       rw (opens.open_line (Some (node.attribute i j e)), opens.open_line (Some (node.attribute i' j' e'))) (attribute_moves h g l x none)
 
   has_moves : (name : List ℕ) (empty : Bool) {xs xs' : List Attribute} → SameAttributes xs xs' → has_attribute new name empty xs' ≡ has_attribute old name empty xs
@@ -167,29 +155,30 @@ module _ (old new : List Pair) {from to count : ℕ} (w : SameTokens (tokens_of 
 
   label_at : {ls ls' : List Label} → MovedLabels (Here w) (Same w) ls ls' → (k : ℕ) → SameLabel (slice_get ls k) (slice_get ls' k)
   unfolding node.label
-  label_at moves.no_labels k = no_label
-  label_at (moves.labels h g l n r) zero = one_label n h g
-  label_at (moves.labels h g l n r) (suc k) = label_at r k
+  label_at moves_as.no_labels k = no_label
+  label_at (moves_as.labels h g l n r) zero = one_label n h g
+  label_at (moves_as.labels h g l n r) (suc k) = label_at r k
 
   -- ---- names
 
   naming_moves : (named : Named) {o o' : Option ℕ} {i i' j j' : ℕ} → MovedNumber (Here w) (Same w) o o' → Here w i i' → Here w j j'
-      → naming_finding new named o' i' j' ≡ map M (naming_finding old named o i j)
+      → Moves old new from to (naming_finding old named o i j) (naming_finding new named o' i' j')
   naming_moves named {o} {o'} n h g =
-      if_lists M _ _ _ _ _ _ (ap is_snake_case (name_moves n)) refl
-      (finding_moves old new w NamingConvention false false (Name named o) (Name named o') h g refl (ap (Name named) (number_moves n)) refl)
+      either (ap is_snake_case (name_moves n)) moves.none
+      (finding_moves old new w NamingConvention h g (ap (λ (m : Option ℕ). message (Some named) m) (number_moves n)) no_fix)
 
-  label_moves : (named : Named) {o o' : Option Label} → SameLabel o o' → label_findings new named o' ≡ map M (label_findings old named o)
-  label_moves named no_label = refl
+  label_moves : (named : Named) {o o' : Option Label} → SameLabel o o' → Moves old new from to (label_findings old named o) (label_findings new named o')
+  label_moves named no_label = moves.none
   label_moves named (one_label n h g) = naming_moves named n h g
 
-  declared_moves : (b b' : Block) → MovedLabels (Here w) (Same w) b.labels b'.labels → (o : Option (Named × ℕ)) → declared_findings new b' o ≡ map M (declared_findings old b o)
-  declared_moves b b' ls None = refl
+  declared_moves : (b b' : Block) → MovedLabels (Here w) (Same w) b.labels b'.labels → (o : Option (Named × ℕ))
+      → Moves old new from to (declared_findings old b o) (declared_findings new b' o)
+  declared_moves b b' ls None = moves.none
   declared_moves b b' ls (Some (named, k)) = label_moves named (label_at ls k)
 
-  locals_moves : {xs xs' : List Attribute} → SameAttributes xs xs' → flat_map (local_findings new) xs' ≡ map M (flat_map (local_findings old) xs)
-  locals_moves none = refl
-  locals_moves (more h e r) = both M _ _ _ _ (naming_moves Local (moves.one_number h) (at h) (behind h)) (locals_moves r)
+  locals_moves : {xs xs' : List Attribute} → SameAttributes xs xs' → Moves old new from to (flat_map (local_findings old) xs) (flat_map (local_findings new) xs')
+  locals_moves none = moves.none
+  locals_moves (more h e r) = append (naming_moves Local (moves_as.one_number h) (at h) (behind h)) (locals_moves r)
 
   -- ---- blocks
 
@@ -199,47 +188,53 @@ module _ (old new : List Pair) {from to count : ℕ} (w : SameTokens (tokens_of 
     pub labelled : MovedLabels (Here w) (Same w) b.labels b'.labels
     pub inside : SameAttributes (attributes b) (attributes b')
 
-  names_move : (b b' : Block) → SameBlock b b' → naming_findings new b' ≡ map M (naming_findings old b)
+  names_move : (b b' : Block) → SameBlock b b' → Moves old new from to (naming_findings old b) (naming_findings new b')
   names_move b b' s =
       let e = word_moves s.name in
-      both M _ _ _ _ (ap (λ k. declared_findings new b' (declaration k)) e ∙ declared_moves b b' s.labelled (declaration (word old b.word)))
-      (if_lists M _ _ _ _ _ _ (ap (λ k. bytes_eq k (codes "locals")) e) (locals_moves s.inside) refl)
+      let declared = declared_moves b b' s.labelled (declaration (word old b.word)) in
+      append (subst (λ (k : List ℕ). Moves old new from to (declared_findings old b (declaration (word old b.word))) (declared_findings new b' (declaration k))) (sym e) declared)
+      (either (ap (λ k. bytes_eq k (codes "locals")) e) (locals_moves s.inside) moves.none)
 
-  missing_moves : (rule : Rule) (b b' : Block) → SameBlock b b' → (matter matter' : Matter) → matter' ≡ moved_matter from to matter
-      → is_in_order b'.word (b'.word + 1) matter' ≡ is_in_order b.word (b.word + 1) matter
-      → missing new rule b' matter' ≡ map M (missing old rule b matter)
-  missing_moves rule b b' s matter matter' e o = finding_moves old new w rule false false matter matter' (at s.name) (behind s.name) refl e o
+  missing_moves : (rule : Rule) (b b' : Block) → SameBlock b b' → {o o' : Option ℕ} → MovedNumber (Here w) (Same w) o o'
+      → Moves old new from to (missing rule b o) (missing rule b' o')
+  missing_moves rule b b' s n = finding_moves old new w rule (at s.name) (behind s.name) (ap (λ (m : Option ℕ). message None m) (number_moves n)) no_fix
 
   untyped_moves : (rules : RuleSet) (b b' : Block) → SameBlock b b' → (l l' : Label) → MovedNumber (Here w) (Same w) l.name l'.name
-      → untyped_findings rules new b' l' ≡ map M (untyped_findings rules old b l)
+      → Moves old new from to (untyped_findings rules old b l) (untyped_findings rules new b' l')
   untyped_moves rules b b' s l l' n =
       let e : (has_rule rules TypedVariables && (bytes_eq (word new b'.word) (codes "variable") && not (has_attribute new (codes "type") false (attributes b'))))
       ≡ (has_rule rules TypedVariables && (bytes_eq (word old b.word) (codes "variable") && not (has_attribute old (codes "type") false (attributes b)))) =
       ap₂ (λ a b. has_rule rules TypedVariables && (bytes_eq a (codes "variable") && not b)) (word_moves s.name) (has_moves (codes "type") false s.inside) in
-      if_lists M _ _ _ _ _ _ e (missing_moves TypedVariables b b' s (Untyped l.name) (Untyped l'.name) (ap Untyped (number_moves n)) refl) refl
+      either e (missing_moves TypedVariables b b' s n) moves.none
 
   undocumented_finds : (rules : RuleSet) (rule : Rule) (kind : List ℕ) (b b' : Block) → SameBlock b b' → (l l' : Label) → MovedNumber (Here w) (Same w) l.name l'.name
-      → undocumented_findings rules new rule kind b' l' ≡ map M (undocumented_findings rules old rule kind b l)
+      → Moves old new from to (undocumented_findings rules old rule kind b l) (undocumented_findings rules new rule kind b' l')
   undocumented_finds rules rule kind b b' s l l' n =
       let e : (has_rule rules rule && (bytes_eq (word new b'.word) kind && is_undocumented new (attributes b')))
       ≡ (has_rule rules rule && (bytes_eq (word old b.word) kind && is_undocumented old (attributes b))) =
       ap₂ (λ a b. has_rule rules rule && (bytes_eq a kind && b)) (word_moves s.name) (undocumented_moves s.inside) in
-      if_lists M _ _ _ _ _ _ e (missing_moves rule b b' s (Undocumented l.name) (Undocumented l'.name) (ap Undocumented (number_moves n)) refl) refl
+      either e (missing_moves rule b b' s n) moves.none
 
-  missing_ones : (rules : RuleSet) (b b' : Block) → SameBlock b b' → {o o' : Option Label} → SameLabel o o' → missing_findings rules new b' o' ≡ map M (missing_findings rules old b o)
-  missing_ones rules b b' s no_label = refl
+  missing_ones : (rules : RuleSet) (b b' : Block) → SameBlock b b' → {o o' : Option Label} → SameLabel o o'
+      → Moves old new from to (missing_findings rules old b o) (missing_findings rules new b' o')
+  missing_ones rules b b' s no_label = moves.none
   missing_ones rules b b' s (one_label {l} {l'} n h g) =
-      both M _ _ _ _ (untyped_moves rules b b' s l l' n)
-      (both M _ _ _ _ (undocumented_finds rules DocumentedVariables (codes "variable") b b' s l l' n) (undocumented_finds rules DocumentedOutputs (codes "output") b b' s l l' n))
+      append (untyped_moves rules b b' s l l' n)
+      (append (undocumented_finds rules DocumentedVariables (codes "variable") b b' s l l' n) (undocumented_finds rules DocumentedOutputs (codes "output") b b' s l l' n))
 
-  block_moves : (rules : RuleSet) (b b' : Block) → SameBlock b b' → block_findings rules new b' ≡ map M (block_findings rules old b)
-  block_moves rules b b' s = both M _ _ _ _ (if_lists M _ _ _ _ _ _ refl (names_move b b' s) refl) (missing_ones rules b b' s (label_at s.labelled 0))
+  block_moves : (rules : RuleSet) (b b' : Block) → SameBlock b b' → Moves old new from to (block_findings rules old b) (block_findings rules new b')
+  block_moves rules b b' s =
+      let on = has_rule rules NamingConvention in
+      append (either {b = on} {b' = on} refl (names_move b b' s) moves.none) (missing_ones rules b b' s (label_at s.labelled 0))
 
-  pub top_moves : (rules : RuleSet) {x y : Member} → MovedMember (Here w) (Same w) x y → member_findings rules new y ≡ map (moved_finding from to) (member_findings rules old x)
+  top_moved : (rules : RuleSet) {x y : Member} → MovedMember (Here w) (Same w) x y → Moves old new from to (member_findings rules old x) (member_findings rules new y)
   unfolding node.block rolled
-  top_moves rules (moves.attribute h g l x) = ap (member_findings_in rules new) (opens.open_attribute _) ∙ ap (λ z. map M (member_findings_in rules old z)) (sym (opens.open_attribute _))
-  top_moves rules (moves.block {i} {i'} {j} {j'} {ls} {ls'} {x} {x'} h g l n c) =
+  top_moved rules (moves_as.attribute {i} {i'} {j} {j'} {e} {e'} h g l x) = rw (opens.open_attribute (node.attribute i j e), opens.open_attribute (node.attribute i' j' e')) moves.none
+  top_moved rules (moves_as.block {i} {i'} {j} {j'} {ls} {ls'} {x} {x'} h g l n c) =
       let b = rolled i j ls x in
       let b' = rolled i' j' ls' x' in
-      ap (member_findings_in rules new) (opens.open_block b') ∙ block_moves rules b b' (record { name = first_same h g l; labelled = n; inside = content_attributes c })
-      ∙ ap (λ z. map M (member_findings_in rules old z)) (sym (opens.open_block b))
+      rw (opens.open_block b, opens.open_block b') (block_moves rules b b' (record { name = first_same h g l; labelled = n; inside = content_attributes c }))
+
+  pub top_moves : (rules : RuleSet) {x y : Member} → MovedMember (Here w) (Same w) x y
+      → sound (length new) (member_findings rules new y) ≡ map (moved_finding from to) (sound (length old) (member_findings rules old x))
+  top_moves rules m = (top_moved rules m).is

@@ -1,5 +1,5 @@
 -- What is found in a member whose tokens stand elsewhere is what was found in it, its numbers moved.
-use Rattle.std.proofs.Common.{◌≡◌, ℕ, List, [], ◌∷◌, ◌++◌, map, refl, ap, sym, ◌∙◌}
+use Rattle.std.proofs.Common.{◌≡◌, ℕ, List, [], ◌∷◌, ◌++◌, map, length, refl, ap, sym, ◌∙◌}
 use Rattle.std.specs.List.{flat_map}
 use Rattle.hcl_grammar.specs.declared.tree.Member.{Member}
 use Rattle.hcl_scan.specs.Follows.{tokens_of}
@@ -14,6 +14,7 @@ use Rattle.tf_keep.proofs.Window.{Here, Same}
 use Rattle.tf_keep.specs.Keeping.{SameTokens}
 use Rattle.tf_keep.specs.Moving.{moved_finding}
 use Rattle.tf_rule.specs.declared.finding.Finding.{Finding}
+use Rattle.tf_rule.specs.Findings.{sound}
 use Rattle.tf_rule.specs.declared.rule_set.RuleSet.{RuleSet}
 
 -- one list of nodes stands in some nodes
@@ -30,5 +31,5 @@ keeps_found rules old new {from} {to} w m found a =
     record {
       nodes = s.nodes';
       stand = s.stand';
-      are = ap (map (moved_finding from to)) (a.are ∙ ap (flat_map (node_findings rules old)) (one_list a.stand s.stand)) ∙ sym s.found;
+      are = ap (map (moved_finding from to)) (a.are ∙ ap (λ ns. sound (length old) (flat_map (node_findings rules old) ns)) (one_list a.stand s.stand)) ∙ sym s.found.is;
     }

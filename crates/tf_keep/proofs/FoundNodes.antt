@@ -1,5 +1,5 @@
 -- What stands in a tree whose tokens stand elsewhere, and what is found there.
-use Rattle.std.proofs.Common.{◌≡◌, ℕ, Bool, false, List, [], ◌∷◌, ◌++◌, map, Option, refl, sym, ap, ◌∙◌, subst, append-nil, append_assoc}
+use Rattle.std.proofs.Common.{◌≡◌, ℕ, Bool, false, List, [], ◌∷◌, ◌++◌, map, Option, refl, sym, subst, append-nil, append_assoc}
 use Rattle.std.specs.List.{flat_map}
 use Rattle.std.proofs.lemmas.Grind.{flat_map-append}
 use Rattle.hcl_grammar.specs.declared.tree.Attribute.{Attribute}
@@ -27,10 +27,11 @@ use Rattle.tf_find.specs.Nodes as nodes
 use Rattle.tf_find.specs.Nodes.{Node, Stand, expr, term, tail, part, member, parts, tails_from, splat_behind, form_parts, elem_parts, filter_parts, shape_parts, tail_parts, else_parts, part_parts, option_parts, content_parts}
 use Rattle.tf_keep.proofs.Moved as moved
 use Rattle.tf_keep.proofs.Moved.{MovedExpr, MovedForm, MovedLinks, MovedTails, MovedTail, MovedTerm, MovedShape, MovedExprs, MovedElems, MovedIntro, MovedFilter, MovedTemplate, MovedParts, MovedPart, MovedElse, MovedOnLine, MovedMember, MovedContent, MovedMembers}
-use Rattle.tf_keep.proofs.MovedFindings.{all_moved, either_moved, append_moved, splat_behind_moved, sole_in_moved, index_moved, equality_moved, interpolation_moved, lookup_moved}
+use Rattle.tf_keep.proofs.Moves.{Moves, either, append}
+use Rattle.tf_keep.proofs.Moves as moves
+use Rattle.tf_keep.proofs.MovedFindings.{splat_behind_moved, sole_in_moved, index_moved, equality_moved, interpolation_moved, lookup_moved}
 use Rattle.tf_keep.proofs.Window.{Here, Same}
 use Rattle.tf_keep.specs.Keeping.{SameTokens}
-use Rattle.tf_keep.specs.Moving.{moved_finding}
 use Rattle.tf_rule.specs.declared.rule_set.RuleSet.{RuleSet}
 use Rattle.tf_rule.specs.declared.rule.Rule.TheVariants.{DeprecatedIndex, DeprecatedInterpolation, EmptyListEquality, DeprecatedLookup}
 use Rattle.tf_rule.specs.RuleSets.{has_rule}
@@ -41,7 +42,7 @@ pub record SameFound (rules : RuleSet) (old new : List Pair) (from to : ℕ) (ns
   pub nodes' : List Node
   pub stand : Stand ns nodes
   pub stand' : Stand ns' nodes'
-  pub found : flat_map (node_findings rules new) nodes' ≡ all_moved from to (flat_map (node_findings rules old) nodes)
+  pub found : Moves old new from to (flat_map (node_findings rules old) nodes) (flat_map (node_findings rules new) nodes')
 
 -- what stands in the nodes of two lists
 stand_both : {ns xs ms ys : List Node} → Stand ns xs → Stand ms ys → Stand (ns ++ ms) (xs ++ ys)
@@ -50,7 +51,7 @@ stand_both {ys} (nodes.one {n} {ns} {inside} {others} a c) b = rw (append_assoc 
 
 module _ {rules : RuleSet} {old new : List Pair} {from to : ℕ} where
   pub none : SameFound rules old new from to [] []
-  none = record { nodes = []; nodes' = []; stand = nodes.nothing; stand' = nodes.nothing; found = refl }
+  none = record { nodes = []; nodes' = []; stand = nodes.nothing; stand' = nodes.nothing; found = moves.none }
 
   pub both : {ns ns' ms ms' : List Node} → SameFound rules old new from to ns ns' → SameFound rules old new from to ms ms'
       → SameFound rules old new from to (ns ++ ms) (ns' ++ ms')
@@ -59,20 +60,18 @@ module _ {rules : RuleSet} {old new : List Pair} {from to : ℕ} where
     nodes' = a.nodes' ++ b.nodes';
     stand = stand_both a.stand b.stand;
     stand' = stand_both a.stand' b.stand';
-    found = flat_map-append (node_findings rules new) a.nodes' b.nodes' ∙ (append_moved (moved_finding from to) _ _ _ _ a.found b.found
-        ∙ ap (map (moved_finding from to)) (sym (flat_map-append (node_findings rules old) a.nodes b.nodes)));
+    found = rw (flat_map-append (node_findings rules new) a.nodes' b.nodes', flat_map-append (node_findings rules old) a.nodes b.nodes) (append a.found b.found);
   }
 
   -- one node, by what is found at it and what stands in it
-  pub one_node : (n n' : Node) → node_findings rules new n' ≡ all_moved from to (node_findings rules old n) → SameFound rules old new from to (parts n) (parts n')
+  pub one_node : (n n' : Node) → Moves old new from to (node_findings rules old n) (node_findings rules new n') → SameFound rules old new from to (parts n) (parts n')
       → SameFound rules old new from to (n ∷ []) (n' ∷ [])
   one_node n n' e a = record {
     nodes = n ∷ (a.nodes ++ []);
     nodes' = n' ∷ (a.nodes' ++ []);
     stand = nodes.one a.stand nodes.nothing;
     stand' = nodes.one a.stand' nodes.nothing;
-    found = append_moved (moved_finding from to) _ _ _ _ e (ap (flat_map (node_findings rules new)) (append-nil a.nodes') ∙ (a.found
-        ∙ ap (λ (l : List Node). all_moved from to (flat_map (node_findings rules old) l)) (sym (append-nil a.nodes))));
+    found = append e (rw (append-nil a.nodes', append-nil a.nodes) a.found);
   }
 
 -- ---- the parts of nodes whose fields do not compute
@@ -103,7 +102,7 @@ module _ (rules : RuleSet) (old new : List Pair) {from to count : ℕ} (w : Same
       → SameFound rules old new from to (tail splat x ∷ []) (tail splat x' ∷ [])
   tail_found splat {x} {x'} a inside =
       let b = has_rule rules DeprecatedIndex in
-      one_node (tail splat x) (tail splat x') (either_moved (moved_finding from to) b b _ _ [] [] refl (index_moved old new w splat a) refl) inside
+      one_node (tail splat x) (tail splat x') (either {b = b} {b' = b} refl (index_moved old new w splat a) moves.none) inside
 
   mutual
     unfolding node.expr node.term node.link node.elem node.intro node.template
@@ -111,7 +110,7 @@ module _ (rules : RuleSet) (old new : List Pair) {from to count : ℕ} (w : Same
     pub found_expr : (p : Role) {e e' : Expr} → MovedExpr (Here w) (Same w) e e' → SameFound rules old new from to (expr p e ∷ []) (expr p e' ∷ [])
     found_expr p (moved.moved_expr {i} {i'} {j} {j'} {x} {x'} r s l f) =
         let b = has_rule rules EmptyListEquality in
-        let here = either_moved (moved_finding from to) b b _ _ [] [] refl (equality_moved old new w r f) refl in
+        let here = either {b = b} {b' = b} refl (equality_moved old new w r f) moves.none in
         one_node (expr p (node.expr i j x)) (expr p (node.expr i' j' x')) here (found_form p f)
 
     found_form : (p : Role) {x x' : Form} → MovedForm (Here w) (Same w) x x' → SameFound rules old new from to (form_parts p (out-Form x)) (form_parts p (out-Form x'))
@@ -145,9 +144,8 @@ module _ (rules : RuleSet) (old new : List Pair) {from to count : ℕ} (w : Same
         let b = has_rule rules DeprecatedInterpolation in
         let c = has_rule rules DeprecatedLookup in
         one_node (term p (node.term i j x)) (term p (node.term i' j' x'))
-        (append_moved (moved_finding from to) _ _ _ _
-        (either_moved (moved_finding from to) b b _ _ [] [] refl (interpolation_moved old new w p r s (sole_in_moved f)) refl)
-        (either_moved (moved_finding from to) c c _ _ [] [] refl (lookup_moved old new w r s f) refl))
+        (append (either {b = b} {b' = b} refl (interpolation_moved old new w p r s (sole_in_moved f)) moves.none)
+        (either {b = c} {b' = c} refl (lookup_moved old new w r s f) moves.none))
         (found_shape f)
 
     found_shape : {x x' : Shape} → MovedShape (Here w) (Same w) x x' → SameFound rules old new from to (shape_parts (out-Shape x)) (shape_parts (out-Shape x'))
@@ -182,7 +180,7 @@ module _ (rules : RuleSet) (old new : List Pair) {from to count : ℕ} (w : Same
 
     found_parts : {xs xs' : List Part} → MovedParts (Here w) (Same w) xs xs' → SameFound rules old new from to (map part xs) (map part xs')
     found_parts moved.no_parts = none
-    found_parts (moved.parts {x} {x'} a b) = both (one_node (part x) (part x') refl (found_part a)) (found_parts b)
+    found_parts (moved.parts {x} {x'} a b) = both (one_node (part x) (part x') moves.none (found_part a)) (found_parts b)
 
     found_part : {x x' : Part} → MovedPart (Here w) (Same w) x x' → SameFound rules old new from to (part_parts (out-Part x)) (part_parts (out-Part x'))
     found_part (moved.literal t) = simp (open_literal) none
@@ -204,10 +202,10 @@ module _ (rules : RuleSet) (old new : List Pair) {from to count : ℕ} (w : Same
 
     pub found_member : {m m' : Member} → MovedMember (Here w) (Same w) m m' → SameFound rules old new from to (member m ∷ []) (member m' ∷ [])
     found_member (moved.attribute {i} {i'} {j} {j'} {e} {e'} r s l a) =
-        one_node (member (member_is.Attribute (node.attribute i j e))) (member (member_is.Attribute (node.attribute i' j' e'))) refl
+        one_node (member (member_is.Attribute (node.attribute i j e))) (member (member_is.Attribute (node.attribute i' j' e'))) moves.none
         (simp (open_attribute) (found_expr AttributeValue a))
     found_member (moved.block {i} {i'} {j} {j'} {ls} {ls'} {x} {x'} r s l a b) =
-        one_node (member (node.block i j ls x)) (member (node.block i' j' ls' x')) refl (simp (open_block) (found_content b))
+        one_node (member (node.block i j ls x)) (member (node.block i' j' ls' x')) moves.none (simp (open_block) (found_content b))
 
     found_content : {x x' : Content} → MovedContent (Here w) (Same w) x x' → SameFound rules old new from to (content_parts (out-Content x)) (content_parts (out-Content x'))
     found_content (moved.body r s a) = simp (open_lines) (found_members a)

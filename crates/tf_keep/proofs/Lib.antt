@@ -5,6 +5,7 @@ mod MoveLines
 mod MoveExpressions
 mod MoveBodies
 mod MovedSpans
+mod Moves
 mod MovedFindings
 mod FoundNodes
 mod FoundBlocks

@@ -1,6 +1,6 @@
 -- What is found at one node of a tree is found at it where its tokens stand elsewhere, its numbers moved.
-use Rattle.std.proofs.Common.{◌≡◌, ℕ, ◌+◌, ◌-◌, ◌<◌, Bool, true, false, ◌&&◌, ◌||◌, ◌==◌, not, List, [], ◌++◌, map, length, Option, Some, refl, sym, ap, ap₂, ◌∙◌, rules, if◌then◌else◌}
-use Rattle.std.proofs.lemmas.List.{map-append}
+use Rattle.std.proofs.Common.{◌≡◌, ℕ, ◌+◌, ◌-◌, ◌<◌, Bool, true, false, ◌&&◌, ◌||◌, ◌==◌, not, List, [], Option, Some, refl, ap, ap₂, nat_lt, nat_le, ◌≤◌, arith, rules, if◌then◌else◌}
+use Rattle.std.proofs.lemmas.Bool.{leb-true, leb-false}
 use Rattle.hcl_grammar.specs.declared.tree.Call.{out-Call, roll-Call}
 use Rattle.hcl_grammar.specs.declared.tree.Expr.{Expr}
 use Rattle.hcl_grammar.specs.declared.tree.Form.{Form, out-Form}
@@ -15,7 +15,7 @@ use Rattle.hcl_grammar.specs.Nodes as node
 use Rattle.hcl_grammar_laws.proofs.Opens.{open_conditional, open_chain, open_prefixed, open_tailed, open_plain, open_number, open_identifier, open_call, open_tuple, open_object, open_for_tuple, open_for_object, open_quoted, open_heredoc, open_parens, open_name, open_legacy, open_attribute_splat, open_full_splat, open_index, open_literal, open_interp, open_if, open_for, call_arguments}
 use Rattle.hcl_scan.specs.Follows.{tokens_of}
 use Rattle.hcl_token.specs.Tokens.{Pair}
-use Rattle.tf_find.specs.Equality.{is_empty_list, is_empty_form, is_empty_shape, equality_findings, chain_findings, link_findings, is_mendable, is_equal, is_equality}
+use Rattle.tf_find.specs.Equality.{is_empty_list, is_empty_form, is_empty_shape, equality_findings, chain_findings, link_findings, is_mendable, is_equal, is_equality, measured}
 use Rattle.tf_find.specs.Index.{index_findings}
 use Rattle.tf_find.specs.Interpolation.{is_post_form, sole, sole_in, interpolation_findings, is_key, is_elsewhere}
 use Rattle.tf_find.specs.Lookup.{is_splat, has_splat, is_indexable_form, two, is_lookup, is_lookup_token, is_movable, pair_findings, lookup_findings}
@@ -24,14 +24,16 @@ use Rattle.tf_find.specs.Nodes.{splat_behind}
 use Rattle.tf_find.specs.Spans.{tokens, has_trivia, is_here_close}
 use Rattle.tf_keep.proofs.Moved as moved
 use Rattle.tf_keep.proofs.Moved.{MovedNumbers, MovedExpr, MovedForm, MovedLinks, MovedTails, MovedTail, MovedTerm, MovedShape, MovedExprs, MovedParts, MovedFilter}
-use Rattle.tf_keep.proofs.MovedSpans.{here_of, behind_of, lt_moved, le_moved, le_moved_by, eq_moved, spelling_moved, trivia_moved, break_moved, inner_break_moved, here_close_moved, finding_moves, moved_is}
+use Rattle.tf_keep.proofs.MovedSpans.{here_of, behind_of, eq_moved, spelling_moved, trivia_moved, break_moved, inner_break_moved, here_close_moved}
 use Rattle.tf_keep.proofs.Window.{Here, Same}
 use Rattle.tf_keep.specs.Keeping.{SameTokens}
-use Rattle.tf_keep.specs.Moving.{moved as moved_number, moved_finding}
-use Rattle.tf_rule.specs.declared.finding.Finding.{Finding}
-use Rattle.tf_rule.specs.declared.finding.Matter.TheVariants.{LegacyIndex, Comparison, Interpolation as IsInterpolation, Lookup as IsLookup}
+use Rattle.tf_keep.proofs.Moves.{Moves, SameFix, either, append, both, fix_when, index, word, keeps, skip, no_kept, tokens as same_tokens, no_fix, finding_moves, neither_fits}
+use Rattle.tf_keep.proofs.Moves as moves
+use Rattle.tf_rule.specs.declared.fix.Fix.{Fix}
+use Rattle.tf_rule.specs.declared.fix.Insertion.TheVariants.{Nothing, Length, IsZero, IsPositive, OpenBracket, CloseBracket}
 use Rattle.tf_rule.specs.declared.rule.Rule.TheVariants.{DeprecatedIndex, DeprecatedInterpolation, EmptyListEquality, DeprecatedLookup}
-use Rattle.tf_rule.specs.Findings.{finding_at}
+use Rattle.tf_rule.specs.Findings.{plain, finding_at, is_fitting}
+use Rattle.tf_rule.specs.Fixes.{kept, keeping, when}
 
 -- ---- what does not depend on numbers, whatever the places are related by
 
@@ -136,23 +138,6 @@ module _ {R T : ℕ → ℕ → Type 0} where
 
 -- ---- what is found
 
--- the findings, their numbers moved
-abbrev pub all_moved : ℕ → ℕ → List Finding → List Finding
-all_moved from to = map (moved_finding from to)
-
-pub either_moved : (M : Finding → Finding) (b b' : Bool) (xs xs' ys ys' : List Finding) → b' ≡ b → xs' ≡ map M xs → ys' ≡ map M ys
-    → (if b' then xs' else ys') ≡ map M (if b then xs else ys)
-either_moved M true true xs xs' ys ys' e x y = x
-either_moved M false false xs xs' ys ys' e x y = y
-either_moved M true false xs xs' ys ys' e x y = absurd (cc)
-either_moved M false true xs xs' ys ys' e x y = absurd (cc)
-
-pub append_moved : (M : Finding → Finding) (xs xs' ys ys' : List Finding) → xs' ≡ map M xs → ys' ≡ map M ys → xs' ++ ys' ≡ map M (xs ++ ys)
-append_moved M xs xs' ys ys' x y = ap₂ (λ (a : List Finding) (b : List Finding). a ++ b) x y ∙ sym (map-append M xs ys)
-
-both : {x y x' y' : Bool} → x ≡ x' → y ≡ y' → (x && y) ≡ (x' && y')
-both e f = ap₂ (λ (a : Bool) (b : Bool). a && b) e f
-
 call_names : (a : List ℕ) (b : List Expr) (c : Bool) → (out-Call (roll-Call (record { names = a; arguments = b; spread = c }))).names ≡ a
 call_names a b c = search (rules, the_lemmas)
 
@@ -164,17 +149,32 @@ at_call : (pairs : List Pair) (i j : ℕ) (ns : List ℕ) (es : List Expr) (s : 
 unfolding node.call
 at_call pairs i j ns es s = simp (open_call) (simp (call_names, call_spread, call_arguments) refl)
 
+-- what a fix makes of an interpolation
+abbrev inside : ℕ → ℕ → Fix
+inside first past = keeping Nothing (kept (first + 2) (past - 2) Nothing)
+
+too_narrow : (i j : ℕ) → j < i + 5 → nat_lt (i + 2) (j - 2) ≡ false
+too_narrow i j l = grind arith
+
+not_second : (a b c : Bool) → b ≡ false → (a && (b && c)) ≡ false
+not_second true true c e = absurd (cc)
+not_second true false c e = refl
+not_second false b c e = refl
+
+-- braces that hold nothing
+unfit : (i j : ℕ) → j < i + 5 → is_fitting i j (Some (inside i j)) ≡ false
+unfit i j l = not_second (nat_lt i (i + 2)) (nat_lt (i + 2) (j - 2)) (nat_lt i (j - 2) && nat_lt (j - 2) j) (too_narrow i j l)
+
 module _ (old new : List Pair) {from to count : ℕ} (w : SameTokens (tokens_of old) (tokens_of new) from to count) where
   pub index_moved : (splat : Bool) {x x' : Tail} → MovedTail (Here w) (Same w) x x'
-      → index_findings new splat (out-Tail x') ≡ all_moved from to (index_findings old splat (out-Tail x))
-  index_moved splat (moved.by_name t) = simp (open_name) refl
+      → Moves old new from to (index_findings old splat (out-Tail x)) (index_findings new splat (out-Tail x'))
+  index_moved splat (moved.by_name t) = simp (open_name) moves.none
   index_moved splat (moved.legacy t) =
-      let h = here_of old new w t in
-      let g = behind_of old new w t in
-      simp (open_legacy) (finding_moves old new w DeprecatedIndex (not splat) (not splat) LegacyIndex LegacyIndex h g refl refl (eq_moved old new w 1 h g))
-  index_moved splat moved.attribute_splat = simp (open_attribute_splat) refl
-  index_moved splat moved.full_splat = simp (open_full_splat) refl
-  index_moved splat (moved.index a) = simp (open_index) refl
+      let fix = fix_when old new w refl (same_tokens (index t) (skip (skip no_kept))) in
+      simp (open_legacy) (finding_moves old new w DeprecatedIndex (here_of old new w t) (behind_of old new w t) refl fix)
+  index_moved splat moved.attribute_splat = simp (open_attribute_splat) moves.none
+  index_moved splat moved.full_splat = simp (open_full_splat) moves.none
+  index_moved splat (moved.index a) = simp (open_index) moves.none
 
   -- ---- comparisons with an empty list
 
@@ -186,48 +186,68 @@ module _ (old new : List Pair) {from to count : ℕ} (w : SameTokens (tokens_of 
       let z : is_here_close new (p' - 1) ≡ is_here_close old (p - 1) = here_close_moved old new w h g l in
       both x (both (ap not y) (ap not z))
 
-  comparison_moves : {i i' j j' a a' b b' : ℕ} (f f' zero : Bool) → Here w i i' → Here w j j' → Here w a a' → Here w b b' → f' ≡ f
-      → finding_at (length new) EmptyListEquality i' j' f' (Comparison a' b' zero) ≡ all_moved from to (finding_at (length old) EmptyListEquality i j f (Comparison a b zero))
-  comparison_moves {a} {a'} {b} {b'} f f' zero h g k l e = finding_moves old new w EmptyListEquality f f' (Comparison a b zero) (Comparison a' b' zero) h g e
-      (ap₂ (λ (a : ℕ) (b : ℕ). Comparison a b zero) (moved_is old new w k) (moved_is old new w l))
-      (both (le_moved old new w h k) (both (lt_moved old new w k l) (le_moved old new w l g)))
+  measured_moved : {a a' b b' : ℕ} (zero : Bool) → Here w a a' → Here w b b' → SameFix old new w (Some (measured a b zero)) (Some (measured a' b' zero))
+  measured_moved true k l = same_tokens (word Length tt) (keeps k l (word IsZero tt) (skip no_kept))
+  measured_moved false k l = same_tokens (word Length tt) (keeps k l (word IsPositive tt) (skip no_kept))
+
+  comparison_moves : {i i' j j' a a' b b' : ℕ} {f f' : Bool} (zero : Bool) → Here w i i' → Here w j j' → Here w a a' → Here w b b' → f' ≡ f
+      → Moves old new from to (finding_at EmptyListEquality i j plain (when f (measured a b zero))) (finding_at EmptyListEquality i' j' plain (when f' (measured a' b' zero)))
+  comparison_moves zero h g k l e = finding_moves old new w EmptyListEquality h g refl (fix_when old new w e (measured_moved zero k l))
 
   link_moved : (is_first : Bool) {i i' : ℕ} {left left' : Expr} (op : Operator) {e e' : Expr} → Here w i i' → MovedExpr (Here w) (Same w) left left'
-      → MovedExpr (Here w) (Same w) e e' → link_findings new i' is_first left' (node.link op e') ≡ all_moved from to (link_findings old i is_first left (node.link op e))
+      → MovedExpr (Here w) (Same w) e e' → Moves old new from to (link_findings old i is_first left (node.link op e)) (link_findings new i' is_first left' (node.link op e'))
   unfolding node.link
   link_moved is_first op h a b =
-      let M = moved_finding from to in
       let p = mendable_moved b (first_here a) (past_here a) (some_token a) (past_here a) (first_here b) in
       let q = mendable_moved a (first_here b) (past_here b) (some_token b) (past_here a) (first_here b) in
-      let one = comparison_moves _ _ (is_equal op) h (past_here b) h (past_here a) p in
-      let two = comparison_moves _ _ (is_equal op) h (past_here b) (first_here b) (past_here b) q in
-      either_moved M (is_equality op) (is_equality op) _ _ _ _ refl
-      (either_moved M _ _ _ _ _ _ (empty_list_moved b) one (either_moved M _ _ _ _ _ _ (ap (λ (x : Bool). is_first && x) (empty_list_moved a)) two refl))
-      refl
+      let one = comparison_moves (is_equal op) h (past_here b) h (past_here a) p in
+      let two = comparison_moves (is_equal op) h (past_here b) (first_here b) (past_here b) q in
+      either {b = is_equality op} {b' = is_equality op} refl
+      (either (empty_list_moved b) one (either (ap (λ (x : Bool). is_first && x) (empty_list_moved a)) two moves.none))
+      moves.none
 
   chain_moved : (is_first : Bool) {i i' : ℕ} {left left' : Expr} {ls ls' : List Link} → Here w i i' → MovedExpr (Here w) (Same w) left left'
-      → MovedLinks (Here w) (Same w) ls ls' → chain_findings new i' is_first left' ls' ≡ all_moved from to (chain_findings old i is_first left ls)
+      → MovedLinks (Here w) (Same w) ls ls' → Moves old new from to (chain_findings old i is_first left ls) (chain_findings new i' is_first left' ls')
   unfolding node.link
-  chain_moved is_first h a moved.no_links = refl
-  chain_moved is_first h a (moved.links op b c) = append_moved (moved_finding from to) _ _ _ _ (link_moved is_first op h a b) (chain_moved false h b c)
+  chain_moved is_first h a moved.no_links = moves.none
+  chain_moved is_first h a (moved.links op b c) = append (link_moved is_first op h a b) (chain_moved false h b c)
 
   pub equality_moved : {i i' : ℕ} {x x' : Form} → Here w i i' → MovedForm (Here w) (Same w) x x'
-      → equality_findings new i' (out-Form x') ≡ all_moved from to (equality_findings old i (out-Form x))
-  equality_moved h (moved.conditional a b c) = simp (open_conditional) refl
+      → Moves old new from to (equality_findings old i (out-Form x)) (equality_findings new i' (out-Form x'))
+  equality_moved h (moved.conditional a b c) = simp (open_conditional) moves.none
   equality_moved h (moved.chain a b) = simp (open_chain) (chain_moved true h a b)
-  equality_moved h (moved.prefixed op a) = simp (open_prefixed) refl
-  equality_moved h (moved.tailed a b) = simp (open_tailed) refl
-  equality_moved h (moved.plain a) = simp (open_plain) refl
+  equality_moved h (moved.prefixed op a) = simp (open_prefixed) moves.none
+  equality_moved h (moved.tailed a b) = simp (open_tailed) moves.none
+  equality_moved h (moved.plain a) = simp (open_plain) moves.none
 
   -- ---- quoted text that is one interpolation
 
+  -- what stands between its braces, where there is such
+  inside_moved : {i i' j j' : ℕ} → Here w i i' → Here w j j' → i + 5 ≤ j → SameFix old new w (Some (inside i j)) (Some (inside i' j'))
+  inside_moved h g l =
+      let a : Here w _ _ = record { before = h.before + 2; within = omega (arith, l, h.in_old, g.in_old, g.within); in_old = omega (arith, h.in_old); in_new = omega (arith, h.in_new) } in
+      let b : Here w _ _ = record { before = g.before - 2; within = omega (arith, g.within); in_old = omega (arith, l, h.in_old, g.in_old); in_new = omega (arith, l, h.in_old, h.in_new, g.in_old, g.in_new) } in
+      same_tokens (word Nothing tt) (keeps a b (word Nothing tt) (skip no_kept))
+
+  narrow_moves : {i i' j j' : ℕ} {f f' : Bool} → Here w i i' → Here w j j' → f' ≡ f → j < i + 5
+      → Moves old new from to (finding_at DeprecatedInterpolation i j plain (when f (inside i j))) (finding_at DeprecatedInterpolation i' j' plain (when f' (inside i' j')))
+  narrow_moves {i} {i'} {j} {j'} {f = true} {f' = true} h g e l =
+      neither_fits DeprecatedInterpolation (unfit i j l) (unfit i' j' (omega (arith, l, h.in_old, h.in_new, g.in_old, g.in_new)))
+  narrow_moves {f = false} {f' = false} h g e l = finding_moves old new w DeprecatedInterpolation h g refl no_fix
+  narrow_moves {f = true} {f' = false} h g e l = absurd (cc)
+  narrow_moves {f = false} {f' = true} h g e l = absurd (cc)
+
+  by_width : (wide : Bool) {i i' j j' : ℕ} {f f' : Bool} → nat_le (i + 5) j ≡ wide → Here w i i' → Here w j j' → f' ≡ f
+      → Moves old new from to (finding_at DeprecatedInterpolation i j plain (when f (inside i j))) (finding_at DeprecatedInterpolation i' j' plain (when f' (inside i' j')))
+  by_width true {i} {i'} {j} t h g e = finding_moves old new w DeprecatedInterpolation h g refl (fix_when old new w e (inside_moved h g (leb-true (i + 5) j t)))
+  by_width false {i} {i'} {j} t h g e = narrow_moves h g e (leb-false (i + 5) j t)
+
   pub interpolation_moved : (role : Role) {i i' j j' : ℕ} {o o' : Option Expr} → Here w i i' → Here w j j' → MovedFilter (Here w) (Same w) o o'
-      → interpolation_findings new role i' j' o' ≡ all_moved from to (interpolation_findings old role i j o)
-  interpolation_moved role h g moved.no_filter = refl
+      → Moves old new from to (interpolation_findings old role i j o) (interpolation_findings new role i' j' o')
+  interpolation_moved role h g moved.no_filter = moves.none
   interpolation_moved role h g (moved.filter a) =
       let x = ap₂ (λ (b : Bool) (c : Bool). not b && (c || not (is_elsewhere role))) (inner_break_moved old new w false 0 h g) (post_moved (form_of a)) in
-      either_moved (moved_finding from to) (is_key role) (is_key role) [] [] _ _ refl refl
-      (finding_moves old new w DeprecatedInterpolation _ _ IsInterpolation IsInterpolation h g x refl (le_moved_by old new w 5 h g))
+      either {b = is_key role} {b' = is_key role} refl moves.none (by_width _ refl h g x)
 
   -- ---- calls of `lookup`
 
@@ -244,38 +264,30 @@ module _ (old new : List Pair) {from to count : ℕ} (w : SameTokens (tokens_of 
       (ap not (trivia_moved old new w (past_here b) g)))))
 
   two_moved : {i i' j j' : ℕ} {a a' b b' : Expr} → Here w i i' → Here w j j' → MovedExpr (Here w) (Same w) a a' → MovedExpr (Here w) (Same w) b b'
-      → pair_findings new i' j' (Some (a', b')) ≡ all_moved from to (pair_findings old i j (Some (a, b)))
-  two_moved {a} {a'} {b} {b'} h g m n =
-      let p : a'.first ≡ moved_number from to a.first = moved_is old new w (first_here m) in
-      let q : a'.past ≡ moved_number from to a.past = moved_is old new w (past_here m) in
-      let r : b'.first ≡ moved_number from to b.first = moved_is old new w (first_here n) in
-      let s : b'.past ≡ moved_number from to b.past = moved_is old new w (past_here n) in
-      finding_moves old new w DeprecatedLookup _ _ (IsLookup a.first a.past b.first b.past) (IsLookup a'.first a'.past b'.first b'.past) h g (movable_moved h g m n)
-      (ap₂ (λ (x : ℕ) (y : ℕ). IsLookup x y b'.first b'.past) p q ∙ ap₂ (λ (x : ℕ) (y : ℕ). IsLookup (moved_number from to a.first) (moved_number from to a.past) x y) r s)
-      (both (lt_moved old new w h (first_here m)) (both (lt_moved old new w (first_here m) (past_here m))
-      (both (le_moved old new w (past_here m) (first_here n)) (both (lt_moved old new w (first_here n) (past_here n)) (le_moved old new w (past_here n) g)))))
+      → Moves old new from to (pair_findings old i j (Some (a, b))) (pair_findings new i' j' (Some (a', b')))
+  two_moved h g m n =
+      let kept_two = keeps (first_here m) (past_here m) (word OpenBracket tt) (keeps (first_here n) (past_here n) (word CloseBracket tt) no_kept) in
+      finding_moves old new w DeprecatedLookup h g refl (fix_when old new w (movable_moved h g m n) (same_tokens (word Nothing tt) kept_two))
 
   pair_moved : {i i' j j' : ℕ} {es es' : List Expr} → Here w i i' → Here w j j' → MovedExprs (Here w) (Same w) es es'
-      → pair_findings new i' j' (two es') ≡ all_moved from to (pair_findings old i j (two es))
-  pair_moved h g moved.no_exprs = refl
-  pair_moved h g (moved.exprs a moved.no_exprs) = refl
+      → Moves old new from to (pair_findings old i j (two es)) (pair_findings new i' j' (two es'))
+  pair_moved h g moved.no_exprs = moves.none
+  pair_moved h g (moved.exprs a moved.no_exprs) = moves.none
   pair_moved h g (moved.exprs a (moved.exprs b moved.no_exprs)) = two_moved h g a b
-  pair_moved h g (moved.exprs a (moved.exprs b (moved.exprs c d))) = refl
+  pair_moved h g (moved.exprs a (moved.exprs b (moved.exprs c d))) = moves.none
 
   pub lookup_moved : {i i' j j' : ℕ} {x x' : Shape} → Here w i i' → Here w j j' → MovedShape (Here w) (Same w) x x'
-      → lookup_findings new i' j' (out-Shape x') ≡ all_moved from to (lookup_findings old i j (out-Shape x))
+      → Moves old new from to (lookup_findings old i j (out-Shape x)) (lookup_findings new i' j' (out-Shape x'))
   unfolding node.for_tuple node.for_object
-  lookup_moved h g moved.number = simp (open_number) refl
-  lookup_moved h g moved.identifier = simp (open_identifier) refl
+  lookup_moved h g moved.number = simp (open_number) moves.none
+  lookup_moved h g moved.identifier = simp (open_identifier) moves.none
   lookup_moved {i} {i'} {j} {j'} h g (moved.call s {ns} {ns'} {es} {es'} a b) =
-      let M = moved_finding from to in
       let name = ap (λ (x : Bool). s || not x) (is_lookup_moved a) in
-      let is = either_moved M (s || not (is_lookup old ns)) (s || not (is_lookup new ns')) [] [] _ _ name refl (pair_moved h g b) in
-      at_call new i' j' ns' es' s ∙ (is ∙ ap (map M) (sym (at_call old i j ns es s)))
-  lookup_moved h g (moved.tuple a) = simp (open_tuple) refl
-  lookup_moved h g (moved.object a) = simp (open_object) refl
-  lookup_moved h g (moved.for_tuple a b c) = simp (open_for_tuple) refl
-  lookup_moved h g (moved.for_object s a b c d) = simp (open_for_object) refl
-  lookup_moved h g (moved.quoted a) = simp (open_quoted) refl
-  lookup_moved h g (moved.heredoc a) = simp (open_heredoc) refl
-  lookup_moved h g (moved.parens a) = simp (open_parens) refl
+      rw (at_call old i j ns es s, at_call new i' j' ns' es' s) (either name moves.none (pair_moved h g b))
+  lookup_moved h g (moved.tuple a) = simp (open_tuple) moves.none
+  lookup_moved h g (moved.object a) = simp (open_object) moves.none
+  lookup_moved h g (moved.for_tuple a b c) = simp (open_for_tuple) moves.none
+  lookup_moved h g (moved.for_object s a b c d) = simp (open_for_object) moves.none
+  lookup_moved h g (moved.quoted a) = simp (open_quoted) moves.none
+  lookup_moved h g (moved.heredoc a) = simp (open_heredoc) moves.none
+  lookup_moved h g (moved.parens a) = simp (open_parens) moves.none

@@ -1,6 +1,6 @@
 -- What is asked of tokens and of their numbers is the same where the tokens stand elsewhere.
-use Rattle.std.proofs.Common.{◌≡◌, ℕ, suc, ◌+◌, ◌-◌, ◌<◌, ◌≤◌, Bool, true, false, ◌==◌, nat_lt, nat_le, List, [], ◌∷◌, map, take, drop, length, Option, Some, None, refl, sym, ap, ◌∙◌, arith, zero, if◌then◌else◌, ◌⊎◌, inl, inr}
-use Rattle.std.proofs.lemmas.List.{drop-drop, take-take, length-map}
+use Rattle.std.proofs.Common.{◌≡◌, ℕ, suc, ◌+◌, ◌-◌, ◌<◌, ◌≤◌, Bool, true, false, ◌==◌, nat_lt, nat_le, List, [], ◌∷◌, take, drop, Option, Some, None, refl, sym, ap, ◌∙◌, arith, zero, ◌⊎◌, inl, inr}
+use Rattle.std.proofs.lemmas.List.{drop-drop, take-take}
 use Rattle.std.proofs.lemmas.List.{drop-map, take-map, drop-take}
 use Rattle.std.proofs.lemmas.Bool.{leb-true, leb-false}
 use Rattle.std.proofs.lemmas.Option.{slice_get-map}
@@ -13,11 +13,7 @@ use Rattle.hcl_grammar.specs.Tokens.{Token}
 use Rattle.tf_find.specs.Spans.{tokens, has_trivia, has_break, is_here_close, is_here_close_kind, depth_behind}
 use Rattle.tf_keep.proofs.Window.{Here, Same}
 use Rattle.tf_keep.specs.Keeping.{SameTokens}
-use Rattle.tf_keep.specs.Moving.{moved, moved_finding, moved_matter}
-use Rattle.tf_rule.specs.declared.finding.Finding.{Finding}
-use Rattle.tf_rule.specs.declared.finding.Matter.{Matter}
-use Rattle.tf_rule.specs.declared.rule.Rule.{Rule}
-use Rattle.tf_rule.specs.Findings.{finding_at, is_in_order}
+use Rattle.tf_keep.specs.Moving.{moved}
 
 -- ---- tests of numbers
 
@@ -33,7 +29,7 @@ le_test_by from to a b k = grind arith
 eq_test : (from to a b k : ℕ) → (to + b == to + a + k) ≡ (from + b == from + a + k)
 eq_test from to a b k = grind arith
 
-is_le : (a b : ℕ) → a ≤ b → nat_le a b ≡ true
+pub is_le : (a b : ℕ) → a ≤ b → nat_le a b ≡ true
 is_le a b l = grind arith
 
 -- ---- lists of tokens
@@ -51,7 +47,7 @@ get_take (suc n) k [] l = refl
 get_take (suc n) zero (x ∷ xs) l = refl
 get_take (suc n) (suc k) (x ∷ xs) l = get_take n k xs (omega (arith, l))
 
-abbrev token_of : Pair → Token
+abbrev pub token_of : Pair → Token
 token_of p = (p.kind, p.spelling)
 
 tokens_cut : (n k : ℕ) (xs : List Pair) → tokens_of (take k (drop n xs)) ≡ take k (drop n (tokens_of xs))
@@ -89,13 +85,6 @@ same_break comments depth (x ∷ xs) (y ∷ ys) e =
     let d = depth_behind x.kind depth in
     let more : has_break comments d ys ≡ has_break comments d xs = same_break comments d xs ys (cc) in
     rw (k, more) refl
-
--- a finding that stands in both lists, or in neither
-if_moved : (M : Finding → Finding) (b b' : Bool) (f f' : Finding) → b' ≡ b → f' ≡ M f → (if b' then f' ∷ [] else []) ≡ map M (if b then f ∷ [] else [])
-if_moved M true true f f' e h = rw h refl
-if_moved M false false f f' e h = refl
-if_moved M true false f f' e h = absurd (cc)
-if_moved M false true f f' e h = absurd (cc)
 
 -- some of the tokens from number `from` on
 cut_in : (count n k from : ℕ) (xs : List Token) → n + k ≤ count → take k (drop (from + n) xs) ≡ take k (drop n (take count (drop from xs)))
@@ -202,17 +191,3 @@ module _ (old new : List Pair) {from to count : ℕ} (w : SameTokens (tokens_of 
         in_new = omega (arith, l, h.in_old, g.in_old, g.in_new);
       } in
       ap is_here_close_kind (kind_moved s)
-
-  -- ---- findings
-
-  -- a finding whose numbers are in order in both texts, or in neither, is moved
-  pub finding_moves : (rule : Rule) {i i' j j' : ℕ} (fixable fixable' : Bool) (matter matter' : Matter) → Here w i i' → Here w j j' → fixable' ≡ fixable
-      → matter' ≡ moved_matter from to matter → is_in_order i' j' matter' ≡ is_in_order i j matter
-      → finding_at (length new) rule i' j' fixable' matter' ≡ map (moved_finding from to) (finding_at (length old) rule i j fixable matter)
-  finding_moves rule {i} {i'} {j} {j'} fixable fixable' matter matter' h g e m o =
-      let l : nat_lt i' j' ≡ nat_lt i j = lt_moved h g in
-      let a : nat_le j (length old) ≡ true = is_le _ _ (omega (arith, g.in_old, g.within, w.in_old, length-map old token_of)) in
-      let a' : nat_le j' (length new) ≡ true = is_le _ _ (omega (arith, g.in_new, g.within, w.in_new, length-map new token_of)) in
-      let p : i' ≡ moved from to i = moved_is h in
-      let q : j' ≡ moved from to j = moved_is g in
-      if_moved (moved_finding from to) _ _ _ _ (rw (l, a, a', e, o) refl) (rw (p, q, e, m) refl)

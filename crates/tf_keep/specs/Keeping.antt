@@ -9,6 +9,7 @@ use Rattle.tf_find.specs.Nodes.{member}
 use Rattle.tf_find.specs.TreeFindings.{AreTreeFindings}
 use Rattle.tf_keep.specs.Moving.{moved_finding}
 use Rattle.tf_rule.specs.declared.finding.Finding.{Finding}
+use Rattle.tf_rule.specs.Findings.{sound}
 use Rattle.tf_rule.specs.declared.rule_set.RuleSet.{RuleSet}
 use Rattle.tf_top.specs.TopFindings.{member_findings}
 
@@ -26,4 +27,4 @@ MembersKeep = (rules : RuleSet) (old new : List Pair) (depth from to count : ℕ
     → next (tokens_of old) false (from + count) ≢ None
     → (y : Member) × (member_of (tokens_of new) depth (deeper_members (tokens_of new) depth) to ≡ Ok (Some y, to + count))
     × ((found : List Finding) → AreTreeFindings rules old (member x ∷ []) found → AreTreeFindings rules new (member y ∷ []) (map (moved_finding from to) found))
-    × (member_findings rules new y ≡ map (moved_finding from to) (member_findings rules old x))
+    × (sound (length new) (member_findings rules new y) ≡ map (moved_finding from to) (sound (length old) (member_findings rules old x)))

@@ -2,79 +2,94 @@
 
 ghost use Rattle.std.specs.Prelude.{◌≡◌, map, IfOk};
 ghost use Rattle.std.specs.Option.{option_map};
-ghost use Rattle.tf_keep.specs.Moving.{moved, moved_matter, moved_finding};
+ghost use Rattle.tf_keep.specs.Moving as spec;
+ghost use Rattle.tf_keep.specs.Moving.{moved_finding};
 
 use std::alloc::{AllocError, Global};
-use tf_rule::{Finding, Matter};
+use tf_rule::{Finding, Fix, Insertion, Kept, Message};
 
 // The number of a token, where the tokens that stood from number `from` on stand from number `to` on.
 fn moved(number: usize, from: usize, to: usize) -> usize
-    ensures { result ≡ moved from to number }
+    ensures { result ≡ spec.moved from to number }
 {
     to.saturating_add(number.saturating_sub(from))
 }
 
-// That of a token that may be none.
-fn moved_name(name: Option<usize>, from: usize, to: usize) -> Option<usize>
-    ensures { result ≡ option_map (moved from to) name }
+// What a fix writes, with such numbers.
+fn moved_insertion(written: Insertion, from: usize, to: usize) -> Insertion
+    ensures { result ≡ spec.moved_insertion from to written }
 {
-    match name {
-        Some(number) => Some(moved(number, from, to)),
-        None => None,
+    match written {
+        Insertion::Index(number) => Insertion::Index(moved(number, from, to)),
+        _ => written,
     }
 }
 
-// What is wrong, with such numbers.
-fn moved_matter(matter: Matter, from: usize, to: usize) -> Matter
-    ensures { result ≡ moved_matter from to matter }
+// Tokens that a fix keeps.
+fn moved_kept(kept: Option<Kept>, from: usize, to: usize) -> Option<Kept>
+    ensures { result ≡ option_map (spec.moved_kept from to) kept }
 {
-    match matter {
-        Matter::Slashes => Matter::Slashes,
-        Matter::LegacyIndex => Matter::LegacyIndex,
-        Matter::Interpolation => Matter::Interpolation,
-        Matter::Comparison {
-            from: start,
-            to: past,
-            zero,
-        } => Matter::Comparison {
-            from: moved(start, from, to),
-            to: moved(past, from, to),
-            zero,
+    match kept {
+        None => None,
+        Some(kept) => Some(Kept {
+            from: moved(kept.from, from, to),
+            to: moved(kept.to, from, to),
+            behind: moved_insertion(kept.behind, from, to),
+        }),
+    }
+}
+
+// What a fix does.
+fn moved_fix(fix: Fix, from: usize, to: usize) -> Fix
+    ensures { result ≡ spec.moved_fix from to fix }
+{
+    match fix {
+        Fix::Slashes => Fix::Slashes,
+        Fix::Tokens { before, kept } => Fix::Tokens {
+            before: moved_insertion(before, from, to),
+            kept: kept.map(
+                |one: Option<Kept>| -> Option<Kept>
+                    ensures { result ≡ option_map (spec.moved_kept from to) one }
+                { moved_kept(one, from, to) },
+            ),
         },
-        Matter::Lookup {
-            from: start,
-            to: past,
-            key,
-            end,
-        } => Matter::Lookup {
-            from: moved(start, from, to),
-            to: moved(past, from, to),
-            key: moved(key, from, to),
-            end: moved(end, from, to),
-        },
-        Matter::Name { named, name } => Matter::Name {
-            named,
-            name: moved_name(name, from, to),
-        },
-        Matter::Untyped { name } => Matter::Untyped {
-            name: moved_name(name, from, to),
-        },
-        Matter::Undocumented { name } => Matter::Undocumented {
-            name: moved_name(name, from, to),
-        },
+    }
+}
+
+// The fix, where there is one.
+fn moved_choice(fix: Option<Fix>, from: usize, to: usize) -> Option<Fix>
+    ensures { result ≡ option_map (spec.moved_fix from to) fix }
+{
+    match fix {
+        None => None,
+        Some(fix) => Some(moved_fix(fix, from, to)),
+    }
+}
+
+// What a message names.
+fn moved_message(message: Message, from: usize, to: usize) -> Message
+    ensures { result ≡ spec.moved_message from to message }
+{
+    let name = match message.name {
+        Some(number) => Some(moved(number, from, to)),
+        None => None,
+    };
+    Message {
+        named: message.named,
+        name,
     }
 }
 
 // A finding with such numbers.
 fn moved_finding(finding: Finding, from: usize, to: usize) -> Finding
-    ensures { result ≡ moved_finding from to finding }
+    ensures { result ≡ spec.moved_finding from to finding }
 {
     Finding {
         rule: finding.rule,
         first: moved(finding.first, from, to),
         past: moved(finding.past, from, to),
-        fixable: finding.fixable,
-        matter: moved_matter(finding.matter, from, to),
+        message: moved_message(finding.message, from, to),
+        fix: moved_choice(finding.fix, from, to),
     }
 }
 

@@ -1,6 +1,6 @@
 -- The step on comments: its edits are the changed pieces of the text, and it leaves nothing to settle, since a line comment joins with
 -- nothing and nothing joins with `#`.
-use Rattle.std.proofs.Common.{◌≡◌, ℕ, ◌+◌, ◌-◌, ◌≤◌, true, false, List, [], ◌∷◌, ◌++◌, length, take, drop, slice_range, slice_get, map, Some, None, codes, refl, sym, ap, subst, ◌∙◌, arith, append_assoc, length-append}
+use Rattle.std.proofs.Common.{◌≡◌, ℕ, ◌+◌, ◌-◌, ◌≤◌, true, false, List, [], ◌∷◌, ◌++◌, length, take, drop, slice_range, slice_get, map, Option, Some, None, codes, refl, sym, ap, subst, ◌∙◌, arith, append_assoc, length-append}
 use Rattle.std.specs.Option.{option_map}
 use Rattle.std.specs.Prelude.{unwrap_or}
 use Rattle.std.proofs.lemmas.Bool.{false≢true}
@@ -15,20 +15,22 @@ use Rattle.hcl_token.specs.CutText.{CutText}
 use Rattle.hcl_token.specs.Tokens.{Pair, whole_text}
 use Rattle.hcl_scan.specs.Follows.{AreApart}
 use Rattle.tf_rule.specs.declared.finding.Finding.{Finding}
-use Rattle.tf_rule.specs.declared.finding.Matter.{Matter}
-use Rattle.tf_rule.specs.declared.finding.Matter.TheVariants.{Slashes}
+use Rattle.tf_rule.specs.declared.fix.Fix.{Fix}
+use Rattle.tf_rule.specs.declared.fix.Fix.TheVariants.{Slashes, Tokens}
 use Rattle.tf_rule.specs.declared.rule.Rule.{Rule}
 use Rattle.tf_mend.specs.ByPairs.{gap_at, mended_pairs, mended_from, mended_text}
 use Rattle.tf_mend.specs.Comments.{IsSlashComment, mended_comment, start_of, comment_edit}
-use Rattle.tf_rule.specs.Findings.{IsInOrder, AreSound}
+use Rattle.tf_rule.specs.Findings.{AreSound}
 use Rattle.tf_rule.specs.declared.rule.Rule.TheVariants.{CommentSyntax}
-use Rattle.tf_mend.specs.Inner.Filled.{Fits}
-use Rattle.tf_mend.specs.Mending.{spelling_at, is_slashes, is_comment_rule, IsOf, AreOf}
+use Rattle.tf_mend.specs.Inner.Filled.{Fits, IsMendable}
+use Rattle.tf_mend.specs.Mending.{spelling_at, body, IsOf, AreOf}
+use Rattle.tf_rule.specs.Fixes.{is_slashes}
+use Rattle.tf_rule.specs.Rules.{is_comment_rule}
 use Rattle.tf_mend.specs.Parts.{Part, parts_of, written}
 use Rattle.tf_mend.specs.Parts.Part.{Gap, Token}
 use Rattle.tf_mend.specs.Settled.{Neighbour, after, meets}
 use Rattle.tf_mend.specs.Taking.{taken}
-use Rattle.tf_mend.proofs.PairLemmas.{body, parts_append, pairs_settled}
+use Rattle.tf_mend.proofs.PairLemmas.{parts_append, pairs_settled}
 use Rattle.tf_mend.proofs.PartLemmas.{known, take_range}
 use Rattle.tf_mend.proofs.SettledLemmas.{Apart, apart_parts, apart_join, stays_same, parts_written, apart_text}
 use Rattle.tf_mend.proofs.TakeLemmas.{AreTaken, taken_are, taken_of}
@@ -59,18 +61,18 @@ record IsTaken (pairs : List Pair) (f : Finding) : Type 0 where
   kind : comment.kind ≡ LineComment
   spelling : comment.spelling ≡ codes "//" ++ drop 2 comment.spelling
   next : f.past ≡ f.first + 1
-  mended : mended_pairs pairs f.first f.past f.matter ≡ mended_comment comment ∷ []
+  mended : mended_pairs pairs f.first f.past f.fix ≡ mended_comment comment ∷ []
 
-slash_next : (first past : ℕ) (m : Matter) → is_slashes m ≡ true → IsInOrder first past m → past ≡ first + 1
-slash_next first past Slashes is fits = fits
+slash_next : (first past : ℕ) (m : Option Fix) → is_slashes m ≡ true → IsMendable first past m → past ≡ first + 1
+slash_next first past (Some Slashes) is fits = fits
 slash_next first past m is fits = absurd (false≢true is)
 
-of_comments : (rule : Rule) (pairs : List Pair) (f : Finding) → is_comment_rule rule ≡ true → IsOf rule pairs f → (is_slashes f.matter ≡ true) × IsSlashComment pairs f.first
+of_comments : (rule : Rule) (pairs : List Pair) (f : Finding) → is_comment_rule rule ≡ true → IsOf rule pairs f → (is_slashes f.fix ≡ true) × IsSlashComment pairs f.first
 of_comments CommentSyntax pairs f is of = of
 of_comments rule pairs f is of = absurd (false≢true is)
 
-slash_mended : (pairs : List Pair) (first past : ℕ) (m : Matter) → is_slashes m ≡ true → mended_pairs pairs first past m ≡ map mended_comment (slice_range pairs first past)
-slash_mended pairs first past Slashes is = refl
+slash_mended : (pairs : List Pair) (first past : ℕ) (m : Option Fix) → is_slashes m ≡ true → mended_pairs pairs first past m ≡ map mended_comment (slice_range pairs first past)
+slash_mended pairs first past (Some Slashes) is = refl
 slash_mended pairs first past m is = absurd (false≢true is)
 
 two_behind : (s text : List ℕ) → s ≡ codes "//" ++ text → s ≡ codes "//" ++ drop 2 s
@@ -81,9 +83,9 @@ one_pair pairs first past p rest next front =
     let one : past - first ≡ 1 = omega (arith, next) in
     ap (λ n. take n (drop first pairs)) one ∙ ap (λ t. take 1 t) front
 
-is_taken : (pairs : List Pair) (f : Finding) → Fits (length pairs) f → is_slashes f.matter ≡ true → IsSlashComment pairs f.first → IsTaken pairs f
+is_taken : (pairs : List Pair) (f : Finding) → Fits (length pairs) f → is_slashes f.fix ≡ true → IsSlashComment pairs f.first → IsTaken pairs f
 is_taken pairs f fits is comment =
-    let next = slash_next f.first f.past f.matter is fits.1 in
+    let next = slash_next f.first f.past f.fix is fits.1 in
     let (p, found, front) = known pairs f.first (omega (arith, fits.0, fits.2)) in
     let kind : Some p.kind ≡ Some LineComment = sym (ap (option_map (λ (q : Pair). q.kind)) found) ∙ comment.0 in
     let spelling : Some p.spelling ≡ Some (codes "//" ++ comment.1.0) = sym (ap (option_map (λ (q : Pair). q.spelling)) found) ∙ comment.1.1 in
@@ -95,7 +97,7 @@ is_taken pairs f fits is comment =
       kind = cc kind;
       spelling = two_behind p.spelling comment.1.0 (cc spelling);
       next = next;
-      mended = slash_mended pairs f.first f.past f.matter is ∙ ap (map mended_comment) (one_pair pairs f.first f.past p _ next here);
+      mended = slash_mended pairs f.first f.past f.fix is ∙ ap (map mended_comment) (one_pair pairs f.first f.past p _ next here);
     }
 
 -- comments one behind the other

@@ -16,18 +16,22 @@ use Rattle.hcl_scan.specs.Cut.{CutsFrom, IsCut, byte_order_mark, front_of}
 use Rattle.hcl_scan.specs.Lexeme.{is_heredoc, is_decimal, is_identifier, fixed, Spells, IsLexeme}
 use Rattle.hcl_scan.specs.Modes.{Mode, mode_of, marker, marker_of, within_line, read_on, in_sequence, is_braces, begins_line, after as modes_after}
 use Rattle.hcl_scan.specs.Modes.Mode.{Expression, Sequence, Braces, Quoted, Heredoc}
-use Rattle.tf_rule.specs.Findings.{IsInOrder}
+use Rattle.tf_rule.specs.Fixes.{IsRead, IsSomething, IsEnd, AreInOrder as AreKeptInOrder}
 use Rattle.tf_rule.specs.declared.finding.Finding.{Finding}
-use Rattle.tf_rule.specs.declared.finding.Matter.{Matter}
-use Rattle.tf_rule.specs.declared.finding.Matter.TheVariants.{Slashes, LegacyIndex, Interpolation, Comparison, Lookup}
-use Rattle.tf_mend.specs.Inner.Filled.{AreFilled}
-use Rattle.tf_mend.specs.Mending.{spelling_at, test_parts, mended, finding_replacements}
+use Rattle.tf_rule.specs.declared.fix.Fix.{Fix}
+use Rattle.tf_rule.specs.declared.fix.Fix.TheVariants.{Slashes, Tokens}
+use Rattle.tf_rule.specs.declared.fix.Insertion.{Insertion}
+use Rattle.tf_rule.specs.declared.fix.Insertion.TheVariants.{Nothing, Index}
+use Rattle.tf_rule.specs.declared.fix.Kept.{Kept}
+use Rattle.tf_mend.specs.Inner.Filled.{AreFilled, IsMendable}
+use Rattle.tf_mend.specs.Inner.Views.{IsComing, AreKeptComing}
+use Rattle.tf_mend.specs.Mending.{spelling_at, inserted, come, no_gap, kept_from, mended, finding_replacements}
 use Rattle.tf_mend.specs.Parts.{Part, parts_of, written}
 use Rattle.tf_mend.specs.Parts.Part.{Gap, Token}
 use Rattle.tf_mend.specs.Replacements.{Replacement, staying, space_before, pieces_from}
 use Rattle.tf_mend.specs.Settled.{Neighbour, after, meets, settled, space}
 use Rattle.tf_mend.proofs.PartLemmas.{known, gap_front, token_front, range_first}
-use Rattle.tf_mend.proofs.TakeLemmas.{AreTaken}
+use Rattle.tf_mend.proofs.TakeLemmas.{AreTaken, kept_le, next_le}
 
 -- ---- the markers of heredocs
 
@@ -212,6 +216,21 @@ index_coming pairs i are lt =
     let same : spelling_at pairs i ≡ p.spelling = ap (λ o. unwrap_or (option_map (λ (q : Pair). q.spelling) o) []) found in
     (lt, omega (arith, some, ap length same))
 
+is_coming : (pairs : List Pair) (first past : ℕ) (w : Insertion) → AreFilled pairs → past ≤ length pairs → IsRead first past w → IsComing pairs w
+is_coming pairs first past (Index n) are le read = index_coming pairs n are (omega (arith, read.1, le))
+is_coming pairs first past w are le read = tt
+
+kept_coming : (pairs : List Pair) (first past at : ℕ) (w : Insertion) (kept : List (Option Kept)) → AreFilled pairs → past ≤ length pairs → AreKeptInOrder first past at w kept → AreKeptComing pairs w kept
+kept_coming pairs first past at w [] are le o = is_coming pairs first past w are le o.0
+kept_coming pairs first past at w (None ∷ kept) are le o = kept_coming pairs first past at w kept are le o
+kept_coming pairs first past at w (Some k ∷ kept) are le o = (is_coming pairs first past w are le o.0, kept_coming pairs first past k.to k.behind kept are le o.3)
+
+-- all that a fix writes can be read
+pub fix_coming : (pairs : List Pair) (first past : ℕ) (w : Insertion) (kept : List (Option Kept)) (fix : Option Fix) → AreFilled pairs → past ≤ length pairs → IsMendable first past fix
+    → fix ≡ Some (Tokens w kept) → AreKeptComing pairs w kept
+fix_coming pairs first past w kept fix are le fits is =
+    kept_coming pairs first past first w kept are le (subst (IsMendable first past) is fits)
+
 -- ---- what goes
 
 token_goes : (pairs : List Pair) (last : List ℕ) (i to : ℕ) → AreFilled pairs → i < length pairs → 2 * i + 1 < to → 0 < length (written (slice_range (parts_of pairs last) (2 * i + 1) to))
@@ -246,30 +265,58 @@ both_real : (xs : List Part) (rs ss : List Replacement) → AreReal xs rs → Ar
 both_real xs [] ss a b = b
 both_real xs (r ∷ rs) ss a b = (a.0, both_real xs rs ss a.1 b)
 
-test_real : (n : ℕ) (test : Bool) → 0 < n + length (written (test_parts test))
-test_real n true = omega arith
-test_real n false = omega arith
+-- what goes between two places of which the second stands behind more tokens
+goes : (pairs : List Pair) (last : List ℕ) (at n place skip to : ℕ) → AreFilled pairs → place ≡ 2 * at + skip → skip ≤ 1 → at < n → n ≤ length pairs → 2 * n ≤ to
+    → 0 < length (written (slice_range (parts_of pairs last) place to))
+goes pairs last at n place zero to are e le lt within past =
+    let same : place ≡ 2 * at = omega (arith, e) in
+    rw same (gap_goes pairs last at to are (omega (arith, lt, within)) (omega (arith, lt, past)))
+goes pairs last at n place (suc zero) to are e le lt within past =
+    let same : place ≡ 2 * at + 1 = omega (arith, e) in
+    rw same (token_goes pairs last at to are (omega (arith, lt, within)) (omega (arith, lt, past)))
+goes pairs last at n place (suc (suc skip)) to are e le lt within past = absurd (omega (arith, le))
 
-mended_real : (pairs : List Pair) (last : List ℕ) (first past : ℕ) (m : Matter) → AreFilled pairs → past ≤ length pairs → IsInOrder first past m
-    → AreReal (parts_of pairs last) (mended pairs first past m)
-mended_real pairs last first past Slashes are le fits = tt
-mended_real pairs last first past LegacyIndex are le fits = (omega arith, tt)
-mended_real pairs last first past Interpolation are le fits =
-    let one = token_goes pairs last first (2 * (first + 2) + 1) are (omega (arith, fits, le)) (omega arith) in
-    let two = gap_goes pairs last (past - 2) (2 * past) are (omega (arith, fits, le)) (omega (arith, fits)) in
-    (omega (arith, one), (omega (arith, two), tt))
-mended_real pairs last first past (Comparison from to test) are le fits = (omega arith, (test_real _ test, tt))
-mended_real pairs last first past (Lookup from to key end) are le fits =
-    let one = token_goes pairs last first (2 * from + 1) are (omega (arith, fits.0, fits.1, fits.2, fits.3, fits.4, le)) (omega (arith, fits.0)) in
-    (omega (arith, one), (omega arith, (omega arith, tt)))
-mended_real pairs last first past m are le fits = absurd fits
+-- what comes where something is written
+brings : (pairs : List Pair) (w : Insertion) (skip : ℕ) (tail : List Part) (n : ℕ) → skip ≤ 1 → (w ≡ Nothing → ⊥) → 0 < n + length (written (come skip (inserted pairs w) tail))
+brings pairs Nothing skip tail n le some = absurd (some refl)
+brings pairs w zero tail n le some = omega arith
+brings pairs w (suc zero) tail n le some = omega arith
+brings pairs w (suc (suc skip)) tail n le some = absurd (omega (arith, le))
+
+real_one : (pairs : List Pair) (last : List ℕ) (at n place skip to : ℕ) (w : Insertion) (tail : List Part) → AreFilled pairs → place ≡ 2 * at + skip → skip ≤ 1
+    → IsSomething w at n → n ≤ length pairs → 2 * n ≤ to
+    → 0 < length (written (slice_range (parts_of pairs last) place to)) + length (written (come skip (inserted pairs w) tail))
+real_one pairs last at n place skip to Nothing tail are e le some within past = omega (arith, goes pairs last at n place skip to are e le some within past)
+real_one pairs last at n place skip to w tail are e le some within past = brings pairs w skip tail _ le (λ same. absurd (cc same))
+
+something : (first at past : ℕ) (w : Insertion) → IsEnd first w at past → IsSomething w at past
+something first at past Nothing end = end.1
+something first at past w end = end
+
+kept_real : (pairs : List Pair) (last : List ℕ) (first past at place skip : ℕ) (w : Insertion) (kept : List (Option Kept)) → AreFilled pairs → past ≤ length pairs → AreKeptInOrder first past at w kept
+    → place ≡ 2 * at + skip → skip ≤ 1 → AreReal (parts_of pairs last) (kept_from pairs place skip w kept past)
+kept_real pairs last first past at place skip w [] are le o e s =
+    (real_one pairs last at past place skip (2 * past) w [] are e s (something first at past w o.1) le (omega arith), tt)
+kept_real pairs last first past at place skip w (None ∷ kept) are le o e s = kept_real pairs last first past at place skip w kept are le o e s
+kept_real pairs last first past at place skip w (Some k ∷ kept) are le o e s =
+    let end = kept_le first past k.to k.behind kept o.3 in (
+      real_one pairs last at k.from place skip (2 * k.from + 1) w no_gap are e s o.1 (omega (arith, o.2, end, le)) (omega arith),
+      kept_real pairs last first past k.to (2 * k.to) 0 k.behind kept are le o.3 (omega arith) (omega arith),
+    )
+
+mended_real : (pairs : List Pair) (last : List ℕ) (first past : ℕ) (fix : Option Fix) → AreFilled pairs → past ≤ length pairs → IsMendable first past fix
+    → AreReal (parts_of pairs last) (mended pairs first past fix)
+mended_real pairs last first past None are le fits = tt
+mended_real pairs last first past (Some Slashes) are le fits = tt
+mended_real pairs last first past (Some (Tokens before kept)) are le fits =
+    kept_real pairs last first past first (2 * first + 1) 1 before kept are le fits refl (omega arith)
 
 pub taken_real : (pairs : List Pair) (last : List ℕ) (at : ℕ) (fs : List Finding) → AreFilled pairs → AreTaken at pairs fs
     → AreReal (parts_of pairs last) (flat_map (finding_replacements pairs) fs)
 taken_real pairs last at [] are behind = tt
 taken_real pairs last at (f ∷ fs) are behind =
     both_real (parts_of pairs last) (finding_replacements pairs f) (flat_map (finding_replacements pairs) fs)
-    (mended_real pairs last f.first f.past f.matter are behind.1.0 behind.1.1) (taken_real pairs last f.past fs are behind.2)
+    (mended_real pairs last f.first f.past f.fix are behind.1.0 behind.1.1) (taken_real pairs last f.past fs are behind.2)
 
 -- ---- so each changed piece is an edit
 

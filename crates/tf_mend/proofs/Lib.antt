@@ -1,3 +1,4 @@
+mod ComeLemmas
 pub mod CommentLemmas
 pub mod FillLemmas
 pub mod NearLemmas

@@ -1,28 +1,49 @@
 //! What is replaced to mend the findings that one step takes.
 
-ghost use Rattle.std.specs.Prelude.{◌≡◌, ◌++◌, List, length, IfOk};
-ghost use Rattle.hcl_token.specs.Tokens.{Pair};
+ghost use Rattle.std.specs.Prelude.{◌≡◌, ◌++◌, length, IfOk};
 ghost use Rattle.tf_rule.specs.Findings.{AreSound};
-ghost use Rattle.tf_mend.specs.Mending.{finding_replacements, step_replacements, test_parts};
+ghost use Rattle.tf_mend.specs.Mending.{kept_from, finding_replacements, step_replacements};
 ghost use Rattle.tf_mend.specs.Inner.Filled.{AreFilled, Fits};
-ghost use Rattle.tf_mend.specs.Inner.Views.{coming_parts, IsComing, replacements, AreComing};
+ghost use Rattle.tf_mend.specs.Inner.Views.{place_of, skip_of, replacements, AreComing, AreKeptComing};
 
-use crate::coming::Coming;
 use crate::edge::Edge;
 use crate::replacing::Replacement;
 use crate::taking::is_taken;
 use hcl_scan::Scanned;
 use std::alloc::{AllocError, Global};
-use tf_rule::{Finding, Matter};
+use tf_rule::{Finding, Fix, Insertion, Kept};
 
-fn zero_test(zero: bool) -> Coming
-    ensures parts { (pairs : List Pair) → coming_parts pairs result ≡ test_parts zero }
-    ensures coming { (pairs : List Pair) → IsComing pairs result }
+// What is replaced from a place on, where this is written first, and then so much is kept.
+fn push_kept(
+    all: &mut Vec<Replacement>,
+    scanned: &Scanned<'_>,
+    from: Edge,
+    written: Insertion,
+    kept: &[Option<Kept>],
+    past: usize,
+) -> Result<(), AllocError>
+    requires coming { AreKeptComing scanned.now.pairs written kept.now }
+    ensures items { IfOk result (λ _. replacements scanned.now.pairs all.new.items ≡ replacements scanned.now.pairs all.old.items ++ kept_from scanned.now.pairs (place_of from) (skip_of from) written kept.now past) }
+    ensures coming { IfOk result (λ _. AreComing scanned.now.pairs all.old.items → AreComing scanned.now.pairs all.new.items) }
 {
-    if zero {
-        Coming::IsZero
-    } else {
-        Coming::IsPositive
+    match kept {
+        [] => {
+            all.push(Replacement {
+                from,
+                to: Edge::Gap(past),
+                coming: written,
+            })?;
+            Ok(())
+        }
+        [None, rest @ ..] => push_kept(all, scanned, from, written, rest, past),
+        [Some(one), rest @ ..] => {
+            all.push(Replacement {
+                from,
+                to: Edge::Token(one.from),
+                coming: written,
+            })?;
+            push_kept(all, scanned, Edge::Gap(one.to), one.behind, rest, past)
+        }
     }
 }
 
@@ -30,69 +51,30 @@ fn zero_test(zero: bool) -> Coming
 fn push_replacements(
     all: &mut Vec<Replacement>,
     scanned: &Scanned<'_>,
-    one: Finding,
+    one: &Finding,
 ) -> Result<(), AllocError>
     requires filled { AreFilled scanned.now.pairs }
-    requires fits { Fits (length scanned.now.pairs) one }
-    ensures items { IfOk result (λ _. replacements scanned.now.pairs all.new.items ≡ replacements scanned.now.pairs all.old.items ++ finding_replacements scanned.now.pairs one) }
+    requires fits { Fits (length scanned.now.pairs) one.now }
+    ensures items { IfOk result (λ _. replacements scanned.now.pairs all.new.items ≡ replacements scanned.now.pairs all.old.items ++ finding_replacements scanned.now.pairs one.now) }
     ensures coming { IfOk result (λ _. AreComing scanned.now.pairs all.old.items → AreComing scanned.now.pairs all.new.items) }
 {
-    match one.matter {
-        Matter::LegacyIndex => {
-            all.push(Replacement {
-                from: Edge::Token(one.first),
-                to: Edge::Gap(one.past),
-                coming: Coming::Index(one.first),
-            })?;
-        }
-        Matter::Interpolation => {
-            all.push(Replacement {
-                from: Edge::Token(one.first),
-                to: Edge::Token(one.first + 2),
-                coming: Coming::Nothing,
-            })?;
-            all.push(Replacement {
-                from: Edge::Gap(one.past - 2),
-                to: Edge::Gap(one.past),
-                coming: Coming::Nothing,
-            })?;
-        }
-        Matter::Comparison { from, to, zero } => {
-            all.push(Replacement {
-                from: Edge::Token(one.first),
-                to: Edge::Token(from),
-                coming: Coming::Length,
-            })?;
-            all.push(Replacement {
-                from: Edge::Gap(to),
-                to: Edge::Gap(one.past),
-                coming: zero_test(zero),
-            })?;
-        }
-        Matter::Lookup { from, to, key, end } => {
-            all.push(Replacement {
-                from: Edge::Token(one.first),
-                to: Edge::Token(from),
-                coming: Coming::Nothing,
-            })?;
-            all.push(Replacement {
-                from: Edge::Gap(to),
-                to: Edge::Token(key),
-                coming: Coming::OpenBracket,
-            })?;
-            all.push(Replacement {
-                from: Edge::Gap(end),
-                to: Edge::Gap(one.past),
-                coming: Coming::CloseBracket,
-            })?;
-        }
-        // A comment is mended within its token, names, types and descriptions by no fix.
-        Matter::Slashes
-        | Matter::Name { .. }
-        | Matter::Untyped { .. }
-        | Matter::Undocumented { .. } => {}
+    match &one.fix {
+        Some(fix) => match fix {
+            Fix::Tokens { before, kept } => {
+                push_kept(
+                    all,
+                    scanned,
+                    Edge::Token(one.first),
+                    *before,
+                    kept,
+                    one.past,
+                )
+            }
+            // A comment is mended within its token.
+            Fix::Slashes => Ok(()),
+        },
+        None => Ok(()),
     }
-    Ok(())
 }
 
 /// What is replaced to mend the findings that one step takes, in order.
@@ -109,8 +91,8 @@ pub fn taken_replacements(
     let mut all = Vec::new(alloc);
     let mut past = 0;
     for one in findings {
-        if is_taken(*one, past) {
-            push_replacements(&mut all, scanned, *one)?;
+        if is_taken(one, past) {
+            push_replacements(&mut all, scanned, one)?;
             past = one.past;
         }
     }

@@ -1,7 +1,8 @@
 -- What is found in some members, and in one more.
-use Rattle.std.proofs.Common.{◌≡◌, ℕ, zero, suc, List, [], ◌∷◌, ◌++◌, Some, Ok, refl, sym, ap, subst, ◌∙◌, append_assoc, append-nil}
+use Rattle.std.proofs.Common.{◌≡◌, ℕ, zero, suc, List, [], ◌∷◌, ◌++◌, length, Some, Ok, refl, sym, ap, subst, ◌∙◌, append_assoc, append-nil}
 use Rattle.std.proofs.lemmas.List.{map-append}
 use Rattle.std.proofs.lemmas.Grind.{flat_map-append}
+use Rattle.std.proofs.lemmas.List.Elements.{filter-append}
 use Rattle.std.specs.List.{flat_map}
 use Rattle.hcl_grammar.specs.Pure.BodyParser.{deeper_members, member_of}
 use Rattle.hcl_grammar.specs.declared.tree.Member.{Member}
@@ -15,6 +16,7 @@ use Rattle.tf_read.specs.Inner.Seeing.{AreOf}
 use Rattle.tf_read.specs.Seen.{IsSeen, AreSeen, nodes_of, blocks_of}
 use Rattle.tf_read.specs.declared.member.SeenMember.{SeenMember}
 use Rattle.tf_rule.specs.declared.finding.Finding.{Finding}
+use Rattle.tf_rule.specs.Findings.{is_sound, sound}
 use Rattle.tf_rule.specs.declared.rule_set.RuleSet.{RuleSet}
 use Rattle.tf_top.specs.TopFindings.{member_findings, top_findings}
 
@@ -27,6 +29,11 @@ stand-append {ms = ms} {ys = ys} (one {n = n} {ns = ns} {inside = inside} {other
 some_same : {X : Type 0} (x y : X) → Some x ≡ Some y → x ≡ y
 some_same x y e = cc
 
+one_more_block : (rules : RuleSet) (pairs : List Pair) (ms : List Member) (m : Member)
+    → top_findings rules pairs ms ++ member_findings rules pairs m ≡ top_findings rules pairs (ms ++ m ∷ [])
+one_more_block rules pairs ms m = ap (λ l. top_findings rules pairs ms ++ l) (sym (append-nil (member_findings rules pairs m)))
+    ∙ sym (flat_map-append (member_findings rules pairs) ms (m ∷ []))
+
 module _ {rules : RuleSet} {pairs : List Pair} where
   both_trees : {ns ms : List Node} {xs ys : List Finding} → AreTreeFindings rules pairs ns xs → AreTreeFindings rules pairs ms ys → AreTreeFindings rules pairs (ns ++ ms) (xs ++ ys)
   both_trees {ys = ys} a b =
@@ -34,7 +41,9 @@ module _ {rules : RuleSet} {pairs : List Pair} where
       record {
         nodes = a.nodes ++ b.nodes;
         stand = stand-append a.stand b.stand;
-        are = ap (λ l. l ++ ys) a.are ∙ (ap (λ l. flat_map f a.nodes ++ l) b.are ∙ sym (flat_map-append f a.nodes b.nodes));
+        are = ap (λ l. l ++ ys) a.are ∙ (ap (λ l. sound (length pairs) (flat_map f a.nodes) ++ l) b.are
+            ∙ (sym (filter-append (is_sound (length pairs)) (flat_map f a.nodes) (flat_map f b.nodes))
+            ∙ ap (sound (length pairs)) (sym (flat_map-append f a.nodes b.nodes))));
       }
 
   -- one more member that is seen
@@ -53,8 +62,9 @@ module _ {rules : RuleSet} {pairs : List Pair} where
     at_nodes =
         rw (map-append member ms (is.member ∷ []), flat_map-append nodes_of xs (x ∷ []), append-nil x.nodes.items) (both_trees seen.at_nodes is.at_nodes);
     at_blocks = flat_map-append blocks_of xs (x ∷ []) ∙ (ap (λ l. flat_map blocks_of xs ++ l) (append-nil x.blocks.items)
-        ∙ (ap (λ l. l ++ x.blocks.items) seen.at_blocks ∙ (ap (λ l. top_findings rules pairs ms ++ l) (is.at_block ∙ sym (append-nil (member_findings rules pairs is.member)))
-        ∙ sym (flat_map-append (member_findings rules pairs) ms (is.member ∷ [])))));
+        ∙ (ap (λ l. l ++ x.blocks.items) seen.at_blocks ∙ (ap (λ l. sound (length pairs) (top_findings rules pairs ms) ++ l) is.at_block
+        ∙ (sym (filter-append (is_sound (length pairs)) (top_findings rules pairs ms) (member_findings rules pairs is.member))
+        ∙ ap (sound (length pairs)) (one_more_block rules pairs ms is.member)))));
   }
 
 -- the member that comes next, as the parser answers it

@@ -1,5 +1,6 @@
 -- A file that is read, part by part.
-use Rattle.std.proofs.Common.{◌≡◌, ℕ, List, ◌++◌, Result, Ok, Err, refl, sym, ap, subst, ◌∙◌}
+use Rattle.std.proofs.Common.{◌≡◌, ℕ, List, ◌++◌, length, Result, Ok, Err, refl, sym, ap, subst, ◌∙◌}
+use Rattle.std.proofs.lemmas.List.Elements.{filter-append}
 use Rattle.std.specs.Prelude.{IfOk, IfErr}
 use Rattle.std.specs.Result.{IsErr, IsErrAnd}
 use Rattle.hcl_grammar.specs.Nodes as node
@@ -8,12 +9,14 @@ use Rattle.hcl_grammar.specs.declared.error.TokenFault.{TokenFault}
 use Rattle.hcl_grammar.specs.declared.tree.Member.{Member}
 use Rattle.hcl_tree.proofs.Passing.{file_tree}
 use Rattle.hcl_token.specs.Tokens.{Pair}
+use Rattle.tf_find.specs.NodeFindings.{node_findings}
 use Rattle.tf_findings.specs.Findings.{AreAtNodesAndBlocks}
 use Rattle.std.specs.List.{flat_map}
 use Rattle.tf_read.specs.Inner.Seeing.{AreOf}
 use Rattle.tf_read.specs.Seen.{nodes_of, blocks_of}
 use Rattle.tf_read.specs.declared.member.SeenMember.{SeenMember}
 use Rattle.tf_rule.specs.declared.finding.Finding.{Finding}
+use Rattle.tf_rule.specs.Findings.{is_sound, sound}
 use Rattle.tf_rule.specs.declared.rule_set.RuleSet.{RuleSet}
 use Rattle.tf_top.specs.TopFindings.{top_findings}
 
@@ -22,7 +25,8 @@ pub both_found : {rules : RuleSet} {pairs : List Pair} {ms : List Member} {xs : 
 both_found {rules} {pairs} {ms} {xs} seen is = record {
   nodes = seen.at_nodes.nodes;
   stand = seen.at_nodes.stand;
-  are = is ∙ (ap (λ l. flat_map nodes_of xs ++ l) seen.at_blocks ∙ ap (λ l. l ++ top_findings rules pairs ms) seen.at_nodes.are);
+  are = is ∙ (ap (λ l. flat_map nodes_of xs ++ l) seen.at_blocks ∙ (ap (λ l. l ++ sound (length pairs) (top_findings rules pairs ms)) seen.at_nodes.are
+      ∙ sym (filter-append (is_sound (length pairs)) (flat_map (node_findings rules pairs) seen.at_nodes.nodes) (top_findings rules pairs ms))));
 }
 
 -- what `?` hands on

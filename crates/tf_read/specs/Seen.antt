@@ -1,5 +1,5 @@
 -- What is found in the members of a text's body.
-use Rattle.std.specs.Prelude.{◌≡◌, ℕ, List, [], ◌∷◌, slice_get, Option, Some, None, Ok}
+use Rattle.std.specs.Prelude.{◌≡◌, ℕ, List, [], ◌∷◌, slice_get, length, Option, Some, None, Ok}
 use Rattle.hcl_grammar.specs.Pure.BodyParser.{deeper_members, member_of}
 use Rattle.hcl_grammar.specs.declared.tree.Member.{Member}
 use Rattle.hcl_grammar.specs.declared.bounds.TheConstants.{MAX_NESTING}
@@ -9,6 +9,7 @@ use Rattle.tf_find.specs.Nodes as node
 use Rattle.tf_find.specs.TreeFindings.{AreTreeFindings}
 use Rattle.tf_read.specs.declared.member.SeenMember.{SeenMember}
 use Rattle.tf_rule.specs.declared.finding.Finding.{Finding}
+use Rattle.tf_rule.specs.Findings.{sound}
 use Rattle.tf_rule.specs.declared.rule_set.RuleSet.{RuleSet}
 use Rattle.tf_top.specs.TopFindings.{member_findings}
 
@@ -17,7 +18,7 @@ pub record IsSeen (rules : RuleSet) (pairs : List Pair) (x : SeenMember) : Type 
   pub member : Member
   pub read : member_of (tokens_of pairs) MAX_NESTING (deeper_members (tokens_of pairs) MAX_NESTING) x.from ≡ Ok (Some member, x.past)
   pub at_nodes : AreTreeFindings rules pairs (node.member member ∷ []) x.nodes.items
-  pub at_block : x.blocks.items ≡ member_findings rules pairs member
+  pub at_block : x.blocks.items ≡ sound (length pairs) (member_findings rules pairs member)
 
 -- each of these is
 abbrev pub AreSeen : RuleSet → List Pair → List SeenMember → Type 0

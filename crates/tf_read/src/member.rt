@@ -1,6 +1,6 @@
 //! One member of a text's body, and what the rules find in it.
 
-ghost use Rattle.std.specs.Prelude.{◌≡◌, ◌≢◌, ◌+◌, ◌-◌, ◌<◌, ◌^◌, ◌∷◌, [], true, false, None, IfOk, IfErr, IfSome, Err};
+ghost use Rattle.std.specs.Prelude.{◌≡◌, ◌≢◌, ◌+◌, ◌-◌, ◌<◌, ◌^◌, ◌∷◌, [], length, true, false, None, IfOk, IfErr, IfSome, Err};
 ghost use Rattle.hcl_grammar.specs.Pure.BodyParser as spec;
 ghost use Rattle.hcl_grammar.specs.Tokens as tokens;
 ghost use Rattle.hcl_grammar.specs.declared.error.TokenFault.TheVariants as fault;
@@ -10,6 +10,7 @@ ghost use Rattle.tf_find.specs.Nodes as node;
 ghost use Rattle.tf_find.specs.TreeFindings.{AreTreeFindings};
 ghost use Rattle.tf_keep.specs.Keeping.{SameTokens};
 ghost use Rattle.tf_read.specs.Seen.{IsSeen, AreSeen, IsNext};
+ghost use Rattle.tf_rule.specs.Findings.{sound};
 ghost use Rattle.tf_rule.specs.declared.rule_set.RuleSet.{RuleSet};
 ghost use Rattle.tf_top.specs.TopFindings.{member_findings};
 
@@ -46,7 +47,7 @@ fn looked_at(
 ) -> Result<SeenMember, AllocError>
     ensures place { IfOk result (λ seen. (seen.from ≡ from) × (seen.past ≡ past)) }
     ensures at_nodes { IfOk result (λ seen. AreTreeFindings rules scanned.now.pairs (node.member x.now ∷ []) seen.nodes.items) }
-    ensures at_block { IfOk result (λ seen. seen.blocks.items ≡ member_findings rules scanned.now.pairs x.now) }
+    ensures at_block { IfOk result (λ seen. seen.blocks.items ≡ sound (length scanned.now.pairs) (member_findings rules scanned.now.pairs x.now)) }
 {
     let mut nodes = Vec::new(alloc);
     tf_find::add_member_findings(scanned, rules, x, &mut nodes)?;

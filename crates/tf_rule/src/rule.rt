@@ -1,7 +1,7 @@
 //! The rules.
 
-ghost use Rattle.std.specs.Prelude.{◌≡◌, ◌↔◌, Some};
-ghost use Rattle.tf_rule.specs.Rules.{name_of, severity_of, label_of};
+ghost use Rattle.std.specs.Prelude.{◌≡◌, ◌↔◌, ◌<◌, Some};
+ghost use Rattle.tf_rule.specs.Rules.{row_of, index_of, name_of, severity_of, is_fixed, label_of};
 
 /// A rule. The order of the variants is the order of the rules in reports.
 ///
@@ -47,56 +47,174 @@ impl Severity {
     }
 }
 
+/// What is the same in each finding of a rule.
+#[derive(Clone, Copy, Debug)]
+pub struct Row {
+    /// The name in reports and on the command line, as `terraform_comment_syntax`.
+    pub name: &'static str,
+    /// How much an issue of the rule weighs.
+    pub severity: Severity,
+    /// Whether a fix has a step for it.
+    pub fixed: bool,
+    /// What its message says before the name.
+    pub before: &'static str,
+    /// What its message says behind the name.
+    pub behind: &'static str,
+}
+
+const fn make_row(
+    name: &'static str,
+    severity: Severity,
+    fixed: bool,
+    before: &'static str,
+    behind: &'static str,
+) -> Row
+    ensures name { result.name.now ≡ name.now }
+    ensures severity { result.severity ≡ severity }
+    ensures fixed { result.fixed ≡ fixed }
+    ensures before { result.before.now ≡ before.now }
+    ensures behind { result.behind.now ≡ behind.now }
+{
+    Row {
+        name,
+        severity,
+        fixed,
+        before,
+        behind,
+    }
+}
+
 impl Rule {
+    /// How many rules there are.
+    pub const COUNT: usize = 9;
+
+    /// The rules, in the order of reports and of the steps of a fix.
+    pub const ALL: [Rule; Rule::COUNT] = [
+        Rule::CommentSyntax,
+        Rule::DeprecatedIndex,
+        Rule::DeprecatedInterpolation,
+        Rule::EmptyListEquality,
+        Rule::DeprecatedLookup,
+        Rule::NamingConvention,
+        Rule::TypedVariables,
+        Rule::DocumentedVariables,
+        Rule::DocumentedOutputs,
+    ];
+
+    /// Its number in the order of reports, from 0.
+    pub fn index(self) -> usize
+        ensures value { result ≡ index_of self }
+        ensures within { result < 9 }
+    {
+        self as usize
+    }
+
+    /// What is the same in each of its findings.
+    pub fn row(self) -> Row
+        ensures name { result.name.now ≡ (row_of self).name }
+        ensures severity { result.severity ≡ (row_of self).severity }
+        ensures fixed { result.fixed ≡ (row_of self).fixed }
+        ensures before { result.before.now ≡ (row_of self).before }
+        ensures behind { result.behind.now ≡ (row_of self).behind }
+    {
+        match self {
+            Rule::CommentSyntax => make_row(
+                "terraform_comment_syntax",
+                Severity::Warning,
+                true,
+                "Single line comments should begin with #",
+                "",
+            ),
+            Rule::DeprecatedIndex => make_row(
+                "terraform_deprecated_index",
+                Severity::Warning,
+                true,
+                "Legacy dot index syntax, use square brackets",
+                "",
+            ),
+            Rule::DeprecatedInterpolation => make_row(
+                "terraform_deprecated_interpolation",
+                Severity::Warning,
+                true,
+                "Interpolation-only expression, write the expression itself",
+                "",
+            ),
+            Rule::EmptyListEquality => make_row(
+                "terraform_empty_list_equality",
+                Severity::Warning,
+                true,
+                "Comparison with an empty list, check the length instead",
+                "",
+            ),
+            Rule::DeprecatedLookup => make_row(
+                "terraform_deprecated_lookup",
+                Severity::Warning,
+                true,
+                "lookup with two arguments, use square brackets",
+                "",
+            ),
+            Rule::NamingConvention => make_row(
+                "terraform_naming_convention",
+                Severity::Notice,
+                false,
+                " name \"",
+                "\" is not snake_case",
+            ),
+            Rule::TypedVariables => make_row(
+                "terraform_typed_variables",
+                Severity::Warning,
+                false,
+                "variable \"",
+                "\" has no type",
+            ),
+            Rule::DocumentedVariables => make_row(
+                "terraform_documented_variables",
+                Severity::Notice,
+                false,
+                "variable \"",
+                "\" has no description",
+            ),
+            Rule::DocumentedOutputs => make_row(
+                "terraform_documented_outputs",
+                Severity::Notice,
+                false,
+                "output \"",
+                "\" has no description",
+            ),
+        }
+    }
+
     /// The name in reports and on the command line, as `terraform_comment_syntax`.
     pub fn name(self) -> &'static str
         ensures { result.now ≡ name_of self }
     {
-        match self {
-            Rule::CommentSyntax => "terraform_comment_syntax",
-            Rule::DeprecatedIndex => "terraform_deprecated_index",
-            Rule::DeprecatedInterpolation => "terraform_deprecated_interpolation",
-            Rule::EmptyListEquality => "terraform_empty_list_equality",
-            Rule::DeprecatedLookup => "terraform_deprecated_lookup",
-            Rule::NamingConvention => "terraform_naming_convention",
-            Rule::TypedVariables => "terraform_typed_variables",
-            Rule::DocumentedVariables => "terraform_documented_variables",
-            Rule::DocumentedOutputs => "terraform_documented_outputs",
-        }
+        self.row().name
     }
 
     /// The rule of a name; none where no rule has that name.
     pub fn by_name(name: &str) -> Option<Rule>
         ensures { (rule : Rule) → (result ≡ Some rule) ↔ (name.now ≡ name_of rule) }
     {
-        match name {
-            "terraform_comment_syntax" => Some(Rule::CommentSyntax),
-            "terraform_deprecated_index" => Some(Rule::DeprecatedIndex),
-            "terraform_deprecated_interpolation" => Some(Rule::DeprecatedInterpolation),
-            "terraform_empty_list_equality" => Some(Rule::EmptyListEquality),
-            "terraform_deprecated_lookup" => Some(Rule::DeprecatedLookup),
-            "terraform_naming_convention" => Some(Rule::NamingConvention),
-            "terraform_typed_variables" => Some(Rule::TypedVariables),
-            "terraform_documented_variables" => Some(Rule::DocumentedVariables),
-            "terraform_documented_outputs" => Some(Rule::DocumentedOutputs),
-            _ => None,
+        for i in 0..Rule::COUNT {
+            let rule = Rule::ALL[i];
+            if name == rule.name() {
+                return Some(rule);
+            }
         }
+        None
     }
 
     /// How much an issue of the rule weighs.
     pub fn severity(self) -> Severity
         ensures { result ≡ severity_of self }
     {
-        match self {
-            Rule::NamingConvention | Rule::DocumentedVariables | Rule::DocumentedOutputs => {
-                Severity::Notice
-            }
-            Rule::CommentSyntax
-            | Rule::DeprecatedIndex
-            | Rule::DeprecatedInterpolation
-            | Rule::EmptyListEquality
-            | Rule::DeprecatedLookup
-            | Rule::TypedVariables => Severity::Warning,
-        }
+        self.row().severity
+    }
+
+    /// Whether a fix has a step for the rule.
+    pub fn is_fixed(self) -> bool
+        ensures { result ≡ is_fixed self }
+    {
+        self.row().fixed
     }
 }

@@ -1,6 +1,5 @@
-pub mod OfLemmas
 pub mod OneFixLemmas
-pub mod OneRuleLemmas
+pub mod OriginLemmas
 pub mod RunLemmas
 pub mod SearchLemmas
 pub mod StepLemmas

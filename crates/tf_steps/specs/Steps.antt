@@ -1,14 +1,14 @@
 -- What a fix makes of a text: the steps of its rules one after another, each over the text that the one before left.
-use Rattle.std.specs.Prelude.{◌≡◌, ◌≤◌, ◌<◌, ◌+◌, ◌⊎◌, ℕ, Bool, List, [], ◌∷◌, length, Result, Ok, Err, not, if◌then◌else◌, MatchBool}
+use Rattle.std.specs.Prelude.{◌≡◌, ◌≤◌, ◌<◌, ◌+◌, ◌⊎◌, ℕ, Bool, List, [], ◌∷◌, length, Result, Ok, Err, filter, not, if◌then◌else◌, MatchBool}
 use Rattle.std.specs.Str.{bytes_eq}
 use Rattle.hcl_scan.specs.Cut.{MAX_TEXT}
 use Rattle.edit_record.specs.Pieces.{EditList, as_list, Turns}
 use Rattle.edit_squash.specs.Grouping.{SquashAll}
 use Rattle.tf_rule.specs.declared.finding.Finding.{Finding}
 use Rattle.tf_rule.specs.declared.rule.Rule.{Rule}
-use Rattle.tf_rule.specs.declared.rule.Rule.TheVariants.{CommentSyntax, DeprecatedIndex, DeprecatedInterpolation, EmptyListEquality, DeprecatedLookup}
 use Rattle.tf_rule.specs.declared.rule_set.RuleSet.{RuleSet}
 use Rattle.tf_rule.specs.RuleSets.{has_rule}
+use Rattle.tf_rule.specs.Rules.{all_rules, is_fixed}
 use Rattle.tf_mend.specs.ByPairs.{mended_text}
 use Rattle.tf_mend.specs.Mended.{mended_edits}
 use Rattle.tf_mend.specs.Taking.{taken}
@@ -56,9 +56,9 @@ IsReport rules text issues = (p : Parsed) × Reads text p × Reports rules p iss
 abbrev pub differ : List ℕ → List ℕ → Bool
 differ t u = not (bytes_eq t u)
 
--- the rules that fix, in the order of their steps
+-- the rules that fix, in the order of their steps, which is that of the table
 abbrev pub fix_order : List Rule
-fix_order = CommentSyntax ∷ DeprecatedIndex ∷ DeprecatedInterpolation ∷ EmptyListEquality ∷ DeprecatedLookup ∷ []
+fix_order = filter is_fixed all_rules
 
 -- what steps lead to: the text, the edits of each step that changed it, and how many findings were mended
 pub record Steps : Type 0 where

@@ -1,8 +1,9 @@
 //! Laws of fixes: functions that do nothing, for callers whose proofs want what their clauses say.
 
-ghost use Rattle.std.specs.Prelude.{ℕ, List};
+ghost use Rattle.std.specs.Prelude.{◌≡◌, ℕ, List, [], ◌∷◌};
+ghost use Rattle.tf_rule.specs.declared.rule.Rule.TheVariants.{CommentSyntax, DeprecatedIndex, DeprecatedInterpolation, EmptyListEquality, DeprecatedLookup};
 ghost use Rattle.tf_rule.specs.declared.rule_set.RuleSet.{RuleSet};
-ghost use Rattle.tf_steps.specs.Steps.{OneFix};
+ghost use Rattle.tf_steps.specs.Steps.{OneFix, fix_order};
 
 use edit_squash::laws::squash_all_is_one;
 use hcl_parses::laws::one_parse;
@@ -18,3 +19,8 @@ pub fn one_fix()
     findings_are_one();
     squash_all_is_one();
 }
+
+/// The steps of a fix are those of these rules, in this order.
+pub fn steps_in_order()
+    ensures { fix_order ≡ CommentSyntax ∷ DeprecatedIndex ∷ DeprecatedInterpolation ∷ EmptyListEquality ∷ DeprecatedLookup ∷ [] }
+{}

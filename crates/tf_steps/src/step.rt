@@ -23,7 +23,7 @@ use edit_record::{Change as _, Edits};
 use hcl_parses::laws::parsed_apart;
 use hcl_scan::Scanned;
 use std::alloc::Global;
-use tf_findings::laws::found_by_one;
+use tf_findings::laws::{found_by_one, one_origin};
 use tf_findings::{findings, of_rule};
 use tf_mend::laws::taken_are_few;
 use tf_mend::{mended_edits, taken};
@@ -54,13 +54,6 @@ pub struct Mended {
     pub edits: Edits,
 }
 
-// The set of this rule alone.
-fn only(rule: Rule) -> RuleSet
-    ensures { result ≡ only rule }
-{
-    RuleSet::none().with(rule)
-}
-
 // The edits that mend what a rule finds in a text.
 fn step_edits(
     alloc: Global,
@@ -78,6 +71,7 @@ fn step_edits(
     ensures fault { IfErr result (λ fault. (fault ≡ FixFault.Memory) ⊎ ((fault ≡ FixFault.TooLong) × (MAX_TEXT < length (mended_text scanned.now found.now)))) }
 {
     parsed_apart();
+    one_origin();
     taken_are_few();
     let edits = mended_edits(alloc, scanned, rule, found)?;
     let count = taken(found);
@@ -94,7 +88,7 @@ pub fn fix_step(alloc: Global, parsed: &Parsed<'_>, rule: Rule) -> Result<Mended
     ensures few { IfOk result (λ mended. mended.count ≤ MAX_TEXT) }
     ensures fault { IfErr result (λ fault. (fault ≡ FixFault.Memory) ⊎ ((fault ≡ FixFault.TooLong) × CannotStep rule parsed.now fault)) }
 {
-    let found = findings(alloc, &parsed.scanned, &parsed.tree, only(rule))?;
+    let found = findings(alloc, &parsed.scanned, &parsed.tree, RuleSet::only(rule))?;
     step_edits(alloc, &parsed.scanned, rule, &found)
 }
 

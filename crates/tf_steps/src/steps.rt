@@ -6,8 +6,8 @@ ghost use Rattle.edit_squash.specs.Squash.{CanFollow, IsSquash};
 ghost use Rattle.tf_steps.specs.Fixed.{made_of, text_after};
 ghost use Rattle.tf_steps.specs.Reading.{Reads};
 ghost use Rattle.tf_steps.specs.Searching.{IsOf};
-ghost use Rattle.tf_steps.specs.Steps.{Reports, IsReport, RunSteps, Fixes, Refuses};
-ghost use Rattle.tf_steps.specs.Inner.Passing.{room, Passes, FixesFrom, RefusesFrom, made_by};
+ghost use Rattle.tf_steps.specs.Steps.{Reports, IsReport, Fixes, Refuses};
+ghost use Rattle.tf_steps.specs.Inner.Passing.{has_step, RunFixed, room, Passes, FixesFrom, RefusesFrom, made_by};
 ghost use Rattle.tf_steps.specs.declared.fault.FixFault.{FixFault};
 ghost use Rattle.tf_steps.specs.declared.reading.Parsed.{Parsed};
 
@@ -51,14 +51,6 @@ enum Passed<'o> {
     },
 }
 
-const FIX_ORDER: [Rule; 5] = [
-    Rule::CommentSyntax,
-    Rule::DeprecatedIndex,
-    Rule::DeprecatedInterpolation,
-    Rule::EmptyListEquality,
-    Rule::DeprecatedLookup,
-];
-
 // The edits so far with those of one more step.
 fn gather(alloc: Global, done: &Edits, edits: &Edits) -> Result<Edits, FixFault>
     requires { CanFollow done.now edits.now }
@@ -86,6 +78,13 @@ fn reported(alloc: Global, searched: &Searched<'_>) -> Result<Vec<Issue>, FixFau
     }
 }
 
+// Whether a fix by these rules has a step of this one.
+fn has_step(rules: RuleSet, rule: Rule) -> bool
+    ensures { result ≡ has_step rules rule }
+{
+    rule.is_fixed() && rules.has(rule)
+}
+
 // The first of the rules that changes the text, where so many findings were mended before.
 fn first_change<'o>(
     alloc: Global,
@@ -96,10 +95,10 @@ fn first_change<'o>(
     requires searched { (p : Parsed) × IsOf p searched.now }
     requires few { count + room order.now ≤ 16777216 * 16 }
     ensures passes { (p : Parsed) → IsOf p searched.now → IfOk result (λ passed. Passes searched.now.rules order.now p count passed) }
-    ensures fault { (p : Parsed) → IsOf p searched.now → IfErr result (λ fault. (fault ≡ FixFault.Memory) ⊎ RunSteps searched.now.rules order.now p (Err fault)) }
+    ensures fault { (p : Parsed) → IsOf p searched.now → IfErr result (λ fault. (fault ≡ FixFault.Memory) ⊎ RunFixed searched.now.rules order.now p (Err fault)) }
 {
     if let [rule, rest @ ..] = order {
-        if !searched.rules.has(*rule) {
+        if !has_step(searched.rules, *rule) {
             return first_change(alloc, searched, rest, count);
         }
         let Step {
@@ -234,7 +233,7 @@ pub fn fix_text(alloc: Global, text: &[u8], rules: RuleSet) -> Result<Fixed, Fix
     ensures fault { IfErr result (λ fault. Refuses rules text.now fault) }
 {
     let searched = search_text(alloc, text, rules)?;
-    let passed = first_change(alloc, &searched, &FIX_ORDER, 0)?;
+    let passed = first_change(alloc, &searched, &Rule::ALL, 0)?;
     match passed {
         Passed::Same { fixed, left } => Ok(Fixed {
             change: None,

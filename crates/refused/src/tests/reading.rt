@@ -92,20 +92,11 @@ fn issue_line(rt: HostRuntime) {
     assert!(rt; line.as_str() == right);
 }
 
-/// The rules in the order in which a fix goes through them.
-const FIXABLE: [Rule; 5] = [
-    Rule::CommentSyntax,
-    Rule::DeprecatedIndex,
-    Rule::DeprecatedInterpolation,
-    Rule::EmptyListEquality,
-    Rule::DeprecatedLookup,
-];
-
 #[test]
 fn fix_step(rt: HostRuntime) {
     let parsed = given(&rt, read_text(rt.alloc(), TEXT));
     let mut steps = Vec::new(rt.alloc());
-    for rule in FIXABLE {
+    for rule in Rule::ALL {
         let right = given(&rt, tf_steps::fix_step(rt.alloc(), &parsed, rule));
         given(&rt, steps.push((rule, right)));
     }

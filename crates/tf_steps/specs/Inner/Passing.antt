@@ -1,5 +1,5 @@
 -- For proofs: one step, and what is known from some steps on.
-use Rattle.std.specs.Prelude.{◌≡◌, ◌≤◌, ◌<◌, ◌+◌, ◌*◌, ◌⊎◌, ℕ, true, List, [], ◌∷◌, length, Option, Some, None, Ok, Err}
+use Rattle.std.specs.Prelude.{◌≡◌, ◌≤◌, ◌<◌, ◌+◌, ◌*◌, ◌⊎◌, ◌&&◌, ℕ, Bool, true, List, [], ◌∷◌, length, Option, Some, None, Result, Ok, Err, MatchBool}
 use Rattle.hcl_scan.specs.Cut.{MAX_TEXT}
 use Rattle.edit_record.specs.Pieces.{EditList, Turns}
 use Rattle.edit_squash.specs.Grouping.{SquashAll}
@@ -16,9 +16,21 @@ use Rattle.tf_steps.specs.declared.steps.Passed.{Passed}
 use Rattle.tf_steps.specs.declared.steps.Passed.TheVariants.{Same, Changed}
 use Rattle.tf_steps.specs.Reading.{Reads, IsUnread}
 use Rattle.tf_rule.specs.OneRule.{only}
-use Rattle.tf_steps.specs.Steps.{Finds, fixed_text, fix_edits, fix_count, AreLeft, Reports, differ, Steps, RunSteps, Made}
+use Rattle.tf_rule.specs.RuleSets.{has_rule}
+use Rattle.tf_rule.specs.Rules.{is_fixed}
+use Rattle.tf_steps.specs.Steps.{Finds, fixed_text, fix_edits, fix_count, AreLeft, Reports, differ, Steps, no_steps, StepThen, Made}
 
 -- ---- one step
+
+-- whether a fix by these rules has a step of this one
+abbrev pub has_step : RuleSet → Rule → Bool
+has_step rules rule = is_fixed rule && has_rule rules rule
+
+-- the steps of a fix by these rules, as far as a list of all rules goes
+abbrev pub RunFixed : RuleSet → List Rule → Parsed → Result Steps FixFault → Type 0
+RunFixed rules [] p answer = answer ≡ Ok (no_steps p.scanned.text)
+RunFixed rules (rule ∷ others) p answer =
+    MatchBool (has_step rules rule) (StepThen rule p (RunFixed rules others) answer) (RunFixed rules others p answer)
 
 -- what the step of a rule that found this changes
 abbrev pub IsChange : Rule → Parsed → List Finding → Option Change → Type 0
@@ -43,13 +55,13 @@ room order = 16777216 * length order
 -- what is known of the steps from here on, where so many findings were mended before
 abbrev pub Passes : RuleSet → List Rule → Parsed → ℕ → Passed → Type 0
 Passes rules order p count (Same fixed left) =
-    (n : ℕ) × (fixed ≡ count + n) × Reports rules p left.items × RunSteps rules order p (Ok (record { text = p.scanned.text; lists = []; fixed = n }))
+    (n : ℕ) × (fixed ≡ count + n) × Reports rules p left.items × RunFixed rules order p (Ok (record { text = p.scanned.text; lists = []; fixed = n }))
 Passes rules order p count (Changed fixed change by rest) =
     (n : ℕ) × (fixed ≡ count + n) × (fixed + room rest.now ≤ 16777216 * 16) × (length rest.now < length order) × Turns change.edits p.scanned.text change.text.items
-    × ((next : Parsed) (more : Steps) → Reads change.text.items next → RunSteps rules rest.now next (Ok more)
-    → RunSteps rules order p (Ok (record { text = more.text; lists = change.edits ∷ more.lists; fixed = n + more.fixed })))
-    × ((next : Parsed) (fault : FixFault) → Reads change.text.items next → RunSteps rules rest.now next (Err fault) → RunSteps rules order p (Err fault))
-    × (IsUnread change.text.items → RunSteps rules order p (Err (FixBroken by)))
+    × ((next : Parsed) (more : Steps) → Reads change.text.items next → RunFixed rules rest.now next (Ok more)
+    → RunFixed rules order p (Ok (record { text = more.text; lists = change.edits ∷ more.lists; fixed = n + more.fixed })))
+    × ((next : Parsed) (fault : FixFault) → Reads change.text.items next → RunFixed rules rest.now next (Err fault) → RunFixed rules order p (Err fault))
+    × (IsUnread change.text.items → RunFixed rules order p (Err (FixBroken by)))
 
 -- ---- from some steps on
 
@@ -58,7 +70,7 @@ pub record FixesFrom (rules : RuleSet) (order : List Rule) (text : List ℕ) (do
   pub parsed : Parsed
   pub reads : Reads text parsed
   pub steps : Steps
-  pub runs : RunSteps rules order parsed (Ok steps)
+  pub runs : RunFixed rules order parsed (Ok steps)
   pub text_is : made.text ≡ steps.text
   pub edits_are : SquashAll done steps.lists made.edits
   pub fixed_is : made.fixed ≡ count + steps.fixed
@@ -69,7 +81,7 @@ pub record FixesFrom (rules : RuleSet) (order : List Rule) (text : List ℕ) (do
 -- why they refuse a text that the step of this rule made
 abbrev pub RefusesFrom : RuleSet → List Rule → List ℕ → Rule → FixFault → Type 0
 RefusesFrom rules order text by fault =
-    (fault ≡ Memory) ⊎ (((fault ≡ FixBroken by) × IsUnread text) ⊎ ((p : Parsed) × Reads text p × RunSteps rules order p (Err fault)))
+    (fault ≡ Memory) ⊎ (((fault ≡ FixBroken by) × IsUnread text) ⊎ ((p : Parsed) × Reads text p × RunFixed rules order p (Err fault)))
 
 -- ---- what the last of them answers
 

@@ -3,7 +3,7 @@ use Rattle.hcl_scan.specs.Follows.{AreApart}
 use Rattle.hcl_token.specs.CutText.{CutText}
 use Rattle.tf_mend.specs.Mending.{AreOf}
 use Rattle.tf_rule.specs.Findings.{AreSound}
-use Rattle.tf_steps.proofs.OfLemmas.{found_of}
+use Rattle.tf_steps.proofs.OriginLemmas.{of_all}
 use Rattle.tf_steps.proofs.step.step_edits.Goals as goal
 
 pub mended_edits-requires-clause-apart : goal.mended_edits-requires-clause-apart
@@ -14,7 +14,7 @@ mended_edits-requires-clause-apart c =
 pub mended_edits-requires-clause-of : goal.mended_edits-requires-clause-of
 mended_edits-requires-clause-of c =
     let (p, same, reads, finds) = c.requires.finds in
-    subst (λ (s : CutText). AreOf c.args.rule s.pairs c.args.found.now) same (found_of c.args.rule p.scanned.pairs p.tree.body.members c.args.found.now finds)
+    subst (λ (s : CutText). AreOf c.args.rule s.pairs c.args.found.now) same (of_all c.args.rule p.scanned.pairs c.args.found.now (c.one_origin.ensures c.args.rule p.scanned.pairs p.tree.body.members c.args.found.now finds))
 
 pub returns-clause-few : goal.returns-clause-few
 returns-clause-few c =
