@@ -7,8 +7,7 @@ use hcl_scan::{Scanned, scan};
 use hcl_tree::parse;
 use row_text::Row;
 use std::fmt::Write;
-use tf_lint::{Issue, LintFault, Place, Rule, RuleSet, issues};
-use tf_steps::{Fixed, fix_text};
+use tf_lint::{Fixed, Issue, LintFault, Place, Rule, RuleSet, fix_text, issues};
 
 pub fn answer(row: &Row, out: &mut Answer) {
     match word(row, 0) {

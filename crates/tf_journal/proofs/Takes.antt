@@ -8,7 +8,7 @@ use Rattle.tf_stream.specs.Streams.{Source, Target, Puts, TakesAll}
 use Rattle.tf_session.specs.declared.command.Command.{Command}
 use Rattle.tf_session.specs.declared.command.Command.TheVariants.{Fmt, Fix, Revert, Take}
 use Rattle.tf_session.specs.declared.command.Done.{Done}
-use Rattle.tf_steps.specs.Steps.{Made, differ}
+use Rattle.tf_lint.specs.Steps.{Made, differ}
 use Rattle.tf_session.specs.Machine.{done}
 use Rattle.tf_session.specs.Records.{AddsRecordOf, DoesStep, PutsInPlace}
 use Rattle.tf_journal.specs.Journals.{Saves}

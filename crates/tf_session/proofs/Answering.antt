@@ -15,16 +15,16 @@ use Rattle.tf_session.specs.declared.command.Fault.{Fault}
 use Rattle.tf_session.specs.declared.command.Fault.TheVariants.{Scan, Parse, FixBroken, TooLong, NoRecord, Refused, Memory, Blocked}
 use Rattle.tf_session.specs.Faults.{fault_of_fix}
 use Rattle.tf_session.specs.Fixing.{FixMakes}
-use Rattle.tf_steps.specs.declared.fault.FixFault.{FixFault}
-use Rattle.tf_steps.specs.Steps.{Made, Breaks, OneFix}
+use Rattle.tf_lint.specs.declared.fault.FixFault.{FixFault}
+use Rattle.tf_lint.specs.Steps.{Made, Breaks, OneFix}
 use Rattle.hcl_layout.specs.Layout.{layout_edits}
 use Rattle.hcl_format.specs.Layouts.{IsTooLong}
 use Rattle.hcl_format.specs.LayoutLaws.{OneLayout}
 use Rattle.tf_session.specs.Reading.{DoesParse}
-use Rattle.tf_steps.specs.Reading.{IsParseFault}
+use Rattle.tf_lint.specs.Reading.{IsParseFault}
 use Rattle.tf_session.specs.Formatting.{Formats, FmtMakes}
 use Rattle.tf_session.proofs.ReadTexts.{does_parse}
-use Rattle.tf_steps.proofs.Unread.{OneCut, NoCutWithFault, OneFault, not_both, same_cut}
+use Rattle.tf_lint.proofs.Unread.{OneCut, NoCutWithFault, OneFault, not_both, same_cut}
 use Rattle.tf_session.specs.Machine.{Under, Stack, PutsOn, TakesOff}
 use Rattle.tf_session.specs.OneAnswer.{AreAlike, OneAnswer}
 

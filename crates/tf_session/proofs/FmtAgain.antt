@@ -4,11 +4,11 @@ use Rattle.std.proofs.lemmas.Slice.Eq.{bytes_eq-Decides}
 use Rattle.std.proofs.lemmas.Bool.{not-false}
 use Rattle.hcl_format.specs.Layouts.{IsLayout, HaveSameTokens}
 use Rattle.hcl_format.specs.LayoutLaws.{LayoutKeepsTokens, LayoutOfLayout}
-use Rattle.tf_steps.proofs.Unread.{parses_of}
+use Rattle.tf_lint.proofs.Unread.{parses_of}
 use Rattle.tf_session.specs.declared.command.Command.TheVariants.{Fmt}
 use Rattle.tf_session.specs.declared.command.Done.{Done}
 use Rattle.tf_session.specs.declared.command.Fault.{Fault}
-use Rattle.tf_steps.specs.Steps.{Made, differ}
+use Rattle.tf_lint.specs.Steps.{Made, differ}
 use Rattle.tf_session.specs.Formatting.{Formats, FmtMakes}
 use Rattle.tf_session.specs.Machine.{Stack, done, put_on, PutsOn}
 use Rattle.tf_session.specs.FmtLaws.{FmtKeepsTokens, FmtChangesOnce}

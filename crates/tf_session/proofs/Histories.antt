@@ -15,9 +15,9 @@ use Rattle.tf_session.specs.declared.command.Command.TheVariants.{Fmt, Fix, Reve
 use Rattle.tf_session.specs.declared.command.Done.{Done}
 use Rattle.tf_session.specs.declared.command.Fault.{Fault}
 use Rattle.tf_session.specs.declared.command.Fault.TheVariants.{Scan, Parse, FixBroken, TooLong, NoRecord, Memory, Blocked}
-use Rattle.tf_steps.specs.Steps.{Made, differ}
+use Rattle.tf_lint.specs.Steps.{Made, differ}
 use Rattle.tf_session.specs.Makes.{Makes, is_memory_fault}
-use Rattle.tf_steps.specs.Reading.{IsText}
+use Rattle.tf_lint.specs.Reading.{IsText}
 use Rattle.tf_session.specs.Machine.{done}
 use Rattle.tf_session.specs.TakingNth.{TakesNth, NotUndone, LengthsBreak, RefusesNth}
 use Rattle.tf_session.specs.Layers.{Layer, History, last_text, top_text, record_of, records_in, Rise, IsHistory, PutsLayer, Acts, ActsOrWants, RunLayers}

@@ -9,7 +9,7 @@ use Rattle.tf_session.specs.declared.command.Command.{Command}
 use Rattle.tf_session.specs.declared.command.Command.TheVariants.{Fmt, Fix, Revert, Take}
 use Rattle.tf_session.specs.declared.command.Done.{Done}
 use Rattle.tf_session.specs.declared.command.Fault.{Fault}
-use Rattle.tf_steps.specs.Steps.{Made, differ}
+use Rattle.tf_lint.specs.Steps.{Made, differ}
 use Rattle.tf_session.specs.Machine.{done, is_memory}
 use Rattle.tf_session.specs.OneAnswer.{AreAlike}
 use Rattle.tf_session.specs.RunLaws.{served, given}
@@ -19,8 +19,8 @@ use Rattle.tf_session.proofs.Answering.{same_fixes, same_layouts}
 use Rattle.tf_session.proofs.Lists.{not_nil, same_last}
 use Rattle.tf_session.proofs.TakingOnce.{take_has_one_answer}
 use Rattle.tf_rule.specs.declared.rule_set.RuleSet.{RuleSet}
-use Rattle.tf_steps.proofs.Unread.{OneCut, NoCutWithFault, OneFault}
-use Rattle.tf_steps.specs.Steps.{OneFix}
+use Rattle.tf_lint.proofs.Unread.{OneCut, NoCutWithFault, OneFault}
+use Rattle.tf_lint.specs.Steps.{OneFix}
 
 -- ---- one answer
 

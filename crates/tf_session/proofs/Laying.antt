@@ -14,8 +14,8 @@ use Rattle.edit_record.specs.declared.change.Refused.{Refused}
 use Rattle.edit_record.specs.Refusals.{Gives}
 use Rattle.edit_record.specs.Pieces.{Entry, EditList, Turns, changes_from}
 use Rattle.edit_record.specs.Pieces.Piece.{Kept}
-use Rattle.tf_steps.specs.declared.reading.Parsed.{Parsed}
-use Rattle.tf_steps.specs.Reading.{Reads}
+use Rattle.tf_fix.specs.declared.parsed.Parsed.{Parsed}
+use Rattle.tf_fix.specs.Reading.{Reads}
 use Rattle.tf_session.specs.Formatting.{Formats}
 
 same_gap : (gap : List ℕ) → gap_piece gap gap ≡ Kept gap

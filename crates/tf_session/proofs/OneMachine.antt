@@ -5,9 +5,9 @@ use Rattle.tf_session.specs.declared.command.Command.{Command}
 use Rattle.tf_session.specs.declared.command.Command.TheVariants.{Fmt, Fix, Revert, Take}
 use Rattle.tf_session.specs.declared.command.Done.{Done}
 use Rattle.tf_session.specs.declared.command.Fault.{Fault}
-use Rattle.tf_steps.specs.Steps.{Made, differ}
+use Rattle.tf_lint.specs.Steps.{Made, differ}
 use Rattle.tf_session.specs.Makes.{Makes}
-use Rattle.tf_steps.specs.Reading.{IsText}
+use Rattle.tf_lint.specs.Reading.{IsText}
 use Rattle.tf_session.specs.Machine.{Under, Stack, only, put_on, done, PutsOn, TakesOff, Serves, is_memory, MayWant, Run, NotTake, WithoutTake}
 use Rattle.tf_session.specs.Layers.{Layer, History, bare, last_text, top_text, layer_on, PutsLayer, TakesLayerOff, LastOff, Acts, MayWantMemory, RunLayers}
 use Rattle.tf_session.specs.WithoutTake.{Shows, SameTexts, WithoutTakeOneMachine}

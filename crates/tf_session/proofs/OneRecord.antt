@@ -14,7 +14,7 @@ use Rattle.edit_swap.specs.Swap.{At}
 use Rattle.edit_swap.specs.Taking.{TakenOut}
 use Rattle.edit_swap.specs.TakeOut.{edits_of, words_of, TakesOut}
 use Rattle.tf_session.specs.Faults.{fault_of_refused}
-use Rattle.tf_steps.specs.Steps.{differ}
+use Rattle.tf_lint.specs.Steps.{differ}
 use Rattle.tf_session.specs.Machine.{done}
 use Rattle.tf_session.specs.Nth.{Nth}
 use Rattle.tf_session.specs.TakingNth.{TakesNth, RefusesNth, CannotUndo, fault_behind, counted_behind}

@@ -9,9 +9,9 @@ use Rattle.tf_session.specs.declared.command.Command.{Command}
 use Rattle.tf_session.specs.declared.command.Command.TheVariants.{Fmt, Fix}
 use Rattle.tf_session.specs.declared.command.Done.{Done}
 use Rattle.tf_session.specs.declared.command.Fault.{Fault}
-use Rattle.tf_steps.specs.declared.step.Change.{Change}
-use Rattle.tf_steps.specs.Steps.{Made, differ}
-use Rattle.tf_steps.specs.Fixed.{text_after, edits_after}
+use Rattle.tf_lint.specs.declared.step.Change.{Change}
+use Rattle.tf_lint.specs.Steps.{Made, differ}
+use Rattle.tf_lint.specs.Fixed.{text_after, edits_after}
 use Rattle.tf_session.specs.Makes.{Makes}
 use Rattle.tf_session.specs.Machine.{done}
 use Rattle.tf_session.specs.Records.{HasWord, AddsRecord, AddsRecordOf, PutsInPlace, DoesStep}

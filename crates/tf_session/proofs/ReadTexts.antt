@@ -8,13 +8,14 @@ use Rattle.tf_session.specs.declared.command.Command.TheVariants.{Fix}
 use Rattle.tf_session.specs.Faults.{fault_of_fix}
 use Rattle.tf_session.specs.Makes.{NotRead, RefusesText}
 use Rattle.tf_session.specs.Reading.{DoesParse}
-use Rattle.tf_steps.proofs.Unread.{parses_of}
-use Rattle.tf_steps.specs.declared.fault.FixFault.{FixFault}
-use Rattle.tf_steps.specs.declared.fault.FixFault.TheVariants.{Scan, Parse, FixBroken, TooLong, Memory}
-use Rattle.tf_steps.specs.declared.reading.Parsed.{Parsed}
-use Rattle.tf_steps.specs.Reading as steps
-use Rattle.tf_steps.specs.Reading.{Reads, IsText}
-use Rattle.tf_steps.specs.Steps.{Steps, StepBreaks, FoundThen, StepThen, RunSteps, fix_order, Refuses}
+use Rattle.tf_lint.proofs.Unread.{parses_of}
+use Rattle.tf_lint.specs.declared.fault.FixFault.{FixFault}
+use Rattle.tf_lint.specs.declared.fault.FixFault.TheVariants.{Scan, Parse, FixBroken, TooLong, Memory}
+use Rattle.tf_fix.specs.declared.parsed.Parsed.{Parsed}
+use Rattle.tf_lint.specs.Reading as steps
+use Rattle.tf_fix.specs.Reading.{Reads}
+use Rattle.tf_lint.specs.Reading.{IsText}
+use Rattle.tf_lint.specs.Steps.{Steps, StepBreaks, FoundThen, StepThen, RunSteps, fix_order, Refuses}
 
 pub does_parse : (text : List ℕ) (p : Parsed) → Reads text p → DoesParse text
 does_parse text p reads = (p.tree, parses_of text p reads)

@@ -4,7 +4,7 @@ use Rattle.tf_session.specs.declared.command.Command.{Command}
 use Rattle.tf_session.specs.declared.command.Command.TheVariants.{Fmt, Fix, Revert, Take}
 use Rattle.tf_session.specs.declared.command.Done.{Done}
 use Rattle.tf_session.specs.declared.command.Fault.{Fault}
-use Rattle.tf_steps.specs.Steps.{Made, differ}
+use Rattle.tf_lint.specs.Steps.{Made, differ}
 use Rattle.tf_session.specs.Machine.{Under, Stack, only, put_on, PutsOn, TakesOff, is_memory, MayWant, Serves}
 use Rattle.tf_session.specs.RunLaws.{served, given, ServesAll, RefusedDoNotCount, texts_of, reverted, RevertsTakeOff, RevertsGiveTheFirst}
 

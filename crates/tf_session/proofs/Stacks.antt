@@ -8,9 +8,9 @@ use Rattle.tf_session.specs.declared.command.Command.TheVariants.{Fmt, Fix, Reve
 use Rattle.tf_session.specs.declared.command.Done.{Done}
 use Rattle.tf_session.specs.declared.command.Fault.{Fault}
 use Rattle.tf_session.specs.declared.command.Fault.TheVariants.{Scan, Parse, FixBroken, TooLong, NoRecord, Refused, Memory, Blocked}
-use Rattle.tf_steps.specs.Steps.{Made, differ}
+use Rattle.tf_lint.specs.Steps.{Made, differ}
 use Rattle.tf_session.specs.Makes.{Makes, is_memory_fault}
-use Rattle.tf_steps.specs.Reading.{IsText}
+use Rattle.tf_lint.specs.Reading.{IsText}
 use Rattle.tf_session.specs.Machine.{Under, Stack, done, PutsOn, Serves, ServesOrWants, Run, NotTake, WithoutTake}
 use Rattle.tf_session.specs.Records.{Stands, AddsRecordOf, TakesLast, DoesStep, RefusesTake, RefusesStep}
 use Rattle.tf_session.proofs.Lists.{not_nil, same_last}

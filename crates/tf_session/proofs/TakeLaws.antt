@@ -12,7 +12,7 @@ use Rattle.tf_session.specs.declared.command.Command.{Command}
 use Rattle.tf_session.specs.declared.command.Command.TheVariants.{Fmt, Fix, Revert, Take}
 use Rattle.tf_session.specs.declared.command.Done.{Done}
 use Rattle.tf_session.specs.declared.command.Fault.{Fault}
-use Rattle.tf_steps.specs.Steps.{Made, differ}
+use Rattle.tf_lint.specs.Steps.{Made, differ}
 use Rattle.tf_session.specs.Machine.{is_memory}
 use Rattle.tf_session.specs.Layers.{Layer, History, bare, last_text, top_text, record_of, records_in, Rise, IsHistory, layer_on, PutsLayer, TakesLayerOff, TakesLayerOut, Acts, MayWantMemory, RunLayers}
 use Rattle.tf_session.specs.TakeLaws.{ActsAll, TakeLeaves, RevertsGiveTheFirstAgain, JournalIsOneAgain}

@@ -10,7 +10,7 @@ use Rattle.edit_swap.specs.TakeOut.{edits_of, words_of, Met, Overflows, Stuck}
 use Rattle.tf_session.specs.declared.command.Done.{Done}
 use Rattle.tf_session.specs.declared.command.Fault.{Fault}
 use Rattle.tf_session.specs.declared.command.Fault.TheVariants.{Scan, Parse, FixBroken, TooLong, NoRecord, Refused, Memory, Blocked}
-use Rattle.tf_steps.specs.Steps.{differ}
+use Rattle.tf_lint.specs.Steps.{differ}
 use Rattle.tf_session.specs.Machine.{done}
 use Rattle.tf_session.specs.Layers.{Layer, History, last_text, top_text, record_of, records_in, Rise, OneOut}
 use Rattle.tf_session.specs.TakingNth.{StuckBehind, NoneOut}

@@ -3,8 +3,8 @@ use Rattle.hcl_layout.specs.declared.fault.LayoutFault.{LayoutFault}
 use Rattle.edit_record.specs.declared.change.Refused.{Refused}
 use Rattle.edit_text.specs.declared.fault.RecordFault.{RecordFault}
 use Rattle.edit_text.specs.declared.fault.RecordFault.TheVariants.{BadHead, BadNumber, CutShort, BadEdits, BadEnd, BadSteps}
-use Rattle.tf_lint.specs.declared.fault.LintFault.{LintFault}
-use Rattle.tf_steps.specs.declared.fault.FixFault.{FixFault}
+use Rattle.tf_fix.specs.declared.fault.LintFault.{LintFault}
+use Rattle.tf_lint.specs.declared.fault.FixFault.{FixFault}
 use Rattle.tf_stream.specs.declared.fault.TakeFault.{TakeFault}
 use Rattle.tf_session.specs.declared.command.Fault.{Fault}
 use Rattle.tf_session.specs.declared.fault.RunFault.{RunFault}

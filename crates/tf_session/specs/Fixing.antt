@@ -4,9 +4,9 @@ use Rattle.hcl_scan.specs.Fault.{IsFault}
 use Rattle.tf_rule.specs.declared.rule_set.RuleSet.{RuleSet}
 use Rattle.tf_session.specs.declared.command.Fault.{Fault}
 use Rattle.tf_session.specs.declared.command.Fault.TheVariants.{Scan, Parse, FixBroken, TooLong, NoRecord, Refused, Memory, Blocked}
-use Rattle.tf_steps.specs.declared.fault.FixFault.{FixFault}
-use Rattle.tf_steps.specs.Reading.{IsParseFault}
-use Rattle.tf_steps.specs.Steps.{Made, Fixes, Breaks}
+use Rattle.tf_lint.specs.declared.fault.FixFault.{FixFault}
+use Rattle.tf_lint.specs.Reading.{IsParseFault}
+use Rattle.tf_lint.specs.Steps.{Made, Fixes, Breaks}
 
 -- what a fix makes of a text, or why it refuses it
 abbrev pub FixMakes : RuleSet → List ℕ → Result Made Fault → Type 0

@@ -7,9 +7,10 @@ use Rattle.hcl_format.specs.Layouts.{IsLayout, IsTooLong}
 use Rattle.tf_session.specs.declared.command.Fault.{Fault}
 use Rattle.tf_session.specs.declared.command.Fault.TheVariants.{Scan, Parse, FixBroken, TooLong, NoRecord, Refused, Memory, Blocked}
 use Rattle.tf_session.specs.Reading.{DoesParse}
-use Rattle.tf_steps.specs.declared.reading.Parsed.{Parsed}
-use Rattle.tf_steps.specs.Reading.{Reads, IsParseFault}
-use Rattle.tf_steps.specs.Steps.{Made}
+use Rattle.tf_fix.specs.declared.parsed.Parsed.{Parsed}
+use Rattle.tf_fix.specs.Reading.{Reads}
+use Rattle.tf_lint.specs.Reading.{IsParseFault}
+use Rattle.tf_lint.specs.Steps.{Made}
 
 -- A text that parses becomes its layout, if that is within the limit. The edits are exactly the gaps that differ, each from the whole old
 -- gap to the whole new one. Nothing is fixed and no issue is counted.

@@ -11,9 +11,9 @@ use Rattle.tf_session.specs.declared.command.Command.TheVariants.{Fmt, Fix, Reve
 use Rattle.tf_session.specs.declared.command.Done.{Done}
 use Rattle.tf_session.specs.declared.command.Fault.{Fault}
 use Rattle.tf_session.specs.declared.command.Fault.TheVariants.{NoRecord}
-use Rattle.tf_steps.specs.Steps.{Made, differ}
+use Rattle.tf_lint.specs.Steps.{Made, differ}
 use Rattle.tf_session.specs.Makes.{Makes}
-use Rattle.tf_steps.specs.Reading.{IsText}
+use Rattle.tf_lint.specs.Reading.{IsText}
 use Rattle.tf_session.specs.Machine.{done, is_memory}
 use Rattle.tf_session.specs.Nth.{Nth}
 use Rattle.tf_session.specs.TakingNth.{NoneOut, WantsMemory}

@@ -5,8 +5,8 @@ use Rattle.tf_lint.specs.Issues.{AreReports}
 use Rattle.tf_lint.specs.Reports.{Report, line_of}
 use Rattle.tf_stream.specs.Streams.{Source, Target, Puts, Untouched}
 use Rattle.tf_session.specs.declared.fault.RunFault.{RunFault}
-use Rattle.tf_steps.specs.declared.reading.Parsed.{Parsed}
-use Rattle.tf_steps.specs.Reading.{Reads}
+use Rattle.tf_fix.specs.declared.parsed.Parsed.{Parsed}
+use Rattle.tf_fix.specs.Reading.{Reads}
 use Rattle.tf_session.specs.Makes.{NotRead}
 use Rattle.tf_session.specs.declared.fault.Part.{Part}
 use Rattle.tf_session.specs.Streams.{TakesText, NotPut, FailsOver}

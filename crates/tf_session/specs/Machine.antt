@@ -7,9 +7,9 @@ use Rattle.tf_session.specs.declared.command.Command.TheVariants.{Fmt, Fix, Reve
 use Rattle.tf_session.specs.declared.command.Done.{Done}
 use Rattle.tf_session.specs.declared.command.Fault.{Fault}
 use Rattle.tf_session.specs.declared.command.Fault.TheVariants.{NoRecord}
-use Rattle.tf_steps.specs.Steps.{Made, differ}
+use Rattle.tf_lint.specs.Steps.{Made, differ}
 use Rattle.tf_session.specs.Makes.{Makes, is_memory_fault}
-use Rattle.tf_steps.specs.Reading.{IsText}
+use Rattle.tf_lint.specs.Reading.{IsText}
 
 -- a text, and the command that put the next one on it
 pub record Under : Type 0 where

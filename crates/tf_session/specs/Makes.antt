@@ -5,8 +5,8 @@ use Rattle.tf_session.specs.declared.command.Command.{Command}
 use Rattle.tf_session.specs.declared.command.Command.TheVariants.{Fmt, Fix, Revert, Take}
 use Rattle.tf_session.specs.declared.command.Fault.{Fault}
 use Rattle.tf_session.specs.declared.command.Fault.TheVariants.{Scan, Parse, FixBroken, TooLong, NoRecord, Refused, Memory, Blocked}
-use Rattle.tf_steps.specs.Reading.{IsText, IsParseFault}
-use Rattle.tf_steps.specs.Steps.{Made}
+use Rattle.tf_lint.specs.Reading.{IsText, IsParseFault}
+use Rattle.tf_lint.specs.Steps.{Made}
 use Rattle.tf_session.specs.Fixing.{FixMakes}
 use Rattle.tf_session.specs.Formatting.{FmtMakes}
 

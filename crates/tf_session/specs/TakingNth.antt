@@ -11,7 +11,7 @@ use Rattle.edit_swap.specs.Taking.{TakenOut}
 use Rattle.edit_swap.specs.TakeOut.{edits_of, words_of, Differ, Met, Overflows, Stuck, TakesMemory}
 use Rattle.tf_session.specs.declared.command.Done.{Done}
 use Rattle.tf_session.specs.declared.command.Fault.{Fault}
-use Rattle.tf_steps.specs.Steps.{differ}
+use Rattle.tf_lint.specs.Steps.{differ}
 use Rattle.tf_session.specs.Machine.{done}
 use Rattle.tf_session.specs.Nth.{Nth}
 

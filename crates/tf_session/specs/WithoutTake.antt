@@ -3,7 +3,7 @@ use Rattle.std.specs.Prelude.{◌≡◌, true, ℕ, List, [], ◌∷◌, ◌++�
 use Rattle.tf_session.specs.declared.command.Command.{Command}
 use Rattle.tf_session.specs.declared.command.Done.{Done}
 use Rattle.tf_session.specs.declared.command.Fault.{Fault}
-use Rattle.tf_steps.specs.Steps.{differ}
+use Rattle.tf_lint.specs.Steps.{differ}
 use Rattle.tf_session.specs.Layers.{Layer, History, bare, RunLayers}
 use Rattle.tf_session.specs.Machine.{Under, Stack, only, Run, WithoutTake}
 

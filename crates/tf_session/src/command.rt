@@ -6,8 +6,7 @@ use edit_record::Refused;
 use hcl_format::LayoutFault;
 use hcl_scan::ScanFault;
 use hcl_tree::ParseFault;
-use tf_lint::{LintFault, Rule, RuleSet};
-use tf_steps::FixFault;
+use tf_lint::{FixFault, LintFault, Rule, RuleSet};
 use thiserror::Error;
 
 /// What a session is asked to do.

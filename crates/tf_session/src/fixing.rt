@@ -4,13 +4,13 @@ ghost use Rattle.std.specs.Prelude.{Ok, IfOk, IfErr, IfSome};
 ghost use Rattle.edit_record.specs.Pieces.{Turns};
 ghost use Rattle.tf_session.specs.Makes.{Makes, RefusesText};
 ghost use Rattle.tf_session.specs.declared.command.Command.TheVariants.{Fix};
-ghost use Rattle.tf_steps.specs.Fixed.{made_of, text_after};
-ghost use Rattle.tf_steps.specs.Steps.{IsReport};
+ghost use Rattle.tf_lint.specs.Fixed.{made_of, text_after};
+ghost use Rattle.tf_lint.specs.Steps.{IsReport};
 
 use crate::command::Fault;
 use std::alloc::Global;
+use tf_lint::Fixed;
 use tf_rule::RuleSet;
-use tf_steps::Fixed;
 
 /// The text fixed by the rules of the set.
 pub fn fix_text(alloc: Global, text: &[u8], rules: RuleSet) -> Result<Fixed, Fault>
@@ -19,7 +19,7 @@ pub fn fix_text(alloc: Global, text: &[u8], rules: RuleSet) -> Result<Fixed, Fau
     ensures left { IfOk result (λ fixed. IsReport rules (text_after text.now fixed.change) fixed.left.items) }
     ensures fault { IfErr result (λ fault. RefusesText (Fix rules) text.now fault) }
 {
-    match tf_steps::fix_text(alloc, text, rules) {
+    match tf_lint::fix_text(alloc, text, rules) {
         Ok(fixed) => Ok(fixed),
         Err(fault) => Err(Fault::from(fault)),
     }

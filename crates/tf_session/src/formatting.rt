@@ -10,7 +10,7 @@ ghost use Rattle.hcl_grammar.specs.declared.bounds.TheConstants.{MAX_NESTING};
 ghost use Rattle.hcl_scan.specs.Cut.{MAX_TEXT};
 ghost use Rattle.hcl_scan.specs.Follows.{tokens_of};
 ghost use Rattle.tf_session.specs.Reading.{DoesParse};
-ghost use Rattle.tf_steps.specs.Fixed.{made_of};
+ghost use Rattle.tf_lint.specs.Fixed.{made_of};
 ghost use Rattle.tf_session.specs.Makes.{Makes, RefusesText};
 ghost use Rattle.tf_session.specs.declared.command.Command.TheVariants.{Fmt};
 ghost use Rattle.tf_session.specs.declared.command.Fault.TheVariants.{TooLong, Memory};
@@ -23,7 +23,7 @@ use hcl_format::{is_parsed_laid_out, laws, layout_of_parsed};
 use hcl_parses::laws::parsed_apart;
 use hcl_scan::Scanned;
 use std::alloc::Global;
-use tf_steps::{Change, Fixed};
+use tf_lint::{Change, Fixed};
 
 /// The text laid out.
 pub fn fmt_text(alloc: Global, text: &[u8]) -> Result<Fixed, Fault>

@@ -12,7 +12,7 @@ use edit_squash::laws::squash_all_is_one;
 use edit_swap::laws::{swap_is_one, taking_out_is_one};
 use hcl_format::laws::{layout_keeps_tokens, layout_of_layout, one_layout};
 use hcl_scan::laws::{no_cut_with_fault, one_cut, one_fault};
-use tf_steps::laws::one_fix;
+use tf_lint::laws::one_fix;
 
 /// A command that met a refused growth might as well not be in the list.
 pub fn refused_commands_do_not_count()

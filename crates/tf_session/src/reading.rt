@@ -7,15 +7,15 @@ ghost use Rattle.hcl_grammar.specs.declared.tree.Tree as tree;
 ghost use Rattle.hcl_scan.specs.Follows.{tokens_of};
 ghost use Rattle.tf_session.specs.Makes.{NotRead};
 ghost use Rattle.tf_session.specs.Reading.{DoesParse};
-ghost use Rattle.tf_steps.specs.Reading.{Reads};
-ghost use Rattle.tf_steps.specs.Searching.{IsOf};
-ghost use Rattle.tf_steps.specs.declared.reading.Parsed.{Parsed};
+ghost use Rattle.tf_fix.specs.Reading.{Reads};
+ghost use Rattle.tf_lint.specs.Searching.{IsOf};
+ghost use Rattle.tf_fix.specs.declared.parsed.Parsed.{Parsed};
 
 use crate::command::Fault;
 use hcl_scan::Scanned;
 use std::alloc::Global;
+use tf_lint::Searched;
 use tf_rule::RuleSet;
-use tf_steps::Searched;
 
 /// The tokens of a text, if it parses.
 pub fn read_text<'t>(alloc: Global, text: &'t [u8]) -> Result<Scanned<'t>, Fault>
@@ -25,7 +25,7 @@ pub fn read_text<'t>(alloc: Global, text: &'t [u8]) -> Result<Scanned<'t>, Fault
     ensures parses { OnOk result (DoesParse text.now) }
     ensures fault { IfErr result (λ fault. NotRead text.now fault) }
 {
-    match tf_steps::check_text(alloc, text) {
+    match tf_lint::check_text(alloc, text) {
         Ok(scanned) => Ok(scanned),
         Err(fault) => Err(Fault::from(fault)),
     }
@@ -37,7 +37,7 @@ pub fn search_text<'t>(alloc: Global, text: &'t [u8], rules: RuleSet) -> Result<
     ensures rules { IfOk result (λ searched. searched.rules ≡ rules) }
     ensures fault { IfErr result (λ fault. NotRead text.now fault) }
 {
-    match tf_steps::search_text(alloc, text, rules) {
+    match tf_lint::search_text(alloc, text, rules) {
         Ok(searched) => Ok(searched),
         Err(fault) => Err(Fault::from(fault)),
     }

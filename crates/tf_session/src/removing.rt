@@ -3,7 +3,7 @@
 ghost use Rattle.std.specs.Prelude.{◌≡◌, ◌≤◌, ◌<◌, ◌+◌, ◌^◌, ◌++◌, List, ℕ, length, take, IfOk, IfErr};
 ghost use Rattle.edit_record.specs.Pieces.{Turns};
 ghost use Rattle.edit_swap.specs.TakeOut.{there};
-ghost use Rattle.tf_steps.specs.Steps.{differ};
+ghost use Rattle.tf_lint.specs.Steps.{differ};
 ghost use Rattle.tf_session.specs.Machine.{done};
 ghost use Rattle.tf_session.specs.TakingNth.{TakesNth, RefusesNth, CannotUndo, fault_behind, counted_behind};
 

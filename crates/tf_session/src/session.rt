@@ -1,10 +1,10 @@
 //! A text with the journal of what changed it.
 
 ghost use Rattle.std.specs.Prelude.{◌≡◌, true, IfOk, IfErr, IfSome, OnErr};
-ghost use Rattle.tf_steps.specs.Steps.{differ, IsReport};
+ghost use Rattle.tf_lint.specs.Steps.{differ, IsReport};
 ghost use Rattle.tf_session.specs.declared.command.Command.TheVariants.{Fix};
 ghost use Rattle.tf_session.specs.Machine.{done};
-ghost use Rattle.tf_steps.specs.Fixed.{text_after, edits_after};
+ghost use Rattle.tf_lint.specs.Fixed.{text_after, edits_after};
 ghost use Rattle.tf_session.specs.Session.{text_of, records_of};
 ghost use Rattle.tf_session.specs.Records.{DoesStep, RefusesStep, AddsRecord, TakesLast, RefusesTake};
 ghost use Rattle.tf_session.specs.TakingNth.{TakesNth, RefusesNth};
@@ -16,8 +16,7 @@ use crate::removing::{Remainder, without};
 use edit_record::laws::undo_is_exact;
 use edit_record::{Change as _, Journal, Record, Word};
 use std::alloc::Global;
-use tf_lint::{Issue, RuleSet};
-use tf_steps::{Change, Fixed};
+use tf_lint::{Change, Fixed, Issue, RuleSet};
 
 /// A text, and the journal of the commands that changed it.
 #[derive(Drop)]

@@ -6,7 +6,7 @@ ghost use Rattle.tf_stream.specs.Streams.{from, into};
 ghost use Rattle.tf_session.specs.Session.{text_of, records_of};
 ghost use Rattle.tf_session.specs.Streams.{is_write};
 ghost use Rattle.tf_session.specs.declared.command.Command.TheVariants.{Fix};
-ghost use Rattle.tf_steps.specs.Steps.{IsReport};
+ghost use Rattle.tf_lint.specs.Steps.{IsReport};
 ghost use Rattle.tf_session.specs.Streaming.{StepsThrough, StepsAtFault, Checks, ChecksAtFault};
 
 use crate::command::{Command, Done};

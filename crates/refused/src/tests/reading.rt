@@ -7,9 +7,8 @@ use hcl_format::LayoutFault;
 use hcl_scan::ScanFault;
 use hcl_tree::ParseFault;
 use std::alloc::AllocError;
-use tf_lint::{LintFault, Place, Rule, RuleSet};
+use tf_lint::{Change, FixFault, LintFault, Place, Rule, RuleSet, read_text};
 use tf_session::Command;
-use tf_steps::{Change, FixFault, read_text};
 
 #[test]
 fn scan(rt: HostRuntime) {
@@ -68,10 +67,10 @@ fn issues(rt: HostRuntime) {
 
 #[test]
 fn search_text(rt: HostRuntime) {
-    let right = tf_steps::search_text(rt.alloc(), TEXT, RuleSet::all());
+    let right = tf_lint::search_text(rt.alloc(), TEXT, RuleSet::all());
     let right = given(&rt, right);
     begin(&rt);
-    let answer = tf_steps::search_text(rt.alloc(), TEXT, RuleSet::all());
+    let answer = tf_lint::search_text(rt.alloc(), TEXT, RuleSet::all());
     let searched = answered(&rt, answer, FixFault::Memory, true);
     assert!(rt; searched.found.len() == right.found.len());
 }
@@ -97,12 +96,12 @@ fn fix_step(rt: HostRuntime) {
     let parsed = given(&rt, read_text(rt.alloc(), TEXT));
     let mut steps = Vec::new(rt.alloc());
     for rule in Rule::ALL {
-        let right = given(&rt, tf_steps::fix_step(rt.alloc(), &parsed, rule));
+        let right = given(&rt, tf_lint::fix_step(rt.alloc(), &parsed, rule));
         given(&rt, steps.push((rule, right)));
     }
     begin(&rt);
     for (rule, right) in &steps {
-        let answer = tf_steps::fix_step(rt.alloc(), &parsed, *rule);
+        let answer = tf_lint::fix_step(rt.alloc(), &parsed, *rule);
         let made = answered(&rt, answer, FixFault::Memory, true);
         assert!(rt; made.count == right.count);
         assert!(rt; are_same_edits(&made.edits, &right.edits));
@@ -111,9 +110,9 @@ fn fix_step(rt: HostRuntime) {
 
 #[test]
 fn fix_text(rt: HostRuntime) {
-    let right = given(&rt, tf_steps::fix_text(rt.alloc(), TEXT, RuleSet::all()));
+    let right = given(&rt, tf_lint::fix_text(rt.alloc(), TEXT, RuleSet::all()));
     begin(&rt);
-    let answer = tf_steps::fix_text(rt.alloc(), TEXT, RuleSet::all());
+    let answer = tf_lint::fix_text(rt.alloc(), TEXT, RuleSet::all());
     let made = answered(&rt, answer, FixFault::Memory, true);
     assert!(rt; are_same_changes(&made.change, &right.change));
     assert!(rt; made.left.len() == right.left.len());

@@ -7,7 +7,7 @@ use Rattle.tf_lint.specs.Issues.{reports}
 use Rattle.tf_lint.specs.Reports.{report, report_of}
 use Rattle.tf_rule.specs.declared.finding.Finding.{Finding}
 use Rattle.tf_rule.specs.declared.rule_set.RuleSet.{RuleSet}
-use Rattle.tf_steps.specs.Steps.{Finds}
+use Rattle.tf_fix.specs.OneStep.{Finds}
 use Rattle.tf_session.specs.Lines.{lines_of}
 use Rattle.tf_session.proofs.linting.issue_lines.Goals as goal
 

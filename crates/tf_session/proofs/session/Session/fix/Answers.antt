@@ -6,8 +6,8 @@ use Rattle.tf_session.specs.declared.command.Fault.{Fault}
 use Rattle.tf_session.specs.Records.{DoesStep}
 use Rattle.tf_session.specs.Session.{text_of, records_of}
 use Rattle.tf_session.proofs.Putting.{MakesOf, put_fix}
-use Rattle.tf_steps.specs.Fixed.{text_after}
-use Rattle.tf_steps.specs.Steps.{IsReport}
+use Rattle.tf_lint.specs.Fixed.{text_after}
+use Rattle.tf_lint.specs.Steps.{IsReport}
 use Rattle.tf_session.proofs.session.Session.fix.Goals as goal
 
 pub returns-in-Ok-clause-done : goal.returns-in-Ok-clause-done

@@ -1,0 +1,188 @@
+-- The parts of a text by number.
+use Rattle.std.proofs.Common.{◌≡◌, ℕ, zero, suc, ◌+◌, ◌-◌, ◌*◌, ◌≤◌, ◌<◌, false, List, [], ◌∷◌, ◌++◌, length, take, drop, slice_range, slice_get, Some, None, refl, sym, ap, ◌∙◌, arith, length-append, length-drop, inl, inr}
+use Rattle.std.proofs.lemmas.List.{append-nil, take-append-drop, drop_more, take_all, drop-drop}
+use Rattle.std.proofs.lemmas.List.Folds.{drop_split}
+use Rattle.std.proofs.lemmas.Option.{slice_get_cases}
+use Rattle.std.proofs.Math.Seq.{take-append_seam, drop-append_seam}
+use Rattle.hcl_token.specs.declared.kind.Kind.{Kind}
+use Rattle.hcl_token.specs.Tokens.{Pair, whole_text}
+use Rattle.tf_fix.specs.Parts.{Part, parts_of, written}
+use Rattle.tf_fix.specs.Parts.Part.{Gap, Token}
+use Rattle.tf_fix.specs.Settled.{Neighbour, after, meets, glued}
+use Rattle.tf_fix.specs.Replacements.{Replacement, staying}
+use Rattle.tf_fix.specs.Inner.Views.{next_place}
+use Rattle.tf_fix.proofs.SettledLemmas.{written-append, after-append}
+
+-- ---- slices
+
+take_none : {X : Type 0} (n : ℕ) → ◌≡◌ {A = List X} (take n []) []
+take_none zero = refl
+take_none (suc n) = refl
+
+pub take_sum : {X : Type 0} (n a b : ℕ) (xs : List X) → n ≡ a + b → take n xs ≡ take a xs ++ take b (drop a xs)
+take_sum n zero b xs e = ap (λ k. take k xs) (omega (arith, e))
+take_sum n (suc a) b [] e = take_none n ∙ sym (take_none b)
+take_sum zero (suc a) b (x ∷ xs) e = absurd (omega (arith, e))
+take_sum (suc n) (suc a) b (x ∷ xs) e = ap (λ t. x ∷ t) (take_sum n a b xs (omega (arith, e)))
+
+pub take_range : {X : Type 0} (xs : List X) (from to : ℕ) → from ≤ to → take to xs ≡ take from xs ++ slice_range xs from to
+take_range xs from to le = take_sum to from (to - from) xs (omega (arith, le))
+
+drop_again : {X : Type 0} (xs : List X) (from to : ℕ) → from ≤ to → drop (to - from) (drop from xs) ≡ drop to xs
+drop_again xs from to le = drop-drop (to - from) from xs ∙ ap (λ k. drop k xs) (omega (arith, le))
+
+-- one more at the end of a slice
+pub range_last : {X : Type 0} (xs : List X) (from to : ℕ) (x : X) (rest : List X) → from ≤ to → drop to xs ≡ x ∷ rest
+    → slice_range xs from (to + 1) ≡ slice_range xs from to ++ x ∷ []
+range_last xs from to x rest le here =
+    let whole : to + 1 - from ≡ (to - from) + 1 = omega (arith, le) in
+    let split : drop from xs ≡ slice_range xs from to ++ drop to xs = drop_split xs from to le in
+    let again : drop (to - from) (drop from xs) ≡ drop to xs = drop_again xs from to le in
+    take_sum (to + 1 - from) (to - from) 1 (drop from xs) whole ∙ ap (λ t. slice_range xs from to ++ take 1 t) (again ∙ here)
+
+-- the first of a slice
+pub range_first : {X : Type 0} (xs : List X) (from to : ℕ) (x : X) (rest : List X) → from < to → drop from xs ≡ x ∷ rest
+    → slice_range xs from to ≡ x ∷ take (to - from - 1) rest
+range_first xs from to x rest lt here =
+    let whole : to - from ≡ suc (to - from - 1) = omega (arith, lt) in
+    ap (λ k. take k (drop from xs)) whole ∙ ap (λ t. take (suc (to - from - 1)) t) here
+
+pub range_none : {X : Type 0} (xs : List X) (from to : ℕ) → to ≤ from → slice_range xs from to ≡ []
+range_none xs from to le = let whole : to - from ≡ 0 = omega (arith, le) in ap (λ k. take k (drop from xs)) whole
+
+-- ---- pairs by number
+
+pub known : {X : Type 0} (xs : List X) (i : ℕ) → i < length xs → (x : X) × (slice_get xs i ≡ Some x) × (drop i xs ≡ x ∷ drop (i + 1) xs)
+known xs i lt = elim (slice_get_cases xs i).1 [
+  | inl (x, within, found, same) ↦ (x, found, rw (← same) (drop_more xs i x within))
+  | inr (past, none) ↦ absurd (omega (arith, past, lt))
+]
+
+pub parts_length : (pairs : List Pair) (last : List ℕ) → length (parts_of pairs last) ≡ 2 * length pairs + 1
+parts_length [] last = refl
+parts_length (p ∷ ps) last = omega (arith, parts_length ps last)
+
+pub parts_drop : (pairs : List Pair) (last : List ℕ) (i : ℕ) → i ≤ length pairs → drop (2 * i) (parts_of pairs last) ≡ parts_of (drop i pairs) last
+parts_drop pairs last zero le = refl
+parts_drop [] last (suc i) le = absurd (omega (arith, le))
+parts_drop (p ∷ ps) last (suc i) le =
+    let two : 2 * suc i ≡ suc (suc (2 * i)) = omega arith in
+    ap (λ k. drop k (parts_of (p ∷ ps) last)) two ∙ parts_drop ps last i (omega (arith, le))
+
+-- the gap and the token of this number, and what stands behind
+pub gap_front : (pairs : List Pair) (last : List ℕ) (i : ℕ) (p : Pair) → slice_get pairs i ≡ Some p
+    → drop (2 * i) (parts_of pairs last) ≡ Gap p.gap ∷ Token p.kind p.spelling ∷ drop (2 * i + 2) (parts_of pairs last)
+gap_front [] last i p found = absurd (cc found)
+gap_front (q ∷ ps) last zero p found = let same : q ≡ p = cc found in ap (λ (x : Pair). Gap x.gap ∷ Token x.kind x.spelling ∷ parts_of ps last) same
+gap_front (q ∷ ps) last (suc i) p found =
+    let two : 2 * suc i ≡ suc (suc (2 * i)) = omega arith in
+    let four : 2 * suc i + 2 ≡ suc (suc (2 * i + 2)) = omega arith in
+    ap (λ k. drop k (parts_of (q ∷ ps) last)) two ∙ gap_front ps last i p found
+    ∙ ap (λ k. Gap p.gap ∷ Token p.kind p.spelling ∷ drop k (parts_of (q ∷ ps) last)) (sym four)
+
+pub token_front : (pairs : List Pair) (last : List ℕ) (i : ℕ) (p : Pair) → slice_get pairs i ≡ Some p
+    → drop (2 * i + 1) (parts_of pairs last) ≡ Token p.kind p.spelling ∷ drop (2 * i + 2) (parts_of pairs last)
+token_front [] last i p found = absurd (cc found)
+token_front (q ∷ ps) last zero p found = let same : q ≡ p = cc found in ap (λ (x : Pair). Token x.kind x.spelling ∷ parts_of ps last) same
+token_front (q ∷ ps) last (suc i) p found =
+    let three : 2 * suc i + 1 ≡ suc (suc (2 * i + 1)) = omega arith in
+    let four : 2 * suc i + 2 ≡ suc (suc (2 * i + 2)) = omega arith in
+    ap (λ k. drop k (parts_of (q ∷ ps) last)) three ∙ token_front ps last i p found
+    ∙ ap (λ k. Token p.kind p.spelling ∷ drop k (parts_of (q ∷ ps) last)) (sym four)
+
+-- ---- what stands before a place, as text
+
+pub start_text : (pairs : List Pair) (last : List ℕ) (i : ℕ) (p : Pair) → slice_get pairs i ≡ Some p
+    → written (take (2 * i + 1) (parts_of pairs last)) ≡ whole_text (take i pairs) p.gap
+start_text [] last i p found = absurd (cc found)
+start_text (q ∷ ps) last zero p found = let same : q ≡ p = cc found in ap (λ (x : Pair). x.gap ++ []) same ∙ append-nil p.gap
+start_text (q ∷ ps) last (suc i) p found =
+    let three : 2 * suc i + 1 ≡ suc (suc (2 * i + 1)) = omega arith in
+    ap (λ k. written (take k (parts_of (q ∷ ps) last))) three ∙ ap (λ t. q.gap ++ (q.spelling ++ t)) (start_text ps last i p found)
+
+pub stop_text : (pairs : List Pair) (last : List ℕ) (i : ℕ) (p : Pair) → slice_get pairs i ≡ Some p
+    → written (take (2 * i + 2) (parts_of pairs last)) ≡ whole_text (take i pairs) (p.gap ++ p.spelling)
+stop_text [] last i p found = absurd (cc found)
+stop_text (q ∷ ps) last zero p found =
+    let same : q ≡ p = cc found in ap (λ (x : Pair). x.gap ++ (x.spelling ++ [])) same ∙ ap (λ t. p.gap ++ t) (append-nil p.spelling)
+stop_text (q ∷ ps) last (suc i) p found =
+    let four : 2 * suc i + 2 ≡ suc (suc (2 * i + 2)) = omega arith in
+    ap (λ k. written (take k (parts_of (q ∷ ps) last))) four ∙ ap (λ t. q.gap ++ (q.spelling ++ t)) (stop_text ps last i p found)
+
+range_seam : (a b c : List ℕ) (n m : ℕ) → n ≡ length a → m ≡ length a + length b → slice_range (a ++ (b ++ c)) n m ≡ b
+range_seam a b c n m front end =
+    let whole : m - n ≡ length b = omega (arith, front, end) in
+    ap (λ k. take (m - n) (drop k (a ++ (b ++ c)))) front ∙ ap (λ t. take (m - n) t) (drop-append_seam a (b ++ c))
+    ∙ ap (λ k. take k (b ++ c)) whole ∙ take-append_seam b c
+
+pub length_written : (xs : List Part) (from to : ℕ) → from ≤ to
+    → length (written (take to xs)) ≡ length (written (take from xs)) + length (written (slice_range xs from to))
+length_written xs from to le =
+    ap (λ t. length (written t)) (take_range xs from to le) ∙ ap length (written-append (take from xs) (slice_range xs from to))
+    ∙ length-append (written (take from xs)) (written (slice_range xs from to))
+
+pub text_range : (xs : List Part) (from to : ℕ) → from ≤ to
+    → slice_range (written xs) (length (written (take from xs))) (length (written (take to xs))) ≡ written (slice_range xs from to)
+text_range xs from to le =
+    let a = take from xs in
+    let b = slice_range xs from to in
+    let c = drop to xs in
+    let split : xs ≡ a ++ (b ++ c) = sym (take-append-drop from xs) ∙ ap (λ t. a ++ t) (drop_split xs from to le) in
+    let whole : written xs ≡ written a ++ (written b ++ written c) = ap written split ∙ written-append a (b ++ c) ∙ ap (λ t. written a ++ t) (written-append b c) in
+    ap (λ t. slice_range t (length (written a)) (length (written (take to xs)))) whole
+    ∙ range_seam (written a) (written b) (written c) _ _ refl (length_written xs from to le)
+
+pub text_within : (xs : List Part) (to : ℕ) → length (written (take to xs)) ≤ length (written xs)
+text_within xs to =
+    let whole = ap (λ t. length (written t)) (sym (take-append-drop to xs)) ∙ ap length (written-append (take to xs) (drop to xs)) ∙ length-append (written (take to xs)) (written (drop to xs)) in
+    omega (arith, whole)
+
+-- ---- the neighbour behind a slice
+
+pub after_token : (near : Neighbour) (xs : List Part) (kind : Kind) (spelling : List ℕ) → after near (xs ++ Token kind spelling ∷ []) ≡ Some (kind, spelling)
+after_token near xs kind spelling = after-append near xs (Token kind spelling ∷ [])
+
+pub after_empty : (near : Neighbour) (xs : List Part) (gap : List ℕ) → gap ≡ [] → after near (xs ++ Gap gap ∷ []) ≡ after near xs
+after_empty near xs gap e = rw e (after-append near xs (Gap [] ∷ []))
+
+blank_after : (near : Neighbour) (gap : List ℕ) → (gap ≡ [] → ⊥) → after near (Gap gap ∷ []) ≡ None
+blank_after near [] some = absurd (some refl)
+blank_after near (b ∷ gap) some = refl
+
+pub after_blank : (near : Neighbour) (xs : List Part) (gap : List ℕ) → (gap ≡ [] → ⊥) → after near (xs ++ Gap gap ∷ []) ≡ None
+after_blank near xs gap some = after-append near xs (Gap gap ∷ []) ∙ blank_after (after near xs) gap some
+
+-- ---- whether the neighbour joins with the front of a slice
+
+glued_none : (near : Neighbour) (k : ℕ) (gap : List ℕ) (rest : List Part) → k ≤ 1 → glued near (take k (Gap gap ∷ rest)) ≡ false
+glued_none near zero gap rest le = refl
+glued_none near (suc zero) [] rest le = refl
+glued_none near (suc zero) (b ∷ gap) rest le = refl
+glued_none near (suc (suc k)) gap rest le = absurd (omega (arith, le))
+
+pub glued_gap : (near : Neighbour) (k : ℕ) (ps : List Pair) (last : List ℕ) → k ≤ 1 → glued near (take k (parts_of ps last)) ≡ false
+glued_gap near k [] last le = glued_none near k last [] le
+glued_gap near k (p ∷ ps) last le = glued_none near k p.gap _ le
+
+pub glued_empty : (near : Neighbour) (gap : List ℕ) (kind : Kind) (spelling : List ℕ) (k : ℕ) (rest : List Part) → 2 ≤ k → gap ≡ []
+    → glued near (take k (Gap gap ∷ Token kind spelling ∷ rest)) ≡ meets near kind spelling
+glued_empty near gap kind spelling zero rest le e = absurd (omega (arith, le))
+glued_empty near gap kind spelling (suc zero) rest le e = absurd (omega (arith, le))
+glued_empty near gap kind spelling (suc (suc k)) rest le e = rw e refl
+
+pub glued_blank : (near : Neighbour) (gap : List ℕ) (k : ℕ) (rest : List Part) → (gap ≡ [] → ⊥) → glued near (take k (Gap gap ∷ rest)) ≡ false
+glued_blank near gap zero rest some = refl
+glued_blank near [] (suc k) rest some = absurd (some refl)
+glued_blank near (b ∷ gap) (suc k) rest some = refl
+
+pub glued_token : (near : Neighbour) (kind : Kind) (spelling : List ℕ) (k : ℕ) (rest : List Part) → 1 ≤ k
+    → glued near (take k (Token kind spelling ∷ rest)) ≡ meets near kind spelling
+glued_token near kind spelling zero rest le = absurd (omega (arith, le))
+glued_token near kind spelling (suc k) rest le = refl
+
+pub staying_is : (pairs : List Pair) (last : List ℕ) (at : ℕ) (rs : List Replacement)
+    → staying at (parts_of pairs last) rs ≡ slice_range (parts_of pairs last) at (next_place (2 * length pairs + 1) rs)
+staying_is pairs last at [] =
+    let all = parts_length pairs last in
+    sym (take_all (2 * length pairs + 1 - at) (drop at (parts_of pairs last)) (omega (arith, all, length-drop at (parts_of pairs last))))
+staying_is pairs last at (r ∷ rs) = refl

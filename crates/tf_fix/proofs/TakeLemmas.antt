@@ -1,0 +1,142 @@
+-- Taking findings, and what each of them is replaced by.
+use Rattle.std.proofs.Common.{◌≡◌, ℕ, ◌+◌, ◌*◌, ◌≤◌, ◌<◌, ◌&&◌, not, nat_lt, Bool, true, false, List, [], ◌∷◌, ◌++◌, length, drop, get_or, Option, Some, None, if◌then◌else◌, refl, ap, subst, ◌∙◌, arith}
+use Rattle.std.specs.List.{flat_map}
+use Rattle.std.proofs.lemmas.List.{drop_more}
+use Rattle.std.proofs.lemmas.Bool.{and_parts, ltb-false}
+use Rattle.hcl_token.specs.Tokens.{Pair}
+use Rattle.tf_rule.specs.declared.finding.Finding.{Finding}
+use Rattle.tf_rule.specs.declared.fix.Fix.{Fix}
+use Rattle.tf_rule.specs.declared.fix.Fix.TheVariants.{Slashes, Tokens}
+use Rattle.tf_rule.specs.declared.fix.Insertion.{Insertion}
+use Rattle.tf_rule.specs.declared.fix.Insertion.TheVariants.{Nothing, Index}
+use Rattle.tf_rule.specs.declared.fix.Kept.{Kept}
+use Rattle.tf_rule.specs.declared.rule.Rule.{Rule}
+use Rattle.tf_rule.specs.Findings.{is_fixable, IsFitting, AreSound}
+use Rattle.tf_rule.specs.Fixes.{AreInOrder as AreKeptInOrder}
+use Rattle.tf_fix.specs.Inner.Filled.{Fits, IsMendable}
+use Rattle.tf_fix.specs.Mending.{kept_from, mended, finding_replacements, IsOf, AreOf}
+use Rattle.tf_fix.specs.Replacements.{Replacement, AreInOrder}
+use Rattle.tf_fix.specs.Taking.{taken_from}
+use Rattle.tf_fix.specs.Inner.Views.{IsComing, AreComing}
+use Rattle.tf_fix.specs.declared.replacing.Replacement.{Replacement as Replacing}
+
+-- ---- the loops over findings
+
+pub coming_push : (pairs : List Pair) (rs : List Replacing) (r : Replacing) → AreComing pairs rs → IsComing pairs r.coming → AreComing pairs (rs ++ r ∷ [])
+coming_push pairs [] r are is = (is, tt)
+coming_push pairs (x ∷ rs) r are is = (are.0, coming_push pairs rs r are.1 is)
+
+-- where there is a fix, what it keeps stands in order
+mendable : (first past : ℕ) (fix : Option Fix) → is_fixable fix ≡ true → IsFitting first past fix → IsMendable first past fix
+mendable first past None e fits = absurd (cc e)
+mendable first past (Some fix) e fits = fits
+
+pub is_sound : (pairs : List Pair) (findings : List Finding) (i : ℕ) (d : Finding) → i < length findings → AreSound (length pairs) (drop i findings)
+    → (is_fixable (get_or findings i d).fix ≡ true → Fits (length pairs) (get_or findings i d)) × AreSound (length pairs) (drop (i + 1) findings)
+is_sound pairs findings i d lt are = let both = subst (AreSound (length pairs)) (drop_more findings i d lt) are in (λ fixable. (both.0.1, mendable _ _ _ fixable both.0.2, both.0.0), both.1)
+
+pub one_taken : (findings : List Finding) (i past : ℕ) (d : Finding) → i < length findings
+    → (is_fixable (get_or findings i d).fix && not (nat_lt (get_or findings i d).first past)) ≡ true
+    → taken_from past (drop i findings) ≡ get_or findings i d ∷ taken_from (get_or findings i d).past (drop (i + 1) findings)
+one_taken findings i past d lt test = ap (taken_from past) (drop_more findings i d lt) ∙ rw test refl
+
+pub one_left : (findings : List Finding) (i past : ℕ) (d : Finding) → i < length findings
+    → (is_fixable (get_or findings i d).fix && not (nat_lt (get_or findings i d).first past)) ≡ false
+    → taken_from past (drop i findings) ≡ taken_from past (drop (i + 1) findings)
+one_left findings i past d lt test = ap (taken_from past) (drop_more findings i d lt) ∙ rw test refl
+
+-- ---- what is taken
+
+-- findings of a text, one behind the other
+abbrev pub AreTaken : ℕ → List Pair → List Finding → Type 0
+AreTaken at pairs [] = at ≤ length pairs
+AreTaken at pairs (f ∷ fs) = (at ≤ f.first) × Fits (length pairs) f × AreTaken f.past pairs fs
+
+not_true : (b : Bool) → not b ≡ true → b ≡ false
+not_true true e = absurd (cc e)
+not_true false e = refl
+
+taken_if : (pairs : List Pair) (past : ℕ) (f : Finding) (here : Bool) (xs ys : List Finding) → (is_fixable f.fix && not (nat_lt f.first past)) ≡ here
+    → (is_fixable f.fix ≡ true → Fits (length pairs) f) → (Fits (length pairs) f → AreTaken f.past pairs xs) → AreTaken past pairs ys → AreTaken past pairs (if here then f ∷ xs else ys)
+taken_if pairs past f true xs ys test sound a b =
+    let both = and_parts (is_fixable f.fix) (not (nat_lt f.first past)) test in
+    (ltb-false f.first past (not_true (nat_lt f.first past) both.1), sound both.0, a (sound both.0))
+taken_if pairs past f false xs ys test sound a b = b
+
+pub taken_are : (pairs : List Pair) (past : ℕ) (findings : List Finding) → past ≤ length pairs → AreSound (length pairs) findings → AreTaken past pairs (taken_from past findings)
+taken_are pairs past [] le sound = le
+taken_are pairs past (f ∷ fs) le sound =
+    taken_if pairs past f _ (taken_from f.past fs) (taken_from past fs) refl (λ fixable. (sound.0.1, mendable _ _ _ fixable sound.0.2, sound.0.0)) (λ fits. taken_are pairs f.past fs fits.0 sound.1) (taken_are pairs past fs le sound.1)
+
+of_if : (rule : Rule) (pairs : List Pair) (f : Finding) (here : Bool) (xs ys : List Finding) → IsOf rule pairs f → AreOf rule pairs xs → AreOf rule pairs ys → AreOf rule pairs (if here then f ∷ xs else ys)
+of_if rule pairs f true xs ys of a b = (of, a)
+of_if rule pairs f false xs ys of a b = b
+
+pub taken_of : (rule : Rule) (pairs : List Pair) (past : ℕ) (findings : List Finding) → AreOf rule pairs findings → AreOf rule pairs (taken_from past findings)
+taken_of rule pairs past [] of = tt
+taken_of rule pairs past (f ∷ fs) of = of_if rule pairs f _ (taken_from f.past fs) (taken_from past fs) of.0 (taken_of rule pairs f.past fs of.1) (taken_of rule pairs past fs of.1)
+
+-- ---- the replacements are in order
+
+join_order : (at mid end : ℕ) (rs ss : List Replacement) → AreInOrder at rs mid → AreInOrder mid ss end → AreInOrder at (rs ++ ss) end
+join_order at mid end [] [] o p = omega (arith, o, p)
+join_order at mid end [] (s ∷ ss) o p = (omega (arith, o, p.0), p.1, p.2)
+join_order at mid end (r ∷ rs) ss o p = (o.0, o.1, join_order r.to mid end rs ss o.2 p)
+
+later_order : (at from end : ℕ) (rs : List Replacement) → at ≤ from → AreInOrder from rs end → AreInOrder at rs end
+later_order at from end [] le o = omega (arith, le, o)
+later_order at from end (r ∷ rs) le o = (omega (arith, le, o.0), o.1, o.2)
+
+-- what is kept behind a place ends before the finding does
+pub kept_le : (first past at : ℕ) (written : Insertion) (kept : List (Option Kept)) → AreKeptInOrder first past at written kept → at ≤ past
+kept_le first past at Nothing [] o = omega (arith, o.1.1)
+kept_le first past at written [] o = o.1
+kept_le first past at written (None ∷ kept) o = kept_le first past at written kept o
+kept_le first past at Nothing (Some k ∷ kept) o = let rest = kept_le first past k.to k.behind kept o.3 in omega (arith, o.1, o.2, rest)
+kept_le first past at written (Some k ∷ kept) o = let rest = kept_le first past k.to k.behind kept o.3 in omega (arith, o.1, o.2, rest)
+
+-- a place before number at, or right before its token, is no later than the next that is kept
+pub next_le : (first past at : ℕ) (written : Insertion) (k : Kept) (kept : List (Option Kept)) → AreKeptInOrder first past at written (Some k ∷ kept) → at ≤ k.from
+next_le first past at Nothing k kept o = omega (arith, o.1)
+next_le first past at written k kept o = o.1
+
+kept_order : (pairs : List Pair) (first past at place skip : ℕ) (written : Insertion) (kept : List (Option Kept)) → AreKeptInOrder first past at written kept
+    → place ≤ 2 * at + 1 → place ≤ 2 * past → AreInOrder place (kept_from pairs place skip written kept past) (2 * past)
+kept_order pairs first past at place skip written [] o near le = (omega arith, le, omega arith)
+kept_order pairs first past at place skip written (None ∷ kept) o near le = kept_order pairs first past at place skip written kept o near le
+kept_order pairs first past at place skip written (Some k ∷ kept) o near le =
+    let next = next_le first past at written k kept o in
+    let end = kept_le first past k.to k.behind kept o.3 in
+    let some = o.2 in (
+      omega arith,
+      omega (arith, near, next),
+      later_order (2 * k.from + 1) (2 * k.to) (2 * past) _ (omega (arith, some))
+          (kept_order pairs first past k.to (2 * k.to) 0 k.behind kept o.3 (omega arith) (omega (arith, end))),
+    )
+
+-- those of a finding stand within its tokens
+mended_order : (pairs : List Pair) (first past : ℕ) (fix : Option Fix) → first < past → IsMendable first past fix → AreInOrder (2 * first) (mended pairs first past fix) (2 * past)
+mended_order pairs first past None some fits = absurd fits
+mended_order pairs first past (Some Slashes) some fits = omega (arith, some)
+mended_order pairs first past (Some (Tokens before kept)) some fits =
+    later_order (2 * first) (2 * first + 1) (2 * past) _ (omega arith) (kept_order pairs first past first (2 * first + 1) 1 before kept fits (omega arith) (omega (arith, some)))
+
+pub taken_order : (pairs : List Pair) (at : ℕ) (fs : List Finding) → AreTaken at pairs fs → AreInOrder (2 * at) (flat_map (finding_replacements pairs) fs) (2 * length pairs)
+taken_order pairs at [] are = omega (arith, are)
+taken_order pairs at (f ∷ fs) are =
+    later_order (2 * at) (2 * f.first) (2 * length pairs) _ (omega (arith, are.0))
+    (join_order (2 * f.first) (2 * f.past) (2 * length pairs) (finding_replacements pairs f) (flat_map (finding_replacements pairs) fs)
+    (mended_order pairs f.first f.past f.fix are.1.2 are.1.1) (taken_order pairs f.past fs are.2))
+
+pub step_order : (pairs : List Pair) (findings : List Finding) → AreSound (length pairs) findings
+    → AreInOrder 0 (flat_map (finding_replacements pairs) (taken_from 0 findings)) (2 * length pairs)
+step_order pairs findings sound = taken_order pairs 0 (taken_from 0 findings) (taken_are pairs 0 findings (omega arith) sound)
+
+-- ---- how many are taken
+
+taken_count : (pairs : List Pair) (at : ℕ) (fs : List Finding) → AreTaken at pairs fs → at + length fs ≤ length pairs
+taken_count pairs at [] are = omega (arith, are)
+taken_count pairs at (f ∷ fs) are = omega (arith, are.0, are.1.2, taken_count pairs f.past fs are.2)
+
+pub taken_few : (pairs : List Pair) (findings : List Finding) → AreSound (length pairs) findings → length (taken_from 0 findings) ≤ length pairs
+taken_few pairs findings sound = omega (arith, taken_count pairs 0 (taken_from 0 findings) (taken_are pairs 0 findings (omega arith) sound))

@@ -1,0 +1,11 @@
+pub mod ByPairs
+pub mod Comments
+pub mod Inner
+pub mod Mended
+pub mod Mending
+pub mod OneStep
+pub mod Parts
+pub mod Reading
+pub mod Replacements
+pub mod Settled
+pub mod Taking

@@ -1,0 +1,87 @@
+-- What is replaced to mend a finding, and of which rule it is.
+use Rattle.std.specs.Prelude.{◌≡◌, ℕ, ◌+◌, Bool, true, false, List, [], ◌∷◌, ◌++◌, drop, unwrap_or, codes, Option, Some, None, ⊤}
+use Rattle.std.specs.List.{flat_map}
+use Rattle.hcl_token.specs.declared.kind.Kind.TheVariants.{Number, OpenBracket, CloseBracket, OpenParen, CloseParen, Identifier, DoubleEqual, Greater}
+use Rattle.hcl_token.specs.CutText.{spelling_of}
+use Rattle.hcl_token.specs.Tokens.{Pair}
+use Rattle.tf_rule.specs.declared.finding.Finding.{Finding}
+use Rattle.tf_rule.specs.declared.fix.Fix.{Fix}
+use Rattle.tf_rule.specs.declared.fix.Fix.TheVariants.{Slashes, Tokens}
+use Rattle.tf_rule.specs.declared.fix.Insertion.{Insertion}
+use Rattle.tf_rule.specs.declared.fix.Kept.{Kept}
+use Rattle.tf_rule.specs.declared.fix.Insertion.TheVariants.{Nothing, Index, Length, IsZero, IsPositive, OpenBracket as Opening, CloseBracket as Closing}
+use Rattle.hcl_token.specs.declared.kind.Kind.{Kind}
+use Rattle.tf_rule.specs.declared.rule.Rule.{Rule}
+use Rattle.tf_rule.specs.declared.rule.Rule.TheVariants.{CommentSyntax}
+use Rattle.tf_rule.specs.Fixes.{is_slashes}
+use Rattle.tf_fix.specs.Comments.{IsSlashComment}
+use Rattle.tf_fix.specs.Parts.{Part, at_gap, at_token}
+use Rattle.tf_fix.specs.Parts.Part.{Gap, Token}
+use Rattle.tf_fix.specs.Settled.{space}
+use Rattle.tf_fix.specs.Replacements.{Replacement}
+use Rattle.tf_fix.specs.Taking.{taken}
+
+-- the spelling of the token of this number
+abbrev pub spelling_at : List Pair → ℕ → List ℕ
+spelling_at pairs i = unwrap_or (spelling_of pairs i) []
+
+-- the number of the legacy index that is this token: all but its dot
+abbrev pub number_of : List Pair → ℕ → List ℕ
+number_of pairs i = drop 1 (spelling_at pairs i)
+
+abbrev pub pair : List ℕ → Kind → List ℕ → Pair
+pair gap kind spelling = record { gap = gap; kind = kind; spelling = spelling }
+
+-- the tokens that a fix writes, with the gaps between them
+abbrev pub inserted : List Pair → Insertion → List Pair
+inserted pairs Nothing = []
+inserted pairs (Index i) = pair [] OpenBracket (codes "[") ∷ pair [] Number (number_of pairs i) ∷ pair [] CloseBracket (codes "]") ∷ []
+inserted pairs Length = pair [] Identifier (codes "length") ∷ pair [] OpenParen (codes "(") ∷ []
+inserted pairs IsZero = pair [] CloseParen (codes ")") ∷ pair space DoubleEqual (codes "==") ∷ pair space Number (codes "0") ∷ []
+inserted pairs IsPositive = pair [] CloseParen (codes ")") ∷ pair space Greater (codes ">") ∷ pair space Number (codes "0") ∷ []
+inserted pairs Opening = pair [] OpenBracket (codes "[") ∷ []
+inserted pairs Closing = pair [] CloseBracket (codes "]") ∷ []
+
+-- the parts of pairs alone
+abbrev pub body : List Pair → List Part
+body [] = []
+body (p ∷ ps) = Gap p.gap ∷ Token p.kind p.spelling ∷ body ps
+
+-- What comes behind a place: behind the gap of the first token no further gap comes before what is written, and where a token
+-- that stays follows right behind, none stands before that.
+abbrev pub come : ℕ → List Pair → List Part → List Part
+come skip ps tail = drop skip (body ps ++ tail)
+
+abbrev pub no_gap : List Part
+no_gap = Gap [] ∷ []
+
+-- what is replaced from a place on, where this is written first, and then so much is kept
+abbrev pub kept_from : List Pair → ℕ → ℕ → Insertion → List (Option Kept) → ℕ → List Replacement
+kept_from pairs place skip written [] past = record { from = place; to = at_gap past; come = come skip (inserted pairs written) [] } ∷ []
+kept_from pairs place skip written (None ∷ kept) past = kept_from pairs place skip written kept past
+kept_from pairs place skip written (Some k ∷ kept) past =
+    record { from = place; to = at_token k.from; come = come skip (inserted pairs written) no_gap } ∷ kept_from pairs (at_gap k.to) 0 k.behind kept past
+
+-- What is replaced to mend the tokens from number first up to, not with, number past: whole tokens and gaps. Comments are mended by an
+-- edit inside the token.
+abbrev pub mended : List Pair → ℕ → ℕ → Option Fix → List Replacement
+mended pairs first past None = []
+mended pairs first past (Some Slashes) = []
+mended pairs first past (Some (Tokens before kept)) = kept_from pairs (at_token first) 1 before kept past
+
+abbrev pub finding_replacements : List Pair → Finding → List Replacement
+finding_replacements pairs finding = mended pairs finding.first finding.past finding.fix
+
+-- what a step replaces: for each finding that it takes
+abbrev pub step_replacements : List Pair → List Finding → List Replacement
+step_replacements pairs findings = flat_map (finding_replacements pairs) (taken findings)
+
+-- what the rule on comments finds is a comment that begins with `//`, and what the other rules find is none
+abbrev pub IsOf : Rule → List Pair → Finding → Type 0
+IsOf CommentSyntax pairs finding = (is_slashes finding.fix ≡ true) × IsSlashComment pairs finding.first
+IsOf _ pairs finding = is_slashes finding.fix ≡ false
+
+-- the findings are of this rule
+abbrev pub AreOf : Rule → List Pair → List Finding → Type 0
+AreOf rule pairs [] = ⊤
+AreOf rule pairs (finding ∷ findings) = IsOf rule pairs finding × AreOf rule pairs findings

@@ -1,0 +1,44 @@
+//! The edits that mend comments: `//` becomes `#`.
+
+ghost use Rattle.std.specs.Prelude.{◌≡◌, ◌<◌, length, map, IfOk};
+ghost use Rattle.edit_record.specs.Pieces.{entry, entries};
+ghost use Rattle.tf_fix.specs.Comments.{comment_edit};
+ghost use Rattle.tf_rule.specs.Findings.{AreSound};
+ghost use Rattle.tf_fix.specs.Taking.{taken};
+
+use crate::taking::is_taken;
+use edit_record::Edit;
+use hcl_scan::Scanned;
+use std::alloc::{AllocError, Global};
+use tf_rule::Finding;
+
+fn comment_edit(alloc: Global, scanned: &Scanned<'_>, one: Finding) -> Result<Edit, AllocError>
+    requires { one.first < length scanned.now.pairs }
+    ensures { IfOk result (λ edit. entry edit ≡ comment_edit scanned.now.pairs one) }
+{
+    Ok(Edit {
+        at: scanned.item(one.first).start as usize,
+        removed: Vec::from_slice(alloc, b"//")?,
+        added: Vec::from_slice(alloc, b"#")?,
+    })
+}
+
+/// The edits that mend the comments which one step takes, in the order of the text.
+pub fn comment_edits(
+    alloc: Global,
+    scanned: &Scanned<'_>,
+    findings: &[Finding],
+) -> Result<Vec<Edit>, AllocError>
+    requires { AreSound (length scanned.now.pairs) findings.now }
+    ensures { IfOk result (λ edits. entries edits.items ≡ map (comment_edit scanned.now.pairs) (taken findings.now)) }
+{
+    let mut edits = Vec::new(alloc);
+    let mut past = 0;
+    for one in findings {
+        if is_taken(one, past) {
+            edits.push(comment_edit(alloc, scanned, *one)?)?;
+            past = one.past;
+        }
+    }
+    Ok(edits)
+}

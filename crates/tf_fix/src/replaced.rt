@@ -1,0 +1,100 @@
+//! What is replaced to mend the findings that one step takes.
+
+ghost use Rattle.std.specs.Prelude.{◌≡◌, ◌++◌, length, IfOk};
+ghost use Rattle.tf_rule.specs.Findings.{AreSound};
+ghost use Rattle.tf_fix.specs.Mending.{kept_from, finding_replacements, step_replacements};
+ghost use Rattle.tf_fix.specs.Inner.Filled.{AreFilled, Fits};
+ghost use Rattle.tf_fix.specs.Inner.Views.{place_of, skip_of, replacements, AreComing, AreKeptComing};
+
+use crate::edge::Edge;
+use crate::replacing::Replacement;
+use crate::taking::is_taken;
+use hcl_scan::Scanned;
+use std::alloc::{AllocError, Global};
+use tf_rule::{Finding, Fix, Insertion, Kept};
+
+// What is replaced from a place on, where this is written first, and then so much is kept.
+fn push_kept(
+    all: &mut Vec<Replacement>,
+    scanned: &Scanned<'_>,
+    from: Edge,
+    written: Insertion,
+    kept: &[Option<Kept>],
+    past: usize,
+) -> Result<(), AllocError>
+    requires coming { AreKeptComing scanned.now.pairs written kept.now }
+    ensures items { IfOk result (λ _. replacements scanned.now.pairs all.new.items ≡ replacements scanned.now.pairs all.old.items ++ kept_from scanned.now.pairs (place_of from) (skip_of from) written kept.now past) }
+    ensures coming { IfOk result (λ _. AreComing scanned.now.pairs all.old.items → AreComing scanned.now.pairs all.new.items) }
+{
+    match kept {
+        [] => {
+            all.push(Replacement {
+                from,
+                to: Edge::Gap(past),
+                coming: written,
+            })?;
+            Ok(())
+        }
+        [None, rest @ ..] => push_kept(all, scanned, from, written, rest, past),
+        [Some(one), rest @ ..] => {
+            all.push(Replacement {
+                from,
+                to: Edge::Token(one.from),
+                coming: written,
+            })?;
+            push_kept(all, scanned, Edge::Gap(one.to), one.behind, rest, past)
+        }
+    }
+}
+
+// What is replaced to mend the finding, behind what is replaced before it.
+fn push_replacements(
+    all: &mut Vec<Replacement>,
+    scanned: &Scanned<'_>,
+    one: &Finding,
+) -> Result<(), AllocError>
+    requires filled { AreFilled scanned.now.pairs }
+    requires fits { Fits (length scanned.now.pairs) one.now }
+    ensures items { IfOk result (λ _. replacements scanned.now.pairs all.new.items ≡ replacements scanned.now.pairs all.old.items ++ finding_replacements scanned.now.pairs one.now) }
+    ensures coming { IfOk result (λ _. AreComing scanned.now.pairs all.old.items → AreComing scanned.now.pairs all.new.items) }
+{
+    match &one.fix {
+        Some(fix) => match fix {
+            Fix::Tokens { before, kept } => {
+                push_kept(
+                    all,
+                    scanned,
+                    Edge::Token(one.first),
+                    *before,
+                    kept,
+                    one.past,
+                )
+            }
+            // A comment is mended within its token.
+            Fix::Slashes => Ok(()),
+        },
+        None => Ok(()),
+    }
+}
+
+/// What is replaced to mend the findings that one step takes, in order.
+pub fn taken_replacements(
+    alloc: Global,
+    scanned: &Scanned<'_>,
+    findings: &[Finding],
+) -> Result<Vec<Replacement>, AllocError>
+    requires filled { AreFilled scanned.now.pairs }
+    requires sound { AreSound (length scanned.now.pairs) findings.now }
+    ensures items { IfOk result (λ all. replacements scanned.now.pairs all.items ≡ step_replacements scanned.now.pairs findings.now) }
+    ensures coming { IfOk result (λ all. AreComing scanned.now.pairs all.items) }
+{
+    let mut all = Vec::new(alloc);
+    let mut past = 0;
+    for one in findings {
+        if is_taken(one, past) {
+            push_replacements(&mut all, scanned, one)?;
+            past = one.past;
+        }
+    }
+    Ok(all)
+}

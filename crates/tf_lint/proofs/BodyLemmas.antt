@@ -1,0 +1,75 @@
+-- What is found in some members, and in one more.
+use Rattle.std.proofs.Common.{◌≡◌, ℕ, zero, suc, List, [], ◌∷◌, ◌++◌, length, Some, Ok, refl, sym, ap, subst, ◌∙◌, append_assoc, append-nil}
+use Rattle.std.proofs.lemmas.List.{map-append}
+use Rattle.std.proofs.lemmas.Grind.{flat_map-append}
+use Rattle.std.proofs.lemmas.List.Elements.{filter-append}
+use Rattle.std.specs.List.{flat_map}
+use Rattle.hcl_grammar.specs.Pure.BodyParser.{deeper_members, member_of}
+use Rattle.hcl_grammar.specs.declared.tree.Member.{Member}
+use Rattle.hcl_grammar.specs.declared.bounds.TheConstants.{MAX_NESTING}
+use Rattle.hcl_scan.specs.Follows.{tokens_of}
+use Rattle.hcl_token.specs.Tokens.{Pair}
+use Rattle.tf_find.specs.NodeFindings.{node_findings}
+use Rattle.tf_find.specs.Nodes.{Node, member, Stand, nothing, one}
+use Rattle.tf_find.specs.TreeFindings.{AreTreeFindings}
+use Rattle.tf_lint.specs.Inner.Seeing.{AreOf}
+use Rattle.tf_lint.specs.Seen.{IsSeen, AreSeen, nodes_of, blocks_of}
+use Rattle.tf_lint.specs.declared.member.SeenMember.{SeenMember}
+use Rattle.tf_rule.specs.declared.finding.Finding.{Finding}
+use Rattle.tf_rule.specs.Findings.{is_sound, sound}
+use Rattle.tf_rule.specs.declared.rule_set.RuleSet.{RuleSet}
+use Rattle.tf_top.specs.TopFindings.{member_findings, top_findings}
+
+-- what stands in some nodes and in others behind them
+stand-append : {ns ms xs ys : List Node} → Stand ns xs → Stand ms ys → Stand (ns ++ ms) (xs ++ ys)
+stand-append nothing b = b
+stand-append {ms = ms} {ys = ys} (one {n = n} {ns = ns} {inside = inside} {others = others} a c) b =
+    subst (λ l. Stand (n ∷ (ns ++ ms)) (n ∷ l)) (sym (append_assoc inside others ys)) (one a (stand-append c b))
+
+some_same : {X : Type 0} (x y : X) → Some x ≡ Some y → x ≡ y
+some_same x y e = cc
+
+one_more_block : (rules : RuleSet) (pairs : List Pair) (ms : List Member) (m : Member)
+    → top_findings rules pairs ms ++ member_findings rules pairs m ≡ top_findings rules pairs (ms ++ m ∷ [])
+one_more_block rules pairs ms m = ap (λ l. top_findings rules pairs ms ++ l) (sym (append-nil (member_findings rules pairs m)))
+    ∙ sym (flat_map-append (member_findings rules pairs) ms (m ∷ []))
+
+module _ {rules : RuleSet} {pairs : List Pair} where
+  both_trees : {ns ms : List Node} {xs ys : List Finding} → AreTreeFindings rules pairs ns xs → AreTreeFindings rules pairs ms ys → AreTreeFindings rules pairs (ns ++ ms) (xs ++ ys)
+  both_trees {ys = ys} a b =
+      let f = node_findings rules pairs in
+      record {
+        nodes = a.nodes ++ b.nodes;
+        stand = stand-append a.stand b.stand;
+        are = ap (λ l. l ++ ys) a.are ∙ (ap (λ l. sound (length pairs) (flat_map f a.nodes) ++ l) b.are
+            ∙ (sym (filter-append (is_sound (length pairs)) (flat_map f a.nodes) (flat_map f b.nodes))
+            ∙ ap (sound (length pairs)) (sym (flat_map-append f a.nodes b.nodes))));
+      }
+
+  -- one more member that is seen
+  each_more : (xs : List SeenMember) (x : SeenMember) → AreSeen rules pairs xs → IsSeen rules pairs x → AreSeen rules pairs (xs ++ x ∷ [])
+  each_more [] x seen is zero y e = subst (IsSeen rules pairs) (some_same x y e) is
+  each_more [] x seen is (suc i) y e = absurd (cc)
+  each_more (z ∷ xs) x seen is zero y e = seen zero y e
+  each_more (z ∷ xs) x seen is (suc i) y e = each_more xs x (λ i. seen (suc i)) is i y e
+
+  pub none_seen : {xs : List SeenMember} → xs ≡ [] → AreOf rules pairs [] xs
+  none_seen e = rw e (record { each = λ i x e. absurd (cc); at_nodes = record { nodes = []; stand = nothing; are = refl }; at_blocks = refl })
+
+  pub one_more : {ms : List Member} {xs : List SeenMember} {x : SeenMember} → AreOf rules pairs ms xs → (is : IsSeen rules pairs x) → AreOf rules pairs (ms ++ is.member ∷ []) (xs ++ x ∷ [])
+  one_more {ms} {xs} {x} seen is = record {
+    each = each_more xs x seen.each is;
+    at_nodes =
+        rw (map-append member ms (is.member ∷ []), flat_map-append nodes_of xs (x ∷ []), append-nil x.nodes.items) (both_trees seen.at_nodes is.at_nodes);
+    at_blocks = flat_map-append blocks_of xs (x ∷ []) ∙ (ap (λ l. flat_map blocks_of xs ++ l) (append-nil x.blocks.items)
+        ∙ (ap (λ l. l ++ x.blocks.items) seen.at_blocks ∙ (ap (λ l. sound (length pairs) (top_findings rules pairs ms) ++ l) is.at_block
+        ∙ (sym (filter-append (is_sound (length pairs)) (top_findings rules pairs ms) (member_findings rules pairs is.member))
+        ∙ ap (sound (length pairs)) (one_more_block rules pairs ms is.member)))));
+  }
+
+-- the member that comes next, as the parser answers it
+pub read_as : {rules : RuleSet} {pairs : List Pair} {from past : ℕ} {x : SeenMember} → (next : (x.from ≡ from) × (x.past ≡ past) × IsSeen rules pairs x)
+    → member_of (tokens_of pairs) MAX_NESTING (deeper_members (tokens_of pairs) MAX_NESTING) from ≡ Ok (Some next.2.member, past)
+read_as {pairs} {past} next =
+    subst (λ n. member_of (tokens_of pairs) MAX_NESTING (deeper_members (tokens_of pairs) MAX_NESTING) n ≡ Ok (Some next.2.member, past)) next.0
+    (next.2.read ∙ ap (λ n. Ok (Some next.2.member, n)) next.1)

@@ -1,0 +1,238 @@
+-- The run of several steps, from one step to the next.
+use Rattle.std.proofs.Common.{◌≡◌, ℕ, ◌+◌, ◌-◌, ◌≤◌, ◌<◌, ◌⊎◌, ◌&&◌, Bool, MatchBool, cond, filter, true, false, List, [], ◌∷◌, length, take, drop, slice_index_or, Some, None, Result, Ok, Err, Bor, refl, sym, ap, subst, ◌∙◌, arith, inl, inr}
+use Rattle.std.proofs.lemmas.List.{length-map, take_all}
+use Rattle.std.proofs.lemmas.Slice.Eq.{bytes_eq-Decides}
+use Rattle.std.specs.Global.{Vec}
+use Rattle.std.specs.Prelude.{IfOk, IfErr}
+use Rattle.std.specs.Result.{IsErr, IsErrAnd}
+use Rattle.edit_record.specs.Pieces.{EditList, Turns}
+use Rattle.edit_squash.specs.Squash.{IsSquash}
+use Rattle.tf_lint.specs.declared.issue.Issue.{Issue}
+use Rattle.tf_lint.specs.Reports.{report, report_of}
+use Rattle.tf_rule.specs.declared.finding.Finding.{Finding}
+use Rattle.tf_rule.specs.declared.rule.Rule.{Rule}
+use Rattle.tf_rule.specs.declared.rule_set.RuleSet.{RuleSet}
+use Rattle.tf_rule.specs.RuleSets.{has_rule}
+use Rattle.tf_rule.specs.Rules.{all_rules, is_fixed}
+use Rattle.tf_lint.specs.declared.fault.FixFault.{FixFault}
+use Rattle.tf_lint.specs.declared.fault.FixFault.TheVariants.{FixBroken, Memory}
+use Rattle.tf_fix.specs.declared.parsed.Parsed.{Parsed}
+use Rattle.tf_lint.specs.declared.step.Change.{Change}
+use Rattle.tf_lint.specs.declared.step.Step.{Step}
+use Rattle.tf_lint.specs.declared.steps.Passed.{Passed}
+use Rattle.tf_lint.specs.declared.steps.Passed.TheVariants.{Same, Changed}
+use Rattle.tf_fix.specs.Reading.{Reads}
+use Rattle.tf_lint.specs.Reading.{IsUnread, IsText, NotRead}
+use Rattle.tf_fix.specs.OneStep.{fixed_text}
+use Rattle.tf_lint.specs.Steps.{AreLeft, Reports, differ, Steps, FoundThen, StepThen, RunSteps, Made, Fixes, Refuses}
+use Rattle.tf_lint.specs.Inner.Passing.{has_step, RunFixed, IsChange, IsStep, Passes, FixesFrom, RefusesFrom}
+
+pub split_first : {X : Type 0} (xs : List X) (d : X) → 1 ≤ length xs → xs ≡ slice_index_or xs 0 d ∷ take (length xs - 1) (drop 1 xs)
+split_first [] d some = absurd (omega (arith, some))
+split_first (x ∷ xs) d some = ap (λ t. x ∷ t) (sym (take_all (length (x ∷ xs) - 1) xs (omega arith)))
+
+pub no_rules : (order : List Rule) → length order < 1 → order ≡ []
+no_rules [] lt = refl
+no_rules (r ∷ order) lt = absurd (omega (arith, lt))
+
+pub if_ok : {T E : Type 0} (r : Result T E) (P Q : T → Type 0) → ((x : T) → P x → Q x) → IfOk r P → IfOk r Q
+if_ok (Ok x) P Q f p = f x p
+if_ok (Err e) P Q f p = tt
+
+pub if_err : {T E : Type 0} (r : Result T E) (P Q : E → Type 0) → ((e : E) → P e → Q e) → IfErr r P → IfErr r Q
+if_err (Ok x) P Q f p = tt
+if_err (Err e) P Q f p = f e p
+
+-- what `?` hands on
+pub residual : {T : Type 0} (r : Result T FixFault) (f : FixFault) (P : FixFault → Type 0) → IsErr r × IsErrAnd r (λ e. e ≡ f) → P f → IfErr r P
+residual (Ok x) f P told p = tt
+residual (Err e) f P told p = subst P (sym told.1) p
+
+-- ---- one rule more in front
+
+same_text : (t u : List ℕ) → t ≡ u → differ t u ≡ false
+same_text t u e = rw ((bytes_eq-Decides t u).1 e) refl
+
+pub skipped_pass : (rules : RuleSet) (rule : Rule) (order : List Rule) (p : Parsed) (count : ℕ) (passed : Passed) → has_step rules rule ≡ false
+    → Passes rules order p count passed → Passes rules (rule ∷ order) p count passed
+skipped_pass rules rule order p count (Same fixed left) not_in (n, number, counted, runs) = (n, number, counted, rw not_in runs)
+skipped_pass rules rule order p count (Changed fixed change by rest) not_in (n, number, few, shorter, turns, on, off, gone) = (
+  n,
+  number,
+  few,
+  omega (arith, shorter),
+  turns,
+  λ next more reads runs. rw not_in (on next more reads runs),
+  λ next fault reads runs. rw not_in (off next fault reads runs),
+  λ unread. rw not_in (gone unread),
+)
+
+pub stayed_pass : (rules : RuleSet) (rule : Rule) (order : List Rule) (p : Parsed) (count : ℕ) (passed : Passed) (step : Step) → has_step rules rule ≡ true → Reads p.scanned.text p
+    → IsStep rule p step → step.change ≡ None → Passes rules order p (count + step.count) passed → Passes rules (rule ∷ order) p count passed
+stayed_pass rules rule order p count (Same fixed left) step chosen reads s none (n, number, counted, runs) =
+    let stays : fixed_text p s.found ≡ p.scanned.text = subst (IsChange rule p s.found) none s.change in
+    let same = same_text p.scanned.text (fixed_text p s.found) (sym stays) in
+    let taken = s.count in (
+      step.count + n,
+      omega (arith, number),
+      counted,
+      rw chosen (s.found, s.finds, (s.short, p, record { text = p.scanned.text; lists = []; fixed = n }, subst (λ (t : List ℕ). Reads t p) (sym stays) reads, runs, rw (same, taken) refl)),
+    )
+stayed_pass rules rule order p count (Changed fixed change by rest) step chosen reads s none (n, number, few, shorter, turns, on, off, gone) =
+    let stays : fixed_text p s.found ≡ p.scanned.text = subst (IsChange rule p s.found) none s.change in
+    let same = same_text p.scanned.text (fixed_text p s.found) (sym stays) in
+    let taken = s.count in
+    let again : Reads (fixed_text p s.found) p = subst (λ (t : List ℕ). Reads t p) (sym stays) reads in (
+      step.count + n,
+      omega (arith, number),
+      few,
+      omega (arith, shorter),
+      turns,
+      λ next more read runs. rw chosen (s.found, s.finds, (s.short, p, _, again, on next more read runs, rw (same, taken) (ap (λ k. record { text = more.text; lists = change.edits ∷ more.lists; fixed = k }) (omega arith)))),
+      λ next fault read runs. rw chosen (s.found, s.finds, inr (s.short, p, again, off next fault read runs)),
+      λ unread. rw chosen (s.found, s.finds, inr (s.short, p, again, gone unread)),
+    )
+
+-- what steps from here on make, by what those behind the change make
+abbrev pub GoesOn : RuleSet → List Rule → List Rule → Rule → Parsed → ℕ → Change → Type 0
+GoesOn rules order rest by p n change =
+    ((next : Parsed) (more : Steps) → Reads change.text.items next → RunFixed rules rest next (Ok more)
+    → RunFixed rules order p (Ok (record { text = more.text; lists = change.edits ∷ more.lists; fixed = n + more.fixed })))
+    × ((next : Parsed) (fault : FixFault) → Reads change.text.items next → RunFixed rules rest next (Err fault) → RunFixed rules order p (Err fault))
+    × (IsUnread change.text.items → RunFixed rules order p (Err (FixBroken by)))
+
+pub changed_turns : (rule : Rule) (p : Parsed) (step : Step) (change : Change) → IsStep rule p step → step.change ≡ Some change → Turns change.edits p.scanned.text change.text.items
+changed_turns rule p step change s some = let c : IsChange rule p s.found (Some change) = subst (IsChange rule p s.found) some s.change in c.3
+
+pub changed_pass : (rules : RuleSet) (rule : Rule) (order : List Rule) (p : Parsed) (step : Step) (change : Change) → has_step rules rule ≡ true → IsStep rule p step → step.change ≡ Some change
+    → GoesOn rules (rule ∷ order) order rule p step.count change
+changed_pass rules rule order p step change chosen s some =
+    let c : IsChange rule p s.found (Some change) = subst (IsChange rule p s.found) some s.change in
+    let taken = s.count in
+    let differs = c.0 in
+    let listed = c.2 in (
+      λ next more reads runs. rw chosen (s.found, s.finds, (s.short, next, more, subst (λ (t : List ℕ). Reads t next) c.1 reads, runs, rw (differs, taken, listed) refl)),
+      λ next fault reads runs. rw chosen (s.found, s.finds, inr (s.short, next, subst (λ (t : List ℕ). Reads t next) c.1 reads, runs)),
+      λ unread. rw chosen (s.found, s.finds, inl (refl, s.short, subst IsUnread c.1 unread)),
+    )
+
+-- ---- from what was passed on
+
+-- one issue is reported for each finding
+one_each : (rules : RuleSet) (p : Parsed) (issues : List Issue) → Reports rules p issues → AreLeft rules p (length issues)
+one_each rules p issues (found, finds, told) = (found, finds, sym (length-map issues report) ∙ ap length told ∙ length-map found (report_of p.scanned.pairs))
+
+pub no_more : (rules : RuleSet) (order : List Rule) (text : List ℕ) (p : Parsed) (done : EditList) (count fixed : ℕ) (left : Vec Issue) → Reads text p → Passes rules order p count (Same fixed left)
+    → FixesFrom rules order text done count (record { text = text; edits = done; fixed = fixed; left = length left.items })
+no_more rules order text p done count fixed left reads (n, number, reported, runs) = record {
+  parsed = p;
+  reads = reads;
+  steps = record { text = p.scanned.text; lists = []; fixed = n };
+  runs = runs;
+  text_is = sym reads.0;
+  edits_are = refl;
+  fixed_is = number;
+  new_parsed = p;
+  new_reads = reads;
+  left_is = one_each rules p left.items reported;
+}
+
+pub and_more : (rules : RuleSet) (order : List Rule) (text : List ℕ) (p : Parsed) (done both : EditList) (count fixed : ℕ) (change : Change) (by : Rule) (rest : Bor (List Rule)) (made : Made)
+    → Reads text p → Passes rules order p count (Changed fixed change by rest) → IsSquash done change.edits both
+    → FixesFrom rules rest.now change.text.items both fixed made → FixesFrom rules order text done count made
+and_more rules order text p done both count fixed change by rest made reads (n, number, few, shorter, turns, on, off, gone) joins f =
+    let more = f.fixed_is in
+    record {
+      parsed = p;
+      reads = reads;
+      steps = record { text = f.steps.text; lists = change.edits ∷ f.steps.lists; fixed = n + f.steps.fixed };
+      runs = on f.parsed f.steps f.reads f.runs;
+      text_is = f.text_is;
+      edits_are = (both, joins, f.edits_are);
+      fixed_is = omega (arith, number, more);
+      new_parsed = f.new_parsed;
+      new_reads = f.new_reads;
+      left_is = f.left_is;
+    }
+
+pub and_refuses : (rules : RuleSet) (order : List Rule) (text : List ℕ) (p : Parsed) (count fixed : ℕ) (change : Change) (made_by by : Rule) (rest : Bor (List Rule)) (fault : FixFault)
+    → Reads text p → Passes rules order p count (Changed fixed change by rest)
+    → RefusesFrom rules rest.now change.text.items by fault → RefusesFrom rules order text made_by fault
+and_refuses rules order text p count fixed change made_by by rest fault reads to (inl memory) = inl memory
+and_refuses rules order text p count fixed change made_by by rest fault reads (n, number, few, shorter, turns, on, off, gone) (inr (inl unread)) =
+    inr (inr (p, reads, rw unread.0 (gone unread.1)))
+and_refuses rules order text p count fixed change made_by by rest fault reads (n, number, few, shorter, turns, on, off, gone) (inr (inr (next, read, runs))) =
+    inr (inr (p, reads, off next fault read runs))
+
+-- ---- from the first step on
+
+-- others may go on behind a step, if they follow from those that did
+go_on : (rule : Rule) (p : Parsed) (found : List Finding) (A B : Parsed → Result Steps FixFault → Type 0) → ((c : Parsed) (r : Result Steps FixFault) → A c r → B c r)
+    → (answer : Result Steps FixFault) → FoundThen rule p found A answer → FoundThen rule p found B answer
+go_on rule p found A B go (Ok steps) (short, next, more, reads, others, is) = (short, next, more, reads, go next (Ok more) others, is)
+go_on rule p found A B go (Err fault) (inl breaks) = inl breaks
+go_on rule p found A B go (Err fault) (inr (short, next, reads, others)) = inr (short, next, reads, go next (Err fault) others)
+
+-- b whether a fix has a step for the rule, d whether the set has the rule
+at_rule : (rules : RuleSet) (rule : Rule) (order : List Rule) (p : Parsed) (answer : Result Steps FixFault) (b d : Bool) → has_rule rules rule ≡ d
+    → ((c : Parsed) (r : Result Steps FixFault) → RunFixed rules order c r → RunSteps rules (filter is_fixed order) c r)
+    → MatchBool (b && d) (StepThen rule p (RunFixed rules order) answer) (RunFixed rules order p answer)
+    → RunSteps rules (cond b (rule ∷ filter is_fixed order) (filter is_fixed order)) p answer
+at_rule rules rule order p answer true true has go h =
+    rw has (h.0, h.1, go_on rule p h.0 (RunFixed rules order) (RunSteps rules (filter is_fixed order)) go answer h.2)
+at_rule rules rule order p answer true false has go h = rw has (go p answer h)
+at_rule rules rule order p answer false d has go h = go p answer h
+
+-- the steps that a list of rules has are those of its rules that are fixed
+run_is : (rules : RuleSet) (order : List Rule) (p : Parsed) (answer : Result Steps FixFault) → RunFixed rules order p answer → RunSteps rules (filter is_fixed order) p answer
+run_is rules [] p answer h = h
+run_is rules (rule ∷ order) p answer h = at_rule rules rule order p answer (is_fixed rule) (has_rule rules rule) refl (run_is rules order) h
+
+pub none_changed : (rules : RuleSet) (text : List ℕ) (p : Parsed) (fixed : ℕ) (left : Vec Issue) → Reads text p → Passes rules all_rules p 0 (Same fixed left)
+    → Fixes rules text (record { text = text; edits = record { old_len = length text; entries = [] }; fixed = fixed; left = length left.items })
+none_changed rules text p fixed left reads (n, number, reported, runs) =
+    let steps : Steps = record { text = p.scanned.text; lists = []; fixed = n } in
+    record {
+      parsed = p;
+      reads = reads;
+      steps = steps;
+      runs = run_is rules all_rules p (Ok steps) runs;
+      text_is = sym reads.0;
+      edits_are = refl;
+      fixed_is = omega (arith, number);
+      new_parsed = p;
+      new_reads = reads;
+      left_is = one_each rules p left.items reported;
+    }
+
+pub all_fixed : (rules : RuleSet) (text : List ℕ) (p : Parsed) (fixed : ℕ) (change : Change) (by : Rule) (rest : Bor (List Rule)) (made : Made)
+    → Reads text p → Passes rules all_rules p 0 (Changed fixed change by rest) → FixesFrom rules rest.now change.text.items change.edits fixed made → Fixes rules text made
+all_fixed rules text p fixed change by rest made reads (n, number, few, shorter, turns, on, off, gone) f =
+    let more = f.fixed_is in
+    let steps : Steps = record { text = f.steps.text; lists = change.edits ∷ f.steps.lists; fixed = n + f.steps.fixed } in
+    record {
+      parsed = p;
+      reads = reads;
+      steps = steps;
+      runs = run_is rules all_rules p (Ok steps) (on f.parsed f.steps f.reads f.runs);
+      text_is = f.text_is;
+      edits_are = f.edits_are;
+      fixed_is = omega (arith, number, more);
+      new_parsed = f.new_parsed;
+      new_reads = f.new_reads;
+      left_is = f.left_is;
+    }
+
+-- a text that is read was looked into
+memory_at : (text : List ℕ) (p : Parsed) (fault : FixFault) → Reads text p → fault ≡ Memory → NotRead text fault
+memory_at text p fault reads is = rw is (subst IsText reads.0 (reads.1.short, reads.1.utf8))
+
+pub first_refuses : (rules : RuleSet) (text : List ℕ) (p : Parsed) (fault : FixFault) → Reads text p → (fault ≡ Memory) ⊎ RunFixed rules all_rules p (Err fault) → Refuses rules text fault
+first_refuses rules text p fault reads (inl is) = inl (memory_at text p fault reads is)
+first_refuses rules text p fault reads (inr runs) = inr (p, reads, run_is rules all_rules p (Err fault) runs)
+
+pub all_refuses : (rules : RuleSet) (text : List ℕ) (p : Parsed) (fixed : ℕ) (change : Change) (by : Rule) (rest : Bor (List Rule)) (fault : FixFault)
+    → Reads text p → Passes rules all_rules p 0 (Changed fixed change by rest) → RefusesFrom rules rest.now change.text.items by fault → Refuses rules text fault
+all_refuses rules text p fixed change by rest fault reads to (inl is) = inl (memory_at text p fault reads is)
+all_refuses rules text p fixed change by rest fault reads (n, number, few, shorter, turns, on, off, gone) (inr (inl unread)) = inr (p, reads, run_is rules all_rules p (Err fault) (rw unread.0 (gone unread.1)))
+all_refuses rules text p fixed change by rest fault reads (n, number, few, shorter, turns, on, off, gone) (inr (inr (next, read, runs))) = inr (p, reads, run_is rules all_rules p (Err fault) (off next fault read runs))

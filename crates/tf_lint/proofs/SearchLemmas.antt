@@ -1,0 +1,40 @@
+-- A text that was searched.
+use Rattle.std.proofs.Common.{◌≡◌, ℕ, List, length, refl, sym, subst}
+use Rattle.hcl_grammar.specs.Bodies.{IsFile}
+use Rattle.hcl_grammar.specs.declared.tree.Tree.{Tree}
+use Rattle.hcl_grammar.specs.declared.bounds.TheConstants.{MAX_NESTING}
+use Rattle.hcl_parses.specs.Parses.{Parses}
+use Rattle.hcl_scan.specs.Cut.{IsCut}
+use Rattle.hcl_scan.specs.Follows.{tokens_of}
+use Rattle.hcl_tree.specs.Faults.{IsMemory, IsMemoryOrDeep}
+use Rattle.hcl_tree.specs.declared.error.ParseFault.{ParseFault}
+use Rattle.hcl_token.specs.CutText.{CutText}
+use Rattle.tf_findings.specs.Findings.{AreFindings}
+use Rattle.tf_lint.specs.Seen.{AreSeen}
+use Rattle.tf_rule.specs.Findings.{AreSound}
+use Rattle.tf_lint.proofs.Unread.{not_parsed}
+use Rattle.tf_lint.specs.Faults.{fault_of_parse}
+use Rattle.tf_fix.specs.Reading.{Reads}
+use Rattle.tf_lint.specs.Reading.{NotRead}
+use Rattle.tf_lint.specs.Searching.{IsOf}
+use Rattle.tf_lint.specs.declared.fault.FixFault.{FixFault}
+use Rattle.tf_fix.specs.declared.parsed.Parsed.{Parsed}
+use Rattle.tf_lint.specs.declared.searched.Searched.{Searched}
+
+-- a text that was scanned and searched is read, and this is what was found in it
+pub read_whole : (text : List ℕ) (s : Searched) → s.scanned.text ≡ text → IsCut text s.scanned.pairs s.scanned.last
+    → (t : Tree) × IsFile (tokens_of s.scanned.pairs) MAX_NESTING t × AreFindings s.rules s.scanned.pairs t.body.members s.found.items
+    → AreSeen s.rules s.scanned.pairs s.members.items → AreSound (length s.scanned.pairs) s.found.items → (p : Parsed) × Reads text p × IsOf p s
+read_whole text s same cut read seen sound =
+    let p : Parsed = record { scanned = s.scanned; tree = read.0 } in
+    let own = subst (λ (t : List ℕ). IsCut t s.scanned.pairs s.scanned.last) (sym same) cut in
+    (p, (same, own, read.1), record { same = refl; reads = (refl, own, read.1); finds = read.2; sound = sound; seen = seen })
+
+-- a text that was scanned, and does not parse
+pub not_whole : (text : List ℕ) (cut : CutText) (why : ParseFault) (fault : FixFault) → cut.text ≡ text → IsCut text cut.pairs cut.last → fault ≡ fault_of_parse why
+    → ((t : Tree) → Parses cut.text t → IsMemory why) → ((d : ℕ) (t : Tree) → IsFile (tokens_of cut.pairs) d t → IsMemoryOrDeep why) → NotRead text fault
+not_whole text cut why fault same is e only deeper =
+    subst (NotRead text) (sym e) (not_parsed text cut.pairs cut.last why is (λ t p. only t (subst (λ (x : List ℕ). Parses x t) (sym same) p)) deeper)
+
+pub sound_of : (p : Parsed) (s : Searched) → IsOf p s → AreSound (length s.scanned.pairs) s.found.items
+sound_of p s h = subst (λ (t : CutText). AreSound (length t.pairs) s.found.items) h.same h.sound

@@ -1,0 +1,43 @@
+-- Texts that do not parse, and why a fix does not read them.
+use Rattle.std.specs.Prelude.{◌≤◌, ℕ, List, length, IsUtf8}
+use Rattle.hcl_token.specs.Tokens.{Pair}
+use Rattle.hcl_scan.specs.Cut.{MAX_TEXT, IsCut}
+use Rattle.hcl_scan.specs.Fault.{IsFault}
+use Rattle.hcl_scan.specs.Follows.{tokens_of}
+use Rattle.hcl_grammar.specs.declared.tree.Tree.{Tree}
+use Rattle.hcl_grammar.specs.Bodies.{IsFile}
+use Rattle.hcl_parses.specs.Parses.{Parses}
+use Rattle.hcl_tree.specs.declared.error.ParseFault.{ParseFault}
+use Rattle.hcl_tree.specs.declared.error.ParseFault.TheVariants.{Syntax, TooDeep, Memory}
+use Rattle.tf_lint.specs.declared.fault.FixFault.{FixFault}
+
+-- the text does not parse
+abbrev pub IsUnread : List ℕ → Type 0
+IsUnread text = (t : Tree) → ¬ (Parses text t)
+
+-- no tree stands over the tokens of the text, however much may nest in it
+abbrev pub HasNoTree : List ℕ → Type 0
+HasNoTree text = (pairs : List Pair) × (last : List ℕ) × IsCut text pairs last × ((d : ℕ) (t : Tree) → ¬ (IsFile (tokens_of pairs) d t))
+
+-- the text has tokens, and does not parse
+abbrev pub HasNoTreeInLimit : List ℕ → Type 0
+HasNoTreeInLimit text = (pairs : List Pair) × (last : List ℕ) × IsCut text pairs last × IsUnread text
+
+-- Why a text that has tokens does not parse. Where a tree stands over them, in which more nests than may, the fault is TooDeep; where there
+-- is none it may be either. Of the place nothing is said.
+abbrev pub IsParseFault : List ℕ → ParseFault → Type 0
+IsParseFault text (Syntax at) = HasNoTree text
+IsParseFault text (TooDeep at) = HasNoTreeInLimit text
+IsParseFault text Memory = ⊥
+
+-- a text that is looked into: before that no memory is taken
+abbrev pub IsText : List ℕ → Type 0
+IsText text = (length text ≤ MAX_TEXT) × IsUtf8 text
+
+-- why a text is not read: it has no tokens, it does not parse, or a growth was refused while it was looked into
+abbrev pub NotRead : List ℕ → FixFault → Type 0
+NotRead text (FixFault.Scan fault) = IsFault text fault
+NotRead text (FixFault.Parse fault) = IsParseFault text fault
+NotRead text (FixFault.FixBroken rule) = ⊥
+NotRead text FixFault.TooLong = ⊥
+NotRead text FixFault.Memory = IsText text

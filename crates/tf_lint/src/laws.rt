@@ -1,0 +1,32 @@
+//! Laws of what is kept and of fixes: functions that do nothing, for callers whose proofs want what their clauses say.
+
+ghost use Rattle.std.specs.Prelude.{◌≡◌, ℕ, List, [], ◌∷◌};
+ghost use Rattle.tf_rule.specs.declared.rule.Rule.TheVariants.{CommentSyntax, DeprecatedIndex, DeprecatedInterpolation, EmptyListEquality, DeprecatedLookup};
+ghost use Rattle.tf_rule.specs.declared.rule_set.RuleSet.{RuleSet};
+ghost use Rattle.tf_lint.specs.Keeping.{MembersKeep};
+ghost use Rattle.tf_lint.specs.Steps.{OneFix, fix_order};
+
+use edit_squash::laws::squash_all_is_one;
+use hcl_parses::laws::one_parse;
+use hcl_scan::laws::one_cut;
+use tf_findings::laws::findings_are_one;
+
+/// A member whose tokens stand elsewhere too is read there, and what the rules find in it is the same, its numbers moved.
+pub fn members_keep()
+    ensures { MembersKeep }
+{}
+
+/// A fix makes one text of a text, or can't be done for one reason.
+pub fn one_fix()
+    ensures { (rules : RuleSet) (text : List ℕ) → OneFix rules text }
+{
+    one_cut();
+    one_parse();
+    findings_are_one();
+    squash_all_is_one();
+}
+
+/// The steps of a fix are those of these rules, in this order.
+pub fn steps_in_order()
+    ensures { fix_order ≡ CommentSyntax ∷ DeprecatedIndex ∷ DeprecatedInterpolation ∷ EmptyListEquality ∷ DeprecatedLookup ∷ [] }
+{}

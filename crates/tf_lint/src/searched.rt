@@ -1,0 +1,17 @@
+//! A text that was searched.
+
+use crate::member::SeenMember;
+use hcl_scan::Scanned;
+use tf_rule::{Finding, RuleSet};
+
+/// A text that parses: its tokens, and what the rules find in it.
+#[derive(Drop)]
+pub struct Searched<'t> {
+    pub scanned: Scanned<'t>,
+    /// The rules that were asked.
+    pub rules: RuleSet,
+    /// What they find, in the order of a report, without what comments silence.
+    pub found: Vec<Finding>,
+    /// The attributes and blocks of its body, each with what they find in it.
+    pub members: Vec<SeenMember>,
+}

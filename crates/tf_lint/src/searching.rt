@@ -1,0 +1,96 @@
+//! A text with what the rules find in it.
+
+ghost use Rattle.std.specs.Prelude.{◌≡◌, ◌≢◌, ◌⊎◌, IfOk, IfErr};
+ghost use Rattle.tf_fix.specs.Reading.{Reads};
+ghost use Rattle.tf_lint.specs.Reading.{IsUnread, NotRead};
+ghost use Rattle.tf_lint.specs.Searching.{IsOf};
+ghost use Rattle.tf_lint.specs.declared.fault.FixFault.{FixFault};
+ghost use Rattle.tf_fix.specs.declared.parsed.Parsed.{Parsed};
+
+use crate::fault::FixFault;
+use crate::searched::Searched;
+use crate::text::findings;
+use hcl_scan::laws::{no_cut_with_fault, one_cut};
+use hcl_scan::{Item, scan, scan_in};
+use std::alloc::Global;
+use tf_rule::{Rule, RuleSet};
+
+/// The tokens of a text, if it parses, and what the rules of the set find in it.
+///
+/// The text is read once, and no tree of it is kept.
+pub fn search_text<'t>(
+    alloc: Global,
+    text: &'t [u8],
+    rules: RuleSet,
+) -> Result<Searched<'t>, FixFault>
+    ensures searched { IfOk result (λ searched. (p : Parsed) × Reads text.now p × IsOf p searched) }
+    ensures rules { IfOk result (λ searched. searched.rules ≡ rules) }
+    ensures fault { IfErr result (λ fault. NotRead text.now fault) }
+{
+    let scanned = scan(alloc, text)?;
+    match findings(alloc, &scanned, rules, &scanned, &[]) {
+        Ok(seen) => Ok(Searched {
+            scanned,
+            rules,
+            found: seen.found,
+            members: seen.members,
+        }),
+        Err(fault) => Err(FixFault::from(fault)),
+    }
+}
+
+// The same of a text that came from one that was searched: what stayed as it was is not read again. Its tokens come into a list that has room.
+fn search_again<'t>(
+    alloc: Global,
+    text: &'t [u8],
+    before: &Searched<'_>,
+    room: Vec<Item>,
+) -> Result<Searched<'t>, FixFault>
+    requires { (p : Parsed) × IsOf p before.now }
+    ensures searched { IfOk result (λ searched. (p : Parsed) × Reads text.now p × IsOf p searched) }
+    ensures rules { IfOk result (λ searched. searched.rules ≡ before.now.rules) }
+    ensures fault { IfErr result (λ fault. NotRead text.now fault) }
+{
+    let scanned = scan_in(alloc, room, text)?;
+    let rules = before.rules;
+    match findings(alloc, &scanned, rules, &before.scanned, &before.members) {
+        Ok(seen) => Ok(Searched {
+            scanned,
+            rules,
+            found: seen.found,
+            members: seen.members,
+        }),
+        Err(fault) => Err(FixFault::from(fault)),
+    }
+}
+
+// Why a text that the step of a rule made is not read.
+fn broken(fault: FixFault, rule: Rule) -> FixFault
+    ensures { ((fault ≡ FixFault.Memory) × (result ≡ FixFault.Memory)) ⊎ ((fault ≢ FixFault.Memory) × (result ≡ FixFault.FixBroken rule)) }
+{
+    match fault {
+        FixFault::Memory => FixFault::Memory,
+        _ => FixFault::FixBroken { rule },
+    }
+}
+
+/// The same of a text that the step of this rule made of one that was searched.
+pub fn search_made<'t>(
+    alloc: Global,
+    text: &'t [u8],
+    before: &Searched<'_>,
+    room: Vec<Item>,
+    rule: Rule,
+) -> Result<Searched<'t>, FixFault>
+    requires { (p : Parsed) × IsOf p before.now }
+    ensures searched { IfOk result (λ searched. (p : Parsed) × Reads text.now p × IsOf p searched) }
+    ensures rules { IfOk result (λ searched. searched.rules ≡ before.now.rules) }
+    ensures fault { IfErr result (λ fault. (fault ≡ FixFault.Memory) ⊎ ((fault ≡ FixFault.FixBroken rule) × IsUnread text.now)) }
+{
+    no_cut_with_fault();
+    one_cut();
+    match search_again(alloc, text, before, room) {
+        Ok(searched) => Ok(searched),
+        Err(fault) => Err(broken(fault, rule)),
+    }
+}

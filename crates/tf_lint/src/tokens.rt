@@ -1,0 +1,61 @@
+//! Tokens that stand in two texts.
+
+ghost use Rattle.std.specs.Prelude.{◌≡◌, ◌≢◌, ◌<◌, true, false, length, slice_get};
+ghost use Rattle.hcl_scan.specs.Follows.{tokens_of};
+ghost use Rattle.tf_lint.specs.Keeping.{SameTokens};
+
+use hcl_scan::{Kind, Scanned};
+
+// Whether two kinds are one.
+fn same_kind(a: Kind, b: Kind) -> bool
+    ensures same { result ≡ true → a ≡ b }
+    ensures other { result ≡ false → a ≢ b }
+{
+    a == b
+}
+
+// Whether two spellings are one.
+fn same_spelling(a: &[u8], b: &[u8]) -> bool
+    ensures same { result ≡ true → a.now ≡ b.now }
+    ensures other { result ≡ false → a.now ≢ b.now }
+{
+    a == b
+}
+
+// Whether a token of the one text is of the same kind as one of the other, and spelled alike.
+fn same_token(old: &Scanned<'_>, new: &Scanned<'_>, i: usize, j: usize) -> bool
+    requires old { i < length old.now.pairs }
+    requires new { j < length new.now.pairs }
+    ensures same { result ≡ true → slice_get (tokens_of old.now.pairs) i ≡ slice_get (tokens_of new.now.pairs) j }
+    ensures other { result ≡ false → slice_get (tokens_of old.now.pairs) i ≢ slice_get (tokens_of new.now.pairs) j }
+{
+    if !same_kind(old.kind(i), new.kind(j)) {
+        return false;
+    }
+    same_spelling(old.spelling(i), new.spelling(j))
+}
+
+/// Whether `count` tokens stand in the old text from number `from` on, and the same in the new one from number `to` on.
+pub fn same_tokens(
+    old: &Scanned<'_>,
+    new: &Scanned<'_>,
+    from: usize,
+    to: usize,
+    count: usize,
+) -> bool
+    ensures same { result ≡ true → SameTokens (tokens_of old.now.pairs) (tokens_of new.now.pairs) from to count }
+    ensures other { result ≡ false → ¬ (SameTokens (tokens_of old.now.pairs) (tokens_of new.now.pairs) from to count) }
+{
+    if count > old.len() || from > old.len() - count {
+        return false;
+    }
+    if count > new.len() || to > new.len() - count {
+        return false;
+    }
+    for k in 0..count {
+        if !same_token(old, new, from + k, to + k) {
+            return false;
+        }
+    }
+    true
+}

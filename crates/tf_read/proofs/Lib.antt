@@ -1,2 +1,0 @@
-mod BodyLemmas
-mod FileLemmas

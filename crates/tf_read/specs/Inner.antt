@@ -1,2 +1,0 @@
--- For proofs: what is found so far, beside the pure parser.
-pub mod Seeing

@@ -1,5 +1,0 @@
-use Rattle.std.proofs.Common.{length}
-use Rattle.tf_steps.proofs.steps.+run.Given as goal
-
-abbrev pub decreases-run : goal.decreases-run
-decreases-run l = length l.order.now

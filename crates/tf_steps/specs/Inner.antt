@@ -1,2 +1,0 @@
--- For proofs: one step, and what is known from some steps on.
-pub mod Passing
