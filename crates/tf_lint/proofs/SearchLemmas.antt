@@ -1,5 +1,5 @@
 -- A text that was searched.
-use Rattle.std.proofs.Common.{◌≡◌, ℕ, List, length, refl, sym, subst}
+use Rattle.std.proofs.Common.{◌≡◌, ◌⊎◌, ℕ, List, length, refl, sym, subst, inl, inr}
 use Rattle.hcl_grammar.specs.Bodies.{IsFile}
 use Rattle.hcl_grammar.specs.declared.tree.Tree.{Tree}
 use Rattle.hcl_grammar.specs.declared.bounds.TheConstants.{MAX_NESTING}
@@ -13,12 +13,19 @@ use Rattle.tf_findings.specs.Findings.{AreFindings}
 use Rattle.tf_lint.specs.Seen.{AreSeen}
 use Rattle.tf_rule.specs.Findings.{AreSound}
 use Rattle.tf_lint.proofs.Unread.{not_parsed}
-use Rattle.tf_lint.specs.Faults.{fault_of_parse}
+use Rattle.tf_lint.specs.Faults.{fault_of_parse, fault_of_lint}
+use Rattle.tf_fix.specs.OneStep.{Finds, IsFound, IsTooLong}
 use Rattle.tf_fix.specs.Reading.{Reads}
 use Rattle.tf_lint.specs.Reading.{NotRead}
 use Rattle.tf_lint.specs.Searching.{IsOf}
+use Rattle.tf_lint.specs.Steps.{CannotStep}
 use Rattle.tf_lint.specs.declared.fault.FixFault.{FixFault}
+use Rattle.tf_lint.specs.declared.fault.FixFault.TheVariants.{TooLong, Memory}
+use Rattle.tf_fix.specs.declared.fault.LintFault.{LintFault}
+use Rattle.tf_fix.specs.declared.fault.LintFault.TheVariants as lint
 use Rattle.tf_fix.specs.declared.parsed.Parsed.{Parsed}
+use Rattle.tf_rule.specs.declared.finding.Finding.{Finding}
+use Rattle.tf_rule.specs.declared.rule.Rule.{Rule}
 use Rattle.tf_lint.specs.declared.searched.Searched.{Searched}
 
 -- a text that was scanned and searched is read, and this is what was found in it
@@ -36,5 +43,15 @@ pub not_whole : (text : List ℕ) (cut : CutText) (why : ParseFault) (fault : Fi
 not_whole text cut why fault same is e only deeper =
     subst (NotRead text) (sym e) (not_parsed text cut.pairs cut.last why is (λ t p. only t (subst (λ (x : List ℕ). Parses x t) (sym same) p)) deeper)
 
+-- the text, by its tree, is one in which that was found
+pub is_found : (p : Parsed) (s : Searched) (found : List Finding) → found ≡ s.found.items → IsOf p s → IsFound s.rules p s.scanned found
+is_found p s found is h = (h.same, h.reads, subst (λ fs. Finds s.rules p fs) (sym is) h.finds)
+
 pub sound_of : (p : Parsed) (s : Searched) → IsOf p s → AreSound (length s.scanned.pairs) s.found.items
 sound_of p s h = subst (λ (t : CutText). AreSound (length t.pairs) s.found.items) h.same h.sound
+
+-- why a step is refused, as a fault of a fix
+pub cannot : (rule : Rule) (p : Parsed) (fault : LintFault) → (fault ≡ lint.Memory) ⊎ ((fault ≡ lint.TooLong) × IsTooLong rule p)
+    → (fault_of_lint fault ≡ Memory) ⊎ ((fault_of_lint fault ≡ TooLong) × CannotStep rule p (fault_of_lint fault))
+cannot rule p fault (inl memory) = rw memory (inl refl)
+cannot rule p fault (inr (is, long)) = rw is (inr (refl, long))

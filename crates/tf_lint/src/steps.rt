@@ -75,7 +75,7 @@ fn reported(alloc: Global, searched: &Searched<'_>) -> Result<Vec<Issue>, FixFau
 {
     match issues_of(alloc, &searched.scanned, searched.found.as_slice()) {
         Ok(issues) => Ok(issues),
-        Err(_) => Err(FixFault::Memory),
+        Err(fault) => Err(FixFault::from(fault)),
     }
 }
 

@@ -21,6 +21,7 @@ fault_of_layout LayoutFault.TooLong = Fault.TooLong
 fault_of_layout LayoutFault.Memory = Fault.Memory
 
 abbrev pub fault_of_lint : LintFault → Fault
+fault_of_lint LintFault.TooLong = Fault.TooLong
 fault_of_lint LintFault.Memory = Fault.Memory
 
 abbrev pub fault_of_refused : Refused → Fault

@@ -98,6 +98,7 @@ impl From<LintFault> for Fault {
 
     fn from(fault: LintFault) -> Self {
         match fault {
+            LintFault::TooLong => Fault::TooLong,
             LintFault::Memory => Fault::Memory,
         }
     }

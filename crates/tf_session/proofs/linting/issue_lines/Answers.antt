@@ -16,7 +16,7 @@ returns-in-Ok-clause-lines c =
     let (p, reads, h) = c.in_ok-searched.ensures.searched in
     let s = c.in_ok-searched.searched in
     let finds = subst (λ (rules : RuleSet). Finds rules p s.found.items) c.in_ok-searched.ensures.rules h.finds in
-    let told = c.in_ok-found.ensures ∙ ap (λ (fs : List Finding). map (report_of s.scanned.pairs) fs) c.as_slice.ensures.value in
+    let told = c.in_ok-found.ensures.ok ∙ ap (λ (fs : List Finding). map (report_of s.scanned.pairs) fs) c.as_slice.ensures.value in
     let of_text = told ∙ ap (λ (t : CutText). map (report_of t.pairs) s.found.items) (sym h.same) in
     let counted : c.len.result ≡ length c.in_ok-found.found.items = search rules in (
       reports c.in_ok-found.found.items,
