@@ -1,5 +1,5 @@
 -- What comes is settled alike with the gaps beside it and without.
-use Rattle.std.proofs.Common.{◌≡◌, ℕ, List, [], ◌∷◌, ◌++◌, refl, ap, sym, ◌∙◌}
+use Rattle.std.proofs.Common.{◌≡◌, List, [], ◌∷◌, ◌++◌, refl, ap, ◌∙◌}
 use Rattle.std.proofs.lemmas.List.{append-nil}
 use Rattle.hcl_token.specs.Tokens.{Pair}
 use Rattle.tf_rule.specs.declared.fix.Insertion.{Insertion}
@@ -7,7 +7,7 @@ use Rattle.tf_rule.specs.declared.fix.Insertion.TheVariants.{Nothing}
 use Rattle.tf_fix.specs.Inner.Views.{coming_parts, skip_of, tail_of}
 use Rattle.tf_fix.specs.Mending.{inserted, body, come, no_gap}
 use Rattle.tf_fix.specs.Parts.{Part, written}
-use Rattle.tf_fix.specs.Parts.Part.{Gap, Token}
+use Rattle.tf_fix.specs.Parts.Part.{Token}
 use Rattle.tf_fix.specs.Replacements.{added, space_before}
 use Rattle.tf_fix.specs.Settled.{Neighbour, after, settled}
 use Rattle.tf_fix.specs.declared.edge.Edge.{Edge}

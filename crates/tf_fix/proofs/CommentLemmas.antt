@@ -16,7 +16,7 @@ use Rattle.hcl_token.specs.Tokens.{Pair, whole_text}
 use Rattle.hcl_scan.specs.Follows.{AreApart}
 use Rattle.tf_rule.specs.declared.finding.Finding.{Finding}
 use Rattle.tf_rule.specs.declared.fix.Fix.{Fix}
-use Rattle.tf_rule.specs.declared.fix.Fix.TheVariants.{Slashes, Tokens}
+use Rattle.tf_rule.specs.declared.fix.Fix.TheVariants.{Slashes}
 use Rattle.tf_rule.specs.declared.rule.Rule.{Rule}
 use Rattle.tf_fix.specs.ByPairs.{gap_at, mended_pairs, mended_from, mended_text}
 use Rattle.tf_fix.specs.Comments.{IsSlashComment, mended_comment, start_of, comment_edit}

@@ -31,7 +31,7 @@ use Rattle.tf_fix.specs.Parts.Part.{Gap, Token}
 use Rattle.tf_fix.specs.Replacements.{Replacement, staying, space_before, pieces_from}
 use Rattle.tf_fix.specs.Settled.{Neighbour, after, meets, settled, space}
 use Rattle.tf_fix.proofs.PartLemmas.{known, gap_front, token_front, range_first}
-use Rattle.tf_fix.proofs.TakeLemmas.{AreTaken, kept_le, next_le}
+use Rattle.tf_fix.proofs.TakeLemmas.{AreTaken, kept_le}
 
 -- ---- the markers of heredocs
 

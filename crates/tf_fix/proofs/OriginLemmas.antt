@@ -1,6 +1,6 @@
 -- What one rule finds is of that rule: the rule on comments finds comments that begin with `//`, and the others find none.
 use Rattle.std.proofs.Common.{◌≡◌, ◌∙◌, ℕ, ◌==◌, ◌&&◌, true, List, [], ◌∷◌, ◌++◌, drop, Some, refl, ap, arith, codes}
-use Rattle.std.specs.Prelude.{slice_get, slice_index}
+use Rattle.std.specs.Prelude.{slice_index}
 use Rattle.std.specs.List.{AllByRecursion}
 use Rattle.std.specs.Option.{option_map}
 use Rattle.std.proofs.lemmas.Bool.{and_parts, eqb-true, false≢true}

@@ -8,7 +8,7 @@ use Rattle.tf_rule.specs.declared.finding.Finding.{Finding}
 use Rattle.tf_rule.specs.declared.fix.Fix.{Fix}
 use Rattle.tf_rule.specs.declared.fix.Fix.TheVariants.{Slashes, Tokens}
 use Rattle.tf_rule.specs.declared.fix.Insertion.{Insertion}
-use Rattle.tf_rule.specs.declared.fix.Insertion.TheVariants.{Nothing, Index}
+use Rattle.tf_rule.specs.declared.fix.Insertion.TheVariants.{Nothing}
 use Rattle.tf_rule.specs.declared.fix.Kept.{Kept}
 use Rattle.tf_rule.specs.declared.rule.Rule.{Rule}
 use Rattle.tf_rule.specs.Findings.{is_fixable, IsFitting, AreSound}

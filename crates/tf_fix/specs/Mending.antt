@@ -1,5 +1,5 @@
 -- What is replaced to mend a finding, and of which rule it is.
-use Rattle.std.specs.Prelude.{◌≡◌, ℕ, ◌+◌, Bool, true, false, List, [], ◌∷◌, ◌++◌, drop, unwrap_or, codes, Option, Some, None, ⊤}
+use Rattle.std.specs.Prelude.{◌≡◌, ℕ, true, false, List, [], ◌∷◌, ◌++◌, drop, unwrap_or, codes, Option, Some, None, ⊤}
 use Rattle.std.specs.List.{flat_map}
 use Rattle.hcl_token.specs.declared.kind.Kind.TheVariants.{Number, OpenBracket, CloseBracket, OpenParen, CloseParen, Identifier, DoubleEqual, Greater}
 use Rattle.hcl_token.specs.CutText.{spelling_of}

@@ -1,9 +1,9 @@
-use Rattle.std.proofs.Common.{◌++◌, List, [], ◌∷◌, Option, Some, None, Result, Ok, Err}
+use Rattle.std.proofs.Common.{List, [], ◌∷◌, Option, Some, None, Result, Ok, Err}
 use Rattle.std.specs.Prelude.{IfOk}
 use Rattle.hcl_token.specs.Tokens.{Pair}
 use Rattle.tf_rule.specs.declared.fix.Insertion.{Insertion}
 use Rattle.tf_rule.specs.declared.fix.Kept.{Kept}
-use Rattle.tf_fix.specs.Inner.Views.{IsComing, AreComing, AreKeptComing}
+use Rattle.tf_fix.specs.Inner.Views.{IsComing, AreKeptComing}
 use Rattle.tf_fix.proofs.TakeLemmas.{coming_push}
 use Rattle.tf_fix.proofs.replaced.+push_kept.Goals as goal
 
