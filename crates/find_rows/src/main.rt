@@ -7,7 +7,7 @@ use anyhow::Result;
 use hcl_scan::{Scanned, scan};
 use hcl_tree::parse;
 use std::alloc::{AllocError, Global};
-use tf_findings::findings;
+use tf_diagnostics::findings;
 use tf_rule::{Finding, RuleSet};
 
 /// The text of a row.

@@ -5,4 +5,4 @@ mod command_line;
 mod help;
 mod rule_choice;
 
-pub use command_line::{Action, Stop, Task, task_from, words_of};
+pub use command_line::{Action, CommandLine, Stop, Task};

@@ -10,8 +10,8 @@ use Rattle.hcl_token.specs.Tokens.{Pair}
 use Rattle.tf_rule.specs.declared.finding.Finding.{Finding}
 use Rattle.tf_rule.specs.declared.rule.Rule.{Rule}
 use Rattle.tf_rule.specs.declared.rule.Rule.TheVariants.{CommentSyntax}
-use Rattle.tf_findings.specs.CommentSyntax.{is_line_comment}
-use Rattle.tf_findings.specs.Origins.{IsSlashed, Origin}
+use Rattle.tf_rules.specs.Rules.CommentSyntax.{is_line_comment}
+use Rattle.tf_rules.specs.Origin.{IsSlashed, Origin}
 use Rattle.tf_fix.specs.Comments.{IsSlashComment}
 use Rattle.tf_fix.specs.Mending.{IsOf, AreOf}
 

@@ -9,7 +9,7 @@ use Rattle.tf_rule.specs.declared.rule_set.RuleSet.{RuleSet}
 use Rattle.tf_fix.specs.ByPairs.{mended_text}
 use Rattle.tf_fix.specs.Mended.{mended_edits}
 use Rattle.tf_fix.specs.Taking.{taken}
-use Rattle.tf_findings.specs.Findings.{AreFindings}
+use Rattle.tf_diagnostics.specs.Findings.{AreFindings}
 use Rattle.tf_fix.specs.Reading.{Reads}
 use Rattle.tf_fix.specs.declared.parsed.Parsed.{Parsed}
 use Rattle.tf_rule.specs.OneRule.{only}

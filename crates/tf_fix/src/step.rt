@@ -22,8 +22,8 @@ use edit_record::Edits;
 use hcl_parses::laws::parsed_apart;
 use hcl_scan::Scanned;
 use std::alloc::Global;
-use tf_findings::laws::{found_by_one, one_origin};
-use tf_findings::{findings, of_rule};
+use tf_diagnostics::laws::{found_by_one, one_origin};
+use tf_diagnostics::{findings, of_rule};
 use tf_rule::{Finding, Rule, RuleSet};
 
 /// The edits of one rule's step, and how many findings they mend.

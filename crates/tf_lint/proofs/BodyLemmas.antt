@@ -9,16 +9,16 @@ use Rattle.hcl_grammar.specs.declared.tree.Member.{Member}
 use Rattle.hcl_grammar.specs.declared.bounds.TheConstants.{MAX_NESTING}
 use Rattle.hcl_scan.specs.Follows.{tokens_of}
 use Rattle.hcl_token.specs.Tokens.{Pair}
-use Rattle.tf_find.specs.NodeFindings.{node_findings}
-use Rattle.tf_find.specs.Nodes.{Node, member, Stand, nothing, one}
-use Rattle.tf_find.specs.TreeFindings.{AreTreeFindings}
+use Rattle.tf_rules.specs.NodeFindings.{node_findings}
+use Rattle.tf_rules.specs.Nodes.{Node, member, Stand, nothing, one}
+use Rattle.tf_diagnostics.specs.TreeFindings.{AreTreeFindings}
 use Rattle.tf_lint.specs.Inner.Seeing.{AreOf}
 use Rattle.tf_lint.specs.Seen.{IsSeen, AreSeen, nodes_of, blocks_of}
 use Rattle.tf_lint.specs.declared.member.SeenMember.{SeenMember}
 use Rattle.tf_rule.specs.declared.finding.Finding.{Finding}
 use Rattle.tf_rule.specs.Findings.{is_sound, sound}
 use Rattle.tf_rule.specs.declared.rule_set.RuleSet.{RuleSet}
-use Rattle.tf_top.specs.TopFindings.{member_findings, top_findings}
+use Rattle.tf_rules.specs.TopFindings.{member_findings, top_findings}
 
 -- what stands in some nodes and in others behind them
 stand-append : {ns ms xs ys : List Node} → Stand ns xs → Stand ms ys → Stand (ns ++ ms) (xs ++ ys)

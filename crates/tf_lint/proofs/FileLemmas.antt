@@ -9,8 +9,8 @@ use Rattle.hcl_grammar.specs.declared.error.TokenFault.{TokenFault}
 use Rattle.hcl_grammar.specs.declared.tree.Member.{Member}
 use Rattle.hcl_tree.proofs.Passing.{file_tree}
 use Rattle.hcl_token.specs.Tokens.{Pair}
-use Rattle.tf_find.specs.NodeFindings.{node_findings}
-use Rattle.tf_findings.specs.Findings.{AreAtNodesAndBlocks}
+use Rattle.tf_rules.specs.NodeFindings.{node_findings}
+use Rattle.tf_diagnostics.specs.Findings.{AreAtNodesAndBlocks}
 use Rattle.std.specs.List.{flat_map}
 use Rattle.tf_lint.specs.Inner.Seeing.{AreOf}
 use Rattle.tf_lint.specs.Seen.{nodes_of, blocks_of}
@@ -18,7 +18,7 @@ use Rattle.tf_lint.specs.declared.member.SeenMember.{SeenMember}
 use Rattle.tf_rule.specs.declared.finding.Finding.{Finding}
 use Rattle.tf_rule.specs.Findings.{is_sound, sound}
 use Rattle.tf_rule.specs.declared.rule_set.RuleSet.{RuleSet}
-use Rattle.tf_top.specs.TopFindings.{top_findings}
+use Rattle.tf_rules.specs.TopFindings.{top_findings}
 
 pub both_found : {rules : RuleSet} {pairs : List Pair} {ms : List Member} {xs : List SeenMember} {all : List Finding} → AreOf rules pairs ms xs
     → all ≡ flat_map nodes_of xs ++ flat_map blocks_of xs → AreAtNodesAndBlocks rules pairs ms all

@@ -33,13 +33,13 @@ use Rattle.tf_rule.specs.declared.rule.Rule.TheVariants.{NamingConvention, Typed
 use Rattle.tf_rule.specs.declared.rule_set.RuleSet.{RuleSet}
 use Rattle.tf_rule.specs.Findings.{sound}
 use Rattle.tf_rule.specs.RuleSets.{has_rule}
-use Rattle.tf_top.specs.Attributes.{attributes, attributes_in, member_attributes, is_none_of, is_empty_text_shape, is_empty_text_form, is_empty_text, has_attribute}
-use Rattle.tf_top.specs.Layers.{FormLayer, ShapeLayer}
-use Rattle.tf_top.specs.Missing.{is_undocumented, missing, untyped_findings, undocumented_findings, missing_findings}
-use Rattle.tf_top.specs.Naming.{naming_finding, declaration, label_findings, declared_findings, local_findings, naming_findings}
-use Rattle.tf_top.specs.SnakeCase.{is_snake_case}
-use Rattle.tf_top.specs.TopFindings.{block_findings, member_findings}
-use Rattle.tf_top.specs.Words.{word, name_at}
+use Rattle.tf_rules.specs.Attributes.{attributes, attributes_in, member_attributes, is_none_of, is_empty_text_shape, is_empty_text_form, is_empty_text, has_attribute}
+use Rattle.tf_rules.specs.Layers.{FormLayer, ShapeLayer}
+use Rattle.tf_rules.specs.Rules.Missing.{is_undocumented, missing, untyped_findings, undocumented_findings, missing_findings}
+use Rattle.tf_rules.specs.Rules.Naming.{naming_finding, declaration, label_findings, declared_findings, local_findings, naming_findings}
+use Rattle.tf_rules.specs.SnakeCase.{is_snake_case}
+use Rattle.tf_rules.specs.TopFindings.{block_findings, member_findings}
+use Rattle.tf_rules.specs.Words.{word, name_at}
 
 abbrev message : Option Named → Option ℕ → Message
 message named name = record { named = named; name = name }

@@ -4,10 +4,10 @@ use Rattle.std.specs.List.{flat_map}
 use Rattle.hcl_grammar.specs.declared.tree.Member.{Member}
 use Rattle.hcl_scan.specs.Follows.{tokens_of}
 use Rattle.hcl_token.specs.Tokens.{Pair}
-use Rattle.tf_find.specs.NodeFindings.{node_findings}
-use Rattle.tf_find.specs.Nodes as nodes
-use Rattle.tf_find.specs.Nodes.{Node, Stand, member}
-use Rattle.tf_find.specs.TreeFindings.{AreTreeFindings}
+use Rattle.tf_rules.specs.NodeFindings.{node_findings}
+use Rattle.tf_rules.specs.Nodes as nodes
+use Rattle.tf_rules.specs.Nodes.{Node, Stand, member}
+use Rattle.tf_diagnostics.specs.TreeFindings.{AreTreeFindings}
 use Rattle.tf_lint.proofs.FoundNodes.{found_member}
 use Rattle.tf_lint.proofs.Moved.{MovedMember}
 use Rattle.tf_lint.proofs.Window.{Here, Same}

@@ -20,21 +20,19 @@ use Rattle.hcl_grammar.specs.Nodes as node
 use Rattle.hcl_grammar_laws.proofs.Opens.{open_conditional, open_chain, open_prefixed, open_tailed, open_plain, open_number, open_identifier, open_call, open_tuple, open_object, open_for_tuple, open_for_object, open_quoted, open_heredoc, open_parens, open_name, open_legacy, open_attribute_splat, open_full_splat, open_index, open_literal, open_interp, open_if, open_for, open_lines, open_line, open_attribute, open_block, call_arguments, for_tuple_intro, for_tuple_value, for_tuple_filter, for_object_intro, for_object_key, for_object_value, for_object_filter, if_directive_condition, if_directive_met, if_directive_unmet}
 use Rattle.hcl_scan.specs.Follows.{tokens_of}
 use Rattle.hcl_token.specs.Tokens.{Pair}
-use Rattle.tf_find.specs.declared.role.Role.{Role}
-use Rattle.tf_find.specs.declared.role.Role.TheVariants.{AttributeValue, Element, ObjectKey, ObjectValue, Argument, Parentheses, Index, Interpolation, Elsewhere}
-use Rattle.tf_find.specs.NodeFindings.{node_findings}
-use Rattle.tf_find.specs.Nodes as nodes
-use Rattle.tf_find.specs.Nodes.{Node, Stand, expr, term, tail, part, member, parts, tails_from, splat_behind, form_parts, elem_parts, filter_parts, shape_parts, tail_parts, else_parts, part_parts, option_parts, content_parts}
+use Rattle.tf_rules.specs.declared.role.Role.{Role}
+use Rattle.tf_rules.specs.declared.role.Role.TheVariants.{AttributeValue, Element, ObjectKey, ObjectValue, Argument, Parentheses, Index, Interpolation, Elsewhere}
+use Rattle.tf_rules.specs.NodeFindings.{node_findings}
+use Rattle.tf_rules.specs.Nodes as nodes
+use Rattle.tf_rules.specs.Nodes.{Node, Stand, expr, term, tail, part, member, parts, tails_from, splat_behind, form_parts, elem_parts, filter_parts, shape_parts, tail_parts, else_parts, part_parts, option_parts, content_parts}
 use Rattle.tf_lint.proofs.Moved as moved
 use Rattle.tf_lint.proofs.Moved.{MovedExpr, MovedForm, MovedLinks, MovedTails, MovedTail, MovedTerm, MovedShape, MovedExprs, MovedElems, MovedIntro, MovedFilter, MovedTemplate, MovedParts, MovedPart, MovedElse, MovedOnLine, MovedMember, MovedContent, MovedMembers}
-use Rattle.tf_lint.proofs.Moves.{Moves, either, append}
+use Rattle.tf_lint.proofs.Moves.{Moves, append}
 use Rattle.tf_lint.proofs.Moves as moves
-use Rattle.tf_lint.proofs.MovedFindings.{splat_behind_moved, sole_in_moved, index_moved, equality_moved, interpolation_moved, lookup_moved}
+use Rattle.tf_lint.proofs.MovedFindings.{splat_behind_moved, at_expr, at_term, at_tail}
 use Rattle.tf_lint.proofs.Window.{Here, Same}
 use Rattle.tf_lint.specs.Keeping.{SameTokens}
 use Rattle.tf_rule.specs.declared.rule_set.RuleSet.{RuleSet}
-use Rattle.tf_rule.specs.declared.rule.Rule.TheVariants.{DeprecatedIndex, DeprecatedInterpolation, EmptyListEquality, DeprecatedLookup}
-use Rattle.tf_rule.specs.RuleSets.{has_rule}
 
 -- in two lists of nodes stands as much, and in the second is found what is found in the first, its numbers moved
 pub record SameFound (rules : RuleSet) (old new : List Pair) (from to : ℕ) (ns ns' : List Node) : Type 0 where
@@ -100,18 +98,14 @@ at_for i j x t = simp (open_for) refl
 module _ (rules : RuleSet) (old new : List Pair) {from to count : ℕ} (w : SameTokens (tokens_of old) (tokens_of new) from to count) where
   tail_found : (splat : Bool) {x x' : Tail} → MovedTail (Here w) (Same w) x x' → SameFound rules old new from to (tail_parts (out-Tail x)) (tail_parts (out-Tail x'))
       → SameFound rules old new from to (tail splat x ∷ []) (tail splat x' ∷ [])
-  tail_found splat {x} {x'} a inside =
-      let b = has_rule rules DeprecatedIndex in
-      one_node (tail splat x) (tail splat x') (either {b = b} {b' = b} refl (index_moved old new w splat a) moves.none) inside
+  tail_found splat {x} {x'} a inside = one_node (tail splat x) (tail splat x') (at_tail old new w rules splat a) inside
 
   mutual
     unfolding node.expr node.term node.link node.elem node.intro node.template
 
     pub found_expr : (p : Role) {e e' : Expr} → MovedExpr (Here w) (Same w) e e' → SameFound rules old new from to (expr p e ∷ []) (expr p e' ∷ [])
     found_expr p (moved.moved_expr {i} {i'} {j} {j'} {x} {x'} r s l f) =
-        let b = has_rule rules EmptyListEquality in
-        let here = either {b = b} {b' = b} refl (equality_moved old new w r f) moves.none in
-        one_node (expr p (node.expr i j x)) (expr p (node.expr i' j' x')) here (found_form p f)
+        one_node (expr p (node.expr i j x)) (expr p (node.expr i' j' x')) (at_expr old new w rules p (moved.moved_expr r s l f)) (found_form p f)
 
     found_form : (p : Role) {x x' : Form} → MovedForm (Here w) (Same w) x x' → SameFound rules old new from to (form_parts p (out-Form x)) (form_parts p (out-Form x'))
     found_form p (moved.conditional a b c) = simp (open_conditional) (both (found_expr Elsewhere a) (both (found_expr Elsewhere b) (found_expr Elsewhere c)))
@@ -141,12 +135,7 @@ module _ (rules : RuleSet) (old new : List Pair) {from to count : ℕ} (w : Same
 
     found_term : (p : Role) {t t' : Term} → MovedTerm (Here w) (Same w) t t' → SameFound rules old new from to (term p t ∷ []) (term p t' ∷ [])
     found_term p (moved.moved_term {i} {i'} {j} {j'} {x} {x'} r s l f) =
-        let b = has_rule rules DeprecatedInterpolation in
-        let c = has_rule rules DeprecatedLookup in
-        one_node (term p (node.term i j x)) (term p (node.term i' j' x'))
-        (append (either {b = b} {b' = b} refl (interpolation_moved old new w p r s (sole_in_moved f)) moves.none)
-        (either {b = c} {b' = c} refl (lookup_moved old new w r s f) moves.none))
-        (found_shape f)
+        one_node (term p (node.term i j x)) (term p (node.term i' j' x')) (at_term old new w rules p (moved.moved_term r s l f)) (found_shape f)
 
     found_shape : {x x' : Shape} → MovedShape (Here w) (Same w) x x' → SameFound rules old new from to (shape_parts (out-Shape x)) (shape_parts (out-Shape x'))
     found_shape moved.number = simp (open_number) none

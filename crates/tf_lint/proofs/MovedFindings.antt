@@ -15,13 +15,17 @@ use Rattle.hcl_grammar.specs.Nodes as node
 use Rattle.hcl_grammar_laws.proofs.Opens.{open_conditional, open_chain, open_prefixed, open_tailed, open_plain, open_number, open_identifier, open_call, open_tuple, open_object, open_for_tuple, open_for_object, open_quoted, open_heredoc, open_parens, open_name, open_legacy, open_attribute_splat, open_full_splat, open_index, open_literal, open_interp, open_if, open_for, call_arguments}
 use Rattle.hcl_scan.specs.Follows.{tokens_of}
 use Rattle.hcl_token.specs.Tokens.{Pair}
-use Rattle.tf_find.specs.Equality.{is_empty_list, is_empty_form, is_empty_shape, equality_findings, chain_findings, link_findings, is_mendable, is_equal, is_equality, measured}
-use Rattle.tf_find.specs.Index.{index_findings}
-use Rattle.tf_find.specs.Interpolation.{is_post_form, sole, sole_in, interpolation_findings, is_key, is_elsewhere}
-use Rattle.tf_find.specs.Lookup.{is_splat, has_splat, is_indexable_form, two, is_lookup, is_lookup_token, is_movable, pair_findings, lookup_findings}
-use Rattle.tf_find.specs.declared.role.Role.{Role}
-use Rattle.tf_find.specs.Nodes.{splat_behind}
-use Rattle.tf_find.specs.Spans.{tokens, has_trivia, is_here_close}
+use Rattle.tf_rules.specs.Rules.Equality.{is_empty_list, is_empty_form, is_empty_shape, equality_findings, chain_findings, link_findings, is_mendable, is_equal, is_equality, measured}
+use Rattle.tf_rules.specs.Rules.Index.{index_findings}
+use Rattle.tf_rules.specs.Rules.Interpolation.{is_post_form, sole, sole_in, interpolation_findings, is_key, is_elsewhere}
+use Rattle.tf_rules.specs.Arguments.{two}
+use Rattle.tf_rules.specs.Rules.Lookup.{is_splat, has_splat, is_indexable_form, is_lookup, is_lookup_token, is_movable, pair_findings, lookup_findings}
+use Rattle.tf_rules.specs.declared.role.Role.{Role}
+use Rattle.tf_rules.specs.NodeFindings.{node_findings}
+use Rattle.tf_rules.specs.Nodes.{expr, term, tail, splat_behind}
+use Rattle.tf_rule.specs.declared.rule_set.RuleSet.{RuleSet}
+use Rattle.tf_rule.specs.RuleSets.{has_rule}
+use Rattle.tf_rules.specs.Spans.{tokens, has_trivia, is_here_close}
 use Rattle.tf_lint.proofs.Moved as moved
 use Rattle.tf_lint.proofs.Moved.{MovedNumbers, MovedExpr, MovedForm, MovedLinks, MovedTails, MovedTail, MovedTerm, MovedShape, MovedExprs, MovedParts, MovedFilter}
 use Rattle.tf_lint.proofs.MovedSpans.{here_of, behind_of, eq_moved, spelling_moved, trivia_moved, break_moved, inner_break_moved, here_close_moved}
@@ -123,7 +127,7 @@ module _ {R T : ℕ → ℕ → Type 0} where
   sole_moved (moved.parts (moved.for_directive r s a b) moved.no_parts) = simp (open_for) moved.no_filter
   sole_moved (moved.parts a (moved.parts b c)) = moved.no_filter
 
-  pub sole_in_moved : {x x' : Shape} → MovedShape R T x x' → MovedFilter R T (sole_in (out-Shape x)) (sole_in (out-Shape x'))
+  sole_in_moved : {x x' : Shape} → MovedShape R T x x' → MovedFilter R T (sole_in (out-Shape x)) (sole_in (out-Shape x'))
   unfolding node.call node.for_tuple node.for_object node.template
   sole_in_moved moved.number = simp (open_number) moved.no_filter
   sole_in_moved moved.identifier = simp (open_identifier) moved.no_filter
@@ -166,7 +170,7 @@ unfit : (i j : ℕ) → j < i + 5 → is_fitting i j (Some (inside i j)) ≡ fal
 unfit i j l = not_second (nat_lt i (i + 2)) (nat_lt (i + 2) (j - 2)) (nat_lt i (j - 2) && nat_lt (j - 2) j) (too_narrow i j l)
 
 module _ (old new : List Pair) {from to count : ℕ} (w : SameTokens (tokens_of old) (tokens_of new) from to count) where
-  pub index_moved : (splat : Bool) {x x' : Tail} → MovedTail (Here w) (Same w) x x'
+  index_moved : (splat : Bool) {x x' : Tail} → MovedTail (Here w) (Same w) x x'
       → Moves old new from to (index_findings old splat (out-Tail x)) (index_findings new splat (out-Tail x'))
   index_moved splat (moved.by_name t) = simp (open_name) moves.none
   index_moved splat (moved.legacy t) =
@@ -212,7 +216,7 @@ module _ (old new : List Pair) {from to count : ℕ} (w : SameTokens (tokens_of 
   chain_moved is_first h a moved.no_links = moves.none
   chain_moved is_first h a (moved.links op b c) = append (link_moved is_first op h a b) (chain_moved false h b c)
 
-  pub equality_moved : {i i' : ℕ} {x x' : Form} → Here w i i' → MovedForm (Here w) (Same w) x x'
+  equality_moved : {i i' : ℕ} {x x' : Form} → Here w i i' → MovedForm (Here w) (Same w) x x'
       → Moves old new from to (equality_findings old i (out-Form x)) (equality_findings new i' (out-Form x'))
   equality_moved h (moved.conditional a b c) = simp (open_conditional) moves.none
   equality_moved h (moved.chain a b) = simp (open_chain) (chain_moved true h a b)
@@ -242,7 +246,7 @@ module _ (old new : List Pair) {from to count : ℕ} (w : SameTokens (tokens_of 
   by_width true {i} {i'} {j} t h g e = finding_moves old new w DeprecatedInterpolation h g refl (fix_when old new w e (inside_moved h g (leb-true (i + 5) j t)))
   by_width false {i} {i'} {j} t h g e = narrow_moves h g e (leb-false (i + 5) j t)
 
-  pub interpolation_moved : (role : Role) {i i' j j' : ℕ} {o o' : Option Expr} → Here w i i' → Here w j j' → MovedFilter (Here w) (Same w) o o'
+  interpolation_moved : (role : Role) {i i' j j' : ℕ} {o o' : Option Expr} → Here w i i' → Here w j j' → MovedFilter (Here w) (Same w) o o'
       → Moves old new from to (interpolation_findings old role i j o) (interpolation_findings new role i' j' o')
   interpolation_moved role h g moved.no_filter = moves.none
   interpolation_moved role h g (moved.filter a) =
@@ -276,7 +280,7 @@ module _ (old new : List Pair) {from to count : ℕ} (w : SameTokens (tokens_of 
   pair_moved h g (moved.exprs a (moved.exprs b moved.no_exprs)) = two_moved h g a b
   pair_moved h g (moved.exprs a (moved.exprs b (moved.exprs c d))) = moves.none
 
-  pub lookup_moved : {i i' j j' : ℕ} {x x' : Shape} → Here w i i' → Here w j j' → MovedShape (Here w) (Same w) x x'
+  lookup_moved : {i i' j j' : ℕ} {x x' : Shape} → Here w i i' → Here w j j' → MovedShape (Here w) (Same w) x x'
       → Moves old new from to (lookup_findings old i j (out-Shape x)) (lookup_findings new i' j' (out-Shape x'))
   unfolding node.for_tuple node.for_object
   lookup_moved h g moved.number = simp (open_number) moves.none
@@ -291,3 +295,26 @@ module _ (old new : List Pair) {from to count : ℕ} (w : SameTokens (tokens_of 
   lookup_moved h g (moved.quoted a) = simp (open_quoted) moves.none
   lookup_moved h g (moved.heredoc a) = simp (open_heredoc) moves.none
   lookup_moved h g (moved.parens a) = simp (open_parens) moves.none
+
+  -- ---- at a node, and not in what stands in it
+
+  pub at_expr : (rules : RuleSet) (role : Role) {e e' : Expr} → MovedExpr (Here w) (Same w) e e'
+      → Moves old new from to (node_findings rules old (expr role e)) (node_findings rules new (expr role e'))
+  at_expr rules role a =
+      let b = has_rule rules EmptyListEquality in
+      either {b = b} {b' = b} refl (equality_moved (first_here a) (form_of a)) moves.none
+
+  pub at_term : (rules : RuleSet) (role : Role) {t t' : Term} → MovedTerm (Here w) (Same w) t t'
+      → Moves old new from to (node_findings rules old (term role t)) (node_findings rules new (term role t'))
+  unfolding node.term
+  at_term rules role (moved.moved_term r s l f) =
+      let b = has_rule rules DeprecatedInterpolation in
+      let c = has_rule rules DeprecatedLookup in
+      append (either {b = b} {b' = b} refl (interpolation_moved role r s (sole_in_moved f)) moves.none)
+      (either {b = c} {b' = c} refl (lookup_moved r s f) moves.none)
+
+  pub at_tail : (rules : RuleSet) (splat : Bool) {t t' : Tail} → MovedTail (Here w) (Same w) t t'
+      → Moves old new from to (node_findings rules old (tail splat t)) (node_findings rules new (tail splat t'))
+  at_tail rules splat a =
+      let b = has_rule rules DeprecatedIndex in
+      either {b = b} {b' = b} refl (index_moved splat a) moves.none

@@ -9,7 +9,7 @@ use Rattle.hcl_scan.specs.Follows.{tokens_of}
 use Rattle.hcl_tree.specs.Faults.{IsMemory, IsMemoryOrDeep}
 use Rattle.hcl_tree.specs.declared.error.ParseFault.{ParseFault}
 use Rattle.hcl_token.specs.CutText.{CutText}
-use Rattle.tf_findings.specs.Findings.{AreFindings}
+use Rattle.tf_diagnostics.specs.Findings.{AreFindings}
 use Rattle.tf_lint.specs.Seen.{AreSeen}
 use Rattle.tf_rule.specs.Findings.{AreSound}
 use Rattle.tf_lint.proofs.Unread.{not_parsed}

@@ -5,13 +5,13 @@ use Rattle.hcl_grammar.specs.Tokens.{Token, next}
 use Rattle.hcl_grammar.specs.declared.tree.Member.{Member}
 use Rattle.hcl_scan.specs.Follows.{tokens_of}
 use Rattle.hcl_token.specs.Tokens.{Pair}
-use Rattle.tf_find.specs.Nodes.{member}
-use Rattle.tf_find.specs.TreeFindings.{AreTreeFindings}
+use Rattle.tf_rules.specs.Nodes.{member}
+use Rattle.tf_diagnostics.specs.TreeFindings.{AreTreeFindings}
 use Rattle.tf_lint.specs.Moving.{moved_finding}
 use Rattle.tf_rule.specs.declared.finding.Finding.{Finding}
 use Rattle.tf_rule.specs.Findings.{sound}
 use Rattle.tf_rule.specs.declared.rule_set.RuleSet.{RuleSet}
-use Rattle.tf_top.specs.TopFindings.{member_findings}
+use Rattle.tf_rules.specs.TopFindings.{member_findings}
 
 -- so many tokens stand from number `from` on in the one list, and from number `to` on in the other: of the same kinds, spelled alike
 pub record SameTokens (old new : List Token) (from to count : ℕ) : Type 0 where

@@ -5,13 +5,13 @@ use Rattle.hcl_grammar.specs.declared.tree.Member.{Member}
 use Rattle.hcl_grammar.specs.declared.bounds.TheConstants.{MAX_NESTING}
 use Rattle.hcl_scan.specs.Follows.{tokens_of}
 use Rattle.hcl_token.specs.Tokens.{Pair}
-use Rattle.tf_find.specs.Nodes as node
-use Rattle.tf_find.specs.TreeFindings.{AreTreeFindings}
+use Rattle.tf_rules.specs.Nodes as node
+use Rattle.tf_diagnostics.specs.TreeFindings.{AreTreeFindings}
 use Rattle.tf_lint.specs.declared.member.SeenMember.{SeenMember}
 use Rattle.tf_rule.specs.declared.finding.Finding.{Finding}
 use Rattle.tf_rule.specs.Findings.{sound}
 use Rattle.tf_rule.specs.declared.rule_set.RuleSet.{RuleSet}
-use Rattle.tf_top.specs.TopFindings.{member_findings}
+use Rattle.tf_rules.specs.TopFindings.{member_findings}
 
 -- a member is read there, and that is what the rules find in it
 pub record IsSeen (rules : RuleSet) (pairs : List Pair) (x : SeenMember) : Type 0 where

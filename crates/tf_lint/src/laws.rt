@@ -9,7 +9,7 @@ ghost use Rattle.tf_lint.specs.Steps.{OneFix, fix_order};
 use edit_squash::laws::squash_all_is_one;
 use hcl_parses::laws::one_parse;
 use hcl_scan::laws::one_cut;
-use tf_findings::laws::findings_are_one;
+use tf_diagnostics::laws::findings_are_one;
 
 /// A member whose tokens stand elsewhere too is read there, and what the rules find in it is the same, its numbers moved.
 pub fn members_keep()

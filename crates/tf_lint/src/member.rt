@@ -6,13 +6,13 @@ ghost use Rattle.hcl_grammar.specs.Tokens as tokens;
 ghost use Rattle.hcl_grammar.specs.declared.error.TokenFault.TheVariants as fault;
 ghost use Rattle.hcl_grammar.specs.declared.bounds.TheConstants.{MAX_NESTING};
 ghost use Rattle.hcl_scan.specs.Follows.{tokens_of};
-ghost use Rattle.tf_find.specs.Nodes as node;
-ghost use Rattle.tf_find.specs.TreeFindings.{AreTreeFindings};
+ghost use Rattle.tf_rules.specs.Nodes as node;
+ghost use Rattle.tf_diagnostics.specs.TreeFindings.{AreTreeFindings};
 ghost use Rattle.tf_lint.specs.Keeping.{SameTokens};
 ghost use Rattle.tf_lint.specs.Seen.{IsSeen, AreSeen, IsNext};
 ghost use Rattle.tf_rule.specs.Findings.{sound};
 ghost use Rattle.tf_rule.specs.declared.rule_set.RuleSet.{RuleSet};
-ghost use Rattle.tf_top.specs.TopFindings.{member_findings};
+ghost use Rattle.tf_rules.specs.TopFindings.{member_findings};
 
 use crate::laws::members_keep;
 use crate::moving::moved_findings;
@@ -51,9 +51,9 @@ fn looked_at(
     ensures at_block { IfOk result (λ seen. seen.blocks.items ≡ sound (length scanned.now.pairs) (member_findings rules scanned.now.pairs x.now)) }
 {
     let mut nodes = Vec::new(alloc);
-    tf_find::add_member_findings(scanned, rules, x, &mut nodes)?;
+    tf_diagnostics::add_member_findings(scanned, rules, x, &mut nodes)?;
     let mut blocks = Vec::new(alloc);
-    tf_top::add_member_findings(scanned, rules, x, &mut blocks)?;
+    tf_rules::add_member_findings(scanned, rules, x, &mut blocks)?;
     Ok(SeenMember {
         from,
         past,

@@ -11,7 +11,7 @@ ghost use Rattle.hcl_parses.specs.Parses.{Parses};
 ghost use Rattle.hcl_scan.specs.Follows.{tokens_of};
 ghost use Rattle.hcl_tree.specs.Faults.{IsMemory, IsMemoryOrDeep};
 ghost use Rattle.hcl_tree.specs.declared.error.ParseFault.TheVariants.{Memory};
-ghost use Rattle.tf_findings.specs.Findings.{AreAtNodesAndBlocks, AreFindings};
+ghost use Rattle.tf_diagnostics.specs.Findings.{AreAtNodesAndBlocks, AreFindings};
 ghost use Rattle.tf_lint.specs.Inner.Seeing.{AreOf};
 ghost use Rattle.tf_lint.specs.Seen.{AreSeen};
 ghost use Rattle.tf_rule.specs.Findings.{AreSound};
@@ -22,7 +22,7 @@ use hcl_grammar::error::TokenFault;
 use hcl_scan::{Kind, Scanned};
 use hcl_tree::{MAX_NESTING, ParseFault, Reader, ended, in_bytes};
 use std::alloc::Global;
-use tf_findings::told;
+use tf_diagnostics::told;
 use tf_rule::{Finding, RuleSet};
 
 /// What the rules find in a text, and in each member of its body.
@@ -91,7 +91,7 @@ fn reported(
     }
 }
 
-/// What the rules of the set find in a text, if it parses, as `tf_findings::findings` finds it in its tree; or why it does not parse, as
+/// What the rules of the set find in a text, if it parses, as `tf_diagnostics::findings` finds it in its tree; or why it does not parse, as
 /// `hcl_tree::parse` says it.
 ///
 /// The text is read once, from left to right. Of its tree no more is kept at a time than one attribute or block of its body. Of another

@@ -60,6 +60,8 @@ pub struct Row {
     pub before: &'static str,
     /// What its message says behind the name.
     pub behind: &'static str,
+    /// What it asks for, as the help of `lint` says it.
+    pub about: &'static str,
 }
 
 const fn make_row(
@@ -68,12 +70,14 @@ const fn make_row(
     fixed: bool,
     before: &'static str,
     behind: &'static str,
+    about: &'static str,
 ) -> Row
     ensures name { result.name.now ≡ name.now }
     ensures severity { result.severity ≡ severity }
     ensures fixed { result.fixed ≡ fixed }
     ensures before { result.before.now ≡ before.now }
     ensures behind { result.behind.now ≡ behind.now }
+    ensures about { result.about.now ≡ about.now }
 {
     Row {
         name,
@@ -81,6 +85,7 @@ const fn make_row(
         fixed,
         before,
         behind,
+        about,
     }
 }
 
@@ -124,6 +129,7 @@ impl Rule {
                 true,
                 "Single line comments should begin with #",
                 "",
+                "a line comment begins with #, not //",
             ),
             Rule::DeprecatedIndex => make_row(
                 "terraform_deprecated_index",
@@ -131,6 +137,7 @@ impl Rule {
                 true,
                 "Legacy dot index syntax, use square brackets",
                 "",
+                "an index stands in brackets: a[0], not a.0",
             ),
             Rule::DeprecatedInterpolation => make_row(
                 "terraform_deprecated_interpolation",
@@ -138,6 +145,7 @@ impl Rule {
                 true,
                 "Interpolation-only expression, write the expression itself",
                 "",
+                "an expression stands by itself: var.a, not \"${var.a}\"",
             ),
             Rule::EmptyListEquality => make_row(
                 "terraform_empty_list_equality",
@@ -145,6 +153,7 @@ impl Rule {
                 true,
                 "Comparison with an empty list, check the length instead",
                 "",
+                "a list is asked for its length, not compared with []",
             ),
             Rule::DeprecatedLookup => make_row(
                 "terraform_deprecated_lookup",
@@ -152,6 +161,7 @@ impl Rule {
                 true,
                 "lookup with two arguments, use square brackets",
                 "",
+                "lookup has three arguments; with two it is a[b]",
             ),
             Rule::NamingConvention => make_row(
                 "terraform_naming_convention",
@@ -159,6 +169,7 @@ impl Rule {
                 false,
                 " name \"",
                 "\" is not snake_case",
+                "names of blocks and locals are in snake_case",
             ),
             Rule::TypedVariables => make_row(
                 "terraform_typed_variables",
@@ -166,6 +177,7 @@ impl Rule {
                 false,
                 "variable \"",
                 "\" has no type",
+                "a variable has a type",
             ),
             Rule::DocumentedVariables => make_row(
                 "terraform_documented_variables",
@@ -173,6 +185,7 @@ impl Rule {
                 false,
                 "variable \"",
                 "\" has no description",
+                "a variable has a description",
             ),
             Rule::DocumentedOutputs => make_row(
                 "terraform_documented_outputs",
@@ -180,6 +193,7 @@ impl Rule {
                 false,
                 "output \"",
                 "\" has no description",
+                "an output has a description",
             ),
         }
     }

@@ -1,10 +1,10 @@
 //! Sets of rules.
 
-ghost use Rattle.std.specs.Prelude.{◌≡◌, ◌≢◌, ◌==◌, ◌||◌, true, false};
+ghost use Rattle.std.specs.Prelude.{◌≡◌, ◌≢◌, ◌||◌, true, false};
 ghost use Rattle.std.specs.Str.{bytes_eq};
 ghost use Rattle.tf_rule.specs.declared.rule.Rule.{Rule};
 ghost use Rattle.tf_rule.specs.RuleSets.{has_rule};
-ghost use Rattle.tf_rule.specs.Rules.{index_of, name_of};
+ghost use Rattle.tf_rule.specs.Rules.{name_of};
 ghost use Rattle.tf_rule.specs.OneRule.{only};
 
 use crate::rule::Rule;
@@ -38,13 +38,9 @@ impl RuleSet {
     pub fn only(rule: Rule) -> RuleSet
         ensures { result ≡ only rule }
     {
-        RuleSet {
-            on: Rule::ALL.map(
-                |other: Rule| -> bool
-                    ensures { result ≡ (index_of other == index_of rule) }
-                { other.index() == rule.index() },
-            ),
-        }
+        let mut on = [false; Rule::COUNT];
+        on[rule.index()] = true;
+        RuleSet { on }
     }
 
     /// The rule of this name, or no rule.

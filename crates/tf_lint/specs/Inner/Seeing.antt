@@ -4,13 +4,13 @@ use Rattle.std.specs.List.{flat_map}
 use Rattle.hcl_grammar.specs.Pure.Reading.{Outcome}
 use Rattle.hcl_grammar.specs.declared.tree.Member.{Member}
 use Rattle.hcl_token.specs.Tokens.{Pair}
-use Rattle.tf_find.specs.Nodes.{member}
-use Rattle.tf_find.specs.TreeFindings.{AreTreeFindings}
+use Rattle.tf_rules.specs.Nodes.{member}
+use Rattle.tf_diagnostics.specs.TreeFindings.{AreTreeFindings}
 use Rattle.tf_lint.specs.Seen.{AreSeen, nodes_of, blocks_of}
 use Rattle.tf_lint.specs.declared.member.SeenMember.{SeenMember}
 use Rattle.tf_rule.specs.Findings.{sound}
 use Rattle.tf_rule.specs.declared.rule_set.RuleSet.{RuleSet}
-use Rattle.tf_top.specs.TopFindings.{top_findings}
+use Rattle.tf_rules.specs.TopFindings.{top_findings}
 
 -- these members, with what is found in each, and in all
 pub record AreOf (rules : RuleSet) (pairs : List Pair) (ms : List Member) (xs : List SeenMember) : Type 0 where

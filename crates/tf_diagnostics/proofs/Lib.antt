@@ -1,0 +1,13 @@
+mod FilterLemmas
+mod Levels
+mod LineLemmas
+mod MarkLemmas
+mod OneOrder
+mod OneRuleFinds
+mod OneText
+mod PartLemmas
+mod SoundLemmas
+mod TextLemmas
+mod TotalOrder
+mod TreeLaws
+mod WalkLemmas

@@ -1,0 +1,14 @@
+//! What the rules find in a text: a walk over its tree, all of it in the order of a report, without what comments silence.
+#![tactic(auto)]
+
+mod bodies;
+mod expressions;
+pub mod laws;
+mod one;
+mod order;
+mod suppression;
+mod text;
+
+pub use bodies::add_member_findings;
+pub use one::of_rule;
+pub use text::{findings, told};

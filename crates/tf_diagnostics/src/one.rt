@@ -1,0 +1,24 @@
+//! What one rule has found.
+
+ghost use Rattle.std.specs.Prelude.{◌≡◌, ℕ, filter, IfOk};
+ghost use Rattle.tf_rule.specs.Findings.{AreSound};
+ghost use Rattle.tf_diagnostics.specs.OneRule.{is_of};
+
+use crate::order::rank;
+use std::alloc::{AllocError, Global};
+use tf_rule::{Finding, Rule};
+
+/// Those of the findings that are of the rule, in the same order; where there are none it takes no memory. `AllocError` where memory
+/// is refused.
+pub fn of_rule(alloc: Global, found: &[Finding], rule: Rule) -> Result<Vec<Finding>, AllocError>
+    ensures are { IfOk result (λ r. r.items ≡ filter (is_of rule) found.now) }
+    ensures sound { (n : ℕ) → AreSound n found.now → IfOk result (λ r. AreSound n r.items) }
+{
+    let mut of_it = Vec::new(alloc);
+    for finding in found {
+        if rank(finding.rule) == rank(rule) {
+            of_it.push(*finding)?;
+        }
+    }
+    Ok(of_it)
+}

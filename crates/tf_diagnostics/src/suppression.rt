@@ -1,0 +1,11 @@
+//! Comments that silence what rules find, as `# tflint-ignore: terraform_deprecated_index, terraform_typed_variables # why`.
+//!
+//! TFLint, Annotations.
+
+mod class;
+mod comment;
+mod mark;
+mod marking;
+mod silence;
+
+pub use silence::without_silenced;

@@ -1,0 +1,139 @@
+//! Findings without those that a comment silences.
+
+ghost use Rattle.std.specs.Prelude.{◌≡◌, ◌<◌, ◌≤◌, ◌+◌, ◌++◌, [], ◌∷◌, ℕ, not, nat_lt, filter, length, take, OnOk, IfOk, IfSome, if◌then◌else◌};
+ghost use Rattle.hcl_token.specs.Place.{line_of};
+ghost use Rattle.tf_rule.specs.declared.rule.Rule.{Rule};
+ghost use Rattle.tf_rule.specs.Findings.{AreSound};
+ghost use Rattle.tf_diagnostics.specs.Silencing.{is_silenced};
+ghost use Rattle.tf_diagnostics.specs.Inner.Marks.{Ascend, is_hit, IsNext};
+
+use crate::suppression::mark::Mark;
+use crate::suppression::marking::marks_of;
+use hcl_scan::Scanned;
+use std::alloc::{AllocError, Global};
+use tf_rule::{Finding, Rule};
+
+/// Whether a line lies behind the one that follows a mark's.
+fn is_past(line: usize, mark: &Mark) -> bool
+    ensures { result ≡ nat_lt (mark.now.line + 1) line }
+{
+    line > mark.line && line - mark.line > 1
+}
+
+/// The marks from the first on that can silence anything on this line.
+fn from_line(marks: &[Mark], line: usize) -> &[Mark]
+    requires { (b : ℕ) × Ascend 0 marks.now b }
+    ensures order { (b : ℕ) × Ascend 0 result.now b }
+    ensures next { IsNext line result.now }
+    ensures same { (rule : Rule) (l : ℕ) → line ≤ l → is_hit rule l result.now ≡ is_hit rule l marks.now }
+{
+    let mut rest = marks;
+    while let Some((mark, others)) = rest.split_first() {
+        if !is_past(line, mark) {
+            return rest;
+        }
+        rest = others;
+    }
+    rest
+}
+
+/// The marks that are left of these for a line, if those up to the line `reached` were left before.
+fn left_at<'m>(marks: &'m [Mark], rest: &'m [Mark], reached: usize, line: usize) -> &'m [Mark]
+    requires all { (b : ℕ) × Ascend 0 marks.now b }
+    requires order { (b : ℕ) × Ascend 0 rest.now b }
+    requires same { (rule : Rule) (l : ℕ) → reached ≤ l → is_hit rule l rest.now ≡ is_hit rule l marks.now }
+    ensures order { (b : ℕ) × Ascend 0 result.now b }
+    ensures next { IsNext line result.now }
+    ensures same { (rule : Rule) (l : ℕ) → line ≤ l → is_hit rule l result.now ≡ is_hit rule l marks.now }
+{
+    if line < reached {
+        // Never where findings stand by place: it keeps the answer right for others.
+        return from_line(marks, line);
+    }
+    from_line(rest, line)
+}
+
+fn first_hits(marks: &[Mark], rule: Rule, line: usize) -> bool
+    ensures { result ≡ is_hit rule line (take 1 marks.now) }
+{
+    match marks.split_first() {
+        None => false,
+        Some((mark, _)) => mark.hits(rule, line),
+    }
+}
+
+/// Whether one of the marks, of which the first two alone can, silences what the rule finds on this line.
+fn is_hit(marks: &[Mark], rule: Rule, line: usize) -> bool
+    requires { IsNext line marks.now }
+    ensures { result ≡ is_hit rule line marks.now }
+{
+    match marks.split_first() {
+        None => false,
+        Some((mark, others)) => mark.hits(rule, line) || first_hits(others, rule, line),
+    }
+}
+
+fn keep(kept: &mut Vec<Finding>, f: Finding, is_silenced: bool) -> Result<(), AllocError>
+    ensures { OnOk result (kept.new.items ≡ kept.old.items ++ (if is_silenced then [] else f ∷ [])) }
+{
+    if !is_silenced {
+        kept.push(f)?;
+    }
+    Ok(())
+}
+
+/// The line of a token; where it is the token whose line was told last, that line, without a second look.
+fn line_at(scanned: &Scanned<'_>, told: Option<(usize, usize)>, i: usize) -> usize
+    requires within { i < length scanned.now.pairs }
+    requires told { IfSome told (λ t. t.1 ≡ line_of scanned.now.pairs t.0) }
+    ensures { result ≡ line_of scanned.now.pairs i }
+{
+    match told {
+        Some((token, line)) if token == i => line,
+        _ => scanned.place_of(i).line,
+    }
+}
+
+/// The findings that none of the marks silences.
+///
+/// Many findings can begin at one token, which may stand behind a long one: its line is asked for once.
+fn unmarked(
+    alloc: Global,
+    scanned: &Scanned<'_>,
+    found: &[Finding],
+    marks: &[Mark],
+) -> Result<Vec<Finding>, AllocError>
+    requires sound { AreSound (length scanned.now.pairs) found.now }
+    requires order { (b : ℕ) × Ascend 0 marks.now b }
+    ensures { IfOk result (λ kept. kept.items ≡ filter (λ f. not (is_hit f.rule (line_of scanned.now.pairs f.first) marks.now)) found.now) }
+{
+    let mut kept = Vec::new(alloc);
+    let mut rest = marks;
+    let mut reached = 0;
+    let mut told = None;
+    for f in found {
+        let line = line_at(scanned, told, f.first);
+        told = Some((f.first, line));
+        rest = left_at(marks, rest, reached, line);
+        reached = line;
+        keep(&mut kept, *f, is_hit(rest, f.rule, line))?;
+    }
+    Ok(kept)
+}
+
+/// The findings that no comment of the text silences, in the same order.
+///
+/// It takes one pass over the tokens and one over the findings, if these stand by place.
+///
+/// TFLint, Annotations.
+pub fn without_silenced(
+    alloc: Global,
+    scanned: &Scanned<'_>,
+    found: &[Finding],
+) -> Result<Vec<Finding>, AllocError>
+    requires { AreSound (length scanned.now.pairs) found.now }
+    ensures { IfOk result (λ kept. kept.items ≡ filter (λ f. not (is_silenced scanned.now.pairs f)) found.now) }
+{
+    let marks = marks_of(alloc, scanned)?;
+    unmarked(alloc, scanned, found, marks.as_slice())
+}

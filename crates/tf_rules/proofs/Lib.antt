@@ -1,0 +1,4 @@
+mod CommentLemmas
+mod SpanLemmas
+pub mod Origin
+pub mod Origins

@@ -1,0 +1,8 @@
+-- The arguments of a call.
+use Rattle.std.specs.Prelude.{List, [], ◌∷◌, Option, Some, None}
+use Rattle.hcl_grammar.specs.declared.tree.Expr.{Expr}
+
+-- the two arguments, where there are two
+abbrev pub two : List Expr → Option (Expr × Expr)
+two (a ∷ b ∷ []) = Some (a, b)
+two _ = None

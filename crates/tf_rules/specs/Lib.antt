@@ -1,0 +1,11 @@
+pub mod Arguments
+pub mod Attributes
+pub mod Layers
+pub mod NodeFindings
+pub mod Nodes
+pub mod Origin
+pub mod Rules
+pub mod SnakeCase
+pub mod Spans
+pub mod TopFindings
+pub mod Words

@@ -1,0 +1,75 @@
+-- Comparisons with an empty list. TFLint ruleset for the Terraform language, terraform_empty_list_equality.
+use Rattle.std.specs.Prelude.{ℕ, ◌+◌, ◌-◌, not, ◌&&◌, ◌==◌, Bool, true, false, List, [], ◌∷◌, ◌++◌, if◌then◌else◌}
+use Rattle.hcl_grammar.specs.declared.tree.Expr.{Expr}
+use Rattle.hcl_grammar.specs.declared.tree.Form.{out-Form}
+use Rattle.hcl_grammar.specs.declared.tree.Form.TheOpen.{Form-F, Shape-F}
+use Rattle.hcl_grammar.specs.declared.tree.Link.{Link}
+use Rattle.hcl_grammar.specs.declared.tree.Operator.{Operator}
+use Rattle.hcl_grammar.specs.declared.tree.Operator.TheVariants as operator
+use Rattle.hcl_grammar.specs.declared.tree.Shape.{out-Shape}
+use Rattle.hcl_token.specs.Tokens.{Pair}
+use Rattle.tf_rule.specs.declared.fix.Fix.{Fix}
+use Rattle.tf_rule.specs.declared.fix.Insertion.TheVariants.{Length, IsZero, IsPositive}
+use Rattle.tf_rule.specs.Fixes.{kept, keeping, when}
+use Rattle.tf_rule.specs.declared.rule.Rule.TheVariants.{EmptyListEquality}
+use Rattle.tf_rule.specs.Findings.{plain, finding_at}
+use Rattle.tf_rule.specs.declared.finding.Finding.{Finding}
+use Rattle.tf_rules.specs.Layers.{FormLayer, ShapeLayer}
+use Rattle.tf_rules.specs.Spans.{tokens, has_trivia, is_here_close}
+
+-- `==` or `!=`
+abbrev pub is_equality : Operator → Bool
+is_equality operator.Equal = true
+is_equality operator.NotEqual = true
+is_equality _ = false
+
+abbrev pub is_empty_shape : ShapeLayer → Bool
+is_empty_shape (Shape-F.Tuple []) = true
+is_empty_shape _ = false
+
+abbrev pub is_empty_form : FormLayer → Bool
+is_empty_form (Form-F.Plain t) = is_empty_shape (out-Shape t.shape)
+is_empty_form _ = false
+
+-- an empty list by itself, without tails and parentheses
+abbrev pub is_empty_list : Expr → Bool
+is_empty_list e = is_empty_form (out-Form e.form)
+
+-- A comparison of the empty list with the operand that ends before token past, with the operator between tokens from and to. It can be
+-- written as a length where the list's brackets have nothing between them, no comment or line end stands beside the operator,
+-- and the operand does not end with a heredoc.
+abbrev pub is_mendable : List Pair → Expr → ℕ → ℕ → ℕ → Bool
+is_mendable pairs empty past from to =
+    (empty.past == empty.first + 2) && (not (has_trivia (tokens pairs from to)) && not (is_here_close pairs (past - 1)))
+
+abbrev pub is_equal : Operator → Bool
+is_equal operator.Equal = true
+is_equal _ = false
+
+-- `length(`, the tokens of the operand, `) == 0` or `) > 0`
+abbrev pub measured : ℕ → ℕ → Bool → Fix
+measured from to zero = keeping Length (kept from to (if zero then IsZero else IsPositive))
+
+-- The comparison at an operator with these expressions beside it, in a chain that begins at token first. What is compared on the left
+-- is all of the chain before the operator; at the first operator that is the expression beside it.
+abbrev pub link_findings : List Pair → ℕ → Bool → Expr → Link → List Finding
+link_findings pairs first is_first left link =
+    if is_equality link.operator
+    then (if is_empty_list link.operand
+    then finding_at EmptyListEquality first link.operand.past plain
+    (when (is_mendable pairs link.operand left.past left.past link.operand.first) (measured first left.past (is_equal link.operator)))
+    else (if is_first && is_empty_list left
+    then finding_at EmptyListEquality first link.operand.past plain
+    (when (is_mendable pairs left link.operand.past left.past link.operand.first) (measured link.operand.first link.operand.past (is_equal link.operator)))
+    else []))
+    else []
+
+-- one at each operator of a chain that compares with an empty list
+abbrev pub chain_findings : List Pair → ℕ → Bool → Expr → List Link → List Finding
+chain_findings pairs first is_first left [] = []
+chain_findings pairs first is_first left (link ∷ links) =
+    link_findings pairs first is_first left link ++ chain_findings pairs first false link.operand links
+
+abbrev pub equality_findings : List Pair → ℕ → FormLayer → List Finding
+equality_findings pairs first (Form-F.Chain head links) = chain_findings pairs first true head links
+equality_findings pairs first _ = []

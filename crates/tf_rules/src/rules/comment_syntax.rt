@@ -1,0 +1,71 @@
+//! Comments that begin with `//`.
+
+ghost use Rattle.std.specs.Prelude.{◌≡◌, ◌++◌, ◌<◌, ◌==◌, ◌&&◌, Some, slice_get, slice_index, length, OnOk};
+ghost use Rattle.std.specs.Option.{option_map};
+ghost use Rattle.tf_rule.specs.Findings.{sound};
+ghost use Rattle.tf_rules.specs.Rules.CommentSyntax.{is_slash_comment, comment_finding, comments_from, comment_findings};
+
+use hcl_scan::{Kind, Scanned};
+use std::alloc::AllocError;
+use tf_rule::{Finding, Fix, Message, Rule, RuleSet, add_finding};
+
+fn begins_with_slashes(spelling: &[u8]) -> bool
+    ensures { result ≡ (slice_index spelling.now 0 == 47 && slice_index spelling.now 1 == 47) }
+{
+    spelling.starts_with(b"//")
+}
+
+/// Whether the token is a line comment that begins with `//`.
+fn is_slash_comment(scanned: &Scanned<'_>, i: usize) -> bool
+    requires { i < length scanned.now.pairs }
+    ensures { Some result ≡ option_map is_slash_comment (slice_get scanned.now.pairs i) }
+{
+    scanned.kind(i) == Kind::LineComment && begins_with_slashes(scanned.spelling(i))
+}
+
+fn add_comment(
+    scanned: &Scanned<'_>,
+    i: usize,
+    slashed: bool,
+    found: &mut Vec<Finding>,
+) -> Result<(), AllocError>
+    requires { i < length scanned.now.pairs }
+    ensures { OnOk result (found.new.items ≡ found.old.items ++ sound (length scanned.now.pairs) (comment_finding i slashed)) }
+{
+    let count = scanned.len();
+    if !slashed {
+        return Ok(());
+    }
+    let finding = Finding {
+        rule: Rule::CommentSyntax,
+        first: i,
+        past: i + 1,
+        message: Message::PLAIN,
+        fix: Some(Fix::Slashes),
+    };
+    add_finding(found, count, finding)
+}
+
+fn add_comments(scanned: &Scanned<'_>, found: &mut Vec<Finding>) -> Result<(), AllocError>
+    ensures { OnOk result (found.new.items ≡ found.old.items ++ sound (length scanned.now.pairs) (comments_from 0 scanned.now.pairs)) }
+{
+    for i in 0..scanned.len() {
+        let slashed = is_slash_comment(scanned, i);
+        add_comment(scanned, i, slashed, found)?;
+    }
+    Ok(())
+}
+
+/// Adds the comments of a text that begin with `//`, if the rule is in the set.
+pub fn add_comment_findings(
+    scanned: &Scanned<'_>,
+    rules: RuleSet,
+    found: &mut Vec<Finding>,
+) -> Result<(), AllocError>
+    ensures { OnOk result (found.new.items ≡ found.old.items ++ sound (length scanned.now.pairs) (comment_findings rules scanned.now.pairs)) }
+{
+    if !rules.has(Rule::CommentSyntax) {
+        return Ok(());
+    }
+    add_comments(scanned, found)
+}
