@@ -102,7 +102,7 @@ fn fix_step(rt: HostRuntime) {
     begin(&rt);
     for (rule, right) in &steps {
         let answer = tf_lint::fix_step(rt.alloc(), &parsed, *rule);
-        let made = answered(&rt, answer, FixFault::Memory, true);
+        let made = answered(&rt, answer, LintFault::Memory, true);
         assert!(rt; made.count == right.count);
         assert!(rt; are_same_edits(&made.edits, &right.edits));
     }
