@@ -5,5 +5,6 @@ pub mod Parts
 pub mod Pairs
 pub mod Following
 pub mod Stopping
+pub mod JournalStops
 pub mod PieceLemmas
 pub mod ListLemmas

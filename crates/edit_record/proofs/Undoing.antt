@@ -15,7 +15,7 @@ module _ {C : Type 0} (backward : C → List ℕ → Result (List ℕ) Refused) 
   backward_push [] c u = elim (backward c u) as (λ r. r ≡ (r >>= λ x. Ok x)) [ Ok x ↦ refl | Err e ↦ refl ]
   backward_push (d ∷ cs) c u = rw (backward_push cs c u) (bind_bind (backward c u) (backward_all backward cs) (backward d))
 
-  last_item : (cs : List C) (c : C) → 1 ≤ length cs → c ≡ get_or cs (length cs - 1) c → cs ≡ take (length cs - 1) cs ++ c ∷ []
+  pub last_item : (cs : List C) (c : C) → 1 ≤ length cs → c ≡ get_or cs (length cs - 1) c → cs ≡ take (length cs - 1) cs ++ c ∷ []
   last_item cs c n is =
       let m = take_more cs (length cs - 1) c (omega arith) in
       let k : length cs - 1 + 1 ≡ length cs = omega arith in

@@ -4,4 +4,5 @@ pub mod Pieced
 pub mod Refusals
 pub mod Many
 pub mod Journal
+pub mod JournalRefusals
 pub mod Inner

@@ -42,6 +42,14 @@ Answers direction e t (Err (Length expected found)) = (expected ≡ expected_len
 Answers direction e t (Err (Differs step edit)) = (step ≡ 0) × HasLen direction e t × IsLowest direction e.entries t edit
 Answers direction e t (Err Memory) = ⊥
 
+-- What a call on edits answered: the text on the other side, or why there is none; or memory ran out, and that only
+-- over a text of the right length.
+abbrev pub CallAnswers : Direction → EditList → List ℕ → Result (Vec ℕ) Refused → Type 0
+CallAnswers direction e t (Ok v) = Answers direction e t (Ok v.items)
+CallAnswers direction e t (Err (Length expected found)) = Answers direction e t (Err (Length expected found))
+CallAnswers direction e t (Err (Differs step edit)) = Answers direction e t (Err (Differs step edit))
+CallAnswers direction e t (Err Memory) = HasLen direction e t
+
 -- a call answered this, unless memory ran out
 abbrev pub Gives : Result (Vec ℕ) Refused → Result (List ℕ) Refused → Type 0
 Gives (Ok v) answer = answer ≡ Ok v.items

@@ -108,7 +108,7 @@ impl Edits {
 impl Change for Edits {
     ghost use Rattle.std.specs.Prelude.{IfErr};
     ghost use Rattle.edit_record.specs.Pieces.{Turns};
-    ghost use Rattle.edit_record.specs.Refusals.{Gives, HasLen};
+    ghost use Rattle.edit_record.specs.Refusals.{CallAnswers, Gives, HasLen};
     ghost use Rattle.edit_record.specs.Inner.Walk.{answer};
     ghost use Rattle.edit_record.specs.Inner.Exact.{forward_exact, backward_exact, answer_never_memory};
     ghost use Rattle.edit_record.specs.declared.change.Refused.TheVariants.{Memory};
@@ -129,6 +129,7 @@ impl Change for Edits {
     fn apply(&self, alloc: Global, text: &[u8]) -> Result<Vec<u8>, Refused>
         ensures gives { Gives result (answer Forward self.now text.now) }
         ensures memory { IfErr result (λ e. e ≡ Memory → HasLen Forward self.now text.now) }
+        ensures pieces { CallAnswers Forward self.now text.now result }
     {
         turned_text(
             alloc,
@@ -143,6 +144,7 @@ impl Change for Edits {
     fn undo(&self, alloc: Global, text: &[u8]) -> Result<Vec<u8>, Refused>
         ensures gives { Gives result (answer Backward self.now text.now) }
         ensures memory { IfErr result (λ e. e ≡ Memory → HasLen Backward self.now text.now) }
+        ensures pieces { CallAnswers Backward self.now text.now result }
     {
         turned_text(
             alloc,

@@ -1,6 +1,6 @@
 ghost use Rattle.std.specs.Prelude.{◌≡◌, ◌≤◌, ◌+◌, [], ◌∷◌, ◌++◌, length, take, OnOk, OnErr, IfErr, IsNone, option_to_list};
 
-use crate::many::{apply_all, undo_all};
+use crate::many::{applied, undone};
 use crate::{Change, Record, Refused};
 use std::alloc::{AllocFailed, Global};
 use std::marker::Model;
@@ -68,7 +68,10 @@ impl Journal {
 
 impl Change for Journal {
     ghost use Rattle.edit_record.specs.Journal.{journal_turns, journal_forward, journal_backward};
+    ghost use Rattle.edit_record.specs.JournalRefusals.{JournalCallAnswers};
+    ghost use Rattle.edit_record.specs.Refusals.{Gives};
     ghost use Rattle.edit_record.specs.Inner.JournalExact.{journal_applies, journal_undoes, journal_never_memory};
+    ghost use Rattle.edit_record.specs.declared.direction.Direction.TheVariants.{Forward, Backward};
 
     ghost turns = { journal_turns };
 
@@ -82,11 +85,17 @@ impl Change for Journal {
 
     ghost never_memory = { journal_never_memory };
 
-    fn apply(&self, alloc: Global, text: &[u8]) -> Result<Vec<u8>, Refused> {
-        apply_all(alloc, &self.records, text)
+    fn apply(&self, alloc: Global, text: &[u8]) -> Result<Vec<u8>, Refused>
+        ensures gives { Gives result (journal_forward self.now text.now) }
+        ensures pieces { JournalCallAnswers Forward self.now text.now result }
+    {
+        applied(alloc, &self.records, text)
     }
 
-    fn undo(&self, alloc: Global, text: &[u8]) -> Result<Vec<u8>, Refused> {
-        undo_all(alloc, &self.records, text)
+    fn undo(&self, alloc: Global, text: &[u8]) -> Result<Vec<u8>, Refused>
+        ensures gives { Gives result (journal_backward self.now text.now) }
+        ensures pieces { JournalCallAnswers Backward self.now text.now result }
+    {
+        undone(alloc, &self.records, text)
     }
 }

@@ -4,6 +4,8 @@ ghost use Rattle.edit_record.specs.Pieces.{Entry, EditList, Piece, Turns, old_te
 ghost use Rattle.edit_record.specs.Made.{MakeIsExact, HaveLengths, EditsTurnIntoOne};
 ghost use Rattle.edit_record.specs.Pieced.{AreChanges, PiecesTurn, PiecesMake};
 ghost use Rattle.edit_record.specs.Refusals.{Answers};
+ghost use Rattle.edit_record.specs.Journal.{Entered, journal_forward, journal_backward};
+ghost use Rattle.edit_record.specs.JournalRefusals.{JournalAnswers};
 ghost use Rattle.edit_record.specs.declared.edits.TheConstants.{MAX_TEXT};
 ghost use Rattle.edit_record.specs.Inner.Walk.{answer};
 ghost use Rattle.edit_record.specs.declared.direction.Direction.TheVariants.{Forward, Backward};
@@ -31,6 +33,13 @@ pub fn sides_fix_each_other<C: Change>(change: &C)
 pub fn edits_refuse_exactly(edits: &Edits)
     ensures forward { (t : List ℕ) → Answers Forward edits.now t (answer Forward edits.now t) }
     ensures backward { (u : List ℕ) → Answers Backward edits.now u (answer Backward edits.now u) }
+{}
+
+/// What a journal answers about a text, forward and back: the text on the other side, or else why the first record
+/// that refuses the text which it is given does so.
+pub fn journals_refuse_exactly()
+    ensures forward { (rs : List Entered) (t : List ℕ) → JournalAnswers Forward rs t (journal_forward rs t) }
+    ensures backward { (rs : List Entered) (u : List ℕ) → JournalAnswers Backward rs u (journal_backward rs u) }
 {}
 
 /// Edits turn texts of their old length into texts of their new length.

@@ -54,7 +54,7 @@ impl Record {
 impl Change for Record {
     ghost use Rattle.std.specs.Prelude.{IfErr};
     ghost use Rattle.edit_record.specs.Journal.{record_turns, record_forward, record_backward};
-    ghost use Rattle.edit_record.specs.Refusals.{Gives, HasLen};
+    ghost use Rattle.edit_record.specs.Refusals.{CallAnswers, Gives, HasLen};
     ghost use Rattle.edit_record.specs.Inner.JournalExact.{record_applies, record_undoes, record_never_memory};
     ghost use Rattle.edit_record.specs.declared.change.Refused.TheVariants.{Memory};
     ghost use Rattle.edit_record.specs.declared.direction.Direction.TheVariants.{Forward, Backward};
@@ -74,6 +74,7 @@ impl Change for Record {
     fn apply(&self, alloc: Global, text: &[u8]) -> Result<Vec<u8>, Refused>
         ensures gives { Gives result (record_forward self.now text.now) }
         ensures memory { IfErr result (λ e. e ≡ Memory → HasLen Forward self.now.edits text.now) }
+        ensures pieces { CallAnswers Forward self.now.edits text.now result }
     {
         self.edits.apply(alloc, text)
     }
@@ -81,6 +82,7 @@ impl Change for Record {
     fn undo(&self, alloc: Global, text: &[u8]) -> Result<Vec<u8>, Refused>
         ensures gives { Gives result (record_backward self.now text.now) }
         ensures memory { IfErr result (λ e. e ≡ Memory → HasLen Backward self.now.edits text.now) }
+        ensures pieces { CallAnswers Backward self.now.edits text.now result }
     {
         self.edits.undo(alloc, text)
     }

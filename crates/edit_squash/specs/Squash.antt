@@ -33,9 +33,14 @@ pub record IsSquash (a b c : EditList) : Type 0 where
   pub alike : TurnsAlike c a b
   pub shape : HasShape a b c
 
--- what squash answers; a refused growth is told only of lists whose lengths follow, since no memory is taken before that
+-- the lengths follow, and there is an edit: no memory is taken for any other two lists
+pub record MayRunOut (a b : EditList) : Type 0 where
+  pub follows : new_len a ≡ b.old_len
+  pub some : 0 < length a.entries + length b.entries
+
+-- what squash answers
 abbrev pub Squashes : EditList → EditList → Result EditList Unmet → Type 0
 Squashes a b (Ok c) = IsSquash a b c
 Squashes a b (Err LengthsDiffer) = new_len a ≢ b.old_len
 Squashes a b (Err (Contradicts edit)) = (new_len a ≡ b.old_len) × Contradiction a b edit
-Squashes a b (Err Memory) = new_len a ≡ b.old_len
+Squashes a b (Err Memory) = MayRunOut a b

@@ -1,4 +1,4 @@
-ghost use Rattle.std.specs.Prelude.{◌≡◌, ◌↔◌, ◌+◌, ◌<◌, length, IsTrue};
+ghost use Rattle.std.specs.Prelude.{◌≡◌, ◌↔◌, ◌+◌, ◌<◌, length, IfErr, IsTrue};
 ghost use Rattle.edit_record.specs.Made.{new_len};
 ghost use Rattle.edit_squash.specs.Inner.Merging.{Merges};
 ghost use Rattle.edit_squash.specs.Squash.{Squashes};
@@ -38,15 +38,27 @@ impl From<AllocError> for Unmet {
 /// with places in the first text. An edit that is left with nothing to remove and nothing to add is dropped, and one
 /// that puts back what it removes is kept, since it says what bytes stand there. The result is never too long.
 ///
-/// It takes one pass over both lists, and builds no text.
+/// It takes one pass over both lists, and builds no text. Where neither has an edit it takes no memory.
 pub fn squash(alloc: Global, first: &Edits, second: &Edits) -> Result<Edits, Unmet>
     ensures { Squashes first.now second.now result }
 {
     if first.new_len() != second.old_len() {
         return Err(Unmet::LengthsDiffer);
     }
-    let edits = merged(alloc, first, second)?;
+    let edits = joined(alloc, first, second)?;
     Ok(Edits::of_placed(first.old_len(), second.new_len(), edits))
+}
+
+/// The edits in the place of both lists. Where these have none, no memory is taken.
+fn joined(alloc: Global, first: &Edits, second: &Edits) -> Result<Vec<Edit>, Unmet>
+    requires { new_len first.now ≡ second.now.old_len }
+    ensures merges { Merges first.now second.now result }
+    ensures memory { IfErr result (λ e. e ≡ Memory → 0 < length first.now.entries + length second.now.entries) }
+{
+    if !more(first.edits(), second.edits()) {
+        return Ok(Vec::new(alloc));
+    }
+    merged(alloc, first, second)
 }
 
 /// The edits in the place of both lists.

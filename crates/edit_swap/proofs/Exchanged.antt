@@ -5,10 +5,10 @@ use Rattle.std.proofs.lemmas.Bool.{ltb-true, ltb-false}
 use Rattle.edit_record.specs.Pieces.{Entry, EditList, as_list, removed_len, added_len}
 use Rattle.edit_record.specs.Made.{ArePlaced, AreEdits, new_len}
 use Rattle.edit_record.specs.declared.edits.TheConstants.{MAX_TEXT}
-use Rattle.edit_swap.specs.Inner.Exchange.{Behind, moved, Exchanges, Place, first_goes, second_goes, went_first, went_second, Fair, IsFair, IsExchange, start}
+use Rattle.edit_swap.specs.Inner.Exchange.{Behind, moved, Exchanges, Place, first_goes, second_goes, went_first, went_second, with_done, passed_first, passed_second, Fair, IsFair, IsExchange, start}
 use Rattle.edit_squash.specs.Shape.{Span, past, added_spans, removed_spans}
-use Rattle.edit_swap.specs.Swap.{At, Meet, FirstMeeting, IsSwap, AreMoved, MayRunOut}
-use Rattle.std.specs.Prelude.{sum_by}
+use Rattle.edit_swap.specs.Swap.{At, Meet, FirstMeeting, IsSwap, IsWithin, AreMoved}
+use Rattle.std.specs.Prelude.{sum_by, Result, Ok, Err, IfErr}
 use Rattle.std.specs.List.{AllByRecursion}
 use Rattle.std.proofs.lemmas.List.Sums.{sum_by_push}
 use Rattle.edit_swap.proofs.Spans.{at_within, at_behind, at_first, removed_behind, added_behind, added_moved, before_or_same, all_map, all_push, removed_all_behind, added_all_behind, before_some, moved_push, same_sums}
@@ -46,6 +46,26 @@ pub record Under (la lb ab rb : ℕ) (a b : List Entry) (s : Place) (xs ys : Lis
   pub other_is : s.other + sum_by (λ x. x.len) done_seconds ≡ s.old + sum_by (λ x. x.other) done_seconds
   -- of what is done nothing meets
   pub apart : (i j : ℕ) → Meet (as_list la a) (as_list lb b) i j → (length done_firsts ≤ i) × (length done_seconds ≤ j)
+
+-- the same where nothing is kept of what is done
+abbrev pub Passed : ℕ → ℕ → ℕ → ℕ → List Entry → List Entry → Place → List Entry → List Entry → Type 0
+Passed la lb ab rb a b p xs ys = (us : List Entry) × (vs : List Entry) × Under la lb ab rb a b (with_done us vs p) xs ys
+
+pub fair_place : (la lb ab rb : ℕ) (a b : List Entry) (p : Place) (xs ys : List Entry) → Passed la lb ab rb a b p xs ys → IsFair p xs ys
+fair_place la lb ab rb a b p xs ys u =
+    let h = u.2.fair in
+    (la, lb, ab, rb, record { a_fits = h.a_fits; b_fits = h.b_fits; w_fits = h.w_fits; first_placed = h.first_placed; second_placed = h.second_placed; ahead = h.ahead; aside = h.aside })
+
+pub first_goes_done : (us vs : List Entry) (p : Place) (xs ys : List Entry) → first_goes (with_done us vs p) xs ys ≡ first_goes p xs ys
+first_goes_done us vs p [] ys = refl
+first_goes_done us vs p (x ∷ xs) [] = refl
+first_goes_done us vs p (x ∷ xs) (y ∷ ys) = refl
+
+pub second_goes_done : (us vs : List Entry) (p : Place) (xs ys : List Entry) → second_goes (with_done us vs p) xs ys ≡ second_goes p xs ys
+second_goes_done us vs p [] [] = refl
+second_goes_done us vs p (x ∷ xs) [] = refl
+second_goes_done us vs p [] (y ∷ ys) = refl
+second_goes_done us vs p (x ∷ xs) (y ∷ ys) = refl
 
 behind_first : (s : Place) (x : Entry) (xs ys : List Entry) → first_goes s (x ∷ xs) ys ≡ true → Behind (s.mid + (x.at - s.old) + length x.added) ys
 behind_first s x xs [] t = tt
@@ -224,30 +244,6 @@ module _ (la lb ab rb : ℕ) (a b : List Entry) where
       )
 
   -- where an edit goes, the first two do not meet, and there is memory to be refused
-  pub ran_first : (s : Place) (xs ys : List Entry) → new_len (as_list la a) ≡ lb → Under la lb ab rb a b s xs ys → first_goes s xs ys ≡ true → MayRunOut (as_list la a) (as_list lb b)
-  ran_first s xs ys follows u t =
-      let g = goes_first s xs ys (went_first s xs ys) u t refl in
-      let done = u.firsts_done in
-      let more = g.0.firsts_done in
-      let less = g.1 in
-      record {
-        follows = follows;
-        some = omega (arith, less, done);
-        parted = λ m. let k = (g.0.apart 0 0 m).0 in omega (arith, k, done, more, less);
-      }
-
-  pub ran_second : (s : Place) (xs ys : List Entry) → new_len (as_list la a) ≡ lb → Under la lb ab rb a b s xs ys → second_goes s xs ys ≡ true → MayRunOut (as_list la a) (as_list lb b)
-  ran_second s xs ys follows u t =
-      let g = goes_second s xs ys (went_second s xs ys) u t refl in
-      let done = u.seconds_done in
-      let more = g.0.seconds_done in
-      let less = g.1 in
-      record {
-        follows = follows;
-        some = omega (arith, less, done);
-        parted = λ m. let k = (g.0.apart 0 0 m).1 in omega (arith, k, done, more, less);
-      }
-
   pub under_start : (s : Place) (lc : ℕ) → AreEdits la lb a → AreEdits lb lc b → ab ≡ added_len b → rb ≡ removed_len b → s ≡ start → Under la lb ab rb a b s a b
   under_start s lc p q e1 e2 is =
       let n = p.new in let m = q.new in
@@ -341,6 +337,41 @@ module _ (la lb ab rb : ℕ) (a b : List Entry) where
         );
       }
 
+  -- an edit is still to come
+  pub some_edit : (s : Place) (xs ys : List Entry) → Under la lb ab rb a b s xs ys → 0 < length xs + length ys → 0 < length a + length b
+  some_edit s xs ys u some = let f = u.firsts_done in let g = u.seconds_done in omega arith
+
+  -- where nothing meets, one of the two goes
+  pub second_must : (s : Place) (xs ys : List Entry) → Under la lb ab rb a b s xs ys → ((i j : ℕ) → Meet (as_list la a) (as_list lb b) i j → ⊥) → 0 < length xs + length ys → first_goes s xs ys ≡ false → second_goes s xs ys ≡ true
+  second_must s xs ys u apart some f =
+      elim (second_goes s xs ys) as (λ g. second_goes s xs ys ≡ g → g ≡ true) [
+        | true ↦ λ e. refl
+        | false ↦ λ e. absurd (apart _ _ (under_meets s xs ys u some f e).meet)
+      ] refl
+
+  -- nothing is left, so nothing meets
+  pub nothing_meets : (s : Place) → Under la lb ab rb a b s [] [] → (i j : ℕ) → Meet (as_list la a) (as_list lb b) i j → ⊥
+  nothing_meets s u i j m =
+      let k = u.apart i j m in
+      let i_lt = at_within i m.one (added_spans 0 0 a) m.one_is in
+      let i_len = added_len_of 0 0 a in
+      let fd = u.firsts_done in
+      omega (arith, k.0, i_lt, i_len)
+
+  pub pass_one : (p : Place) (xs ys : List Entry) (q : Place × List Entry) → Passed la lb ab rb a b p xs ys → first_goes p xs ys ≡ true → q ≡ passed_first p xs → Passed la lb ab rb a b q.0 q.1 ys × (length q.1 < length xs)
+  pass_one p [] ys q h t e = absurd cc
+  pass_one p (x ∷ xs) ys q h t e =
+      let s : Place = with_done h.0 h.1 p in
+      let g = goes_first s (x ∷ xs) ys (went_first s (x ∷ xs) ys) h.2 (first_goes_done h.0 h.1 p (x ∷ xs) ys ∙ t) refl in
+      subst (λ (z : Place × List Entry). Passed la lb ab rb a b z.0 z.1 ys × (length z.1 < length (x ∷ xs))) (sym e) ((h.0, h.1 ++ moved p.old x p.other ∷ [], g.0), g.1)
+
+  pub pass_other : (p : Place) (xs ys : List Entry) (q : Place × List Entry) → Passed la lb ab rb a b p xs ys → second_goes p xs ys ≡ true → q ≡ passed_second p ys → Passed la lb ab rb a b q.0 xs q.1 × (length q.1 < length ys)
+  pass_other p xs [] q h t e = absurd cc
+  pass_other p xs (y ∷ ys) q h t e =
+      let s : Place = with_done h.0 h.1 p in
+      let g = goes_second s xs (y ∷ ys) (went_second s xs (y ∷ ys)) h.2 (second_goes_done h.0 h.1 p xs (y ∷ ys) ∙ t) refl in
+      subst (λ (z : Place × List Entry). Passed la lb ab rb a b z.0 xs z.1 × (length z.1 < length (y ∷ ys))) (sym e) ((h.0 ++ moved p.mid y p.old ∷ [], h.1, g.0), g.1)
+
 -- ---- the sums of the code
 
 pub record Small (n m : ℕ) : Type 0 where
@@ -370,6 +401,10 @@ fits_second s xs y ys zs h e =
     record { one = omega arith; two = omega arith }
 
 -- ---- what the calls tell
+
+pub any_fault : {X E P : Type 0} (r : Result X E) → P → IfErr r (λ _. P)
+any_fault (Ok x) h = tt
+any_fault (Err e) h = h
 
 pub made_as : (e : EditList) (es : List Entry) (n : ℕ) → es ≡ e.entries → new_len e ≡ n → AreEdits e.old_len (new_len e) es → AreEdits e.old_len n e.entries
 made_as e es n is new h = subst (λ (k : ℕ). AreEdits e.old_len k e.entries) new (subst (λ (l : List Entry). AreEdits e.old_len (new_len e) l) is h)
@@ -402,5 +437,5 @@ module _ (a b : EditList) (s : Place) (follows : new_len a ≡ b.old_len) (x : I
       let l = x.len in
       rw (b2_is, a2_is, us_are, vs_are, old_is, len_is) (record { old_len_is = refl; mid_len_is = omega (arith, k.0, k.1); seconds = x.seconds; firsts = x.firsts; alike = x.alike })
 
-  pub within : a.old_len + added_len b.entries ≤ MAX_TEXT + removed_len b.entries
-  within = let l = x.len in omega (arith, l, len_is)
+pub fits : (a b : EditList) (s : Place) (x : IsExchange a b s) (len : ℕ) → len ≡ a.old_len - s.old + s.other → IsWithin a b → len ≤ MAX_TEXT
+fits a b s x len len_is within = let l = x.len in omega (arith, l, len_is, within)

@@ -5,7 +5,7 @@ use Rattle.edit_record.specs.Pieces.{EditList}
 use Rattle.edit_record.specs.Journal.{Entered}
 use Rattle.edit_swap.specs.Swap.{At, ChangePlaces, MayRunOut}
 use Rattle.edit_swap.specs.Taking.{TakenOut}
-use Rattle.edit_swap.specs.TakeOut.{edits_of, words_of, there, Differ, Met, Overflows, Begins, TakesMemory, Stuck, TakesOut}
+use Rattle.edit_swap.specs.TakeOut.{edits_of, words_of, there, Differ, Met, Overflows, CanSwap, TakesMemory, Stuck, TakesOut}
 use Rattle.edit_swap.specs.Inner.Past.{TakesPast}
 use Rattle.edit_swap.specs.declared.taking.TakeFault.{TakeFault}
 use Rattle.edit_swap.specs.declared.taking.TakeFault.TheVariants.{Length, Blocked, TooLong, Memory}
@@ -53,27 +53,27 @@ stuck first records others moved i r Refuses lt is p h = record {
   refuses = h;
 }
 
-pub begins_memory : (a b : EditList) → MayRunOut a b → Begins a b
-begins_memory a b m = (m.follows, m.parted)
+pub may_swap : (a b : EditList) → MayRunOut a b → CanSwap a b
+may_swap a b m = (m.follows, m.apart, m.within)
 
-pub begins_places : (a b b2 a2 : EditList) → ChangePlaces a b b2 a2 → Begins a b
-begins_places a b b2 a2 p = (p.follows, p.apart 0 0)
+pub did_swap : (a b b2 a2 : EditList) → ChangePlaces a b b2 a2 → CanSwap a b
+did_swap a b b2 a2 p = (p.follows, p.apart, p.within)
 
 none_moved : (a : EditList) (cs : List EditList) (last : EditList) → TakenOut a [] cs last → a ≡ last
 none_moved a [] last h = h
 none_moved a (c ∷ cs) last h = absurd h
 
-one_moved : (a b : EditList) (bs cs : List EditList) (last : EditList) → TakenOut a (b ∷ bs) cs last → Begins a b
+one_moved : (a b : EditList) (bs cs : List EditList) (last : EditList) → TakenOut a (b ∷ bs) cs last → CanSwap a b
 one_moved a b bs [] last h = absurd h
-one_moved a b bs (c ∷ cs) last h = begins_places a b c h.0 h.1
+one_moved a b bs (c ∷ cs) last h = did_swap a b c h.0 h.1
 
 -- memory is taken for some record, and so it may have been for the first
 pub may_run_out : (first : EditList) (records others : List Entered) (moved : Option EditList) (i : ℕ) (r : Entered) → i < length records → r ≡ get_or records i r → Past first records others moved i
-    → Begins (there first moved) r.edits → TakesMemory first records
+    → CanSwap (there first moved) r.edits → TakesMemory first records
 may_run_out first [] others moved i r lt is p h = absurd (omega arith)
 may_run_out first (x ∷ records) others moved zero r lt is p h =
     let same = none_moved first (edits_of others) (there first moved) p.went in
-    subst (λ (y : Entered). Begins first y.edits) is (subst (λ (y : EditList). Begins y r.edits) (sym same) h)
+    subst (λ (y : Entered). CanSwap first y.edits) is (subst (λ (y : EditList). CanSwap y r.edits) (sym same) h)
 may_run_out first (x ∷ records) others moved (suc i) r lt is p h = one_moved first x.edits (edits_of (take i records)) (edits_of others) (there first moved) p.went
 
 none_past : (first : EditList) (records others : List Entered) (moved : Option EditList) (i : ℕ) (r : Entered) (e : TakeFault) → i < length records → r ≡ get_or records i r → Past first records others moved i

@@ -78,22 +78,26 @@ SwapsAreOne = (a b b2 a2 d2 c2 : EditList) → IsSwap a b b2 a2 → IsSwap a b d
 abbrev pub IsOver : EditList → EditList → Type 0
 IsOver a b = MAX_TEXT + removed_len b.entries < a.old_len + added_len b.entries
 
+-- they are within it
+abbrev pub IsWithin : EditList → EditList → Type 0
+IsWithin a b = a.old_len + added_len b.entries ≤ MAX_TEXT + removed_len b.entries
+
 -- a and b change places, and are then b2 and a2: b goes on from a, no edits meet, and the text between is not too long in the
 -- other order
 pub record ChangePlaces (a b b2 a2 : EditList) : Type 0 where
   pub follows : new_len a ≡ b.old_len
   pub apart : Apart a b
-  pub within : a.old_len + added_len b.entries ≤ MAX_TEXT + removed_len b.entries
+  pub within : IsWithin a b
   pub swap : IsSwap a b b2 a2
 
 -- ---- what swap answers
 
--- the lengths follow, and there is an edit to be put in its new place, since the first of either list do not meet: no memory is
--- taken for any other two lists
+-- the two lists change places, and there is an edit to be put in its new place: no memory is taken for any other two lists
 pub record MayRunOut (a b : EditList) : Type 0 where
   pub follows : new_len a ≡ b.old_len
+  pub apart : Apart a b
+  pub within : IsWithin a b
   pub some : 0 < length a.entries + length b.entries
-  pub parted : Meet a b 0 0 → ⊥
 
 -- the lists in the other order, or why they do not change places
 abbrev pub Swaps : EditList → EditList → Result (EditList × EditList) SwapFault → Type 0

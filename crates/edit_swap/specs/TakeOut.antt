@@ -7,7 +7,7 @@ use Rattle.edit_record.specs.declared.edits.Edits.{Edits}
 use Rattle.edit_record.specs.Pieces.{EditList}
 use Rattle.edit_record.specs.Made.{new_len}
 use Rattle.edit_record.specs.Journal.{Entered}
-use Rattle.edit_swap.specs.Swap.{At, Meet, FirstMeeting, Apart, IsOver}
+use Rattle.edit_swap.specs.Swap.{At, FirstMeeting, Apart, IsOver, IsWithin}
 use Rattle.edit_swap.specs.Taking.{TakenOut}
 use Rattle.edit_swap.specs.declared.taking.TakeFault.{TakeFault}
 use Rattle.edit_swap.specs.declared.taking.TakeFault.TheVariants.{Length, Blocked, TooLong, Memory}
@@ -43,14 +43,14 @@ pub record Stuck (a : EditList) (bs : List EditList) (k : ℕ) (Refuses : EditLi
   pub next_is : At k next bs
   pub refuses : Refuses a_there next
 
--- the second list goes on from the first, and the first edits of the two do not meet
-abbrev pub Begins : EditList → EditList → Type 0
-Begins a b = (new_len a ≡ b.old_len) × (Meet a b 0 0 → ⊥)
+-- nothing is in the way of two lists that are to change places
+abbrev pub CanSwap : EditList → EditList → Type 0
+CanSwap a b = (new_len a ≡ b.old_len) × Apart a b × IsWithin a b
 
--- no memory is taken where there is no record, nor where the first one refuses at its first edit
+-- no memory is taken where there is no record, nor where the first one refuses
 abbrev pub TakesMemory : EditList → List Entered → Type 0
 TakesMemory a [] = ⊥
-TakesMemory a (r ∷ rs) = Begins a r.edits
+TakesMemory a (r ∷ rs) = CanSwap a r.edits
 
 -- What take_out answers: the records as they are without a before them, with their commands, and what a has become behind them
 -- all; or the first record that refuses, and why.

@@ -1,7 +1,7 @@
 //! Two lists of edits on the way to the other order: the state between two steps, and the steps.
 ghost use Rattle.std.specs.Prelude.{◌≡◌, ◌↔◌, ◌+◌, ◌-◌, ◌^◌, ◌<◌, ◌≤◌, length, IfOk, IsTrue};
 ghost use Rattle.edit_record.specs.Pieces.{entry, entries};
-ghost use Rattle.edit_swap.specs.Inner.Exchange.{moved, first_goes, second_goes, went_first, went_second, IsFair, start};
+ghost use Rattle.edit_swap.specs.Inner.Exchange.{moved, first_goes, second_goes, went_first, went_second, passed_first, passed_second, IsFair, start};
 ghost use Rattle.edit_swap.specs.Inner.ExchangePlace.{place};
 
 use edit_record::Edit;
@@ -115,6 +115,40 @@ impl Exchange {
                 self.mid_at = y.at + y.removed.len();
                 self.other_at = self.other_at + gap + y.added.len();
                 Ok(left)
+            }
+        }
+    }
+
+    /// Passes the next edit of the first list, of which nothing is kept, and answers what is left of it.
+    pub(crate) fn pass_first<'a>(&mut self, xs: &'a [Edit], ys: &[Edit]) -> &'a [Edit]
+        requires { IsFair (place self.old) (entries xs.now) (entries ys.now) }
+        ensures { (place self.new, entries result.now) ≡ passed_first (place self.old) (entries xs.now) }
+    {
+        match xs {
+            [] => xs,
+            [x, left @ ..] => {
+                let gap = x.at - self.old_at;
+                self.old_at = x.at + x.removed.len();
+                self.mid_at = self.mid_at + gap + x.added.len();
+                self.other_at = self.other_at + gap + x.removed.len();
+                left
+            }
+        }
+    }
+
+    /// The same of the second list.
+    pub(crate) fn pass_second<'a>(&mut self, xs: &[Edit], ys: &'a [Edit]) -> &'a [Edit]
+        requires { IsFair (place self.old) (entries xs.now) (entries ys.now) }
+        ensures { (place self.new, entries result.now) ≡ passed_second (place self.old) (entries ys.now) }
+    {
+        match ys {
+            [] => ys,
+            [y, left @ ..] => {
+                let gap = y.at - self.mid_at;
+                self.old_at = self.old_at + gap + y.removed.len();
+                self.mid_at = y.at + y.removed.len();
+                self.other_at = self.other_at + gap + y.added.len();
+                left
             }
         }
     }

@@ -1,8 +1,9 @@
 //! Swapping two lists of edits.
-ghost use Rattle.std.specs.Prelude.{◌≡◌, ◌↔◌, ◌+◌, ◌<◌, length, IsTrue};
+ghost use Rattle.std.specs.Prelude.{◌≡◌, ◌↔◌, ◌+◌, ◌<◌, length, IfErr, IfOk, IfSome, IsNone, IsTrue};
 ghost use Rattle.edit_record.specs.Made.{new_len};
-ghost use Rattle.edit_swap.specs.Swap.{Swaps};
-ghost use Rattle.edit_swap.specs.Inner.ExchangePlace.{Exchanged};
+ghost use Rattle.edit_swap.specs.Swap.{Swaps, Apart, ChangePlaces, FirstMeeting, IsOver, IsWithin};
+ghost use Rattle.edit_swap.specs.Inner.Exchange.{IsExchange};
+ghost use Rattle.edit_swap.specs.Inner.ExchangePlace.{place};
 ghost use Rattle.edit_swap.specs.declared.swapping.SwapFault.TheVariants.{Memory};
 
 use crate::exchange::Exchange;
@@ -52,28 +53,79 @@ impl<T: Drop> From<AllocFailed<T>> for SwapFault {
 /// between, the lists do not change places, and `Meets` names the two, each counted from 0 in its list. `TooLong` means
 /// that the text between would have more than [`MAX_TEXT`] bytes in the other order.
 ///
-/// It takes one pass over both lists, and builds no text.
+/// It takes one pass over both lists, and where they change places another, which alone takes memory. It builds no text.
 pub fn swap(alloc: Global, first: &Edits, second: &Edits) -> Result<(Edits, Edits), SwapFault>
     ensures { Swaps first.now second.now result }
 {
     if first.new_len() != second.old_len() {
         return Err(SwapFault::LengthsDiffer);
     }
-    let exchange = exchanged(alloc, first, second)?;
-    let len = exchange.other_len(first.old_len());
-    if len > MAX_TEXT {
+    if let Some((one, other)) = meeting(alloc, first, second) {
+        return Err(SwapFault::Meets {
+            first: one,
+            second: other,
+        });
+    }
+    if is_over(first, second) {
         return Err(SwapFault::TooLong);
     }
+    Ok(swapped(alloc, first, second)?)
+}
+
+/// The lowest edits that meet, if any do: by their number in the second list, and then in the first. It takes no memory.
+fn meeting(alloc: Global, first: &Edits, second: &Edits) -> Option<(usize, usize)>
+    requires { new_len first.now ≡ second.now.old_len }
+    ensures meet { IfSome result (λ m. FirstMeeting first.now second.now m.0 m.1) }
+    ensures apart { IsNone result → Apart first.now second.now }
+{
+    let mut exchange = Exchange::new(alloc);
+    let firsts = first.edits();
+    let seconds = second.edits();
+    let mut xs = firsts;
+    let mut ys = seconds;
+    'edits: while more(xs, ys) {
+        if exchange.first_goes(xs, ys) {
+            xs = exchange.pass_first(xs, ys);
+        } else if exchange.second_goes(xs, ys) {
+            ys = exchange.pass_second(xs, ys);
+        } else {
+            return Some((firsts.len() - xs.len(), seconds.len() - ys.len()));
+        }
+    }
+    None
+}
+
+/// Whether the text between is too long in the other order.
+fn is_over(first: &Edits, second: &Edits) -> bool
+    ensures { IsTrue result ↔ IsOver first.now second.now }
+{
+    let _firsts = first.edits();
+    let _seconds = second.edits();
+    first.old_len() + second.new_len() > MAX_TEXT + second.old_len()
+}
+
+/// The two lists in the other order, where they change places.
+fn swapped(alloc: Global, first: &Edits, second: &Edits) -> Result<(Edits, Edits), AllocError>
+    requires follows { new_len first.now ≡ second.now.old_len }
+    requires apart { Apart first.now second.now }
+    requires within { IsWithin first.now second.now }
+    ensures changed { IfOk result (λ x. ChangePlaces first.now second.now x.0 x.1) }
+    ensures memory { IfErr result (λ _. 0 < length first.now.entries + length second.now.entries) }
+{
+    let exchange = exchanged(alloc, first, second)?;
+    let len = exchange.other_len(first.old_len());
     let (seconds, firsts) = exchange.into_edits();
     let before = Edits::of_placed(first.old_len(), len, seconds);
     let after = Edits::of_placed(len, second.new_len(), firsts);
     Ok((before, after))
 }
 
-/// Both lists in the other order.
-fn exchanged<'a>(alloc: Global, first: &'a Edits, second: &'a Edits) -> Result<Exchange, SwapFault>
-    requires { new_len first.now ≡ second.now.old_len }
-    ensures { Exchanged first.now second.now result }
+/// Both lists in the other order, edit by edit.
+fn exchanged<'a>(alloc: Global, first: &'a Edits, second: &'a Edits) -> Result<Exchange, AllocError>
+    requires follows { new_len first.now ≡ second.now.old_len }
+    requires apart { Apart first.now second.now }
+    ensures done { IfOk result (λ e. IsExchange first.now second.now (place e)) }
+    ensures memory { IfErr result (λ _. 0 < length first.now.entries + length second.now.entries) }
 {
     let mut exchange = Exchange::new(alloc);
     let firsts = first.edits();
@@ -83,13 +135,8 @@ fn exchanged<'a>(alloc: Global, first: &'a Edits, second: &'a Edits) -> Result<E
     'edits: while more(xs, ys) {
         if exchange.first_goes(xs, ys) {
             xs = exchange.take_first(alloc, xs, ys)?;
-        } else if exchange.second_goes(xs, ys) {
-            ys = exchange.take_second(alloc, xs, ys)?;
         } else {
-            return Err(SwapFault::Meets {
-                first: firsts.len() - xs.len(),
-                second: seconds.len() - ys.len(),
-            });
+            ys = exchange.take_second(alloc, xs, ys)?;
         }
     }
     Ok(exchange)

@@ -72,6 +72,25 @@ edit_takes t x rest e =
     let whole = s0 ∙ sym (regroup (number_text space at) (number_text space (length removed)) (number_text newline (length added)) removed added (newline ∷ []) t6) in
     subst (λ (y : Entry × List ℕ). t ≡ edit_text y.0 ++ y.1) (some_is found (x, rest) e6) whole
 
+-- and its numbers are within their limits
+pub edit_fits : (t : List ℕ) (x : Entry) (rest : List ℕ) → edit_at t ≡ Some (x, rest) → HasText x
+unfolding edit_at
+edit_fits t x rest e =
+    through (number_at 0 most space t) _ (x, rest) e λ at t1 at_is e1.
+    through (number_at 0 most space t1) _ (x, rest) e1 λ r t2 r_is e2.
+    through (number_at 0 most newline t2) _ (x, rest) e2 λ w t3 w_is e3.
+    through (bytes_at r t3) _ (x, rest) e3 λ removed t4 removed_is e4.
+    through (bytes_at w t4) _ (x, rest) e4 λ added t5 added_is e5.
+    through_one (behind (newline ∷ []) t5) _ (x, rest) e5 λ t6 end_is e6.
+    let found : Entry × List ℕ = (record { at = at; removed = removed; added = added }, t6) in
+    let p1 = bytes_take r t3 removed t4 removed_is in
+    let p2 = bytes_take w t4 added t5 added_is in
+    let n0 = number_takes 0 most space t (at, t1) (omega arith) at_is in
+    let n1 = number_takes 0 most space t1 (r, t2) (omega arith) r_is in
+    let n2 = number_takes 0 most newline t2 (w, t3) (omega arith) w_is in
+    let fits : HasText found.0 = record { at = n0.2; removed = omega (arith, p1.1, n1.2); added = omega (arith, p2.1, n2.2) } in
+    subst (λ (y : Entry × List ℕ). HasText y.0) (some_is found (x, rest) e6) fits
+
 pub edit_again : (e : Entry) (rest : List ℕ) → HasText e → edit_at (edit_text e ++ rest) ≡ Some (e, rest)
 unfolding edit_at
 edit_again e rest fits =

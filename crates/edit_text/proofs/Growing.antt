@@ -1,18 +1,19 @@
 -- Where memory is taken, the text begins with a head and the whole of what stands behind it.
-use Rattle.std.proofs.Common.{◌≡◌, ℕ, zero, suc, ◌-◌, ◌<◌, List, [], ◌∷◌, ◌++◌, length, Bool, true, false, Option, None, Some, refl, sym, ap, subst, ◌∙◌, append_assoc, arith, ◌⊎◌, inl, inr}
+use Rattle.std.proofs.Common.{◌≡◌, ℕ, zero, suc, ◌-◌, ◌<◌, ◌≤◌, List, [], ◌∷◌, ◌++◌, length, Bool, true, false, Option, None, Some, refl, sym, ap, subst, ◌∙◌, append_assoc, arith, ◌⊎◌, inl, inr}
 use Rattle.std.specs.Prelude.{codes, is_some, ◌||◌}
-use Rattle.std.specs.List.{flat_map}
+use Rattle.std.specs.List.{flat_map, AllByRecursion}
 use Rattle.std.proofs.lemmas.List.Concat.{flat_map-cons}
 use Rattle.edit_record.specs.Pieces.{Entry, EditList}
 use Rattle.edit_record.specs.Journal.{Entered}
-use Rattle.edit_text.specs.Text.{space, newline, number_text, edit_text, list_text, word_text, steps, step_text}
-use Rattle.edit_text.specs.Decoding.{IsNext, mark_behind, TakesMemory, OldTakesMemory, MayRunOut}
+use Rattle.edit_text.specs.Text.{space, newline, number_text, edit_text, list_text, word_text, IsMade, steps, step_text}
+use Rattle.edit_text.specs.Decoding.{NumbersFit, IsNext, mark_behind, TakesMemory, OldTakesMemory, MayRunOut}
 use Rattle.edit_text.specs.Inner.Reading.{behind, most, number_at, edit_at, word_at, step_at, OldHead, old_head_at}
 use Rattle.edit_text.specs.Inner.Growing.{found, edits_grow, list_grows, record_grows, step_grows, old_head_grows, steps_grow, old_grows, grows}
 use Rattle.edit_text.specs.Inner.Finding.{RecordAt}
 use Rattle.edit_text.proofs.Choices.{some_is, through, through_one}
 use Rattle.edit_text.proofs.Numbers.{number_takes}
-use Rattle.edit_text.proofs.Fields.{behind_takes, edit_takes}
+use Rattle.edit_text.proofs.Fields.{HasText, behind_takes, edit_takes, edit_fits}
+use Rattle.edit_text.proofs.Making.{has_numbers}
 use Rattle.edit_text.proofs.Records.{three, four, word_takes, step_takes}
 
 -- what is read where memory is taken
@@ -64,21 +65,31 @@ step_taken i count t text x lt begun e = one_more_grows i count t text lt begun 
 record Opens (mark t : List ℕ) : Type 0 where
   pub old_len : ℕ
   pub count : ℕ
+  pub old_len_fits : old_len ≤ most
+  pub count_fits : count ≤ most
   pub next : List ℕ
-  pub next_is : IsNext count mark next
+  pub next_is : IsNext old_len count mark next
   pub rest : List ℕ
   pub is : t ≡ number_text space old_len ++ (number_text newline count ++ (next ++ rest))
 
-opens_at : (mark t t1 t2 : List ℕ) (old_len count : ℕ) → t ≡ number_text space old_len ++ t1 → t1 ≡ number_text newline count ++ t2 → edits_grow count t2 ≡ true → Opens mark t
-opens_at mark t t1 t2 old_len zero e1 e2 h = absurd cc
-opens_at mark t t1 t2 old_len (suc n) e1 e2 h =
+fit : (e : Entry) → HasText e → NumbersFit e
+fit e h = record { at = h.at; removed = h.removed; added = h.added }
+
+first_fits : (es : List Entry) (f : Entry) (others : List Entry) → es ≡ f ∷ others → AllByRecursion HasText es → NumbersFit f
+first_fits es f others is h = let all : AllByRecursion HasText (f ∷ others) = subst (λ (l : List Entry). AllByRecursion HasText l) is h in fit f all.0
+
+opens_at : (mark t t1 t2 : List ℕ) (old_len count : ℕ) → t ≡ number_text space old_len ++ t1 → t1 ≡ number_text newline count ++ t2 → old_len ≤ most → count ≤ most → edits_grow count t2 ≡ true → Opens mark t
+opens_at mark t t1 t2 old_len zero e1 e2 long many h = absurd cc
+opens_at mark t t1 t2 old_len (suc n) e1 e2 long many h =
     some_read (edit_at t2) h λ x x_is.
     let e3 = edit_takes t2 x.0 x.1 x_is in
     record {
       old_len = old_len;
       count = suc n;
+      old_len_fits = long;
+      count_fits = many;
       next = edit_text x.0;
-      next_is = (x.0, refl);
+      next_is = (x.0, refl, fit x.0 (edit_fits t2 x.0 x.1 x_is));
       rest = x.1;
       is = e1 ∙ ap (λ (y : List ℕ). number_text space old_len ++ y) (e2 ∙ ap (λ (y : List ℕ). number_text newline (suc n) ++ y) e3);
     }
@@ -88,26 +99,27 @@ unfolding list_grows
 list_opens mark t h =
     found_some (number_at 0 most space t) _ h λ old_len old_len_is h1.
     found_some (number_at 0 most newline old_len.1) _ h1 λ count count_is h2.
-    let n0 = (number_takes 0 most space t old_len (omega arith) old_len_is).0 in
-    let n1 = (number_takes 0 most newline old_len.1 count (omega arith) count_is).0 in
-    opens_at mark t old_len.1 count.1 old_len.0 count.0 n0 n1 h2
+    let n0 = number_takes 0 most space t old_len (omega arith) old_len_is in
+    let n1 = number_takes 0 most newline old_len.1 count (omega arith) count_is in
+    opens_at mark t old_len.1 count.1 old_len.0 count.0 n0.0 n1.0 n0.2 n1.2 h2
 
 two : (a b c rest : List ℕ) → (a ++ b ++ c) ++ rest ≡ a ++ (b ++ (c ++ rest))
 two a b c rest = simp append_assoc
 
 -- one that stands whole, with the mark behind it
-whole_opens : (e : EditList) (es : List Entry) (mark rest : List ℕ) → e.entries ≡ es → Opens mark (list_text e ++ (mark ++ rest))
-whole_opens e [] mark rest is =
+whole_opens : (e : EditList) (es : List Entry) (mark rest : List ℕ) → e.entries ≡ es → IsMade e → Opens mark (list_text e ++ (mark ++ rest))
+whole_opens e [] mark rest is made =
     let parts = two (number_text space e.old_len) (number_text newline (length e.entries)) (flat_map edit_text e.entries) (mark ++ rest) in
     let none : (es : List Entry) → es ≡ [] → number_text newline (length es) ++ (flat_map edit_text es ++ (mark ++ rest)) ≡ number_text newline 0 ++ (mark ++ rest) = λ es h. ap (λ (x : List Entry). number_text newline (length x) ++ (flat_map edit_text x ++ (mark ++ rest))) h in
-    record { old_len = e.old_len; count = 0; next = mark; next_is = refl; rest = rest; is = parts ∙ ap (λ (y : List ℕ). number_text space e.old_len ++ y) (none e.entries is) }
-whole_opens e (f ∷ es) mark rest is =
+    record { old_len = e.old_len; count = 0; old_len_fits = (has_numbers e made).old_len; count_fits = omega arith; next = mark; next_is = (refl, made.old_fits); rest = rest; is = parts ∙ ap (λ (y : List ℕ). number_text space e.old_len ++ y) (none e.entries is) }
+whole_opens e (f ∷ es) mark rest is made =
+    let fits = has_numbers e made in
     let n = length es in
     let parts = two (number_text space e.old_len) (number_text newline (length e.entries)) (flat_map edit_text e.entries) (mark ++ rest) in
     let cut : flat_map edit_text (f ∷ es) ++ (mark ++ rest) ≡ edit_text f ++ (flat_map edit_text es ++ (mark ++ rest)) =
     ap (λ (y : List ℕ). y ++ (mark ++ rest)) (flat_map-cons edit_text f es) ∙ append_assoc (edit_text f) (flat_map edit_text es) (mark ++ rest) in
     let some = ap (λ (x : List Entry). number_text newline (length x) ++ (flat_map edit_text x ++ (mark ++ rest))) is ∙ ap (λ (y : List ℕ). number_text newline (suc n) ++ y) cut in
-    record { old_len = e.old_len; count = suc n; next = edit_text f; next_is = (f, refl); rest = flat_map edit_text es ++ (mark ++ rest); is = parts ∙ ap (λ (y : List ℕ). number_text space e.old_len ++ y) some }
+    record { old_len = e.old_len; count = suc n; old_len_fits = fits.old_len; count_fits = omega (arith, fits.count, ap length is); next = edit_text f; next_is = (f, refl, first_fits e.entries f es is fits.edits); rest = flat_map edit_text es ++ (mark ++ rest); is = parts ∙ ap (λ (y : List ℕ). number_text space e.old_len ++ y) some }
 
 -- ---- a record that has begun
 
@@ -116,18 +128,24 @@ from_new t t1 t2 word e1 e2 o = record {
   word = word;
   old_len = o.old_len;
   count = o.count;
+  old_len_fits = o.old_len_fits;
+  count_fits = o.count_fits;
   next = o.next;
   next_is = o.next_is;
   rest = o.rest;
   is = e1 ∙ ap (λ (y : List ℕ). codes "tfrec 2 " ++ y) (e2 ∙ ap (λ (y : List ℕ). word_text word ++ y) o.is);
 }
 
-from_old : (t t1 t2 t3 t4 : List ℕ) (word : _) (n : ℕ) → t ≡ codes "tfrec 1 " ++ t1 → t1 ≡ word_text word ++ t2 → t2 ≡ number_text newline n ++ t3 → t3 ≡ codes "step " ++ t4 → Opens (mark_behind n) t4 → OldTakesMemory t
-from_old t t1 t2 t3 t4 word n e1 e2 e3 e4 o = record {
+from_old : (t t1 t2 t3 t4 : List ℕ) (word : _) (n : ℕ) → t ≡ codes "tfrec 1 " ++ t1 → t1 ≡ word_text word ++ t2 → t2 ≡ number_text newline n ++ t3 → 0 < n → n ≤ 64 → t3 ≡ codes "step " ++ t4 → Opens (mark_behind n) t4 → OldTakesMemory t
+from_old t t1 t2 t3 t4 word n e1 e2 e3 some few e4 o = record {
   word = word;
   steps = n;
+  some_steps = some;
+  few_steps = few;
   old_len = o.old_len;
   count = o.count;
+  old_len_fits = o.old_len_fits;
+  count_fits = o.count_fits;
   next = o.next;
   next_is = o.next_is;
   rest = o.rest;
@@ -148,8 +166,9 @@ old_head_opens t h =
     found_some (word_at t1) _ h1 λ word word_is h2.
     found_some (number_at 1 64 newline word.1) _ h2 λ count count_is h3.
     found_some (behind (codes "step ") count.1) _ h3 λ t4 t4_is h4.
+    let n = number_takes 1 64 newline word.1 count (omega arith) count_is in
     from_old t t1 word.1 count.1 t4 word.0 count.0 (behind_takes (codes "tfrec 1 ") t t1 t1_is) (word_takes t1 word.0 word.1 word_is)
-    (number_takes 1 64 newline word.1 count (omega arith) count_is).0 (behind_takes (codes "step ") count.1 t4 t4_is) (list_opens (mark_behind count.0) t4 h4)
+    n.0 n.1 n.2 (behind_takes (codes "step ") count.1 t4 t4_is) (list_opens (mark_behind count.0) t4 h4)
 
 two_marks : (n k : ℕ) → n - 1 ≡ suc k → mark_behind n ≡ codes "step "
 two_marks zero k e = absurd cc
@@ -171,12 +190,14 @@ old_steps_open t head after e h =
     let grown : steps_grow (count - 1) t4 ≡ true = ap (λ (x : OldHead × List ℕ). steps_grow x.0.others x.1) head_eq ∙ h in
     more_steps (count - 1) t4 grown λ k x count_eq step_is.
     let mark = two_marks count k count_eq in
-    let t3_is : t3 ≡ codes "step " ++ (list_text first ++ t4) = (step_takes t3 first t4 first_is).0 ∙ append_assoc (codes "step ") (list_text first) t4 in
-    let opens : Opens (codes "step ") (list_text first ++ (codes "step " ++ x)) = whole_opens first first.entries (codes "step ") x refl in
+    let taken = step_takes t3 first t4 first_is in
+    let n = number_takes 1 64 newline t2 (count, t3) (omega arith) count_is in
+    let t3_is : t3 ≡ codes "step " ++ (list_text first ++ t4) = taken.0 ∙ append_assoc (codes "step ") (list_text first) t4 in
+    let opens : Opens (codes "step ") (list_text first ++ (codes "step " ++ x)) = whole_opens first first.entries (codes "step ") x refl taken.1 in
     let opens_here : Opens (mark_behind count) (list_text first ++ t4) =
     subst (λ (m : List ℕ). Opens m (list_text first ++ t4)) (sym mark) (subst (λ (y : List ℕ). Opens (codes "step ") (list_text first ++ y)) (sym step_is) opens) in
     from_old t t1 t2 t3 (list_text first ++ t4) word count (behind_takes (codes "tfrec 1 ") t t1 begins) (word_takes t1 word t2 word_is)
-    (number_takes 1 64 newline t2 (count, t3) (omega arith) count_is).0 t3_is opens_here
+    n.0 n.1 n.2 t3_is opens_here
 
 old_opens : (t : List ℕ) → old_grows t ≡ true → OldTakesMemory t
 old_opens t h =
@@ -203,7 +224,7 @@ behind_first (o ∷ others) rest = (
 record_out : (old : Bool) (t : List ℕ) (r : Entered) (rest : List ℕ) → RecordAt old t r rest → MayRunOut t
 record_out false t r rest h =
     let parts = h.0 ∙ three (codes "tfrec 2 ") (word_text r.word) (list_text r.edits) (codes "end\n") rest in
-    inl (from_new t _ _ r.word parts refl (whole_opens r.edits r.edits.entries (codes "end\n") rest refl))
+    inl (from_new t _ _ r.word parts refl (whole_opens r.edits r.edits.entries (codes "end\n") rest refl h.1))
 record_out true t r rest h =
     let old = h.0 in
     let n = length (steps old) in
@@ -213,8 +234,8 @@ record_out true t r rest h =
     let cut : flat_map step_text (steps old) ++ (codes "end\n" ++ rest) ≡ codes "step " ++ (list_text old.first ++ later) =
     ap (λ (y : List ℕ). y ++ (codes "end\n" ++ rest)) (flat_map-cons step_text old.first old.others) ∙ append_assoc (step_text old.first) (flat_map step_text old.others) (codes "end\n" ++ rest)
     ∙ append_assoc (codes "step ") (list_text old.first) later in
-    let opens : Opens (mark_behind n) (list_text old.first ++ later) = subst (λ (y : List ℕ). Opens (mark_behind n) (list_text old.first ++ y)) (sym b.1) (whole_opens old.first old.first.entries (mark_behind n) b.0 refl) in
-    inr (from_old t _ _ _ _ old.word n parts refl refl cut opens)
+    let opens : Opens (mark_behind n) (list_text old.first ++ later) = subst (λ (y : List ℕ). Opens (mark_behind n) (list_text old.first ++ y)) (sym b.1) (whole_opens old.first old.first.entries (mark_behind n) b.0 refl h.2.made.0) in
+    inr (from_old t _ _ _ _ old.word n parts refl refl (omega arith) h.2.few cut opens)
 
 -- ---- in the loop over records
 

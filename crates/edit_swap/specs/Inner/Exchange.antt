@@ -72,6 +72,19 @@ abbrev pub went_second : Place → List Entry → List Entry → Place × List E
 went_second s xs [] = (s, [])
 went_second s xs (y ∷ ys) = (with_second y s, ys)
 
+-- a place with other edits done
+abbrev pub with_done : List Entry → List Entry → Place → Place
+with_done us vs s = record { old = s.old; mid = s.mid; other = s.other; us = us; vs = vs }
+
+-- the places behind the next edit of either list, of which nothing is kept
+abbrev pub passed_first : Place → List Entry → Place × List Entry
+passed_first s [] = (s, [])
+passed_first s (x ∷ xs) = (with_done s.us s.vs (with_first x s), xs)
+
+abbrev pub passed_second : Place → List Entry → Place × List Entry
+passed_second s [] = (s, [])
+passed_second s (y ∷ ys) = (with_done s.us s.vs (with_second y s), ys)
+
 -- what holds between two steps, for edits of texts of la and lb bytes, where the second list adds ab bytes and removes rb
 pub record Fair (la lb ab rb : ℕ) (s : Place) (xs ys : List Entry) : Type 0 where
   pub a_fits : la ≤ 2 ^ 32

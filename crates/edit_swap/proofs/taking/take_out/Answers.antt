@@ -1,5 +1,5 @@
 use Rattle.std.proofs.lemmas.Result.{err_from_is_err_and}
-use Rattle.edit_swap.proofs.TakingOut.{past_more, past_none, begins_places, may_run_out}
+use Rattle.edit_swap.proofs.TakingOut.{past_more, past_none, did_swap, may_run_out}
 use Rattle.edit_swap.proofs.taking.take_out.Goals as goal
 
 pub returns-in_err-before : goal.returns-in_err-before
@@ -15,4 +15,4 @@ pub returns-in_err-push : goal.returns-in_err-push
 returns-in_err-push c =
     let p = err_from_is_err_and c.from_residual-in_err-push.result c.from_residual-in_err-push.ensures.1 in
     let s = rw c.here.ensures at c.in_ok-before.ensures in
-    rw (p.1, p.2) (may_run_out c.args.first.now c.args.records.now c.loop-i.others.items c.loop-i.moved c.loop-i.i c.index-records-i.result c.loop-i-test.true c.index-records-i.is c.loop-i.invariant (begins_places _ _ _ _ s.0))
+    rw (p.1, p.2) (may_run_out c.args.first.now c.args.records.now c.loop-i.others.items c.loop-i.moved c.loop-i.i c.index-records-i.result c.loop-i-test.true c.index-records-i.is c.loop-i.invariant (did_swap _ _ _ _ s.0))
