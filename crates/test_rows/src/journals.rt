@@ -1,0 +1,133 @@
+//! The text of journals.
+
+use crate::answer::Answer;
+use crate::fields::{text, word};
+use crate::spelled::journal_of;
+use edit_record::Journal;
+use edit_text::laws::{old_records_turn_alike, text_begins_alike, text_is_one};
+use edit_text::{RecordFault, decode, encode, encoded_len};
+use test_row_text::Row;
+use std::alloc::Global;
+use std::fmt::Write;
+
+pub fn answer(row: &Row, out: &mut Answer) {
+    match word(row, 0) {
+        "read" => read(text(row, 1), out),
+        "written" => written(&journal_of(word(row, 1), out), out),
+        "fronts" => fronts(text(row, 1), out),
+        "marks" => marks(text(row, 1), text(row, 2), out),
+        "bytes" => bytes(text(row, 1), out),
+        _ => out.show(&RecordFault::Memory),
+    }
+}
+
+/// What is read of a text, as it is written.
+fn read(text: &[u8], out: &mut Answer) {
+    text_is_one();
+    text_begins_alike();
+    old_records_turn_alike();
+    match decode(out.alloc, text) {
+        Ok(journal) => written(&journal, out),
+        Err(fault) => out.refuse(&fault),
+    }
+}
+
+fn written(journal: &Journal, out: &mut Answer) {
+    match encode(out.alloc, journal) {
+        Ok(text) => {
+            out.put_bytes(&text);
+            let has_len = encoded_len(journal) == text.len();
+            out.hold(has_len, "the text has another length");
+        }
+        Err(fault) => out.refuse(&fault),
+    }
+}
+
+/// Whether each front of the text but the empty one is cut short, at its end; the places of those that are not.
+fn fronts(text: &[u8], out: &mut Answer) {
+    for at in 1..text.len() {
+        if decode(out.alloc, &text[..at]).err() != Some(RecordFault::CutShort { at }) {
+            let _ = write!(out, "byte {at}, ");
+        }
+    }
+    out.put("cut short");
+}
+
+/// What an `x` in the place of the byte at this place leads to, where `mark` says what the byte belongs to; the last
+/// mark is that of a byte that an edit adds.
+fn fault_at(mark: u8, at: usize, end: usize) -> Option<RecordFault> {
+    match mark {
+        b'T' => Some(RecordFault::BadHead { at: 0 }),
+        b'W' => Some(RecordFault::BadHead { at: 8 }),
+        b'S' => Some(RecordFault::BadHead { at: 14 }),
+        b'h' => Some(RecordFault::BadHead { at }),
+        b'n' => Some(RecordFault::BadNumber { at }),
+        b'e' => Some(RecordFault::BadEnd { at }),
+        b'E' => Some(RecordFault::BadEnd { at: end }),
+        _ => None,
+    }
+}
+
+/// Whether an `x` in the place of each byte is refused as the marks say; the places where it is not.
+fn marks(text: &[u8], marks: &[u8], out: &mut Answer) {
+    let end = text.len().saturating_sub(4);
+    for (at, mark) in marks.iter().enumerate() {
+        let changed = with_byte(text, at, b'x', out);
+        if decode(out.alloc, &changed).err() != fault_at(*mark, at, end) {
+            let _ = write!(out, "byte {at}, ");
+        }
+    }
+    let count = marks.len();
+    let _ = write!(out, "{count} marks");
+}
+
+/// The text with another byte at this place.
+pub fn with_byte(text: &[u8], at: usize, byte: u8, out: &mut Answer) -> Vec<u8> {
+    let mut changed = Vec::new(out.alloc);
+    let is_put = changed.extend_from_slice(text).is_ok();
+    out.hold(is_put, "a text is too long");
+    if let Some(place) = changed.get_mut(at) {
+        *place = byte;
+    }
+    changed
+}
+
+/// Whether the text with another byte at any place is that of a journal, which is written so again, or is refused at one of
+/// its places; where it is not so.
+fn bytes(text: &[u8], out: &mut Answer) {
+    for at in 0..text.len() {
+        for byte in 0..=255 {
+            let changed = with_byte(text, at, byte, out);
+            if !is_one_spelling(out.alloc, &changed) {
+                let _ = write!(out, "{byte} at {at}, ");
+            }
+        }
+    }
+    out.put("one spelling");
+}
+
+fn is_one_spelling(alloc: Global, text: &[u8]) -> bool {
+    match decode(alloc, text) {
+        Ok(journal) => is_written(alloc, &journal, text),
+        Err(fault) => place_of(fault).is_some_and(|at| at <= text.len()),
+    }
+}
+
+fn is_written(alloc: Global, journal: &Journal, text: &[u8]) -> bool {
+    match encode(alloc, journal) {
+        Ok(again) => again.as_slice() == text,
+        Err(_) => false,
+    }
+}
+
+fn place_of(fault: RecordFault) -> Option<usize> {
+    match fault {
+        RecordFault::Memory => None,
+        RecordFault::BadHead { at }
+        | RecordFault::BadNumber { at }
+        | RecordFault::CutShort { at }
+        | RecordFault::BadEdits { at }
+        | RecordFault::BadEnd { at }
+        | RecordFault::BadSteps { at } => Some(at),
+    }
+}

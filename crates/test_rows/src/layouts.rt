@@ -1,0 +1,75 @@
+//! Texts and their layouts.
+
+use crate::answer::Answer;
+use crate::fields::{text, word};
+use crate::records::turned;
+use edit_record::Edits;
+use hcl_layout::laws::{cells_in_columns, keeps_tokens, lines_have_all_tokens, own_layout};
+use hcl_layout::{LayoutFault, is_laid_out, layout};
+use hcl_scan::scan;
+use test_row_text::Row;
+use std::alloc::Global;
+use std::fmt::Write;
+
+pub fn answer(row: &Row, out: &mut Answer) {
+    match word(row, 0) {
+        "laws" => laws(out),
+        "memory" => out.show(&LayoutFault::Memory),
+        call => match &laid_out(out.alloc, text(row, 1)) {
+            Some((Ok(edits), Ok(is_laid_out))) => tell(call, row, edits, *is_laid_out, out),
+            Some((Err(fault), Err(other))) => {
+                let _ = write!(out, "{fault}, {other}");
+            }
+            _ => out.put("no tokens, or one of the two is refused"),
+        },
+    }
+}
+
+type LaidOut = (Result<Edits, LayoutFault>, Result<bool, LayoutFault>);
+
+/// The edits that lay a text out, and whether it is laid out.
+fn laid_out(alloc: Global, text: &[u8]) -> Option<LaidOut> {
+    match scan(alloc, text) {
+        Ok(scanned) => Some((layout(alloc, &scanned), is_laid_out(alloc, &scanned))),
+        Err(_) => None,
+    }
+}
+
+fn tell(call: &str, row: &Row, edits: &Edits, is_laid_out: bool, out: &mut Answer) {
+    match call {
+        "layout" => tell_text(text(row, 1), edits, is_laid_out, out),
+        "edits" => tell_edits(edits, out),
+        _ => {
+            let len = edits.new_len();
+            let _ = write!(out, "{len} {is_laid_out}");
+        }
+    }
+}
+
+/// The layout of a text, where it goes back to the text, is its own layout, and it is told whether the text is it.
+fn tell_text(text: &[u8], edits: &Edits, is_laid_out: bool, out: &mut Answer) {
+    turned(edits, "both", text, out);
+    let is_told = is_laid_out == (out.text() == text);
+    out.hold(is_told, "it is told otherwise whether the text is laid out");
+    let is_own = match &laid_out(out.alloc, out.text()) {
+        Some((Ok(edits), Ok(is_laid_out))) => *is_laid_out && edits.edits().is_empty(),
+        _ => false,
+    };
+    out.hold(is_own, "the layout is not laid out");
+}
+
+/// For each edit its place, how many bytes it removes, and how many it adds.
+fn tell_edits(edits: &Edits, out: &mut Answer) {
+    for edit in edits.edits() {
+        let (at, removed, added) = (edit.at, edit.removed.len(), edit.added.len());
+        let _ = write!(out, "{at}-{removed}+{added} ");
+    }
+}
+
+fn laws(out: &mut Answer) {
+    lines_have_all_tokens();
+    keeps_tokens();
+    own_layout();
+    cells_in_columns();
+    out.put("hold");
+}

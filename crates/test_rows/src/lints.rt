@@ -1,0 +1,143 @@
+//! Rules, issues and the steps of fixes.
+
+use crate::answer::Answer;
+use crate::fields::{number, text, word};
+use crate::records::turned;
+use hcl_scan::{Scanned, scan};
+use hcl_tree::parse;
+use test_row_text::Row;
+use std::fmt::Write;
+use tf_lint::{Fixed, Issue, LintFault, Place, Rule, RuleSet, fix_text, issues};
+
+pub fn answer(row: &Row, out: &mut Answer) {
+    match word(row, 0) {
+        "rule" => rule(word(row, 1), out),
+        "set" => names(set_of(word(row, 1)), out),
+        "line" => line(row, out),
+        "issues" => found(set_of(word(row, 1)), text(row, 2), out),
+        "fix" | "step" => fix(row, out),
+        _ => out.show(&LintFault::Memory),
+    }
+}
+
+/// The rule of this name, and the weight of its issues.
+fn rule(name: &str, out: &mut Answer) {
+    match Rule::by_name(name) {
+        Some(rule) => {
+            out.put(rule.name());
+            out.put(": ");
+            out.put(rule.severity().label());
+        }
+        None => out.put("no rule"),
+    }
+}
+
+/// A set spelled `all`, `none`, `+RULE` (that one alone) or `-RULE` (all others); any other word is none.
+fn set_of(spelled: &str) -> RuleSet {
+    if let Some(rule) = spelled.strip_prefix('+').and_then(Rule::by_name) {
+        return RuleSet::none().with(rule);
+    }
+    if let Some(rule) = spelled.strip_prefix('-').and_then(Rule::by_name) {
+        return RuleSet::all().without(rule);
+    }
+    if spelled == "all" {
+        RuleSet::all()
+    } else {
+        RuleSet::none()
+    }
+}
+
+fn names(set: RuleSet, out: &mut Answer) {
+    for rule in Rule::ALL {
+        if set.has(rule) {
+            out.put(rule.name());
+            out.put(" ");
+        }
+    }
+}
+
+fn line(row: &Row, out: &mut Answer) {
+    let mut text = String::new(out.alloc);
+    let is_put = text.push_str(word(row, 4)).is_ok();
+    out.hold(is_put, "a text is too long");
+    let issue = Issue {
+        rule: Rule::by_name(word(row, 1)).unwrap_or(Rule::CommentSyntax),
+        first: 0,
+        past: 1,
+        place: Place {
+            line: number(row, 2),
+            column: number(row, 3),
+        },
+        text,
+        fixable: false,
+    };
+    tell_line(&issue, word(row, 5), out);
+}
+
+fn tell_line(issue: &Issue, file: &str, out: &mut Answer) {
+    match issue.line(out.alloc, file) {
+        Ok(line) => out.put(line.as_str()),
+        Err(fault) => out.refuse(&fault),
+    }
+}
+
+/// The issues of a text.
+fn found(rules: RuleSet, text: &[u8], out: &mut Answer) {
+    match scan(out.alloc, text) {
+        Ok(scanned) => parsed(rules, &scanned, out),
+        Err(fault) => out.refuse(&fault),
+    }
+}
+
+fn parsed(rules: RuleSet, scanned: &Scanned<'_>, out: &mut Answer) {
+    match parse(out.alloc, scanned) {
+        Ok(tree) => match issues(out.alloc, scanned, &tree, rules) {
+            Ok(issues) => tell_issues(&issues, out),
+            Err(fault) => out.refuse(&fault),
+        },
+        Err(fault) => out.refuse(&fault),
+    }
+}
+
+/// For each issue its tokens, whether it can be fixed, and its line.
+fn tell_issues(issues: &[Issue], out: &mut Answer) {
+    for issue in issues {
+        let (first, past, fixable) = (issue.first, issue.past, issue.fixable);
+        let _ = write!(out, "{first} {past} {fixable} ");
+        tell_line(issue, "f", out);
+        out.put("; ");
+    }
+}
+
+/// What the fix of one rule makes of a text.
+fn fix(row: &Row, out: &mut Answer) {
+    let Some(rule) = Rule::by_name(word(row, 1)) else {
+        return out.put("no rule");
+    };
+    match fix_text(out.alloc, text(row, 2), RuleSet::none().with(rule)) {
+        Ok(fixed) => tell_fixed(row, &fixed, out),
+        Err(fault) => out.refuse(&fault),
+    }
+}
+
+/// The new text, where the old one comes back, or how many issues the fix mends, and how many edits it makes.
+fn tell_fixed(row: &Row, fixed: &Fixed, out: &mut Answer) {
+    match &fixed.change {
+        Some(change) if word(row, 0) == "fix" => {
+            turned(&change.edits, "both", text(row, 2), out);
+            out.hold(
+                out.text() == change.text.as_slice(),
+                "the edits make another text",
+            );
+        }
+        Some(change) => {
+            let (mended, count) = (fixed.fixed, change.edits.edits().len());
+            let _ = write!(out, "{mended} {count}");
+        }
+        None if word(row, 0) == "fix" => out.put_bytes(text(row, 2)),
+        None => {
+            let mended = fixed.fixed;
+            let _ = write!(out, "{mended} 0");
+        }
+    }
+}

@@ -1,0 +1,76 @@
+//! Rows of examples: for each what is asked, of which text, and what is to be answered.
+//!
+//! The arguments name subjects; the rows of a subject stand in the file `SUBJECT.rows`. What is printed are the rows with
+//! another answer, each with that answer, and the number of rows.
+#![tactic(auto)]
+
+mod answer;
+mod fields;
+mod journals;
+mod layouts;
+mod lints;
+mod parses;
+mod records;
+mod spelled;
+mod squashes;
+mod swaps;
+mod tokens;
+
+use answer::Answer;
+use anyhow::Result;
+use test_row_text::Row;
+use std::{env, fs};
+
+fn main(rt: HostRuntime) -> Result<()> {
+    let words: Vec<String> = env::args(&rt)?.collect(rt.alloc())?;
+    for subject in words.iter().skip(1) {
+        run(&rt, subject.as_str())?;
+    }
+    Ok(())
+}
+
+fn run(rt: &HostRuntime, subject: &str) -> Result<()> {
+    let name = format!(in rt.alloc(); "{subject}.rows")?;
+    let text = fs::read_to_string(rt, name.as_str())?;
+    let count = try_rows(rt, subject, text.as_str())?;
+    println!(rt; "{name}: {count} rows")?;
+    Ok(())
+}
+
+/// Tries the rows of a text, and answers how many there are.
+fn try_rows(rt: &HostRuntime, subject: &str, text: &str) -> Result<u64> {
+    let mut count = 0u64;
+    for (number, line) in text.lines().enumerate() {
+        if !line.is_empty() && !line.starts_with('#') {
+            count = count.saturating_add(1);
+            try_row(rt, subject, number.saturating_add(1), line)?;
+        }
+    }
+    Ok(count)
+}
+
+/// Tells what is answered in place of what the row says.
+fn try_row(rt: &HostRuntime, subject: &str, number: usize, line: &str) -> Result<()> {
+    let row = Row::read(rt.alloc(), line)?;
+    let mut out = Answer::new(rt.alloc());
+    ask(subject, &row, &mut out);
+    if !out.is_of(&row) {
+        let found = out.told();
+        println!(rt; "{subject}.rows:{number}: {line}\n  answered: {found}")?;
+    }
+    Ok(())
+}
+
+fn ask(subject: &str, row: &Row, out: &mut Answer) {
+    match subject {
+        "records" => records::answer(row, out),
+        "squashes" => squashes::answer(row, out),
+        "swaps" => swaps::answer(row, out),
+        "journals" => journals::answer(row, out),
+        "tokens" => tokens::answer(row, out),
+        "parses" => parses::answer(row, out),
+        "layouts" => layouts::answer(row, out),
+        "lints" => lints::answer(row, out),
+        _ => out.hold(false, "no such subject"),
+    }
+}

@@ -1,0 +1,71 @@
+//! Two lists of edits as one.
+
+use crate::answer::Answer;
+use crate::fields::word;
+use crate::spelled::{journal_of, list_of, spell};
+use edit_record::{Edits, Journal};
+use edit_squash::laws::{squash_all_is_one, squash_associates, squash_is_one};
+use edit_squash::{Unmet, squash};
+use test_row_text::Row;
+use std::alloc::Global;
+
+pub fn answer(row: &Row, out: &mut Answer) {
+    match word(row, 0) {
+        "squash" => squashed(row, out),
+        "three" => three(row, out),
+        "journal" => journal(row, out),
+        _ => out.show(&Unmet::Memory),
+    }
+}
+
+fn told(answer: Result<Edits, Unmet>, out: &mut Answer) {
+    match answer {
+        Ok(list) => spell(&list, out),
+        Err(fault) => out.refuse(&fault),
+    }
+}
+
+fn squashed(row: &Row, out: &mut Answer) {
+    let first = list_of(word(row, 1), out);
+    let second = list_of(word(row, 2), out);
+    told(squash(out.alloc, &first, &second), out);
+}
+
+/// Three lists in both groupings.
+fn three(row: &Row, out: &mut Answer) {
+    let a = list_of(word(row, 1), out);
+    let b = list_of(word(row, 2), out);
+    let c = list_of(word(row, 3), out);
+    squash_is_one(&a, &b);
+    squash_associates(&a, &b, &c);
+    squash_all_is_one();
+    told(from_left(out.alloc, &a, &b, &c), out);
+    let mut right = Answer::new(out.alloc);
+    told(from_right(out.alloc, &a, &b, &c), &mut right);
+    out.hold(right.text() == out.text(), "the groupings differ");
+}
+
+fn from_left(alloc: Global, a: &Edits, b: &Edits, c: &Edits) -> Result<Edits, Unmet> {
+    let both = squash(alloc, a, b)?;
+    squash(alloc, &both, c)
+}
+
+fn from_right(alloc: Global, a: &Edits, b: &Edits, c: &Edits) -> Result<Edits, Unmet> {
+    let both = squash(alloc, b, c)?;
+    squash(alloc, a, &both)
+}
+
+/// A list and those of the records behind it, as one.
+fn journal(row: &Row, out: &mut Answer) {
+    let first = list_of(word(row, 1), out);
+    let journal = journal_of(word(row, 2), out);
+    told(all(out.alloc, first, &journal), out);
+}
+
+fn all(alloc: Global, first: Edits, journal: &Journal) -> Result<Edits, Unmet> {
+    let mut one = first;
+    for record in journal.records() {
+        one = squash(alloc, &one, record.edits())?;
+    }
+    Ok(one)
+}

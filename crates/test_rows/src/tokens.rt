@@ -1,0 +1,206 @@
+//! Tokens: the cuts of texts, places, and what joins.
+
+use crate::answer::Answer;
+use crate::fields::{number, text, word};
+use crate::journals::with_byte;
+use hcl_scan::laws::{
+    cut_follows, gaps_of, no_cut_with_fault, one_cut, one_fault, other_gaps, writes_back,
+};
+use hcl_scan::{Kind, ScanFault, Scanned, scan};
+use hcl_token::{clusters, joins};
+use test_row_text::Row;
+use std::fmt::Write;
+
+pub fn answer(row: &Row, out: &mut Answer) {
+    match word(row, 0) {
+        "joins" => {
+            let (first, second) = (kind_of(word(row, 1), out), kind_of(word(row, 3), out));
+            yes_or_no(joins(first, text(row, 2), second, text(row, 4)), out);
+        }
+        "clusters" => out.show(&clusters(word(row, 1).as_bytes())),
+        "fronts" => fronts(text(row, 1), out),
+        "others" => others(text(row, 1), text(row, 2), out),
+        "laws" => laws(out),
+        "memory" => out.show(&ScanFault::Memory),
+        _ => match scan(out.alloc, text(row, 1)) {
+            Ok(scanned) => tell(row, &scanned, out),
+            Err(fault) => out.refuse(&fault),
+        },
+    }
+}
+
+fn yes_or_no(yes: bool, out: &mut Answer) {
+    out.put(if yes { "yes" } else { "no" });
+}
+
+fn tell(row: &Row, scanned: &Scanned<'_>, out: &mut Answer) {
+    match word(row, 0) {
+        "cut" => cut(scanned, out),
+        "gaps" => gaps(scanned, out),
+        "places" => places(scanned, out),
+        "count" => count(scanned, text(row, 1), out),
+        "token" => token(scanned, number(row, 2), out),
+        _ => joined(scanned, number(row, 2), number(row, 3), out),
+    }
+}
+
+/// The tokens of a text, each with its kind.
+fn cut(scanned: &Scanned<'_>, out: &mut Answer) {
+    for i in 0..scanned.len() {
+        let kind = scanned.kind(i);
+        let _ = write!(out, "{kind:?}(");
+        out.put_bytes(scanned.spelling(i));
+        out.put(") ");
+    }
+}
+
+/// The gaps, the last one too.
+fn gaps(scanned: &Scanned<'_>, out: &mut Answer) {
+    for i in 0..scanned.len() {
+        gap(scanned.gap(i), out);
+    }
+    gap(scanned.last_gap(), out);
+}
+
+fn gap(gap: &[u8], out: &mut Answer) {
+    out.put("(");
+    out.put_bytes(gap);
+    out.put(")");
+}
+
+/// The line and the column of each token.
+fn places(scanned: &Scanned<'_>, out: &mut Answer) {
+    for i in 0..scanned.len() {
+        let place = scanned.place_of(i);
+        let (line, column) = (place.line, place.column);
+        let _ = write!(out, "{line}:{column} ");
+    }
+}
+
+/// How many tokens there are, of the whole text.
+fn count(scanned: &Scanned<'_>, text: &[u8], out: &mut Answer) {
+    out.show(&scanned.len());
+    out.hold(scanned.text() == text, "another text");
+    let is_told = scanned.is_empty() == (scanned.len() == 0);
+    out.hold(is_told, "it is told otherwise whether there is a token");
+}
+
+/// Where a token stands, how many clusters it has, and its gap.
+fn token(scanned: &Scanned<'_>, i: usize, out: &mut Answer) {
+    if i >= scanned.len() {
+        return out.put("no such token");
+    }
+    let item = scanned.item(i);
+    let (kind, gap_at, start, stop) = (item.kind, item.gap_at, item.start, item.stop);
+    let clusters = scanned.clusters(i);
+    let _ = write!(
+        out,
+        "{kind:?} {gap_at} {start} {stop}, {clusters} clusters behind "
+    );
+    gap(scanned.gap(i), out);
+}
+
+fn joined(scanned: &Scanned<'_>, i: usize, j: usize, out: &mut Answer) {
+    if i >= scanned.len() || j >= scanned.len() {
+        return out.put("no such token");
+    }
+    yes_or_no(scanned.joins(i, j), out);
+}
+
+/// Whether the text has a cut that gives it back, or a fault, but not for want of memory.
+fn has_cut_or_fault(text: &[u8], out: &Answer) -> bool {
+    match scan(out.alloc, text) {
+        Ok(scanned) => is_whole(&scanned, text, Answer::new(out.alloc)),
+        Err(fault) => fault != ScanFault::Memory,
+    }
+}
+
+/// Whether gaps and tokens are the text.
+fn is_whole(scanned: &Scanned<'_>, text: &[u8], whole: Answer) -> bool {
+    let mut whole = whole;
+    for i in 0..scanned.len() {
+        whole.put_bytes(scanned.gap(i));
+        whole.put_bytes(scanned.spelling(i));
+    }
+    whole.put_bytes(scanned.last_gap());
+    whole.text() == text
+}
+
+/// Each front of the text; the lengths of those that have neither.
+fn fronts(text: &[u8], out: &mut Answer) {
+    for len in 0..=text.len() {
+        if !has_cut_or_fault(&text[..len], out) {
+            let _ = write!(out, "{len} bytes, ");
+        }
+    }
+    out.put("cuts and faults");
+}
+
+/// The text with each of these bytes at each place; where it has neither.
+fn others(text: &[u8], bytes: &[u8], out: &mut Answer) {
+    for at in 0..text.len() {
+        for byte in bytes {
+            let changed = with_byte(text, at, *byte, out);
+            if !has_cut_or_fault(&changed, out) {
+                let _ = write!(out, "{byte} at {at}, ");
+            }
+        }
+    }
+    out.put("cuts and faults");
+}
+
+fn laws(out: &mut Answer) {
+    one_cut();
+    no_cut_with_fault();
+    one_fault();
+    writes_back();
+    cut_follows();
+    gaps_of();
+    other_gaps();
+    out.put("hold");
+}
+
+/// The kinds that tokens join in, and some that they do not.
+const KINDS: [Kind; 29] = [
+    Kind::LineComment,
+    Kind::InlineComment,
+    Kind::Identifier,
+    Kind::Number,
+    Kind::DotIndex,
+    Kind::Plus,
+    Kind::Minus,
+    Kind::Star,
+    Kind::Slash,
+    Kind::Percent,
+    Kind::Bang,
+    Kind::DoubleEqual,
+    Kind::NotEqual,
+    Kind::Less,
+    Kind::Greater,
+    Kind::LessEqual,
+    Kind::GreaterEqual,
+    Kind::Colon,
+    Kind::DoubleColon,
+    Kind::Equal,
+    Kind::FatArrow,
+    Kind::Dot,
+    Kind::Ellipsis,
+    Kind::QuoteOpen,
+    Kind::SeqClose,
+    Kind::InterpOpen,
+    Kind::DirectiveOpen,
+    Kind::QuoteLit,
+    Kind::HereLit,
+];
+
+fn kind_of(name: &str, out: &mut Answer) -> Kind {
+    for kind in KINDS {
+        let mut spelled = Answer::new(out.alloc);
+        let _ = write!(spelled, "{kind:?}");
+        if spelled.text() == name.as_bytes() {
+            return kind;
+        }
+    }
+    out.hold(false, "no such kind");
+    Kind::Mark
+}
