@@ -56,7 +56,7 @@ by_answers identifier splat operand a b =
     else (if is_open_brace a.kind && is_close_brace b.kind then false
     else (if is_open_brace a.kind || is_close_brace b.kind then true
     else (if (opens_sequence a.kind && is_open_brace b.kind) || (is_close_brace a.kind && is_seq_close b.kind) then true
-    else not (opens_close a.kind || closes_close b.kind))))))))))))))
+    else (if opens_close a.kind || closes_close b.kind then false else true))))))))))))))
 
 same_answers : (u v : Bool) (u' v' : Bool) (w w' : Bool) (a b : Pair) → u ≡ u' → v ≡ v' → w ≡ w' → by_answers u v w a b ≡ by_answers u' v' w' a b
 same_answers u v u' v' w w' a b e f g = ap (λ x. by_answers x v w a b) e ∙ ap (λ x. by_answers u' x w a b) f ∙ ap (λ x. by_answers u' v' x a b) g

@@ -37,30 +37,64 @@ behind_operand (p ∷ before) = ends_operand p || is_splat before p
 abbrev pub is_in : Pair → Bool
 is_in a = is_identifier a.kind && bytes_eq a.spelling (codes "in")
 
--- Whether a space stands between a and b, where these kinds stand before a: the table, a row each.
+-- ---- the table
+
+-- a row: whether it fits two neighbours, and whether a space stands between two that it fits
+pub record Row : Type 0 where
+  pub fits : Bool
+  pub spaced : Bool
+
+abbrev pub no_space : Bool → Row
+no_space fits = record { fits = fits; spaced = false }
+
+abbrev pub a_space : Bool → Row
+a_space fits = record { fits = fits; spaced = true }
+
+-- the rows of the table for a and b, where these kinds stand before a
+abbrev pub rows : List Kind → Pair → Pair → List Row
+rows before a b =
+    -- at the end of a line
+    no_space (is_line_end b.kind)
+    -- before a line comment
+    ∷ a_space (is_line_comment b.kind)
+    -- `f(`
+    ∷ no_space (is_identifier a.kind && is_open_paren b.kind)
+    -- round `::`
+    ∷ no_space (is_double_colon a.kind || is_double_colon b.kind)
+    -- `a.b`, `a.0`
+    ∷ no_space (is_dot a.kind || is_step b.kind)
+    -- before `,` and `...`
+    ∷ no_space (is_separator b.kind)
+    -- behind `,`
+    ∷ a_space (is_comma a.kind)
+    -- behind the `in` of a `for`
+    ∷ a_space (is_in a && behind_identifier before)
+    -- `a[`
+    ∷ no_space (is_open_bracket b.kind && (takes_index a.kind || is_splat before a.kind))
+    -- `!a`
+    ∷ no_space (is_bang a.kind)
+    -- `-a`, where no operand stands before the `-`
+    ∷ no_space (is_minus a.kind && not (behind_operand before))
+    -- `{}`
+    ∷ no_space (is_open_brace a.kind && is_close_brace b.kind)
+    -- inside other braces
+    ∷ a_space (is_open_brace a.kind || is_close_brace b.kind)
+    -- `${ {` and `} }`
+    ∷ a_space ((opens_sequence a.kind && is_open_brace b.kind) || (is_close_brace a.kind && is_seq_close b.kind))
+    -- inside parentheses, brackets and template sequences
+    ∷ no_space (opens_close a.kind || closes_close b.kind)
+    ∷ []
+
+-- what the first row that fits says; where none fits, a space stands
+abbrev pub by_rows : List Row → Bool
+by_rows [] = true
+by_rows (row ∷ others) = if row.fits then row.spaced else by_rows others
+
+-- whether a space stands between a and b, where these kinds stand before a
 abbrev pub is_spaced : List Kind → Pair → Pair → Bool
-is_spaced before a b =
-    -- at the end of a line none, before a line comment one
-    if is_line_end b.kind then false
-    else (if is_line_comment b.kind then true
-    -- none: `f(`, round `::`, `a.b`, `a.0`, before `,` and `...`
-    else (if is_identifier a.kind && is_open_paren b.kind then false
-    else (if is_double_colon a.kind || is_double_colon b.kind then false
-    else (if is_dot a.kind || is_step b.kind then false
-    else (if is_separator b.kind then false
-    -- one behind `,`, and behind the `in` of a `for`
-    else (if is_comma a.kind then true
-    else (if is_in a && behind_identifier before then true
-    -- none: `a[`, `!a`, `-a` where no operand stands before the `-`
-    else (if is_open_bracket b.kind && (takes_index a.kind || is_splat before a.kind) then false
-    else (if is_bang a.kind then false
-    else (if is_minus a.kind && not (behind_operand before) then false
-    -- `{}`, else one inside braces, `${ {` and `} }` too
-    else (if is_open_brace a.kind && is_close_brace b.kind then false
-    else (if is_open_brace a.kind || is_close_brace b.kind then true
-    else (if (opens_sequence a.kind && is_open_brace b.kind) || (is_close_brace a.kind && is_seq_close b.kind) then true
-    -- none inside parentheses, brackets and template sequences; else one
-    else not (opens_close a.kind || closes_close b.kind))))))))))))))
+is_spaced before a b = by_rows (rows before a b)
+
+-- ---- gaps
 
 -- a gap of so many spaces
 abbrev pub spaces : ℕ → List ℕ

@@ -142,7 +142,10 @@ fn is_spaced(before: Before, a: Kind, a_spelling: &[u8], b: Kind) -> bool
     if (opens_sequence(a) & is_open_brace(b)) | (is_close_brace(a) & is_seq_close(b)) {
         return true;
     }
-    !(opens_close(a) | closes_close(b))
+    if opens_close(a) | closes_close(b) {
+        return false;
+    }
+    true
 }
 
 /// How long the gap is between token `i`, which is not the first, and the one before it, on a line.
