@@ -8,8 +8,8 @@ mod streams;
 mod world;
 
 use anyhow::Result;
-use test_row_text::Row;
 use std::{env, fs};
+use test_row_text::Row;
 use world::World;
 
 fn main(rt: HostRuntime) -> Result<()> {

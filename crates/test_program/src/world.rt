@@ -2,11 +2,11 @@
 
 use crate::streams::{Room, Source};
 use anyhow::{Result, anyhow};
-use test_row_text::Row;
 use std::alloc::Global;
 use std::fs::{self, Permissions};
 use std::os::unix::fs::{PermissionsExt, symlink};
 use std::str::from_utf8;
+use test_row_text::Row;
 use tf_program::work;
 
 /// What the next run of the program gets beside the files.

@@ -6,9 +6,9 @@ use crate::spelled::journal_of;
 use edit_record::Journal;
 use edit_text::laws::{old_records_turn_alike, text_begins_alike, text_is_one};
 use edit_text::{RecordFault, decode, encode, encoded_len};
-use test_row_text::Row;
 use std::alloc::Global;
 use std::fmt::Write;
+use test_row_text::Row;
 
 pub fn answer(row: &Row, out: &mut Answer) {
     match word(row, 0) {

@@ -7,9 +7,9 @@ use edit_record::Edits;
 use hcl_layout::laws::{cells_in_columns, keeps_tokens, lines_have_all_tokens, own_layout};
 use hcl_layout::{LayoutFault, is_laid_out, layout};
 use hcl_scan::scan;
-use test_row_text::Row;
 use std::alloc::Global;
 use std::fmt::Write;
+use test_row_text::Row;
 
 pub fn answer(row: &Row, out: &mut Answer) {
     match word(row, 0) {

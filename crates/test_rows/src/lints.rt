@@ -5,8 +5,8 @@ use crate::fields::{number, text, word};
 use crate::records::turned;
 use hcl_scan::{Scanned, scan};
 use hcl_tree::parse;
-use test_row_text::Row;
 use std::fmt::Write;
+use test_row_text::Row;
 use tf_lint::{Fixed, Issue, LintFault, Place, Rule, RuleSet, fix_text, issues};
 
 pub fn answer(row: &Row, out: &mut Answer) {

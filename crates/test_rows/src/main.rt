@@ -18,8 +18,8 @@ mod tokens;
 
 use answer::Answer;
 use anyhow::Result;
-use test_row_text::Row;
 use std::{env, fs};
+use test_row_text::Row;
 
 fn main(rt: HostRuntime) -> Result<()> {
     let words: Vec<String> = env::args(&rt)?.collect(rt.alloc())?;

@@ -5,8 +5,8 @@ use crate::fields::{text, word};
 use hcl_grammar::tree::Tree;
 use hcl_scan::scan;
 use hcl_tree::{ParseFault, parse};
-use test_row_text::Row;
 use std::fmt::Write;
+use test_row_text::Row;
 
 pub fn answer(row: &Row, out: &mut Answer) {
     if word(row, 0) == "memory" {

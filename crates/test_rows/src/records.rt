@@ -8,8 +8,8 @@ use edit_record::laws::{
     sides_fix_each_other, turned_texts_have_the_lengths, undo_is_exact,
 };
 use edit_record::{Change, Edits, Record, Refused, Word, apply_all, undo_all};
-use test_row_text::Row;
 use std::fmt::Write;
+use test_row_text::Row;
 
 pub fn answer(row: &Row, out: &mut Answer) {
     match word(row, 0) {

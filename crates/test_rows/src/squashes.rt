@@ -6,8 +6,8 @@ use crate::spelled::{journal_of, list_of, spell};
 use edit_record::{Edits, Journal};
 use edit_squash::laws::{squash_all_is_one, squash_associates, squash_is_one};
 use edit_squash::{Unmet, squash};
-use test_row_text::Row;
 use std::alloc::Global;
+use test_row_text::Row;
 
 pub fn answer(row: &Row, out: &mut Answer) {
     match word(row, 0) {

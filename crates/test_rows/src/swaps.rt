@@ -6,8 +6,8 @@ use crate::spelled::{journal_of, list_of, name_of, spell};
 use edit_record::{Edits, Record};
 use edit_swap::laws::{swap_is_one, taking_out_is_one};
 use edit_swap::{SwapFault, TakeFault, swap, take_out};
-use test_row_text::Row;
 use std::fmt::Write;
+use test_row_text::Row;
 
 pub fn answer(row: &Row, out: &mut Answer) {
     match word(row, 0) {

@@ -8,8 +8,8 @@ use hcl_scan::laws::{
 };
 use hcl_scan::{Kind, ScanFault, Scanned, scan};
 use hcl_token::{clusters, joins};
-use test_row_text::Row;
 use std::fmt::Write;
+use test_row_text::Row;
 
 pub fn answer(row: &Row, out: &mut Answer) {
     match word(row, 0) {

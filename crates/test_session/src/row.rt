@@ -1,8 +1,8 @@
 //! What comes of a row, and the bytes that a field stands for.
 
 use anyhow::Result;
-use test_row_text::Row;
 use std::alloc::Global;
+use test_row_text::Row;
 
 /// What came of a row.
 #[derive(Drop)]
