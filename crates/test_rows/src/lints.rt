@@ -1,20 +1,23 @@
-//! Rules, issues and the steps of fixes.
+//! Rules, what they find, issues and the steps of fixes.
 
 use crate::answer::Answer;
 use crate::fields::{number, text, word};
+use crate::parses::read;
 use crate::records::turned;
-use hcl_scan::{Scanned, scan};
-use hcl_tree::parse;
+use hcl_grammar::tree::Tree;
+use hcl_scan::Scanned;
 use std::fmt::Write;
 use test_row_text::Row;
+use tf_diagnostics::findings;
 use tf_lint::{Fixed, Issue, LintFault, Place, Rule, RuleSet, fix_text, issues};
+use tf_rule::Finding;
 
 pub fn answer(row: &Row, out: &mut Answer) {
     match word(row, 0) {
         "rule" => rule(word(row, 1), out),
         "set" => names(set_of(word(row, 1)), out),
         "line" => line(row, out),
-        "issues" => found(set_of(word(row, 1)), text(row, 2), out),
+        "issues" | "findings" => read(row, text(row, 2), out),
         "fix" | "step" => fix(row, out),
         _ => out.show(&LintFault::Memory),
     }
@@ -81,22 +84,46 @@ fn tell_line(issue: &Issue, file: &str, out: &mut Answer) {
     }
 }
 
-/// The issues of a text.
-fn found(rules: RuleSet, text: &[u8], out: &mut Answer) {
-    match scan(out.alloc, text) {
-        Ok(scanned) => parsed(rules, &scanned, out),
-        Err(fault) => out.refuse(&fault),
+/// The issues of a text, or what the rules find in it.
+pub fn searched(row: &Row, scanned: &Scanned<'_>, tree: &Tree, out: &mut Answer) {
+    let rules = set_of(word(row, 1));
+    if word(row, 0) == "issues" {
+        match issues(out.alloc, scanned, tree, rules) {
+            Ok(issues) => tell_issues(&issues, out),
+            Err(fault) => out.refuse(&fault),
+        }
+    } else {
+        match findings(out.alloc, scanned, tree, rules) {
+            Ok(found) => tell_findings(&found, scanned, out),
+            Err(fault) => out.refuse(&fault),
+        }
     }
 }
 
-fn parsed(rules: RuleSet, scanned: &Scanned<'_>, out: &mut Answer) {
-    match parse(out.alloc, scanned) {
-        Ok(tree) => match issues(out.alloc, scanned, &tree, rules) {
-            Ok(issues) => tell_issues(&issues, out),
-            Err(fault) => out.refuse(&fault),
-        },
-        Err(fault) => out.refuse(&fault),
+fn tell_findings(found: &[Finding], scanned: &Scanned<'_>, out: &mut Answer) {
+    for finding in found {
+        tell_finding(finding, scanned, out);
+        out.put("; ");
     }
+}
+
+/// Its place, its rule, its tokens, whether a fix can mend it, what its message names, and its fix.
+fn tell_finding(found: &Finding, scanned: &Scanned<'_>, out: &mut Answer) {
+    if found.first >= scanned.len() {
+        return out.put("no such token");
+    }
+    let place = scanned.place_of(found.first);
+    let (line, column, rule) = (place.line, place.column, found.rule.name());
+    let (first, past, message, fix) = (found.first, found.past, found.message, found.fix);
+    let mends = if found.is_fixable() {
+        "fixable"
+    } else {
+        "not fixable"
+    };
+    let _ = write!(
+        out,
+        "{line}:{column} {rule} {first}..{past} {mends} {message:?} {fix:?}"
+    );
 }
 
 /// For each issue its tokens, whether it can be fixed, and its line.

@@ -1,9 +1,10 @@
-//! Texts that parse or not, and where they do not.
+//! Texts that parse or not, where they do not, and what is told of their trees.
 
 use crate::answer::Answer;
 use crate::fields::{text, word};
+use crate::lints::searched;
 use hcl_grammar::tree::Tree;
-use hcl_scan::scan;
+use hcl_scan::{Scanned, scan};
 use hcl_tree::{ParseFault, parse};
 use std::fmt::Write;
 use test_row_text::Row;
@@ -12,21 +13,28 @@ pub fn answer(row: &Row, out: &mut Answer) {
     if word(row, 0) == "memory" {
         return out.show(&ParseFault::Memory);
     }
-    match scan(out.alloc, text(row, 1)) {
+    read(row, text(row, 1), out);
+}
+
+/// What is told of a text that parses, or where it does not.
+pub fn read(row: &Row, text: &[u8], out: &mut Answer) {
+    match scan(out.alloc, text) {
         Ok(scanned) => match parse(out.alloc, &scanned) {
-            Ok(tree) => tell(word(row, 0), &tree, out),
+            Ok(tree) => tell(row, &scanned, &tree, out),
             Err(fault) => out.show(&fault),
         },
         Err(fault) => out.refuse(&fault),
     }
 }
 
-/// That there is a tree, or how many tokens it has, how many its body, and how many members that has.
-fn tell(call: &str, tree: &Tree, out: &mut Answer) {
-    if call == "parse" {
-        out.put("parses");
-    } else {
-        let (all, past, members) = (tree.past, tree.body.past, tree.body.members.len());
-        let _ = write!(out, "{all} {past} {members}");
+/// That there is a tree, or how many tokens it has, how many its body, and how many members that has, or what is found in it.
+fn tell(row: &Row, scanned: &Scanned<'_>, tree: &Tree, out: &mut Answer) {
+    match word(row, 0) {
+        "parse" => out.put("parses"),
+        "body" => {
+            let (all, past, members) = (tree.past, tree.body.past, tree.body.members.len());
+            let _ = write!(out, "{all} {past} {members}");
+        }
+        _ => searched(row, scanned, tree, out),
     }
 }
