@@ -123,7 +123,7 @@ found_begins cell pairs at past m less within e =
 
 -- ---- the cell of a line
 
-abbrev broken : List Pair → Bool
+abbrev pub broken : List Pair → Bool
 broken ps = list_any (λ (p : Pair). is_inline_comment p.kind && list_any is_lf p.spelling) ps
 
 has_cells_if : (frozen b : Bool) (ps : List Pair) → b ≡ broken ps → has_cells (record { frozen = frozen; pairs = ps }) ≡ not (frozen || b)
@@ -134,7 +134,7 @@ pub blocked : (cell : Cell) (frozen b : Bool) (ps : List Pair) → b ≡ broken 
 blocked Assignment frozen b ps e h = let none : has_cells (record { frozen = frozen; pairs = ps }) ≡ false = has_cells_if frozen b ps e ∙ ap not h in rw none refl
 blocked ClosingComment frozen b ps e h = let none : has_cells (record { frozen = frozen; pairs = ps }) ≡ false = has_cells_if frozen b ps e ∙ ap not h in rw none refl
 
-abbrev if_counts : Cell → List Pair → Option ℕ → Option ℕ
+abbrev pub if_counts : Cell → List Pair → Option ℕ → Option ℕ
 if_counts cell ps None = None
 if_counts cell ps (Some n) = if cell_counts cell (drop n ps) then Some n else None
 

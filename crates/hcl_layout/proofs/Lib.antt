@@ -13,3 +13,4 @@ pub mod Few
 pub mod ColumnLaw
 pub mod Compose
 pub mod EditLemmas
+pub mod BothColumns

@@ -1,6 +1,7 @@
 -- What alignment means: in lines one behind the other, what begins the cells stands in one column.
 -- Terraform style conventions (aligned equals signs on consecutive lines).
 use Rattle.std.specs.Prelude.{◌≡◌, ℕ, zero, suc, ◌+◌, List, [], ◌∷◌, length, Option, Some, option_map, ⊤}
+use Rattle.hcl_token.specs.declared.kind.Kind.TheVariants.{LineEnd, LineComment}
 use Rattle.hcl_token.specs.Tokens.{Pair}
 use Rattle.hcl_token.specs.Place.{clusters}
 use Rattle.hcl_layout.specs.Lines.{Line}
@@ -25,3 +26,13 @@ abbrev pub AreAligned : (Line → Option ℕ) → List Line → Type 0
 AreAligned cell [] = ⊤
 AreAligned cell (x ∷ []) = ⊤
 AreAligned cell (x ∷ y ∷ lines) = SameColumn (column cell x) (column cell y) × AreAligned cell (y ∷ lines)
+
+-- a line end stands here, or nothing
+abbrev pub IsAtLineEnd : List Pair → Type 0
+IsAtLineEnd [] = ⊤
+IsAtLineEnd (p ∷ ps) = p.kind ≡ LineEnd
+
+-- a line comment goes on to the end of its line: a line end stands behind each, or nothing
+abbrev pub CommentsEndLines : List Pair → Type 0
+CommentsEndLines [] = ⊤
+CommentsEndLines (p ∷ ps) = (p.kind ≡ LineComment → IsAtLineEnd ps) × CommentsEndLines ps

@@ -4,6 +4,7 @@ use crate::ends::{Narrow, Slow};
 use crate::row::{Came, decoded};
 use anyhow::{Result, anyhow};
 use std::alloc::{AllocError, Global};
+use std::str::from_utf8;
 use tf_journal::{fix_stream, fmt_stream, journal_text, load, revert_stream};
 use tf_session::{
     Command, Done, Journal, Rule, RuleSet, RunFault, Session, Told, check_stream, lint_stream, run,
@@ -16,6 +17,7 @@ use tf_session::{
 /// hand; `journal J` reads J beside its text. `fmt`, `fix` (by all rules), `fix-none`, `fix-RULE+RULE..` (by these alone), `revert` and
 /// `take-N` are done on it. `check`, `lint`, `run COMMAND ..`, `through COMMAND R W` and `stream COMMAND R J K W` leave it: they are done over
 /// its text, and its journal; the reads of numbers R and J fail, and the writers take K and W bytes.
+/// The commands of `run` are written as a field is.
 pub fn do_row(alloc: Global, session: &mut Session, row: &str) -> Result<Came> {
     let (word, rest) = row.split_once(' ').unwrap_or((row, ""));
     match word {
@@ -157,7 +159,8 @@ fn linted(alloc: Global, session: &Session) -> Result<Came> {
 
 fn ran(alloc: Global, session: &Session, rest: &str) -> Result<Came> {
     let mut commands = Vec::new(alloc);
-    for word in rest.split(' ') {
+    let words = decoded(alloc, rest)?;
+    for word in from_utf8(words.as_slice())?.split(' ') {
         commands.push(command_of(word)?)?;
     }
     let text = Vec::from_slice(alloc, session.text())?;

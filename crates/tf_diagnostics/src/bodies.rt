@@ -66,7 +66,7 @@ fn attribute_if(
     }
 }
 
-/// What the rules of the set find in a tree: legacy indices, interpolations, comparisons with an empty list and calls of `lookup`,
+/// What the rules of the set on expressions find in a tree,
 /// in the order in which a walk comes by them. `AllocError` where memory is refused.
 ///
 /// TFLint ruleset for the Terraform language.

@@ -1,6 +1,6 @@
 //! What one rule has found.
 
-ghost use Rattle.std.specs.Prelude.{◌≡◌, ℕ, filter, IfOk};
+ghost use Rattle.std.specs.Prelude.{◌≡◌, ◌<◌, ℕ, length, filter, IfOk, IfErr};
 ghost use Rattle.tf_rule.specs.Findings.{AreSound};
 ghost use Rattle.tf_diagnostics.specs.OneRule.{is_of};
 
@@ -13,6 +13,7 @@ use tf_rule::{Finding, Rule};
 pub fn of_rule(alloc: Global, found: &[Finding], rule: Rule) -> Result<Vec<Finding>, AllocError>
     ensures are { IfOk result (λ r. r.items ≡ filter (is_of rule) found.now) }
     ensures sound { (n : ℕ) → AreSound n found.now → IfOk result (λ r. AreSound n r.items) }
+    ensures asked { IfErr result (λ _. 0 < length (filter (is_of rule) found.now)) }
 {
     let mut of_it = Vec::new(alloc);
     for finding in found {

@@ -13,6 +13,7 @@ use Rattle.tf_rules.specs.NodeFindings.{node_findings}
 use Rattle.tf_rules.specs.Nodes.{Node, member, Stand, nothing, one}
 use Rattle.tf_diagnostics.specs.TreeFindings.{AreTreeFindings}
 use Rattle.tf_lint.specs.Inner.Seeing.{AreOf}
+use Rattle.tf_lint.proofs.MemberAnswers.{member_answers}
 use Rattle.tf_lint.specs.Seen.{IsSeen, AreSeen, nodes_of, blocks_of}
 use Rattle.tf_lint.specs.declared.member.SeenMember.{SeenMember}
 use Rattle.tf_rule.specs.declared.finding.Finding.{Finding}
@@ -72,4 +73,4 @@ pub read_as : {rules : RuleSet} {pairs : List Pair} {from past : ℕ} {x : SeenM
     → member_of (tokens_of pairs) MAX_NESTING (deeper_members (tokens_of pairs) MAX_NESTING) from ≡ Ok (Some next.2.member, past)
 read_as {pairs} {past} next =
     subst (λ n. member_of (tokens_of pairs) MAX_NESTING (deeper_members (tokens_of pairs) MAX_NESTING) n ≡ Ok (Some next.2.member, past)) next.0
-    (next.2.read ∙ ap (λ n. Ok (Some next.2.member, n)) next.1)
+    (member_answers (tokens_of pairs) next.2.stands ∙ ap (λ n. Ok (Some next.2.member, n)) next.1)

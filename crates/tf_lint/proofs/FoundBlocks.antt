@@ -90,7 +90,7 @@ module _ (R T : ℕ → ℕ → Type 0) where
 module _ (old new : List Pair) {from to count : ℕ} (w : SameTokens (tokens_of old) (tokens_of new) from to count) where
   -- ---- words
 
-  first_same : {i i' j j' : ℕ} → Here w i i' → Here w j j' → i < j → Same w i i'
+  pub first_same : {i i' j j' : ℕ} → Here w i i' → Here w j j' → i < j → Same w i i'
   first_same h g l = record { before = h.before; within = omega (arith, l, h.in_old, g.in_old, g.within); in_old = h.in_old; in_new = h.in_new }
 
   at : {n n' : ℕ} → Same w n n' → Here w n n'
@@ -99,14 +99,14 @@ module _ (old new : List Pair) {from to count : ℕ} (w : SameTokens (tokens_of 
   behind : {n n' : ℕ} → Same w n n' → Here w (n + 1) (n' + 1)
   behind h = record { before = h.before + 1; within = omega (arith, h.within); in_old = omega (arith, h.in_old); in_new = omega (arith, h.in_new) }
 
-  word_moves : {n n' : ℕ} → Same w n n' → word new n' ≡ word old n
+  pub word_moves : {n n' : ℕ} → Same w n n' → word new n' ≡ word old n
   word_moves h = ap (λ (o : Option (List ℕ)). unwrap_or o []) (spelling_moved old new w h)
 
   name_moves : {o o' : Option ℕ} → MovedNumber (Here w) (Same w) o o' → name_at new o' ≡ name_at old o
   name_moves moves_as.no_number = refl
   name_moves (moves_as.one_number h) = word_moves h
 
-  number_moves : {o o' : Option ℕ} → MovedNumber (Here w) (Same w) o o' → o' ≡ option_map (moved from to) o
+  pub number_moves : {o o' : Option ℕ} → MovedNumber (Here w) (Same w) o o' → o' ≡ option_map (moved from to) o
   number_moves moves_as.no_number = refl
   number_moves (moves_as.one_number h) = ap Some (moved_token old new w h)
 

@@ -1,12 +1,11 @@
 -- A member whose tokens stand elsewhere is read there, and what is found in it is the same.
 use Rattle.std.proofs.Common.{◌≡◌, ℕ, ◌+◌, List, Some, Ok, refl, subst, arith}
-use Rattle.hcl_grammar.specs.Pure.BodyParser.{deeper_members, member_of}
+use Rattle.tf_lint.specs.OneMember.{IsOneMember}
 use Rattle.hcl_grammar.specs.Tokens.{Token}
 use Rattle.hcl_scan.specs.Follows.{tokens_of}
 use Rattle.tf_lint.specs.Keeping.{SameTokens, MembersKeep}
 use Rattle.tf_lint.proofs.FoundBlocks.{top_moves}
 use Rattle.tf_lint.proofs.FoundMember.{keeps_found}
-use Rattle.tf_lint.proofs.MemberAnswers.{member_derives, member_answers}
 use Rattle.tf_lint.proofs.MoveBodies.{move_member}
 use Rattle.tf_lint.proofs.Window.{Here, one_place}
 
@@ -21,7 +20,6 @@ module _ {old new : List Token} {from to count : ℕ} (w : SameTokens old new fr
 pub members_keep : MembersKeep
 members_keep rules old new depth from to count x w e some =
     let ts = tokens_of new in
-    let d = member_derives (tokens_of old) depth from x (from + count) e in
-    let (y, j, hj, d', m) = move_member w d (front w) (omega arith) some in
+    let (y, j, hj, d', m) = move_member w e (front w) (omega arith) some in
     let place : j ≡ to + count = one_place w hj (end w) in
-    (y, subst (λ (z : ℕ). member_of ts depth (deeper_members ts depth) to ≡ Ok (Some y, z)) place (member_answers ts d'), keeps_found rules old new w m, top_moves old new w rules m)
+    (y, subst (λ (z : ℕ). IsOneMember ts depth y to z) place d', keeps_found rules old new w m, top_moves old new w rules m)

@@ -1,22 +1,18 @@
 -- One member: what the parser answers is derived, and what is derived is answered.
-use Rattle.std.proofs.Common.{◌≡◌, ℕ, zero, suc, false, List, [], length, Option, Some, refl, subst, arith}
+use Rattle.std.proofs.Common.{◌≡◌, ℕ, zero, suc, false, List, [], length, Some, refl, subst, arith}
 use Rattle.hcl_token.specs.declared.kind.Kind.TheVariants as k
 use Rattle.hcl_grammar.specs.declared.error.TokenFault.TheVariants.{TooDeep}
-use Rattle.hcl_grammar.specs.declared.tree.Attribute.{Attribute}
 use Rattle.hcl_grammar.specs.declared.tree.Content.{Content}
-use Rattle.hcl_grammar.specs.declared.tree.Content.TheVariants as content
-use Rattle.hcl_grammar.specs.declared.tree.Expr.{Expr}
 use Rattle.hcl_grammar.specs.declared.tree.Label.{Label}
 use Rattle.hcl_grammar.specs.declared.tree.Member.{Member}
-use Rattle.hcl_grammar.specs.declared.tree.Member.TheVariants as member
-use Rattle.hcl_grammar.specs.Bodies.{IsLabels, IsOnLine, IsMembers}
-use Rattle.hcl_grammar.specs.Grammar.{IsExpr}
+use Rattle.hcl_grammar.specs.Bodies.{IsLabels, IsOnLine}
 use Rattle.hcl_grammar.specs.Pure.BodyParser as bodies
 use Rattle.hcl_grammar.specs.Pure.BodyParser.{deeper_members}
 use Rattle.hcl_grammar.specs.Pure.Reading.{expect}
 use Rattle.hcl_grammar.specs.Lines.{At, IsLine, IsEol}
 use Rattle.hcl_grammar.specs.Nodes as node
-use Rattle.hcl_grammar.specs.Tokens.{Token, start, after, first_of}
+use Rattle.tf_lint.specs.OneMember.{IsOneMember, attribute, block, line_block}
+use Rattle.hcl_grammar.specs.Tokens.{Token, start, after}
 use Rattle.hcl_grammar_laws.proofs.BodyComplete.{member_attribute, member_block, content_lines, c_on_line, c_members, members-is, ends_brace, eol_stop}
 use Rattle.hcl_grammar_laws.proofs.BodySound.{Inside, inside_lines, inside_line, all_labels, s_content, s_eol, sound_body, shut}
 use Rattle.hcl_grammar_laws.proofs.Complete.{nested, c_expr}
@@ -26,37 +22,26 @@ use Rattle.hcl_grammar_laws.proofs.Spans.{span_members}
 use Rattle.hcl_grammar_laws.proofs.Steps.{Answers, found, bind, sees-yes, past-yes}
 use Rattle.hcl_grammar_laws.proofs.Whole.{found_at}
 
--- one member of a body, from its name on up to the end of its last line
-pub data IsMember (ts : List Token) : ℕ → Member → ℕ → ℕ → Type 0 where
-  attribute : {d : ℕ} {e : Expr} {i j n : ℕ} → At ts false k.Identifier i → At ts false k.Equal (after ts false i) → IsExpr ts d false e (after ts false (after ts false i)) j → IsEol ts j n
-      → IsMember ts d (member.Attribute (node.attribute (start ts false i) n e)) i n
-  block : {d : ℕ} {ls : List Label} {bs : List Member} {i j n o q : ℕ} → At ts false k.Identifier i → IsLabels ts ls (after ts false i) j → At ts false k.OpenBrace j
-      → IsLine ts (after ts false j) n → IsMembers ts d bs n o → At ts false k.CloseBrace o → IsEol ts (after ts false o) q
-      → IsMember ts (suc d) (node.block (start ts false i) q ls (content.Lines (node.body (first_of ts false n o) o bs))) i q
-  line_block : {d : ℕ} {ls : List Label} {a : Option Attribute} {i j o q : ℕ} → At ts false k.Identifier i → IsLabels ts ls (after ts false i) j → At ts false k.OpenBrace j
-      → IsOnLine ts d a (after ts false j) o → At ts false k.CloseBrace o → IsEol ts (after ts false o) q
-      → IsMember ts (suc d) (node.block (start ts false i) q ls (content.Line a)) i q
-
 module _ (ts : List Token) where
   -- ---- what is answered is derived
 
   attribute_derives : (b i : ℕ) → At ts false k.Identifier i → At ts false k.Equal (after ts false i) → (m : Member) (j : ℕ)
-      → bodies.attribute_by ts b (deeper_members ts b) (start ts false i) (after ts false (after ts false i)) ≡ done m j → IsMember ts b m i j
+      → bodies.attribute_by ts b (deeper_members ts b) (start ts false i) (after ts false (after ts false i)) ≡ done m j → IsOneMember ts b m i j
   unfolding bodies.attribute_by
   attribute_derives b i h q m j e =
       let w = bind_inv _ _ e in
       let x = (sound ts b).whole false (after ts false (after ts false i)) w.value w.at w.is in
       let v = bind_inv _ _ w.rest in
-      along (λ m j. IsMember ts b m i j) v.rest (attribute h q x (s_eol ts w.at v.is))
+      along (λ m j. IsOneMember ts b m i j) v.rest (attribute h q x (s_eol ts w.at v.is))
 
   block_from : {ls : List Label} {j o q : ℕ} (a i : ℕ) → At ts false k.Identifier i → IsLabels ts ls (after ts false i) j → At ts false k.OpenBrace j → (n : ℕ) → n ≡ after ts false j
       → (x : Content) → Inside ts a x n o
-      → At ts false k.CloseBrace o → IsEol ts (after ts false o) q → IsMember ts (suc a) (node.block (start ts false i) q ls x) i q
+      → At ts false k.CloseBrace o → IsEol ts (after ts false o) q → IsOneMember ts (suc a) (node.block (start ts false i) q ls x) i q
   block_from a i h ls br n e x (inside_lines {n = from} nl bs) c el = block h ls br (subst (λ n. IsLine ts n from) e nl) bs c el
   block_from a i h ls br n e x (inside_line {x = one} {o = to} y) c el = line_block h ls br (subst (λ n. IsOnLine ts a one n to) e y) c el
 
   block_derives : (b i : ℕ) → At ts false k.Identifier i → (m : Member) (j : ℕ)
-      → bodies.block_by ts b (deeper_members ts b) (start ts false i) (after ts false i) ≡ done m j → IsMember ts b m i j
+      → bodies.block_by ts b (deeper_members ts b) (start ts false i) (after ts false i) ≡ done m j → IsOneMember ts b m i j
   unfolding bodies.block_by
   block_derives zero i h m j e =
       let w = bind_inv (bodies.labels_from ts (length ts) [] (after ts false i)) _ e in
@@ -69,20 +54,20 @@ module _ (ts : List Token) where
       let y = s_content ts a (sound_body ts a) (after ts false w.at) x.value x.at x.is in
       let (c, v) = expect_then ts false k.CloseBrace x.at _ x.rest in
       let el = bind_inv _ _ v in
-      along (λ m j. IsMember ts (suc a) m i j) el.rest (block_from a i h ls br (after ts false w.at) refl x.value y c (s_eol ts (after ts false x.at) el.is))
+      along (λ m j. IsOneMember ts (suc a) m i j) el.rest (block_from a i h ls br (after ts false w.at) refl x.value y c (s_eol ts (after ts false x.at) el.is))
 
   named_derives : (b i : ℕ) → At ts false k.Identifier i → (m : Member) (j : ℕ)
-      → bodies.named_member ts b (deeper_members ts b) (start ts false i) (after ts false i) ≡ done m j → IsMember ts b m i j
+      → bodies.named_member ts b (deeper_members ts b) (start ts false i) (after ts false i) ≡ done m j → IsOneMember ts b m i j
   unfolding bodies.named_member
   named_derives b i h m j e = elim (eat_inv ts false k.Equal (after ts false i)) [
     | eaten q s l ↦ attribute_derives b i h q m j (rw (s, l) at e)
     | uneaten s l ↦ block_derives b i h m j (rw (s, l) at e)
   ]
 
-  pub member_derives : (b i : ℕ) (m : Member) (j : ℕ) → bodies.member_of ts b (deeper_members ts b) i ≡ done (Some m) j → IsMember ts b m i j
+  pub member_derives : (b i : ℕ) (m : Member) (j : ℕ) → bodies.member_of ts b (deeper_members ts b) i ≡ done (Some m) j → IsOneMember ts b m i j
   unfolding bodies.member_of
   member_derives b i m j e = elim (eat_inv ts false k.Identifier i) [
-    | eaten q s l ↦ (let w = bind_inv _ _ (rw (s, l) at e) in some_along (λ m j. IsMember ts b m i j) w.rest (named_derives b i q w.value w.at w.is))
+    | eaten q s l ↦ (let w = bind_inv _ _ (rw (s, l) at e) in some_along (λ m j. IsOneMember ts b m i j) w.rest (named_derives b i q w.value w.at w.is))
     | uneaten s l ↦ absurd (none_some (rw (s, l) at e))
   ]
 
@@ -93,7 +78,7 @@ module _ (ts : List Token) where
   unfolding bodies.member_of
   named_answers i q x = rw (sees-yes ts false k.Identifier i q, past-yes ts false k.Identifier i q) (bind _ x found)
 
-  answers : {d : ℕ} {x : Member} {i j : ℕ} → IsMember ts d x i j → (b : ℕ) → Answers d b (Some x) j (bodies.member_of ts b (deeper_members ts b) i)
+  answers : {d : ℕ} {x : Member} {i j : ℕ} → IsOneMember ts d x i j → (b : ℕ) → Answers d b (Some x) j (bodies.member_of ts b (deeper_members ts b) i)
   answers (attribute {i} q e x el) b =
       named_answers i q (member_attribute ts (start ts false i) (after ts false i) e (nested ts false (after ts false (after ts false i)) b (c_expr ts x (eol_stop ts el) b)) el)
   answers (block {i} {j} {n} {o} h ls br nl bs cl el) b =
@@ -102,5 +87,5 @@ module _ (ts : List Token) where
   answers (line_block {i} h ls br x cl el) b =
       named_answers i h (member_block ts (start ts false i) (after ts false i) ls br cl el b (λ a. c_on_line ts x cl a))
 
-  pub member_answers : {d : ℕ} {x : Member} {i j : ℕ} → IsMember ts d x i j → bodies.member_of ts d (deeper_members ts d) i ≡ done (Some x) j
+  pub member_answers : {d : ℕ} {x : Member} {i j : ℕ} → IsOneMember ts d x i j → bodies.member_of ts d (deeper_members ts d) i ≡ done (Some x) j
   member_answers {d} h = found_at (omega arith) (answers h d)

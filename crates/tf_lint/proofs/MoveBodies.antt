@@ -15,8 +15,8 @@ use Rattle.hcl_grammar.specs.Nodes as node
 use Rattle.hcl_grammar.specs.Tokens.{Token, start, next, after, first_of}
 use Rattle.hcl_grammar_laws.proofs.Spans.{span_line, span_eol, span_expr, span_labels, span_on_line, span_members}
 use Rattle.tf_lint.specs.Keeping.{SameTokens}
-use Rattle.tf_lint.proofs.MemberAnswers.{IsMember}
-use Rattle.tf_lint.proofs.MemberAnswers as alone
+use Rattle.tf_lint.specs.OneMember.{IsOneMember}
+use Rattle.tf_lint.specs.OneMember as alone
 use Rattle.tf_lint.proofs.MoveExpressions.{move_expr}
 use Rattle.tf_lint.proofs.MoveLines.{move_line}
 use Rattle.tf_lint.proofs.Moved.{MovedExpr, MovedLabels, MovedOnLine, MovedMember, MovedMembers}
@@ -24,7 +24,7 @@ use Rattle.tf_lint.proofs.Moved as moved
 use Rattle.tf_lint.proofs.Window.{Here, Same, Comes, starts, starts_here, afters, nexts, some_next, comes_end, comes_within, earlier, firsts}
 
 -- one member in front of others
-in_front : {ts : List Token} {d : ℕ} {x : Member} {ms : List Member} {i n l : ℕ} → IsMember ts d x i n → IsMembers ts d ms n l → IsMembers ts d (x ∷ ms) i l
+pub in_front : {ts : List Token} {d : ℕ} {x : Member} {ms : List Member} {i n l : ℕ} → IsOneMember ts d x i n → IsMembers ts d ms n l → IsMembers ts d (x ∷ ms) i l
 in_front (alone.attribute p q x el) r = attribute p q x el r
 in_front (alone.block p ls br nl bs cl el) r = block p ls br nl bs cl el r
 in_front (alone.line_block p ls br x cl el) r = line_block p ls br x cl el r
@@ -123,7 +123,7 @@ module _ {old new : List Token} {from to count : ℕ} (w : SameTokens old new fr
   -- ---- members
 
   abbrev MovesMember : ℕ → Member → ℕ → ℕ → Type 0
-  MovesMember d x i' j = (y : Member) × (j' : ℕ) × Here w j j' × IsMember new d y i' j' × MovedMember (Here w) (Same w) x y
+  MovesMember d x i' j = (y : Member) × (j' : ℕ) × Here w j j' × IsOneMember new d y i' j' × MovedMember (Here w) (Same w) x y
 
   abbrev MovesMembers : ℕ → List Member → ℕ → ℕ → Type 0
   MovesMembers d ms i' j = (ns : List Member) × (j' : ℕ) × Here w j j' × IsMembers new d ns i' j' × MovedMembers (Here w) (Same w) ms ns
@@ -212,8 +212,8 @@ module _ {old new : List Token} {from to count : ℕ} (w : SameTokens old new fr
       let cq = earlier w false q l (span_members r).forth c in
       then (move_line_block p ls br x cl el h (comes_end w false q cq) (some_next w false q cq)) (λ n' hn. move_members r hn c)
 
-  pub move_member : {d : ℕ} {x : Member} {i i' j : ℕ} → IsMember old d x i j → Here w i i' → j ≤ from + count → next old false j ≢ None
-      → (y : Member) × (j' : ℕ) × Here w j j' × IsMember new d y i' j' × MovedMember (Here w) (Same w) x y
+  pub move_member : {d : ℕ} {x : Member} {i i' j : ℕ} → IsOneMember old d x i j → Here w i i' → j ≤ from + count → next old false j ≢ None
+      → (y : Member) × (j' : ℕ) × Here w j j' × IsOneMember new d y i' j' × MovedMember (Here w) (Same w) x y
   move_member (alone.attribute p q x el) h l some = move_attribute p q x el h l some
   move_member (alone.block p ls br nl bs cl el) h l some = move_block p ls br nl (span_members bs).forth (λ co n' hn. move_members bs hn co) cl el h l some
   move_member (alone.line_block p ls br x cl el) h l some = move_line_block p ls br x cl el h l some

@@ -1,6 +1,6 @@
 -- What is found in a member whose tokens stand elsewhere too.
-use Rattle.std.specs.Prelude.{◌≡◌, ◌≢◌, ◌≤◌, ◌<◌, ℕ, ◌+◌, ◌^◌, false, List, [], ◌∷◌, length, map, take, drop, Some, None, Ok}
-use Rattle.hcl_grammar.specs.Pure.BodyParser.{deeper_members, member_of}
+use Rattle.std.specs.Prelude.{◌≡◌, ◌≢◌, ◌≤◌, ◌<◌, ℕ, ◌+◌, ◌^◌, false, List, [], ◌∷◌, length, map, take, drop, None}
+use Rattle.tf_lint.specs.OneMember.{IsOneMember}
 use Rattle.hcl_grammar.specs.Tokens.{Token, next}
 use Rattle.hcl_grammar.specs.declared.tree.Member.{Member}
 use Rattle.hcl_scan.specs.Follows.{tokens_of}
@@ -20,11 +20,12 @@ pub record SameTokens (old new : List Token) (from to count : ℕ) : Type 0 wher
   pub fits : to + count < 2 ^ 64
   pub same : take count (drop from old) ≡ take count (drop to new)
 
--- A member that was read from these tokens, with others behind it, is read from them elsewhere, and the same is found in it, its numbers moved.
+-- A member that stands over these tokens, with others behind it, stands over them elsewhere, and the
+-- same is found in it, its numbers moved.
 abbrev pub MembersKeep : Type 0
 MembersKeep = (rules : RuleSet) (old new : List Pair) (depth from to count : ℕ) (x : Member) → SameTokens (tokens_of old) (tokens_of new) from to count
-    → member_of (tokens_of old) depth (deeper_members (tokens_of old) depth) from ≡ Ok (Some x, from + count)
+    → IsOneMember (tokens_of old) depth x from (from + count)
     → next (tokens_of old) false (from + count) ≢ None
-    → (y : Member) × (member_of (tokens_of new) depth (deeper_members (tokens_of new) depth) to ≡ Ok (Some y, to + count))
+    → (y : Member) × IsOneMember (tokens_of new) depth y to (to + count)
     × ((found : List Finding) → AreTreeFindings rules old (member x ∷ []) found → AreTreeFindings rules new (member y ∷ []) (map (moved_finding from to) found))
     × (sound (length new) (member_findings rules new y) ≡ map (moved_finding from to) (sound (length old) (member_findings rules old x)))

@@ -1,6 +1,7 @@
 -- What is found in the members of a text's body.
 use Rattle.std.specs.Prelude.{◌≡◌, ℕ, List, [], ◌∷◌, slice_get, length, Option, Some, None, Ok}
 use Rattle.hcl_grammar.specs.Pure.BodyParser.{deeper_members, member_of}
+use Rattle.tf_lint.specs.OneMember.{IsOneMember}
 use Rattle.hcl_grammar.specs.declared.tree.Member.{Member}
 use Rattle.hcl_grammar.specs.declared.bounds.TheConstants.{MAX_NESTING}
 use Rattle.hcl_scan.specs.Follows.{tokens_of}
@@ -13,10 +14,10 @@ use Rattle.tf_rule.specs.Findings.{sound}
 use Rattle.tf_rule.specs.declared.rule_set.RuleSet.{RuleSet}
 use Rattle.tf_rules.specs.TopFindings.{member_findings}
 
--- a member is read there, and that is what the rules find in it
+-- a member stands there, and that is what the rules find in it
 pub record IsSeen (rules : RuleSet) (pairs : List Pair) (x : SeenMember) : Type 0 where
   pub member : Member
-  pub read : member_of (tokens_of pairs) MAX_NESTING (deeper_members (tokens_of pairs) MAX_NESTING) x.from ≡ Ok (Some member, x.past)
+  pub stands : IsOneMember (tokens_of pairs) MAX_NESTING member x.from x.past
   pub at_nodes : AreTreeFindings rules pairs (node.member member ∷ []) x.nodes.items
   pub at_block : x.blocks.items ≡ sound (length pairs) (member_findings rules pairs member)
 

@@ -222,8 +222,8 @@ fn run(
     }
 }
 
-/// The text fixed by the rules of the set: comments, legacy indexes, interpolations, comparisons with empty lists, lookups, in this
-/// order, each over the text that the one before left.
+/// The text fixed by the rules of the set, in the order of their table,
+/// each over the text that the one before left.
 ///
 /// A text is read once for each rule that changes it, and once more. `FixBroken` where what a rule makes does not parse; `TooLong`
 /// where it would have more than 16,777,216 bytes.

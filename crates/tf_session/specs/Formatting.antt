@@ -1,5 +1,5 @@
 -- What `fmt` makes of a text: its layout.
-use Rattle.std.specs.Prelude.{◌≡◌, ◌≤◌, ℕ, List, length, Result, Ok, Err}
+use Rattle.std.specs.Prelude.{◌≡◌, ◌≤◌, ℕ, List, length, Option, Result, Ok, Err}
 use Rattle.hcl_scan.specs.Cut.{MAX_TEXT}
 use Rattle.hcl_scan.specs.Fault.{IsFault}
 use Rattle.hcl_layout.specs.Layout.{layout_edits}
@@ -9,6 +9,8 @@ use Rattle.tf_session.specs.declared.command.Fault.TheVariants.{Scan, Parse, Fix
 use Rattle.tf_session.specs.Reading.{DoesParse}
 use Rattle.tf_fix.specs.declared.parsed.Parsed.{Parsed}
 use Rattle.tf_fix.specs.Reading.{Reads}
+use Rattle.tf_lint.specs.declared.step.Change.{Change}
+use Rattle.tf_lint.specs.Fixed.{text_after, edits_after}
 use Rattle.tf_lint.specs.Reading.{IsParseFault}
 use Rattle.tf_lint.specs.Steps.{Made}
 
@@ -22,6 +24,11 @@ pub record Formats (text : List ℕ) (made : Made) : Type 0 where
   pub edits_are : made.edits ≡ layout_edits parsed.scanned
   pub fixed_is : made.fixed ≡ 0
   pub left_is : made.left ≡ 0
+
+-- what was made of this text, if it was laid out so
+abbrev pub formatted : List ℕ → Option Change → Made
+formatted text change =
+    record { text = text_after text change; edits = edits_after text change; fixed = 0; left = 0 }
 
 -- what a fmt makes of a text, or why it refuses it
 abbrev pub FmtMakes : List ℕ → Result Made Fault → Type 0

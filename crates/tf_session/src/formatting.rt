@@ -10,7 +10,7 @@ ghost use Rattle.hcl_grammar.specs.declared.bounds.TheConstants.{MAX_NESTING};
 ghost use Rattle.hcl_scan.specs.Cut.{MAX_TEXT};
 ghost use Rattle.hcl_scan.specs.Follows.{tokens_of};
 ghost use Rattle.tf_session.specs.Reading.{DoesParse};
-ghost use Rattle.tf_lint.specs.Fixed.{made_of};
+ghost use Rattle.tf_session.specs.Formatting.{formatted};
 ghost use Rattle.tf_session.specs.Makes.{Makes, RefusesText};
 ghost use Rattle.tf_session.specs.declared.command.Command.TheVariants.{Fmt};
 ghost use Rattle.tf_session.specs.declared.command.Fault.TheVariants.{TooLong, Memory};
@@ -23,12 +23,12 @@ use hcl_format::{is_parsed_laid_out, laws, layout_of_parsed};
 use hcl_parses::laws::parsed_apart;
 use hcl_scan::Scanned;
 use std::alloc::Global;
-use tf_lint::{Change, Fixed};
+use tf_lint::Change;
 
-/// The text laid out.
-pub fn fmt_text(alloc: Global, text: &[u8]) -> Result<Fixed, Fault>
-    ensures made { IfOk result (λ fixed. Makes Fmt text.now (Ok (made_of text.now fixed))) }
-    ensures change { IfOk result (λ fixed. IfSome fixed.change (λ change. Turns change.edits text.now change.text.items)) }
+/// The text laid out, with the edits that do so; none where it is its own layout.
+pub fn fmt_text(alloc: Global, text: &[u8]) -> Result<Option<Change>, Fault>
+    ensures made { IfOk result (λ change. Makes Fmt text.now (Ok (formatted text.now change))) }
+    ensures change { IfOk result (λ o. IfSome o (λ change. Turns change.edits text.now change.text.items)) }
     ensures fault { IfErr result (λ fault. RefusesText Fmt text.now fault) }
 {
     laws::laid_out_is_text();
@@ -37,17 +37,9 @@ pub fn fmt_text(alloc: Global, text: &[u8]) -> Result<Fixed, Fault>
     let scanned = read_text(alloc, text)?;
     let change = layout_change(alloc, &scanned)?;
     if change.text.as_slice() == text {
-        return Ok(Fixed {
-            change: None,
-            fixed: 0,
-            left: Vec::new(alloc),
-        });
+        return Ok(None);
     }
-    Ok(Fixed {
-        change: Some(change),
-        fixed: 0,
-        left: Vec::new(alloc),
-    })
+    Ok(Some(change))
 }
 
 /// The layout of a text that parses.

@@ -1,9 +1,10 @@
 //! Whole texts linted from a reader to a writer.
 
-ghost use Rattle.std.specs.Prelude.{◌≡◌, ◌↔◌, true, false, OnOk, IfOk, IfErr, IsErrOf, IsErrAnd};
+ghost use Rattle.std.specs.Prelude.{◌≡◌, ◌<◌, ◌↔◌, length, true, false, OnOk, IfOk, IfErr, IsErrOf, IsErrAnd};
 ghost use Rattle.tf_lint.specs.Issues.{reports};
 ghost use Rattle.tf_stream.specs.Told.{has_failed};
 ghost use Rattle.tf_stream.specs.Streams.{from, into, Puts};
+ghost use Rattle.tf_session.specs.declared.fault.RunFault.TheVariants.{Memory};
 ghost use Rattle.tf_session.specs.Lines.{lines_of, AreLines, Lints, LintsAtFault, NotListed};
 ghost use Rattle.tf_session.specs.Makes.{NotRead};
 ghost use Rattle.tf_session.specs.Streams.{is_write};
@@ -53,6 +54,7 @@ pub fn put_issues<W: Write>(
     ensures lines { OnOk result (Puts (into W.contents out.old out.new) (lines_of name.now (reports found.now))) }
     ensures fault { IfErr result (λ fault. NotListed (lines_of name.now (reports found.now)) fault (into W.contents out.old out.new)) }
     ensures write { IsErrAnd result (λ fault. is_write fault ≡ true) ↔ has_failed out.new ≡ true }
+    ensures asked { IfErr result (λ fault. fault ≡ Memory → 0 < length found.now) }
 {
     let lines = joined_lines(alloc, name, found)?;
     put_text(lines.as_slice(), out)
@@ -77,7 +79,8 @@ fn issue_lines(
 }
 
 fn joined_lines(alloc: Global, name: &str, found: &[Issue]) -> Result<Vec<u8>, AllocError>
-    ensures { IfOk result (λ lines. lines.items ≡ lines_of name.now (reports found.now)) }
+    ensures lines { IfOk result (λ lines. lines.items ≡ lines_of name.now (reports found.now)) }
+    ensures asked { IfErr result (λ _. 0 < length found.now) }
 {
     let mut lines = Vec::new(alloc);
     for issue in found {

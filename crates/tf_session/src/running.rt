@@ -1,6 +1,6 @@
 //! Commands one after another.
 
-ghost use Rattle.std.specs.Prelude.{◌≡◌, IfOk};
+ghost use Rattle.std.specs.Prelude.{◌≡◌, ◌<◌, IfOk, IfErr, length};
 ghost use Rattle.tf_session.specs.Session.{text_of, records_of};
 ghost use Rattle.tf_session.specs.Machine.{Stack, only, Run, WithoutTake};
 ghost use Rattle.tf_session.specs.Layers.{History, bare, top_text, records_in, IsHistory, RunLayers};
@@ -28,6 +28,7 @@ pub fn run(
         × (text_of ran.0 ≡ end.top) × Stands (records_of ran.0) end.top end.below) }
     ensures layers { IfOk result (λ ran. (end : History) × RunLayers (bare text.items) commands.now ran.1.items end
         × (text_of ran.0 ≡ top_text end) × (records_of ran.0 ≡ records_in end.layers) × IsHistory end) }
+    ensures asked { IfErr result (λ _. 0 < length commands.now) }
 {
     taking_out_is_one();
     turned_texts_have_the_lengths();

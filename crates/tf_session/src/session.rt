@@ -57,12 +57,8 @@ impl Session {
     {
         match command {
             Command::Fmt => {
-                let Fixed {
-                    change,
-                    fixed,
-                    left,
-                } = fmt_text(alloc, self.text.as_slice())?;
-                self.put_on(Word::Fmt, change, fixed, left.len())
+                let change = fmt_text(alloc, self.text.as_slice())?;
+                self.put_on(Word::Fmt, change, 0, 0)
             }
             Command::Fix(rules) => match self.fix(alloc, rules) {
                 Ok((done, _)) => Ok(done),

@@ -10,7 +10,7 @@ returns c = λ rules is.
     let old = c.args.old.now.pairs in
     let new = c.args.scanned.now.pairs in
     let whole = c.if-not-stands.ensures.whole refl in
-    let m = c.members_keep.ensures rules old new MAX_NESTING s.from c.args.at (s.past - s.from) is.member (c.if-not-stands.ensures.same refl) (rw whole is.read) (rw whole (c.if-not-stands.ensures.more refl)) in
+    let m = c.members_keep.ensures rules old new MAX_NESTING s.from c.args.at (s.past - s.from) is.member (c.if-not-stands.ensures.same refl) (rw whole is.stands) (rw whole (c.if-not-stands.ensures.more refl)) in
     let nodes = c.in_ok-nodes.ensures ∙ ap (map (moved_finding s.from c.args.at)) c.deref.ensures.value in
     let blocks = c.in_ok-blocks.ensures ∙ ap (map (moved_finding s.from c.args.at)) (c.deref-2.ensures.value ∙ is.at_block) in
-    (refl, record { member = m.0; read = m.1; at_nodes = rw nodes (m.2 s.nodes.items is.at_nodes); at_block = blocks ∙ sym m.3 })
+    (refl, record { member = m.0; stands = m.1; at_nodes = rw nodes (m.2 s.nodes.items is.at_nodes); at_block = blocks ∙ sym m.3 })

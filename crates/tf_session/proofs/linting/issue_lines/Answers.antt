@@ -21,6 +21,6 @@ returns-in-Ok-clause-lines c =
     let counted : c.len.result ≡ length c.in_ok-found.found.items = search rules in (
       reports c.in_ok-found.found.items,
       (p, reads, (s.found.items, finds, of_text)),
-      c.in-Ok.ensures ∙ ap (λ (xs : List Issue). lines_of c.args.name.now (reports xs)) c.as_slice-2.ensures.value,
+      c.in-Ok.ensures.lines ∙ ap (λ (xs : List Issue). lines_of c.args.name.now (reports xs)) c.as_slice-2.ensures.value,
       counted ∙ sym (length-map c.in_ok-found.found.items report),
     )

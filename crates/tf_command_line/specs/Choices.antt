@@ -1,0 +1,16 @@
+-- Which rules the words of the command line choose. Options of TFLint.
+use Rattle.std.specs.Prelude.{◌==◌, Bool, true, List}
+use Rattle.std.specs.List.{list_any}
+use Rattle.tf_rule.specs.declared.rule.Rule.{Rule}
+use Rattle.tf_rule.specs.Rules.{index_of}
+use Rattle.tf_command_line.specs.declared.rule_choice.Choice.{Choice}
+use Rattle.tf_command_line.specs.declared.rule_choice.Choice.TheVariants.{All, One}
+
+-- whether a choice names the rule: `all` names every rule
+abbrev pub names : Choice → Rule → Bool
+names All rule = true
+names (One one) rule = index_of rule == index_of one
+
+-- whether one of the choices does
+abbrev pub is_named : List Choice → Rule → Bool
+is_named choices rule = list_any (λ choice. names choice rule) choices
