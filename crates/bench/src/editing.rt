@@ -1,8 +1,7 @@
 //! Many edits of a long text.
 
 use crate::timing::{now, tell};
-use edit_record::{Change, Edit, Edits};
-use edit_squash::squash;
+use edit_record::{Change, Edit, Edits, squash};
 use std::alloc::Global;
 
 const TEXT_LEN: usize = 16_000_000;
@@ -12,7 +11,8 @@ const EDITS: usize = 500_000;
 /// The length of texts whose edits are squashed: short enough for what both lists add.
 const SHORTER_LEN: usize = 12_000_000;
 
-/// A copy of the text, then the same text through half a million edits and back, then squashes of two such lists.
+/// A copy of the text, then the same text through half a million edits and back, then squashes of
+/// two such lists.
 pub fn run(rt: &HostRuntime) {
     let alloc = rt.alloc();
     let old = long_text(alloc);
@@ -71,7 +71,8 @@ fn turned(rt: &HostRuntime, edits: &Edits, old: &[u8]) {
     }
 }
 
-/// Squashes of two lists of half a million edits each: inside each other, touching, and far from each other.
+/// Squashes of two lists of half a million edits each: inside each other, touching, and far from
+/// each other.
 fn squashes(rt: &HostRuntime) {
     let alloc = rt.alloc();
     let first = many(alloc, SHORTER_LEN, 24, b"a", b"xy");

@@ -1,7 +1,9 @@
-//! How long scanning, parsing, laying out and editing take: to be read by people, compared with nothing.
+//! How long scanning, parsing, laying out and editing take: to be read by people, compared with
+//! nothing.
 //!
-//! `bench scan FILE` scans a file several times and asks for the place of each token, `bench parse FILE` scans and parses it,
-//! `bench layout FILE` lays it out; `bench edits` applies, undoes and squashes many edits of a long text.
+//! `bench scan FILE` scans a file several times and asks for the place of each token, `bench parse
+//! FILE` scans and parses it, `bench layout FILE` lays it out; `bench edits` applies, undoes and
+//! squashes many edits of a long text.
 #![tactic(auto)]
 
 mod editing;

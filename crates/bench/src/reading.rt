@@ -1,7 +1,7 @@
 //! What is made of a text.
 
 use crate::timing::{now, tell};
-use hcl_layout::{is_laid_out, layout};
+use hcl_gaps::{is_laid_out, layout};
 use hcl_scan::{Scanned, scan};
 use hcl_tree::check;
 use std::time::Instant;

@@ -8,7 +8,8 @@ pub fn now(rt: &HostRuntime) -> Option<Instant> {
     Instant::now(rt).ok()
 }
 
-/// Tells how long something took, and what came of it: a number, or a fault. The answer is when this is.
+/// Tells how long something took, and what came of it: a number, or a fault. The answer is when
+/// this is.
 pub fn tell<T: Display>(
     rt: &HostRuntime,
     start: Option<Instant>,

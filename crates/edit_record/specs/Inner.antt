@@ -1,8 +1,7 @@
--- For proofs alone: functions that the code is proved equal to, and proofs of what the trait's laws say. What has to be
--- believed stands in the files beside this one.
-pub mod Walk
-pub mod Goes
-pub mod Turning
-pub mod Exact
-pub mod ManyExact
-pub mod JournalExact
+-- For proofs alone: how the code reads a text, as functions on lists. No public clause names
+-- anything of this folder.
+pub mod Reading
+pub mod Growing
+pub mod Finding
+pub mod Faults
+pub mod OldHead

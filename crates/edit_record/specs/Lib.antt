@@ -1,8 +1,3 @@
-pub mod Pieces
-pub mod Made
-pub mod Pieced
-pub mod Refusals
-pub mod Many
-pub mod Journal
-pub mod JournalRefusals
+pub mod Text
+pub mod Decoding
 pub mod Inner

@@ -1,23 +1,20 @@
-//! Lists of exact edits of a text, which can be applied and undone.
+//! The text of a journal: how it is written to a file, and read from one.
 //!
-//! A list of edits says of a text of a known length which bytes become which. It is applied only to a text in which
-//! each of its edits stands, and undone only in one that has what each edit put there; any other text is refused.
-//! All places and lengths count bytes from 0, and steps and edits are numbered from 0.
+//! The format is this project's own. Version 2 is written; version 1, in which a record was a row
+//! of steps, is still read, and becomes version 2. Places and lengths count bytes from 0.
 #![tactic(auto)]
 
-mod change;
-mod direction;
-mod edit;
-mod edits;
-mod journal;
+mod fault;
 pub mod laws;
-mod many;
-mod pass;
-mod record;
+mod parts;
+mod reading;
+mod writing;
 
-pub use change::{Change, Refused};
-pub use edit::{BadEdits, Edit};
-pub use edits::{Edits, MAX_TEXT};
-pub use journal::Journal;
-pub use many::{apply_all, undo_all};
-pub use record::{Record, Word};
+pub use edit_list::{
+    BadEdits, Change, Edit, Edits, Journal, Record, Refused, Word, apply_all, undo_all,
+};
+pub use edit_squash::{Unmet, squash};
+pub use edit_swap::{SwapFault, TakeOutFault, swap, take_out};
+pub use fault::RecordFault;
+pub use reading::decode;
+pub use writing::{encode, encoded_len};

@@ -5,11 +5,11 @@ use Rattle.std.specs.List.{Any}
 use Rattle.std.proofs.lemmas.Bool.{cases_lt}
 use Rattle.std.proofs.lemmas.List.{nil_from_length}
 use Rattle.std.proofs.lemmas.List.Elements.{All-nil, All-append, All-contains, All-weaker, Contains-append_left, Contains-append_right, Contains-append_cases, Contains-push}
-use Rattle.edit_record.specs.declared.direction.Direction.TheVariants.{Forward}
-use Rattle.edit_record.specs.Pieces.{Entry, EditList}
-use Rattle.edit_record.specs.Inner.Goes.{Goes, Same}
-use Rattle.edit_record.specs.Inner.Exact.{goes_from_turns}
-use Rattle.edit_record.proofs.Parts.{cut, fronts}
+use Rattle.edit_list.specs.declared.direction.Direction.TheVariants.{Forward}
+use Rattle.edit_list.specs.Pieces.{Entry, EditList}
+use Rattle.edit_list.specs.Inner.Goes.{Goes, Same}
+use Rattle.edit_list.specs.Inner.Exact.{goes_from_turns}
+use Rattle.edit_list.proofs.Parts.{cut, fronts}
 use Rattle.edit_squash.specs.Shape.{Span, past, Linked, Connected, first_alone, second_alone, first_connects, second_connects, Group, firsts_of, seconds_of, Apart, Covers, Extent, extent_of, IsEditOf, put_first, Become}
 use Rattle.edit_squash.specs.Squash.{IsSquash}
 use Rattle.edit_squash.proofs.Shaping.{become_at}

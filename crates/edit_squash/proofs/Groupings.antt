@@ -1,7 +1,7 @@
 -- Squashing is associative on what it turns, and lists one after another squash to one.
 use Rattle.std.proofs.Common.{◌≡◌, ◌↔◌, ℕ, List, [], ◌∷◌, refl, sym, ◌∙◌}
-use Rattle.edit_record.specs.Pieces.{EditList, Turns}
-use Rattle.edit_record.specs.Many.{TurnsAll}
+use Rattle.edit_list.specs.Pieces.{EditList, Turns}
+use Rattle.edit_list.specs.Many.{TurnsAll}
 use Rattle.edit_squash.specs.Squash.{CanFollow, TurnsAlike}
 use Rattle.edit_squash.specs.Grouping.{Associates, SquashAll, SquashAsOne}
 use Rattle.edit_squash.proofs.Determined.{determined}

@@ -3,13 +3,13 @@ use Rattle.std.proofs.Common.{◌≡◌, ℕ, ◌+◌, ◌-◌, ◌≤◌, List,
 use Rattle.std.specs.Prelude.{◌==◌}
 use Rattle.std.proofs.lemmas.Bool.{eqb-true, and_parts}
 use Rattle.std.proofs.lemmas.List.{length-drop, length-take-le, append-nil, nil_from_length, take-append-drop}
-use Rattle.edit_record.specs.declared.direction.Direction.TheVariants.{Forward}
-use Rattle.edit_record.specs.Pieces.{Entry}
-use Rattle.edit_record.specs.Made.{ArePlaced}
-use Rattle.edit_record.specs.Inner.Goes.{EditStep, Goes}
+use Rattle.edit_list.specs.declared.direction.Direction.TheVariants.{Forward}
+use Rattle.edit_list.specs.Pieces.{Entry}
+use Rattle.edit_list.specs.Made.{ArePlaced}
+use Rattle.edit_list.specs.Inner.Goes.{EditStep, Goes}
 use Rattle.edit_squash.specs.Inner.Merge.{State, closed, skipped, with_first, with_second, meeting, met}
-use Rattle.edit_record.proofs.Parts.{Ends, end_of, end_within}
-use Rattle.edit_record.proofs.Pairs.{Alike, alike_then, goes_alike, Both, Moved, Passes, passes_first, passes_second, passes_met, passes_first_left, passes_second_left, Skips, skips}
+use Rattle.edit_list.proofs.Parts.{Ends, end_of, end_within}
+use Rattle.edit_list.proofs.Pairs.{Alike, alike_then, goes_alike, Both, Moved, Passes, passes_first, passes_second, passes_met, passes_first_left, passes_second_left, Skips, skips}
 
 pub goes_push : (from : ℕ) (es : List Entry) (e : Entry) (K : ℕ → List ℕ → List ℕ → Type 0) → Alike (Goes Forward from (es ++ e ∷ []) K) (Goes Forward from es (λ p. EditStep Forward p e (K (e.at + length e.removed))))
 goes_push from [] e K = record { go = λ t v h. h; back = λ t v h. h }

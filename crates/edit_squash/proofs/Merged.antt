@@ -1,17 +1,17 @@
 -- The whole merge, step by step.
 use Rattle.std.proofs.Common.{◌≡◌, ℕ, ◌+◌, ◌-◌, ◌≤◌, ◌<◌, List, [], ◌∷◌, ◌++◌, length, take, drop, replicate, Bool, true, false, refl, arith, sym, ap, ◌∙◌, append_assoc, length-append, ◌⊎◌, inl, inr}
 use Rattle.std.proofs.lemmas.List.{append-nil, length-replicate, take_at, nil_from_length, length-take-le, length-drop, take-append-drop}
-use Rattle.edit_record.specs.declared.direction.Direction.TheVariants.{Forward}
-use Rattle.edit_record.specs.Pieces.{Entry, as_list}
-use Rattle.edit_record.specs.Made.{ArePlaced, AreEdits, new_len}
-use Rattle.edit_record.specs.Inner.Goes.{EditStep, Goes}
-use Rattle.edit_record.specs.Inner.Exact.{goes_from_turns, turns_from_goes}
+use Rattle.edit_list.specs.declared.direction.Direction.TheVariants.{Forward}
+use Rattle.edit_list.specs.Pieces.{Entry, as_list}
+use Rattle.edit_list.specs.Made.{ArePlaced, AreEdits, new_len}
+use Rattle.edit_list.specs.Inner.Goes.{EditStep, Goes}
+use Rattle.edit_list.specs.Inner.Exact.{goes_from_turns, turns_from_goes}
 use Rattle.edit_squash.specs.Inner.Merge.{State, closed, meeting, met, readied, took, start, Sound, One, ReadyFor}
 use Rattle.edit_squash.specs.Squash.{CanFollow, Contradiction, IsSquash}
-use Rattle.edit_record.proofs.Placed.{placed_room}
-use Rattle.edit_record.proofs.Parts.{Ends, ends_from_same, same_from_ends, placed_earlier, placed_longer, fronts}
-use Rattle.edit_record.proofs.Pairs.{Both, Alike, alike_then}
-use Rattle.edit_record.proofs.Following.{some_goes, some_text, lengths_go, both_from_turns, turns_from_both}
+use Rattle.edit_list.proofs.Placed.{placed_room}
+use Rattle.edit_list.proofs.Parts.{Ends, ends_from_same, same_from_ends, placed_earlier, placed_longer, fronts}
+use Rattle.edit_list.proofs.Pairs.{Both, Alike, alike_then}
+use Rattle.edit_list.proofs.Following.{some_goes, some_text, lengths_go, both_from_turns, turns_from_both}
 use Rattle.edit_squash.proofs.Soundness.{sound_first, sound_second, sound_met, sound_closed, one_met}
 use Rattle.edit_squash.proofs.Means.{Means, Rest, edit, means_first, means_second, means_met, means_closed, means_end, means_start}
 use Rattle.edit_squash.proofs.Readying.{Readied, readies}

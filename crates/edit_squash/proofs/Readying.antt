@@ -2,12 +2,12 @@
 use Rattle.std.proofs.Common.{◌≡◌, ℕ, ◌+◌, ◌-◌, ◌≤◌, List, [], ◌∷◌, length, Bool, true, false, cond, refl, arith, ◌&&◌, add-zero}
 use Rattle.std.specs.Prelude.{◌==◌}
 use Rattle.std.proofs.lemmas.Bool.{leb-true, leb-false, eqb-true, and_parts}
-use Rattle.edit_record.specs.Pieces.{Entry}
-use Rattle.edit_record.specs.Made.{ArePlaced}
+use Rattle.edit_list.specs.Pieces.{Entry}
+use Rattle.edit_list.specs.Made.{ArePlaced}
 use Rattle.edit_squash.specs.Inner.Merge.{State, closed, skipped, reaches, gap, joins_first, joins_second, first_is_next, opened, readied, Sound, One, TakesFirst, TakesSecond, Takes}
-use Rattle.edit_record.proofs.Placed.{placed_room}
-use Rattle.edit_record.proofs.Parts.{placed_earlier}
-use Rattle.edit_record.proofs.Pairs.{Alike, alike_then}
+use Rattle.edit_list.proofs.Placed.{placed_room}
+use Rattle.edit_list.proofs.Parts.{placed_earlier}
+use Rattle.edit_list.proofs.Pairs.{Alike, alike_then}
 use Rattle.edit_squash.proofs.Soundness.{apart_first, apart_second, sound_closed, sound_skipped}
 use Rattle.edit_squash.proofs.Means.{Means, empty_at, means_closed, means_skipped}
 

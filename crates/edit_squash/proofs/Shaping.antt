@@ -8,8 +8,8 @@ use Rattle.std.proofs.lemmas.List.Sums.{sum_by-append}
 use Rattle.std.proofs.lemmas.List.Concat.{flat_map-append}
 use Rattle.std.proofs.lemmas.List.Elements.{All-nil, All-cons, All-push, All-weaker, Contains-append_left, Contains-append_right, Contains-push}
 use Rattle.std.proofs.lemmas.List.Quantifiers.{Any-push}
-use Rattle.edit_record.specs.Pieces.{Entry, as_list}
-use Rattle.edit_record.specs.Made.{ArePlaced}
+use Rattle.edit_list.specs.Pieces.{Entry, as_list}
+use Rattle.edit_list.specs.Made.{ArePlaced}
 use Rattle.edit_squash.specs.Inner.Merge.{State, put, closed, skipped, with_first, with_second, meeting, met, reaches, gap, joins_first, joins_second, first_is_next, opened, readied, start, Sound, One}
 use Rattle.edit_squash.specs.Shape.{Span, past, added_spans, removed_spans, Linked, Connected, first_alone, second_alone, first_connects, second_connects, Group, firsts_of, seconds_of, Apart, Covers, Extent, extent_of, IsEditOf, put_first, Become, HasShape}
 use Rattle.edit_squash.proofs.Soundness.{apart_first}

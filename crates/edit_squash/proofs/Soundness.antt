@@ -3,11 +3,11 @@ use Rattle.std.proofs.Common.{◌≡◌, ℕ, ◌+◌, ◌-◌, ◌≤◌, ◌<�
 use Rattle.std.proofs.lemmas.Bool.{leb-false, eqb-false}
 use Rattle.std.proofs.lemmas.List.{length-drop, length-take-le}
 use Rattle.std.specs.Prelude.{◌==◌}
-use Rattle.edit_record.specs.Pieces.{Entry}
-use Rattle.edit_record.specs.Made.{ArePlaced}
+use Rattle.edit_list.specs.Pieces.{Entry}
+use Rattle.edit_list.specs.Made.{ArePlaced}
 use Rattle.edit_squash.specs.Inner.Merge.{State, closed, skipped, with_first, with_second, meeting, met, joins_first, joins_second, Sound, One}
-use Rattle.edit_record.proofs.Placed.{placed_room}
-use Rattle.edit_record.proofs.Parts.{placed_longer, placed_push}
+use Rattle.edit_list.proofs.Placed.{placed_room}
+use Rattle.edit_list.proofs.Parts.{placed_longer, placed_push}
 
 apart : (has : Bool) (n m k : ℕ) → (has ≡ false → m ≡ 0) → min n m ≡ 0 → (has && (eqb n 0 && leb k m)) ≡ false → m ≤ k
 apart false n m k none one h = let z = none refl in omega arith

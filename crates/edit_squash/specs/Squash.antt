@@ -1,7 +1,7 @@
 -- One list of edits in the place of two, the second of which goes on from the first.
 use Rattle.std.specs.Prelude.{◌≡◌, ◌≢◌, ◌↔◌, ℕ, ◌+◌, ◌<◌, List, length, take, Result, Ok, Err}
-use Rattle.edit_record.specs.Pieces.{EditList, Turns}
-use Rattle.edit_record.specs.Made.{new_len}
+use Rattle.edit_list.specs.Pieces.{EditList, Turns}
+use Rattle.edit_list.specs.Made.{new_len}
 use Rattle.edit_squash.specs.Shape.{HasShape}
 use Rattle.edit_squash.specs.declared.squashing.Unmet.{Unmet}
 use Rattle.edit_squash.specs.declared.squashing.Unmet.TheVariants.{LengthsDiffer, Contradicts, Memory}

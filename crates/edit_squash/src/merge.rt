@@ -1,10 +1,10 @@
 //! Two lists of edits on the way to one: the state between two steps, and the steps.
 ghost use Rattle.std.specs.Prelude.{◌≡◌, ◌↔◌, ◌+◌, ◌-◌, ◌^◌, ◌<◌, ◌≤◌, length, take, IfOk, OnOk, IsTrue};
-ghost use Rattle.edit_record.specs.Pieces.{entry, entries};
+ghost use Rattle.edit_list.specs.Pieces.{entry, entries};
 ghost use Rattle.edit_squash.specs.Inner.Merge.{closed, skipped, with_first, with_second, meeting, met, reaches, gap, Begins, Ready, readied, opened, joins_first, joins_second, first_is_next, took, ReadyFor, start};
 ghost use Rattle.edit_squash.specs.Inner.MergeState.{state};
 
-use edit_record::Edit;
+use edit_list::Edit;
 use std::alloc::{AllocError, Global};
 use std::mem;
 
@@ -155,7 +155,8 @@ impl<'a> Merge<'a> {
     /// Begins an edit at the next edit of either list.
     fn open(&mut self, xs: &[Edit], ys: &[Edit]) -> bool
         requires { Ready (state self.old) (entries xs.now) (entries ys.now) }
-        ensures { (result, state self.new) ≡ opened (state self.old) (entries xs.now) (entries ys.now) }
+        ensures { (result, state self.new)
+            ≡ opened (state self.old) (entries xs.now) (entries ys.now) }
     {
         if self.first_is_next(xs, ys) {
             self.skip(gap(self.first_end, xs));
@@ -211,7 +212,8 @@ impl<'a> Merge<'a> {
         Ok(())
     }
 
-    /// Passes the bytes that the first list added and the second removed, or answers that they differ.
+    /// Passes the bytes that the first list added and the second removed, or answers that they
+    /// differ.
     pub(crate) fn meet(&mut self) -> bool
         ensures same { let n = meeting (state self.old) in
             IsTrue result ↔ (take n self.old.first_left.now ≡ take n self.old.second_left.now) }

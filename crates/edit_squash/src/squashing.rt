@@ -1,22 +1,23 @@
 ghost use Rattle.std.specs.Prelude.{◌≡◌, ◌↔◌, ◌+◌, ◌<◌, length, IfErr, IsTrue};
-ghost use Rattle.edit_record.specs.Made.{new_len};
+ghost use Rattle.edit_list.specs.Made.{new_len};
 ghost use Rattle.edit_squash.specs.Inner.Merging.{Merges};
 ghost use Rattle.edit_squash.specs.Squash.{Squashes};
 ghost use Rattle.edit_squash.specs.declared.squashing.Unmet.TheVariants.{Memory};
 
 use crate::merge::Merge;
-use edit_record::{Edit, Edits};
+use edit_list::{Edit, Edits};
 use std::alloc::{AllocError, Global};
 use thiserror::Error;
 
 /// Why two lists of edits do not become one.
 #[derive(Clone, Copy, Debug, PartialEq, Eq, Error)]
 pub enum Unmet {
-    /// The texts that the first list makes have another length than those that the second applies to.
+    /// The texts that the first list makes have another length than those that the second applies
+    /// to.
     #[error("the lengths of the two lists of edits do not follow")]
     LengthsDiffer,
-    /// This edit of the second list, counted from 0, removes bytes that the first did not add there. It is the
-    /// lowest such edit.
+    /// This edit of the second list, counted from 0, removes bytes that the first did not add
+    /// there. It is the lowest such edit.
     #[error("edit {edit} of the second list contradicts the first")]
     Contradicts { edit: usize },
     /// There was no memory for the edits.
@@ -34,11 +35,13 @@ impl From<AllocError> for Unmet {
 
 /// One list of edits that does what `first` and then `second` do.
 ///
-/// Edits of the one list and of the other that overlap or touch in the text between become one edit; the others stay,
-/// with places in the first text. An edit that is left with nothing to remove and nothing to add is dropped, and one
-/// that puts back what it removes is kept, since it says what bytes stand there. The result is never too long.
+/// Edits of the one list and of the other that overlap or touch in the text between become one
+/// edit; the others stay, with places in the first text. An edit that is left with nothing to
+/// remove and nothing to add is dropped, and one that puts back what it removes is kept, since it
+/// says what bytes stand there. The result is never too long.
 ///
-/// It takes one pass over both lists, and builds no text. Where neither has an edit it takes no memory.
+/// It takes one pass over both lists, and builds no text. Where neither has an edit it takes no
+/// memory.
 pub fn squash(alloc: Global, first: &Edits, second: &Edits) -> Result<Edits, Unmet>
     ensures { Squashes first.now second.now result }
 {
@@ -53,7 +56,8 @@ pub fn squash(alloc: Global, first: &Edits, second: &Edits) -> Result<Edits, Unm
 fn joined(alloc: Global, first: &Edits, second: &Edits) -> Result<Vec<Edit>, Unmet>
     requires { new_len first.now ≡ second.now.old_len }
     ensures merges { Merges first.now second.now result }
-    ensures memory { IfErr result (λ e. e ≡ Memory → 0 < length first.now.entries + length second.now.entries) }
+    ensures memory { IfErr result
+        (λ e. e ≡ Memory → 0 < length first.now.entries + length second.now.entries) }
 {
     if !more(first.edits(), second.edits()) {
         return Ok(Vec::new(alloc));

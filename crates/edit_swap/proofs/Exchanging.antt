@@ -1,11 +1,11 @@
 -- Lists of edits that change places turn the same texts.
 use Rattle.std.proofs.Common.{◌≡◌, ℕ, zero, suc, ◌+◌, ◌-◌, ◌≤◌, List, [], ◌∷◌, ◌++◌, length, take, drop, Bool, true, false, refl, arith, sym, ap, ◌∙◌, append_assoc}
-use Rattle.edit_record.specs.Pieces.{Entry, removed_len, added_len}
-use Rattle.edit_record.specs.Made.{ArePlaced}
+use Rattle.edit_list.specs.Pieces.{Entry, removed_len, added_len}
+use Rattle.edit_list.specs.Made.{ArePlaced}
 use Rattle.edit_swap.specs.Inner.Exchange.{Behind, moved, Exchanges}
-use Rattle.edit_record.proofs.Placed.{placed_room}
-use Rattle.edit_record.proofs.Parts.{placed_earlier}
-use Rattle.edit_record.proofs.Pairs.{Both, Moved, Passes, passes_first, passes_second, passes_first_left, passes_second_left, Skips, skips, Alike}
+use Rattle.edit_list.proofs.Placed.{placed_room}
+use Rattle.edit_list.proofs.Parts.{placed_earlier}
+use Rattle.edit_list.proofs.Pairs.{Both, Moved, Passes, passes_first, passes_second, passes_first_left, passes_second_left, Skips, skips, Alike}
 
 -- so many bytes stay, r becomes n, and then L
 record Via (g : ℕ) (r n : List ℕ) (K L : List ℕ → List ℕ → Type 0) : Type 0 where

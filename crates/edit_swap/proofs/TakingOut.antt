@@ -1,14 +1,14 @@
 -- One record after another.
 use Rattle.std.proofs.Common.{◌≡◌, ℕ, zero, suc, ◌+◌, ◌<◌, List, [], ◌∷◌, ◌++◌, length, take, get_or, Option, Some, Err, refl, sym, ap, ◌∙◌, subst, arith}
 use Rattle.std.proofs.lemmas.List.{take_more, map_push, take-map}
-use Rattle.edit_record.specs.Pieces.{EditList}
-use Rattle.edit_record.specs.Journal.{Entered}
+use Rattle.edit_list.specs.Pieces.{EditList}
+use Rattle.edit_list.specs.Journal.{Entered}
 use Rattle.edit_swap.specs.Swap.{At, ChangePlaces, MayRunOut}
 use Rattle.edit_swap.specs.Taking.{TakenOut}
 use Rattle.edit_swap.specs.TakeOut.{edits_of, words_of, there, Differ, Met, Overflows, CanSwap, TakesMemory, Stuck, TakesOut}
 use Rattle.edit_swap.specs.Inner.Past.{TakesPast}
-use Rattle.edit_swap.specs.declared.taking.TakeFault.{TakeFault}
-use Rattle.edit_swap.specs.declared.taking.TakeFault.TheVariants.{Length, Blocked, TooLong, Memory}
+use Rattle.edit_swap.specs.declared.taking.TakeOutFault.{TakeOutFault}
+use Rattle.edit_swap.specs.declared.taking.TakeOutFault.TheVariants.{Length, Blocked, TooLong, Memory}
 
 taken_push : (a : EditList) (bs cs : List EditList) (n b c m : EditList) → TakenOut a bs cs n → ChangePlaces n b c m → TakenOut a (bs ++ b ∷ []) (cs ++ c ∷ []) m
 taken_push a [] [] n b c m h s = (m, subst (λ (x : EditList). ChangePlaces x b c m) (sym h) s, refl)
@@ -76,13 +76,13 @@ may_run_out first (x ∷ records) others moved zero r lt is p h =
     subst (λ (y : Entered). CanSwap first y.edits) is (subst (λ (y : EditList). CanSwap y r.edits) (sym same) h)
 may_run_out first (x ∷ records) others moved (suc i) r lt is p h = one_moved first x.edits (edits_of (take i records)) (edits_of others) (there first moved) p.went
 
-none_past : (first : EditList) (records others : List Entered) (moved : Option EditList) (i : ℕ) (r : Entered) (e : TakeFault) → i < length records → r ≡ get_or records i r → Past first records others moved i
+none_past : (first : EditList) (records others : List Entered) (moved : Option EditList) (i : ℕ) (r : Entered) (e : TakeOutFault) → i < length records → r ≡ get_or records i r → Past first records others moved i
     → TakesPast (there first moved) r i (Err e) → TakesOut first records (Err e)
 none_past first records others moved i r (Length expected found) lt is p h = (i, stuck first records others moved i r (λ n b. Differ n b expected found) lt is p h)
 none_past first records others moved i r (Blocked k) lt is p h = subst (λ (n : ℕ). Stuck first (edits_of records) n Met) (sym h.0) (stuck first records others moved i r Met lt is p h.1)
 none_past first records others moved i r TooLong lt is p h = (i, stuck first records others moved i r Overflows lt is p h)
 none_past first records others moved i r Memory lt is p h = may_run_out first records others moved i r lt is p h
 
-pub past_none : (first a : EditList) (records others : List Entered) (moved : Option EditList) (i : ℕ) (r : Entered) (e : TakeFault) → a ≡ there first moved → i < length records → r ≡ get_or records i r → Past first records others moved i
+pub past_none : (first a : EditList) (records others : List Entered) (moved : Option EditList) (i : ℕ) (r : Entered) (e : TakeOutFault) → a ≡ there first moved → i < length records → r ≡ get_or records i r → Past first records others moved i
     → TakesPast a r i (Err e) → TakesOut first records (Err e)
 past_none first a records others moved i r e a_is lt is p h = none_past first records others moved i r e lt is p (subst (λ (x : EditList). TakesPast x r i (Err e)) a_is h)

@@ -1,10 +1,10 @@
 //! Two lists of edits on the way to the other order: the state between two steps, and the steps.
 ghost use Rattle.std.specs.Prelude.{◌≡◌, ◌↔◌, ◌+◌, ◌-◌, ◌^◌, ◌<◌, ◌≤◌, length, IfOk, IsTrue};
-ghost use Rattle.edit_record.specs.Pieces.{entry, entries};
+ghost use Rattle.edit_list.specs.Pieces.{entry, entries};
 ghost use Rattle.edit_swap.specs.Inner.Exchange.{moved, first_goes, second_goes, went_first, went_second, passed_first, passed_second, IsFair, start};
 ghost use Rattle.edit_swap.specs.Inner.ExchangePlace.{place};
 
-use edit_record::Edit;
+use edit_list::Edit;
 use std::alloc::{AllocError, Global};
 
 /// Two lists of edits on the way to the other order.
@@ -79,7 +79,9 @@ impl Exchange {
         ys: &[Edit],
     ) -> Result<&'a [Edit], AllocError>
         requires { IsFair (place self.old) (entries xs.now) (entries ys.now) }
-        ensures { IfOk result (λ left. (place self.new, entries left.now) ≡ went_first (place self.old) (entries xs.now) (entries ys.now)) }
+        ensures { IfOk result
+            (λ left. (place self.new, entries left.now)
+            ≡ went_first (place self.old) (entries xs.now) (entries ys.now)) }
     {
         match xs {
             [] => Ok(xs),
@@ -103,7 +105,9 @@ impl Exchange {
         ys: &'a [Edit],
     ) -> Result<&'a [Edit], AllocError>
         requires { IsFair (place self.old) (entries xs.now) (entries ys.now) }
-        ensures { IfOk result (λ left. (place self.new, entries left.now) ≡ went_second (place self.old) (entries xs.now) (entries ys.now)) }
+        ensures { IfOk result
+            (λ left. (place self.new, entries left.now)
+            ≡ went_second (place self.old) (entries xs.now) (entries ys.now)) }
     {
         match ys {
             [] => Ok(ys),
@@ -119,10 +123,12 @@ impl Exchange {
         }
     }
 
-    /// Passes the next edit of the first list, of which nothing is kept, and answers what is left of it.
+    /// Passes the next edit of the first list, of which nothing is kept, and answers what is left
+    /// of it.
     pub(crate) fn pass_first<'a>(&mut self, xs: &'a [Edit], ys: &[Edit]) -> &'a [Edit]
         requires { IsFair (place self.old) (entries xs.now) (entries ys.now) }
-        ensures { (place self.new, entries result.now) ≡ passed_first (place self.old) (entries xs.now) }
+        ensures { (place self.new, entries result.now)
+            ≡ passed_first (place self.old) (entries xs.now) }
     {
         match xs {
             [] => xs,
@@ -139,7 +145,8 @@ impl Exchange {
     /// The same of the second list.
     pub(crate) fn pass_second<'a>(&mut self, xs: &[Edit], ys: &'a [Edit]) -> &'a [Edit]
         requires { IsFair (place self.old) (entries xs.now) (entries ys.now) }
-        ensures { (place self.new, entries result.now) ≡ passed_second (place self.old) (entries ys.now) }
+        ensures { (place self.new, entries result.now)
+            ≡ passed_second (place self.old) (entries ys.now) }
     {
         match ys {
             [] => ys,

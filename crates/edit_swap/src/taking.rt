@@ -2,16 +2,16 @@
 ghost use Rattle.std.specs.Prelude.{◌≡◌};
 ghost use Rattle.edit_swap.specs.Inner.Past.{TakesPast};
 ghost use Rattle.edit_swap.specs.TakeOut.{TakesOut, there};
-ghost use Rattle.edit_swap.specs.declared.taking.TakeFault.TheVariants.{Memory};
+ghost use Rattle.edit_swap.specs.declared.taking.TakeOutFault.TheVariants.{Memory};
 
 use crate::{SwapFault, swap};
-use edit_record::{Edits, Record};
+use edit_list::{Edits, Record};
 use std::alloc::{AllocError, AllocFailed, Global};
 use thiserror::Error;
 
 /// Why edits do not go behind the records that follow them.
 #[derive(Clone, Copy, Debug, PartialEq, Eq, Error)]
-pub enum TakeFault {
+pub enum TakeOutFault {
     /// A record applies to texts of another length than the one before it makes.
     #[error("record expects {expected} bytes, found {found}")]
     Length { expected: usize, found: usize },
@@ -26,33 +26,34 @@ pub enum TakeFault {
     Memory,
 }
 
-impl From<AllocError> for TakeFault {
+impl From<AllocError> for TakeOutFault {
     ghost from_gives = { λ _ e. e ≡ Memory };
 
-    fn from(_e: AllocError) -> TakeFault {
-        TakeFault::Memory
+    fn from(_e: AllocError) -> TakeOutFault {
+        TakeOutFault::Memory
     }
 }
 
-impl<T: Drop> From<AllocFailed<T>> for TakeFault {
+impl<T: Drop> From<AllocFailed<T>> for TakeOutFault {
     ghost from_gives = { λ _ e. e ≡ Memory };
 
-    fn from(_e: AllocFailed<T>) -> TakeFault {
-        TakeFault::Memory
+    fn from(_e: AllocFailed<T>) -> TakeOutFault {
+        TakeOutFault::Memory
     }
 }
 
-/// The records that follow `first`, as they are without it, and what it has become behind them all (`None`: itself,
-/// since none follows).
+/// The records that follow `first`, as they are without it, and what it has become behind them all
+/// (`None`: itself, since none follows).
 ///
-/// The edits change places with those of each record in turn, and each record keeps its command. Undoing what `first`
-/// has become on the last text gives the text without it. The first record that refuses is named, counted from 0.
+/// The edits change places with those of each record in turn, and each record keeps its command.
+/// Undoing what `first` has become on the last text gives the text without it. The first record
+/// that refuses is named, counted from 0.
 /// Nothing that was lent is changed, and each record's edits are gone over once.
 pub fn take_out(
     alloc: Global,
     first: &Edits,
     records: &[Record],
-) -> Result<(Vec<Record>, Option<Edits>), TakeFault>
+) -> Result<(Vec<Record>, Option<Edits>), TakeOutFault>
     ensures { TakesOut first.now records.now result }
 {
     let mut others = Vec::new(alloc);
@@ -81,7 +82,7 @@ fn past(
     edits: &Edits,
     entered: &Record,
     number: usize,
-) -> Result<(Record, Edits), TakeFault>
+) -> Result<(Record, Edits), TakeOutFault>
     ensures { TakesPast edits.now entered.now number result }
 {
     match swap(alloc, edits, entered.edits()) {
@@ -89,7 +90,7 @@ fn past(
             let entered = Record::make(entered.word(), before);
             Ok((entered, after))
         }
-        Err(SwapFault::LengthsDiffer) => Err(TakeFault::Length {
+        Err(SwapFault::LengthsDiffer) => Err(TakeOutFault::Length {
             expected: entered.edits().old_len(),
             found: edits.new_len(),
         }),
@@ -98,8 +99,8 @@ fn past(
                 first: _,
                 second: _,
             },
-        ) => Err(TakeFault::Blocked { number }),
-        Err(SwapFault::TooLong) => Err(TakeFault::TooLong),
-        Err(SwapFault::Memory) => Err(TakeFault::Memory),
+        ) => Err(TakeOutFault::Blocked { number }),
+        Err(SwapFault::TooLong) => Err(TakeOutFault::TooLong),
+        Err(SwapFault::Memory) => Err(TakeOutFault::Memory),
     }
 }

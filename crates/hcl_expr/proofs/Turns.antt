@@ -1,8 +1,8 @@
 -- A loop that counts up, beside a recursion on the turns that are left; and what a step that was refused answers.
 use Rattle.std.proofs.Common.{◌≡◌, ℕ, zero, suc, ◌+◌, ◌-◌, ◌<◌, ◌≤◌, List, Result, Err, refl, ap, sym, subst, ◌∙◌, arith}
-use Rattle.hcl_grammar.specs.declared.error.TokenFault.{TokenFault}
+use Rattle.hcl_grammar.specs.declared.fault.TokenFault.{TokenFault}
 use Rattle.hcl_grammar.specs.Pure.BodyParser.{one_less}
-use Rattle.hcl_grammar.specs.Pure.Reading.{Outcome, Parser, and_then, Gives, Reads}
+use Rattle.hcl_grammar.specs.Pure.Reading.{Outcome, Step, go_on, Gives, Reads}
 use Rattle.hcl_grammar.specs.Tokens.{Token}
 
 -- in a turn, one more is left
@@ -22,9 +22,9 @@ one_less_is ts zero = refl
 one_less_is ts (suc d) = omega arith
 
 -- a first step that is refused is the fault of all
-pub refused : {A B : Type 0} {p : Outcome A} {q : Outcome B} {e : TokenFault} {r : Result B TokenFault} (f : A → Parser B) (at new : ℕ) → r ≡ Err e → q ≡ and_then p f → Reads p (Err e) at → Reads q r new
-refused {q} f at new same e h = subst (λ r. Reads q r new) (sym same) (λ no. e ∙ ap (λ o. and_then o f) (h no))
+pub refused : {A B : Type 0} {p : Outcome A} {q : Outcome B} {e : TokenFault} {r : Result B TokenFault} (f : A → Step B) (at new : ℕ) → r ≡ Err e → q ≡ go_on p f → Reads p (Err e) at → Reads q r new
+refused {q} f at new same e h = subst (λ r. Reads q r new) (sym same) (λ no. e ∙ ap (λ o. go_on o f) (h no))
 
 -- the same of steps that take no memory
-pub gives_refused : {A B : Type 0} {p : Outcome A} {q : Outcome B} {e : TokenFault} {r : Result B TokenFault} (f : A → Parser B) (at new : ℕ) → r ≡ Err e → q ≡ and_then p f → Gives p (Err e) at → Gives q r new
-gives_refused {q} f at new same e h = subst (λ r. Gives q r new) (sym same) (e ∙ ap (λ o. and_then o f) h)
+pub gives_refused : {A B : Type 0} {p : Outcome A} {q : Outcome B} {e : TokenFault} {r : Result B TokenFault} (f : A → Step B) (at new : ℕ) → r ≡ Err e → q ≡ go_on p f → Gives p (Err e) at → Gives q r new
+gives_refused {q} f at new same e h = subst (λ r. Gives q r new) (sym same) (e ∙ ap (λ o. go_on o f) h)

@@ -2,7 +2,7 @@
 use Rattle.std.specs.Prelude.{◌≡◌, ℕ, suc, ◌-◌, ◌||◌, Bool, true, false, List, [], length, Option, Result, Ok, Err}
 use Rattle.hcl_token.specs.declared.kind.Kind.{Kind}
 use Rattle.hcl_token.specs.declared.kind.Kind.TheVariants as k
-use Rattle.hcl_grammar.specs.declared.error.TokenFault.{TokenFault}
+use Rattle.hcl_grammar.specs.declared.fault.TokenFault.{TokenFault}
 use Rattle.hcl_grammar.specs.declared.goal.Goal.{Goal}
 use Rattle.hcl_grammar.specs.declared.tree.Elem.{Elem}
 use Rattle.hcl_grammar.specs.declared.tree.Expr.{Expr}
@@ -18,7 +18,7 @@ use Rattle.hcl_grammar.specs.Pure.BodyParser as b
 use Rattle.hcl_grammar.specs.Pure.Climb as climb
 use Rattle.hcl_grammar.specs.Pure.Parser as p
 use Rattle.hcl_grammar.specs.Pure.Reading as r
-use Rattle.hcl_grammar.specs.Pure.Reading.{Outcome, Parser}
+use Rattle.hcl_grammar.specs.Pure.Reading.{Outcome, Step}
 use Rattle.hcl_grammar.specs.Tokens as tokens
 use Rattle.hcl_grammar.specs.Tokens.{Token}
 
@@ -52,114 +52,117 @@ module _ (t : Here) where
   abbrev pub past : Kind → ℕ → ℕ
   past kind i = r.past t.tokens t.inside kind i
 
-  abbrev pub expect : Kind → Parser (Unit {0})
+  abbrev pub expect : Kind → Step (Unit {0})
   expect kind = r.expect t.tokens t.inside kind
 
-  abbrev pub prefix : Parser (Option Prefix)
+  abbrev pub prefix : Step (Option Prefix)
   prefix = p.prefix t.tokens t.inside
 
-  abbrev pub operator : ℕ → Parser (Option Operator)
+  abbrev pub operator : ℕ → Step (Option Operator)
   operator level = p.operator t.tokens t.inside level
 
   abbrev pub binds : ℕ → ℕ
   binds i = climb.binds t.tokens t.inside i
 
-  abbrev pub expr : Goal → Parser Expr
+  abbrev pub expr : Goal → Step Expr
   expr goal = p.expr t.tokens t.depth t.inside goal
 
-  abbrev pub whole : Parser Expr
+  abbrev pub whole : Step Expr
   whole = p.whole t.tokens t.depth (p.deeper t.tokens t.depth) t.inside
 
-  abbrev pub level : ℕ → Parser Expr
+  abbrev pub level : ℕ → Step Expr
   level n = p.level t.tokens t.depth (p.deeper t.tokens t.depth) n t.inside
 
-  abbrev pub links_from : ℕ → ℕ → List Link → Parser (List Link)
-  links_from n turns found = p.links_from t.tokens t.depth (p.deeper t.tokens t.depth) (p.level t.tokens t.depth (p.deeper t.tokens t.depth) n) t.inside n turns found
+  abbrev pub links_from : ℕ → ℕ → List Link → Step (List Link)
+  links_from n turns found =
+      p.links_from t.tokens t.depth (p.deeper t.tokens t.depth)
+      (p.level t.tokens t.depth (p.deeper t.tokens t.depth) n) t.inside n turns found
 
-  abbrev pub links : ℕ → Parser (List Link)
+  abbrev pub links : ℕ → Step (List Link)
   links n = links_from n (length t.tokens) []
 
-  abbrev pub rest : ℕ → ℕ → Expr → Parser Expr
+  abbrev pub rest : ℕ → ℕ → Expr → Step Expr
   rest n first head = climb.rest t.tokens t.depth (p.deeper t.tokens t.depth) n t.inside first head
 
-  abbrev pub unary : Parser Expr
+  abbrev pub unary : Step Expr
   unary = p.unary t.tokens t.depth (p.deeper t.tokens t.depth) t.inside
 
-  abbrev pub post : Parser Expr
+  abbrev pub post : Step Expr
   post = p.post t.tokens t.depth (p.deeper t.tokens t.depth) t.inside
 
-  abbrev pub tails_from : ℕ → List Tail → Parser (List Tail)
-  tails_from turns found = p.tails_from t.tokens t.depth (p.deeper t.tokens t.depth) t.inside turns found
+  abbrev pub tails_from : ℕ → List Tail → Step (List Tail)
+  tails_from turns found =
+      p.tails_from t.tokens t.depth (p.deeper t.tokens t.depth) t.inside turns found
 
-  abbrev pub tails : Parser (List Tail)
+  abbrev pub tails : Step (List Tail)
   tails = tails_from (length t.tokens) []
 
-  abbrev pub tail : Parser (Option Tail)
+  abbrev pub tail : Step (Option Tail)
   tail = p.tail_of t.tokens t.depth (p.deeper t.tokens t.depth) t.inside
 
-  abbrev pub dotted : Parser Tail
+  abbrev pub dotted : Step Tail
   dotted = p.dotted t.tokens t.depth (p.deeper t.tokens t.depth) t.inside
 
-  abbrev pub indexed : ℕ → Parser Tail
+  abbrev pub indexed : ℕ → Step Tail
   indexed first = p.indexed t.tokens t.depth (p.deeper t.tokens t.depth) first
 
-  abbrev pub term : Parser Term
+  abbrev pub term : Step Term
   term = p.term t.tokens t.depth (p.deeper t.tokens t.depth) t.inside
 
-  abbrev pub named : ℕ → Parser Term
+  abbrev pub named : ℕ → Step Term
   named first = p.named t.tokens t.depth (p.deeper t.tokens t.depth) t.inside first
 
-  abbrev pub call : ℕ → Parser Term
+  abbrev pub call : ℕ → Step Term
   call first = p.call t.tokens t.depth (p.deeper t.tokens t.depth) t.inside first
 
-  abbrev pub parens : ℕ → Parser Term
+  abbrev pub parens : ℕ → Step Term
   parens first = p.parens t.tokens t.depth (p.deeper t.tokens t.depth) first
 
-  abbrev pub bracket : ℕ → Parser Term
+  abbrev pub bracket : ℕ → Step Term
   bracket first = p.bracket t.tokens t.depth (p.deeper t.tokens t.depth) first
 
-  abbrev pub brace : ℕ → Parser Term
+  abbrev pub brace : ℕ → Step Term
   brace first = p.brace t.tokens t.depth (p.deeper t.tokens t.depth) first
 
-  abbrev pub quoted : ℕ → Parser Term
+  abbrev pub quoted : ℕ → Step Term
   quoted first = p.quoted t.tokens t.depth (p.deeper t.tokens t.depth) t.inside first
 
-  abbrev pub heredoc : ℕ → Parser Term
+  abbrev pub heredoc : ℕ → Step Term
   heredoc first = p.heredoc t.tokens t.depth (p.deeper t.tokens t.depth) t.inside first
 
   -- the arguments of a call in this construct, which stand in its brackets
-  abbrev pub arguments_from : ℕ → List Expr → Parser (List Expr × Bool)
+  abbrev pub arguments_from : ℕ → List Expr → Step (List Expr × Bool)
   arguments_from turns found = p.arguments_from t.tokens (p.expr t.tokens t.depth) turns found
 
-  abbrev pub arguments : Parser (List Expr × Bool)
+  abbrev pub arguments : Step (List Expr × Bool)
   arguments = arguments_from (length t.tokens) []
 
-  abbrev pub names_from : ℕ → List ℕ → Parser (List ℕ)
+  abbrev pub names_from : ℕ → List ℕ → Step (List ℕ)
   names_from turns found = p.names_from t.tokens t.inside turns found
 
-  abbrev pub names : Parser (List ℕ)
+  abbrev pub names : Step (List ℕ)
   names = names_from (length t.tokens) []
 
   -- line ends, whatever is dropped here
-  abbrev pub line : Parser Bool
+  abbrev pub line : Step Bool
   line = p.line t.tokens
 
-  abbrev pub inner_line : Parser Bool
+  abbrev pub inner_line : Step Bool
   inner_line = p.inner_line t.tokens
 
-  abbrev pub lines_from : ℕ → Parser (Unit {0})
+  abbrev pub lines_from : ℕ → Step (Unit {0})
   lines_from turns = p.lines_from t.tokens turns
 
-  abbrev pub lines : Parser (Unit {0})
+  abbrev pub lines : Step (Unit {0})
   lines = p.lines t.tokens
 
-  abbrev pub separator : Parser Bool
+  abbrev pub separator : Step Bool
   separator = p.separator t.tokens
 
-  abbrev pub separator_or_end : Parser Bool
+  abbrev pub separator_or_end : Step Bool
   separator_or_end = p.separator_or_end t.tokens
 
-  abbrev pub second : Parser (Option ℕ)
+  abbrev pub second : Step (Option ℕ)
   second = p.second t.tokens
 
 -- what stands in a construct that was opened, each behind its opening
@@ -167,75 +170,82 @@ module _ (t : Here) where
   abbrev pub reads : List ℕ → ℕ → Bool
   reads word i = r.reads t.tokens t.inside word i
 
-  abbrev pub word : List ℕ → Parser (Unit {0})
+  abbrev pub word : List ℕ → Step (Unit {0})
   word w = r.word t.tokens t.inside w
 
-  abbrev pub items_from : ℕ → List Expr → Parser (List Expr)
+  abbrev pub items_from : ℕ → List Expr → Step (List Expr)
   items_from turns found = p.items_from t.tokens (p.expr t.tokens t.depth) turns found
 
-  abbrev pub items : Parser (List Expr)
+  abbrev pub items : Step (List Expr)
   items = items_from (length t.tokens) []
 
-  abbrev pub element : Parser Elem
+  abbrev pub element : Step Elem
   element = p.element t.tokens (p.expr t.tokens t.depth)
 
-  abbrev pub elements_from : ℕ → List Elem → Parser (List Elem)
+  abbrev pub elements_from : ℕ → List Elem → Step (List Elem)
   elements_from turns found = p.elements_from t.tokens (p.expr t.tokens t.depth) turns found
 
-  abbrev pub elements : Parser (List Elem)
+  abbrev pub elements : Step (List Elem)
   elements = elements_from (length t.tokens) []
 
-  abbrev pub intro : Parser Intro
+  abbrev pub intro : Step Intro
   intro = p.intro t.tokens (p.expr t.tokens t.depth)
 
-  abbrev pub filter : Kind → Parser (Option Expr)
+  abbrev pub filter : Kind → Step (Option Expr)
   filter close = p.filter t.tokens (p.expr t.tokens t.depth) close
 
-  abbrev pub tuple : ℕ → Parser Term
+  abbrev pub tuple : ℕ → Step Term
   tuple first = p.tuple t.tokens (p.expr t.tokens t.depth) first
 
-  abbrev pub object : ℕ → Parser Term
+  abbrev pub object : ℕ → Step Term
   object first = p.object t.tokens (p.expr t.tokens t.depth) first
 
-  abbrev pub for_tuple : ℕ → Parser Term
+  abbrev pub for_tuple : ℕ → Step Term
   for_tuple first = p.for_tuple t.tokens (p.expr t.tokens t.depth) first
 
-  abbrev pub for_value : ℕ → Intro → Expr → Parser Term
+  abbrev pub for_value : ℕ → Intro → Expr → Step Term
   for_value first x key = p.for_value t.tokens (p.expr t.tokens t.depth) first x key
 
-  abbrev pub for_object : ℕ → Parser Term
+  abbrev pub for_object : ℕ → Step Term
   for_object first = p.for_object t.tokens (p.expr t.tokens t.depth) first
 
   -- the parts of a template, up to this token
-  abbrev pub closed : Kind → Parser Template
+  abbrev pub closed : Kind → Step Template
   closed close = p.closed t.tokens (suc t.depth) (p.under t.tokens t.depth) t.inside close
 
   -- what stands where the condition of an `if` directive does not hold
-  abbrev pub otherwise : Parser (Option Template)
+  abbrev pub otherwise : Step (Option Template)
   otherwise = p.otherwise t.tokens (suc t.depth) (p.under t.tokens t.depth) t.inside
 
-  abbrev pub parts : Parser (List Part)
+  abbrev pub parts : Step (List Part)
   parts = p.parts t.tokens t.depth t.inside
 
-  abbrev pub parts_from : ℕ → List Part → Parser (List Part)
-  parts_from turns found = p.parts_from t.tokens t.depth (p.deeper t.tokens t.depth) (p.twice t.tokens t.depth) t.inside turns found
+  abbrev pub parts_from : ℕ → List Part → Step (List Part)
+  parts_from turns found =
+      p.parts_from t.tokens t.depth (p.deeper t.tokens t.depth)
+      (p.twice t.tokens t.depth) t.inside turns found
 
-  abbrev pub part : Parser (Option Part)
+  abbrev pub part : Step (Option Part)
   part = p.part_of t.tokens t.depth (p.deeper t.tokens t.depth) (p.twice t.tokens t.depth) t.inside
 
-  abbrev pub interp : ℕ → Parser Part
+  abbrev pub interp : ℕ → Step Part
   interp first = p.interp t.tokens t.depth (p.deeper t.tokens t.depth) first
 
-  abbrev pub directive : ℕ → Parser (Option Part)
-  directive first = p.directive t.tokens t.depth (p.deeper t.tokens t.depth) (p.twice t.tokens t.depth) t.inside first
+  abbrev pub directive : ℕ → Step (Option Part)
+  directive first = p.directive t.tokens t.depth (p.deeper t.tokens t.depth)
+      (p.twice t.tokens t.depth) t.inside first
 
-  abbrev pub if_directive : ℕ → Parser Part
-  if_directive first = p.if_directive t.tokens t.depth (p.deeper t.tokens t.depth) (p.twice t.tokens t.depth) t.inside first
+  abbrev pub if_directive : ℕ → Step Part
+  if_directive first =
+      p.if_directive t.tokens t.depth (p.deeper t.tokens t.depth)
+      (p.twice t.tokens t.depth) t.inside first
 
-  abbrev pub for_directive : ℕ → Parser Part
-  for_directive first = p.for_directive t.tokens t.depth (p.deeper t.tokens t.depth) (p.twice t.tokens t.depth) t.inside first
+  abbrev pub for_directive : ℕ → Step Part
+  for_directive first =
+      p.for_directive t.tokens t.depth (p.deeper t.tokens t.depth)
+      (p.twice t.tokens t.depth) t.inside first
 
-  abbrev pub keyword : List ℕ → Parser (Unit {0})
+  abbrev pub keyword : List ℕ → Step (Unit {0})
   keyword w = p.keyword t.tokens t.inside w
 
 -- a construct that was opened: one less may nest in it
@@ -258,5 +268,6 @@ Opens t opening old (Err e) new = r.enter t.depth opening old ≡ Err e
 
 -- a directive and its braces, if two more may nest
 abbrev pub OpensTwo : Here → ℕ → ℕ → Result (Here × Here) TokenFault → ℕ → Type 0
-OpensTwo t opening old (Ok inner) new = (r.enter_two t.depth opening old ≡ Ok (tt, new)) × IsOpened t inner.0 × IsOpenedTwice t inner.1
+OpensTwo t opening old (Ok inner) new =
+    (r.enter_two t.depth opening old ≡ Ok (tt, new)) × IsOpened t inner.0 × IsOpenedTwice t inner.1
 OpensTwo t opening old (Err e) new = r.enter_two t.depth opening old ≡ Err e

@@ -4,7 +4,7 @@ ghost use Rattle.hcl_grammar.specs.Pure.Reading.{Reads};
 ghost use Rattle.hcl_expr.specs.Rules as spec;
 
 use crate::reader::Reader;
-use hcl_grammar::error::TokenFault;
+use hcl_grammar::fault::TokenFault;
 use hcl_grammar::goal::Goal;
 use hcl_grammar::tree::{Elem, Expr, Intro, Shape, Term};
 use hcl_nodes::nodes;
@@ -12,7 +12,8 @@ use hcl_token::Kind;
 use plain_tree::{Boxed, Items};
 
 impl<'s, 't> Reader<'s, 't> {
-    /// The arguments of a call and the parenthesis behind them; whether `...` stands behind the last.
+    /// The arguments of a call and the parenthesis behind them; whether `...` stands behind the
+    /// last.
     #[cycle(nest)]
     pub fn arguments(&self, at: &mut usize) -> Result<(Items<Expr>, bool), TokenFault>
         ensures { Reads (spec.arguments self.now at.old) result at.new }

@@ -9,7 +9,7 @@ ghost use Rattle.hcl_grammar.specs.Pure.Reading.{Reads};
 ghost use Rattle.hcl_expr.specs.Rules as spec;
 
 use crate::reader::Reader;
-use hcl_grammar::error::TokenFault;
+use hcl_grammar::fault::TokenFault;
 use hcl_grammar::goal::Goal;
 use hcl_grammar::tree::{Expr, Form, Link, Operator, Prefix};
 use hcl_nodes::nodes;
@@ -110,7 +110,8 @@ impl<'s, 't> Reader<'s, 't> {
         Ok(nodes::expr(first, *at, Form::Conditional(condition, met, unmet)))
     }
 
-    /// An operand, with the operators of the levels below `level` behind it. Where none follows, no level is gone into.
+    /// An operand, with the operators of the levels below `level` behind it. Where none follows, no
+    /// level is gone into.
     #[cycle(nest)]
     fn level(&self, level: usize, at: &mut usize) -> Result<Expr, TokenFault>
         requires { level ≤ 6 }
@@ -126,7 +127,8 @@ impl<'s, 't> Reader<'s, 't> {
         self.rest(from, level, first, head, at)
     }
 
-    /// The operators of the levels below `level`, behind an operand that was read; `from` is the level of the next one.
+    /// The operators of the levels below `level`, behind an operand that was read; `from` is the
+    /// level of the next one.
     #[cycle(nest)]
     #[tactic(auto, unfolding(hcl_grammar::specs::Pure::Climb::rest))]
     fn rest(

@@ -1,7 +1,7 @@
 //! The parser of expressions and of templates, over a reader of a text's tokens.
 //!
-//! HCL native syntax specification, Expressions and Templates. Each rule of the grammar is one method of `Reader`; `expr` and
-//! `parts` close the cycle of what nests.
+//! HCL native syntax specification, Expressions and Templates. Each rule of the grammar is one
+//! method of `Reader`; `expr` and `parts` close the cycle of what nests.
 #![tactic(auto)]
 
 mod inner;

@@ -5,11 +5,12 @@ ghost use Rattle.hcl_expr.specs.Rules as spec;
 ghost use Rattle.hcl_grammar.specs.Pure.Reading.{Gives};
 
 use crate::reader::Reader;
-use hcl_grammar::error::TokenFault;
+use hcl_grammar::fault::TokenFault;
 use hcl_token::Kind;
 
 impl<'s, 't> Reader<'s, 't> {
-    /// Takes a line end with the comment before it, if it comes next. A comment at the end of the text is left.
+    /// Takes a line end with the comment before it, if it comes next. A comment at the end of the
+    /// text is left.
     #[tactic(auto, unfolding(hcl_grammar::specs::Pure::Parser::line, hcl_grammar::specs::Pure::Reading::past))]
     pub fn line(&self, at: &mut usize) -> bool
         ensures { spec.line self.now at.old ≡ Ok (result, at.new) }
@@ -24,7 +25,8 @@ impl<'s, 't> Reader<'s, 't> {
         is_line
     }
 
-    /// Takes a line end with the comment before it, if one of them comes next. Behind a comment there must be a line end.
+    /// Takes a line end with the comment before it, if one of them comes next. Behind a comment
+    /// there must be a line end.
     #[tactic(auto, unfolding(hcl_grammar::specs::Pure::Parser::inner_line))]
     pub fn inner_line(&self, at: &mut usize) -> Result<bool, TokenFault>
         ensures { Gives (spec.inner_line self.now at.old) result at.new }

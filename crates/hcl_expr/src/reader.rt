@@ -7,12 +7,12 @@ ghost use Rattle.hcl_expr.specs.Rules as spec;
 ghost use Rattle.hcl_expr.specs.Rules.{Opens, OpensTwo};
 ghost use Rattle.hcl_grammar.specs.Pure.Reading.{Gives};
 ghost use Rattle.hcl_grammar.specs.Tokens as tokens;
-ghost use Rattle.hcl_grammar.specs.declared.error.TokenFault.TheVariants as fault;
+ghost use Rattle.hcl_grammar.specs.declared.fault.TokenFault.TheVariants as fault;
 ghost use Rattle.hcl_scan.specs.Follows.{tokens_of};
 
 use crate::stream;
 use hcl_grammar::MAX_NESTING;
-use hcl_grammar::error::TokenFault;
+use hcl_grammar::fault::TokenFault;
 use hcl_scan::Scanned;
 use hcl_token::Kind;
 use std::alloc::Global;
@@ -35,13 +35,21 @@ impl<'s, 't> Model for Reader<'s, 't> {
 
     ghost Value = { Here };
 
-    ghost view = { λ r. record { tokens = tokens_of r.scanned.now.pairs; inside = r.inside; depth = r.depth } };
+    ghost view = { λ r. record {
+      tokens = tokens_of r.scanned.now.pairs;
+      inside = r.inside;
+      depth = r.depth;
+    } };
 }
 
 impl<'s, 't> Reader<'s, 't> {
     /// The text as it is read outside of all constructs.
     pub fn new(alloc: Global, scanned: &'s Scanned<'t>) -> Reader<'s, 't>
-        ensures { result ≡ record { tokens = tokens_of scanned.now.pairs; inside = false; depth = MAX_NESTING } }
+        ensures { result ≡ record {
+          tokens = tokens_of scanned.now.pairs;
+          inside = false;
+          depth = MAX_NESTING;
+        } }
     {
         Reader {
             alloc,
@@ -63,7 +71,8 @@ impl<'s, 't> Reader<'s, 't> {
         self.scanned.len()
     }
 
-    /// The number of the next token that is not dropped, and its kind; the number of all tokens, if there is none.
+    /// The number of the next token that is not dropped, and its kind; the number of all tokens, if
+    /// there is none.
     pub fn token(&self, at: usize) -> (usize, Option<Kind>)
         ensures number { result.0 ≡ spec.start self.now at }
         ensures kind { result.1 ≡ spec.next self.now at }
@@ -196,7 +205,8 @@ impl<'s, 't> Reader<'s, 't> {
         stream::is_word(self.scanned, number, word)
     }
 
-    /// The number of the first token of what stands between two places; the first place, if nothing does.
+    /// The number of the first token of what stands between two places; the first place, if nothing
+    /// does.
     #[tactic(auto, unfolding(hcl_grammar::specs::Tokens::first_of))]
     pub fn first_of(&self, from: usize, to: usize) -> usize
         ensures { result ≡ tokens.first_of self.now.tokens self.now.inside from to }

@@ -28,7 +28,8 @@ fn is_dropped(inside: bool, kind: Kind) -> bool
     }
 }
 
-/// The number of the next token that is not dropped, and its kind; the number of all tokens, if there is none.
+/// The number of the next token that is not dropped, and its kind; the number of all tokens, if
+/// there is none.
 #[tactic(auto, using(crate::proofs::Places::places), unfolding(hcl_grammar::specs::Tokens::next, hcl_grammar::specs::Tokens::token))]
 pub fn next_token(scanned: &Scanned<'_>, inside: bool, at: usize) -> (usize, Option<Kind>)
     ensures number { result.0 ≡ tokens.start (tokens_of scanned.now.pairs) inside at }

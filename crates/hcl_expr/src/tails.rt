@@ -6,7 +6,7 @@ ghost use Rattle.hcl_grammar.specs.Pure.Reading.{Gives, Reads};
 ghost use Rattle.hcl_expr.specs.Rules as spec;
 
 use crate::reader::Reader;
-use hcl_grammar::error::TokenFault;
+use hcl_grammar::fault::TokenFault;
 use hcl_grammar::goal::Goal;
 use hcl_grammar::tree::{Expr, Tail};
 use hcl_nodes::nodes;

@@ -6,7 +6,7 @@ ghost use Rattle.hcl_grammar.specs.Pure.Reading.{Gives, Reads};
 ghost use Rattle.hcl_expr.specs.Rules as spec;
 
 use crate::reader::Reader;
-use hcl_grammar::error::TokenFault;
+use hcl_grammar::fault::TokenFault;
 use hcl_grammar::goal::Goal;
 use hcl_grammar::tree::{Part, Template};
 use hcl_nodes::nodes;
@@ -28,7 +28,8 @@ impl<'s, 't> Reader<'s, 't> {
     /// Takes the next token, if this word stands behind it.
     #[tactic(auto, unfolding(hcl_grammar::specs::Tokens::after))]
     fn eat_opening(&self, word: &[u8], at: &mut usize) -> bool
-        ensures found { result ≡ reading.reads self.now.tokens true word.now (spec.after self.now at.old) }
+        ensures found { result
+            ≡ reading.reads self.now.tokens true word.now (spec.after self.now at.old) }
         ensures taken { result ≡ true → at.new ≡ spec.after self.now at.old }
         ensures kept { result ≡ false → at.new ≡ at.old }
     {
@@ -71,7 +72,8 @@ impl<'s, 't> Reader<'s, 't> {
         Ok(Part::Interp(value))
     }
 
-    /// What stands where the condition of an `if` directive does not hold, if it says so, and the directive's end.
+    /// What stands where the condition of an `if` directive does not hold, if it says so, and the
+    /// directive's end.
     #[cycle(nest)]
     #[tactic(auto, unfolding(hcl_grammar::specs::Pure::Parser::otherwise))]
     fn otherwise(&self, at: &mut usize) -> Result<Option<Template>, TokenFault>
@@ -166,7 +168,8 @@ impl<'s, 't> Reader<'s, 't> {
     /// The parts of a template, up to what ends them, one by one.
     #[cycle(nest)]
     fn each_part(&self, at: &mut usize) -> Result<Items<Part>, TokenFault>
-        ensures { Reads (spec.parts_from self.now (length self.now.tokens) [] at.old) result at.new }
+        ensures { Reads (spec.parts_from self.now
+            (length self.now.tokens) [] at.old) result at.new }
     {
         let mut found = Items::new(self.alloc());
         for _turn in 0..self.len() {

@@ -9,7 +9,7 @@ ghost use Rattle.hcl_expr.specs.Rules as spec;
 
 use crate::reader::Reader;
 use crate::stream::same_kind;
-use hcl_grammar::error::TokenFault;
+use hcl_grammar::fault::TokenFault;
 use hcl_grammar::goal::Goal;
 use hcl_grammar::tree::{Shape, Term};
 use hcl_nodes::nodes;
@@ -19,7 +19,8 @@ impl<'s, 't> Reader<'s, 't> {
     /// Whether `(` or `::` comes next, so that the identifier before it is a function's name.
     #[tactic(auto, unfolding(hcl_grammar::specs::Pure::Reading::sees))]
     fn is_called(&self, at: usize) -> bool
-        ensures { result ≡ (spec.sees self.now k.OpenParen at || spec.sees self.now k.DoubleColon at) }
+        ensures { result ≡
+            (spec.sees self.now k.OpenParen at || spec.sees self.now k.DoubleColon at) }
     {
         match self.next(at) {
             Some(kind) => same_kind(kind, Kind::OpenParen) || same_kind(kind, Kind::DoubleColon),

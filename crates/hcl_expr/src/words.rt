@@ -6,7 +6,7 @@ ghost use Rattle.hcl_expr.specs.Rules as spec;
 ghost use Rattle.hcl_grammar.specs.Pure.Reading.{Gives, Reads};
 
 use crate::reader::Reader;
-use hcl_grammar::error::TokenFault;
+use hcl_grammar::fault::TokenFault;
 use hcl_token::Kind;
 use plain_tree::Items;
 
@@ -78,7 +78,8 @@ impl<'s, 't> Reader<'s, 't> {
     /// The names of a function: the first, which was read, and those behind it.
     pub fn names(&self, first: usize, at: &mut usize) -> Result<Items<usize>, TokenFault>
         ensures first { IfOk result (λ names. names ≡ first ∷ drop 1 names) }
-        ensures reads { Reads (spec.names self.now at.old) (result_map_both (drop 1) (λ e. e) result) at.new }
+        ensures reads { Reads (spec.names self.now at.old)
+            (result_map_both (drop 1) (λ e. e) result) at.new }
     {
         let mut found = Items::new(self.alloc());
         found.push(first)?;

@@ -17,19 +17,28 @@ use Rattle.hcl_grammar.specs.Tokens.{Token, start, next, after, first_of}
 -- Label*, where Label = Identifier | QuoteOpen QuoteLit? QuoteClose
 pub data IsLabels (ts : List Token) : List Label → ℕ → ℕ → Type 0 where
   no_labels : {i : ℕ} → IsLabels ts [] i i
-  word_label : {ls : List Label} {i j : ℕ} → At ts false k.Identifier i → IsLabels ts ls (after ts false i) j
-      → IsLabels ts (node.label (start ts false i) (after ts false i) (Some (start ts false i)) ∷ ls) i j
-  text_label : {ls : List Label} {i j : ℕ} → At ts false k.QuoteOpen i → At ts false k.QuoteLit (after ts false i) → At ts false k.QuoteClose (after ts false (after ts false i))
+  word_label : {ls : List Label} {i j : ℕ} → At ts false k.Identifier i
+      → IsLabels ts ls (after ts false i) j
+      → IsLabels ts (node.label (start ts false i) (after ts false i) (Some (start ts false i))
+      ∷ ls) i j
+  text_label : {ls : List Label} {i j : ℕ} → At ts false k.QuoteOpen i
+      → At ts false k.QuoteLit (after ts false i)
+      → At ts false k.QuoteClose (after ts false (after ts false i))
       → IsLabels ts ls (after ts false (after ts false (after ts false i))) j
-      → IsLabels ts (node.label (start ts false i) (after ts false (after ts false (after ts false i))) (Some (start ts false (after ts false i))) ∷ ls) i j
-  empty_label : {ls : List Label} {i j : ℕ} → At ts false k.QuoteOpen i → At ts false k.QuoteClose (after ts false i)
+      → IsLabels ts (node.label (start ts false i)
+      (after ts false (after ts false (after ts false i)))
+      (Some (start ts false (after ts false i))) ∷ ls) i j
+  empty_label : {ls : List Label} {i j : ℕ} → At ts false k.QuoteOpen i
+      → At ts false k.QuoteClose (after ts false i)
       → IsLabels ts ls (after ts false (after ts false i)) j
-      → IsLabels ts (node.label (start ts false i) (after ts false (after ts false i)) None ∷ ls) i j
+      → IsLabels ts (node.label (start ts false i) (after ts false (after ts false i)) None
+      ∷ ls) i j
 
 -- (Identifier "=" Expr)?
 pub data IsOnLine (ts : List Token) (d : ℕ) : Option Attribute → ℕ → ℕ → Type 0 where
   nothing : {i : ℕ} → IsOnLine ts d None i i
-  one : {e : Expr} {i j : ℕ} → At ts false k.Identifier i → At ts false k.Equal (after ts false i) → IsExpr ts d false e (after ts false (after ts false i)) j
+  one : {e : Expr} {i j : ℕ} → At ts false k.Identifier i → At ts false k.Equal (after ts false i)
+      → IsExpr ts d false e (after ts false (after ts false i)) j
       → IsOnLine ts d (Some (node.attribute (start ts false i) j e)) i j
 
 -- Body = (nl | Attr | Block)*, where
@@ -38,15 +47,24 @@ pub data IsOnLine (ts : List Token) (d : ℕ) : Option Attribute → ℕ → ℕ
 --       | Identifier Label* "{" (Identifier "=" Expr)? "}" Eol
 pub data IsMembers (ts : List Token) : ℕ → List Member → ℕ → ℕ → Type 0 where
   no_members : {d i : ℕ} → IsMembers ts d [] i i
-  blank : {d : ℕ} {ms : List Member} {i j l : ℕ} → IsLine ts i j → IsMembers ts d ms j l → IsMembers ts d ms i l
-  attribute : {d : ℕ} {e : Expr} {ms : List Member} {i j n l : ℕ} → At ts false k.Identifier i → At ts false k.Equal (after ts false i)
-      → IsExpr ts d false e (after ts false (after ts false i)) j → IsEol ts j n → IsMembers ts d ms n l
+  blank : {d : ℕ} {ms : List Member} {i j l : ℕ} → IsLine ts i j → IsMembers ts d ms j l
+      → IsMembers ts d ms i l
+  attribute : {d : ℕ} {e : Expr} {ms : List Member} {i j n l : ℕ} → At ts false k.Identifier i
+      → At ts false k.Equal (after ts false i)
+      → IsExpr ts d false e (after ts false (after ts false i)) j → IsEol ts j n
+      → IsMembers ts d ms n l
       → IsMembers ts d (member.Attribute (node.attribute (start ts false i) n e) ∷ ms) i l
-  block : {d : ℕ} {ls : List Label} {bs ms : List Member} {i j n o q l : ℕ} → At ts false k.Identifier i → IsLabels ts ls (after ts false i) j → At ts false k.OpenBrace j
-      → IsLine ts (after ts false j) n → IsMembers ts d bs n o → At ts false k.CloseBrace o → IsEol ts (after ts false o) q → IsMembers ts (suc d) ms q l
-      → IsMembers ts (suc d) (node.block (start ts false i) q ls (content.Lines (node.body (first_of ts false n o) o bs)) ∷ ms) i l
-  line_block : {d : ℕ} {ls : List Label} {a : Option Attribute} {ms : List Member} {i j o q l : ℕ} → At ts false k.Identifier i → IsLabels ts ls (after ts false i) j
-      → At ts false k.OpenBrace j → IsOnLine ts d a (after ts false j) o → At ts false k.CloseBrace o → IsEol ts (after ts false o) q → IsMembers ts (suc d) ms q l
+  block : {d : ℕ} {ls : List Label} {bs ms : List Member} {i j n o q l : ℕ}
+      → At ts false k.Identifier i → IsLabels ts ls (after ts false i) j → At ts false k.OpenBrace j
+      → IsLine ts (after ts false j) n → IsMembers ts d bs n o → At ts false k.CloseBrace o
+      → IsEol ts (after ts false o) q → IsMembers ts (suc d) ms q l
+      → IsMembers ts (suc d)
+      (node.block (start ts false i) q ls
+      (content.Lines (node.body (first_of ts false n o) o bs)) ∷ ms) i l
+  line_block : {d : ℕ} {ls : List Label} {a : Option Attribute} {ms : List Member} {i j o q l : ℕ}
+      → At ts false k.Identifier i → IsLabels ts ls (after ts false i) j
+      → At ts false k.OpenBrace j → IsOnLine ts d a (after ts false j) o
+      → At ts false k.CloseBrace o → IsEol ts (after ts false o) q → IsMembers ts (suc d) ms q l
       → IsMembers ts (suc d) (node.block (start ts false i) q ls (content.Line a) ∷ ms) i l
 
 -- Mark?
@@ -57,7 +75,8 @@ pub data IsFront (ts : List Token) : ℕ → Type 0 where
 -- (LineComment)? end
 pub data IsLast (ts : List Token) : ℕ → Type 0 where
   at_end : {i : ℕ} → next ts false i ≡ None → IsLast ts i
-  at_comment : {i : ℕ} → At ts false k.LineComment i → next ts false (after ts false i) ≡ None → IsLast ts i
+  at_comment : {i : ℕ} → At ts false k.LineComment i → next ts false (after ts false i) ≡ None
+      → IsLast ts i
 
 -- File = Mark? Body (LineComment)? end: this tree stands over all the tokens
 pub data IsFile (ts : List Token) (d : ℕ) : Tree → Type 0 where

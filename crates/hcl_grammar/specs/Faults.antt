@@ -1,6 +1,6 @@
 -- Which faults there are.
-use Rattle.hcl_grammar.specs.declared.error.TokenFault.{TokenFault}
-use Rattle.hcl_grammar.specs.declared.error.TokenFault.TheVariants.{Syntax, TooDeep, Memory}
+use Rattle.hcl_grammar.specs.declared.fault.TokenFault.{TokenFault}
+use Rattle.hcl_grammar.specs.declared.fault.TokenFault.TheVariants.{Syntax, TooDeep, Memory}
 
 -- memory ran out
 abbrev pub IsMemory : TokenFault → Type 0

@@ -20,7 +20,8 @@ NoWord ts m w i = token ts m i ≢ Some (k.Identifier, w)
 -- nl: an optional LineComment, and a LineEnd
 pub data IsLine (ts : List Token) : ℕ → ℕ → Type 0 where
   line_end : {i : ℕ} → At ts false k.LineEnd i → IsLine ts i (after ts false i)
-  comment : {i : ℕ} → At ts false k.LineComment i → At ts false k.LineEnd (after ts false i) → IsLine ts i (after ts false (after ts false i))
+  comment : {i : ℕ} → At ts false k.LineComment i → At ts false k.LineEnd (after ts false i)
+      → IsLine ts i (after ts false (after ts false i))
 
 -- nl*
 pub data IsLines (ts : List Token) : ℕ → ℕ → Type 0 where
@@ -31,7 +32,8 @@ pub data IsLines (ts : List Token) : ℕ → ℕ → Type 0 where
 pub data IsEol (ts : List Token) : ℕ → ℕ → Type 0 where
   eol_line : {i j : ℕ} → IsLine ts i j → IsEol ts i j
   eol_end : {i : ℕ} → next ts false i ≡ None → IsEol ts i i
-  eol_comment : {i : ℕ} → At ts false k.LineComment i → next ts false (after ts false i) ≡ None → IsEol ts i (after ts false i)
+  eol_comment : {i : ℕ} → At ts false k.LineComment i → next ts false (after ts false i) ≡ None
+      → IsEol ts i (after ts false i)
 
 -- Sep = "," nl* | nl nl*
 pub data IsSep (ts : List Token) : ℕ → ℕ → Type 0 where
@@ -41,7 +43,8 @@ pub data IsSep (ts : List Token) : ℕ → ℕ → Type 0 where
 -- ("::" Identifier)*, with the numbers of the names
 pub data IsNames (ts : List Token) : Bool → List ℕ → ℕ → ℕ → Type 0 where
   no_names : {m : Bool} {i : ℕ} → IsNames ts m [] i i
-  name : {m : Bool} {ns : List ℕ} {i j : ℕ} → At ts m k.DoubleColon i → At ts m k.Identifier (after ts m i)
+  name : {m : Bool} {ns : List ℕ} {i j : ℕ} → At ts m k.DoubleColon i
+      → At ts m k.Identifier (after ts m i)
       → IsNames ts m ns (after ts m (after ts m i)) j
       → IsNames ts m (start ts m (after ts m i) ∷ ns) i j
 
@@ -58,6 +61,7 @@ pub data IsDots (ts : List Token) : Bool → ℕ → ℕ → Type 0 where
 
 -- DirectiveOpen, the word and SeqClose
 pub data IsKeyword (ts : List Token) : Bool → List ℕ → ℕ → ℕ → Type 0 where
-  keyword : {m : Bool} {w : List ℕ} {i : ℕ} → At ts m k.DirectiveOpen i → Word ts true w (after ts m i)
+  keyword : {m : Bool} {w : List ℕ} {i : ℕ} → At ts m k.DirectiveOpen i
+      → Word ts true w (after ts m i)
       → At ts true k.SeqClose (after ts true (after ts m i))
       → IsKeyword ts m w i (after ts true (after ts true (after ts m i)))

@@ -1,4 +1,5 @@
--- The nodes of a tree, each made of what its production has. `first` and `past`: the number of its first token, and the one past its last.
+-- The nodes of a tree, each made of what its production has. `first` and `past`: the number of its
+-- first token, and the one past its last.
 use Rattle.std.specs.Prelude.{ℕ, Bool, List, [], ◌∷◌, Option}
 use Rattle.hcl_grammar.specs.declared.tree.Attribute.{Attribute}
 use Rattle.hcl_grammar.specs.declared.tree.Block.{roll-Block}
@@ -56,19 +57,30 @@ tailed first past head (x ∷ xs) = expr first past (form.Tailed head (x ∷ xs)
 
 -- a call: the numbers of its names, its arguments, and whether `...` stands behind the last
 unfoldable pub call : List ℕ → List Expr → Bool → Shape
-call names arguments spread = shape.Call (roll-Call (record { names = names; arguments = arguments; spread = spread }))
+call names arguments spread =
+    shape.Call (roll-Call (record { names = names; arguments = arguments; spread = spread }))
 
 -- what begins a `for`: the numbers of its names, and what is gone through
 unfoldable pub intro : ℕ → ℕ → ℕ → Option ℕ → Expr → Intro
-intro first past name second source = roll-Intro (record { first = first; past = past; name = name; second = second; source = source })
+intro first past name second source =
+    roll-Intro (record {
+      first = first;
+      past = past;
+      name = name;
+      second = second;
+      source = source;
+    })
 
 -- a `for` in brackets, perhaps with a filter
 unfoldable pub for_tuple : Intro → Expr → Option Expr → Shape
-for_tuple i value filter = shape.ForTuple (roll-ForTuple (record { intro = i; value = value; filter = filter }))
+for_tuple i value filter =
+    shape.ForTuple (roll-ForTuple (record { intro = i; value = value; filter = filter }))
 
 -- a `for` in braces; whether `...` stands behind its value; perhaps with a filter
 unfoldable pub for_object : Intro → Expr → Expr → Bool → Option Expr → Shape
-for_object i key value grouped filter = shape.ForObject (roll-ForObject (record { intro = i; key = key; value = value; grouped = grouped; filter = filter }))
+for_object i key value grouped filter =
+    shape.ForObject (roll-ForObject
+    (record { intro = i; key = key; value = value; grouped = grouped; filter = filter }))
 
 -- a template, by its parts
 unfoldable pub template : ℕ → ℕ → List Part → Template
@@ -76,11 +88,14 @@ template first past parts = roll-Template (record { first = first; past = past; 
 
 -- an `if` directive, perhaps with an `else`
 unfoldable pub if_part : ℕ → ℕ → Expr → Template → Option Template → Part
-if_part first past condition met unmet = part.If (roll-IfDirective (record { first = first; past = past; condition = condition; met = met; unmet = unmet }))
+if_part first past condition met unmet =
+    part.If (roll-IfDirective
+    (record { first = first; past = past; condition = condition; met = met; unmet = unmet }))
 
 -- a `for` directive
 unfoldable pub for_part : ℕ → ℕ → Intro → Template → Part
-for_part first past i body = part.For (roll-ForDirective (record { first = first; past = past; intro = i; body = body }))
+for_part first past i body =
+    part.For (roll-ForDirective (record { first = first; past = past; intro = i; body = body }))
 
 -- an attribute, whose first token is its name
 unfoldable pub attribute : ℕ → ℕ → Expr → Attribute
@@ -92,7 +107,9 @@ label first past name = record { first = first; past = past; name = name }
 
 -- a block, whose first token is its word
 unfoldable pub block : ℕ → ℕ → List Label → Content → Member
-block first past labels content = member.Block (roll-Block (record { first = first; past = past; word = first; labels = labels; content = content }))
+block first past labels content =
+    member.Block (roll-Block
+    (record { first = first; past = past; word = first; labels = labels; content = content }))
 
 -- a body, by its attributes and blocks
 unfoldable pub body : ℕ → ℕ → List Member → Body

@@ -1,4 +1,5 @@
--- What stands where in a list of tokens. Numbers of tokens count from 0; a place is the number of the token that stands there.
+-- What stands where in a list of tokens. Numbers of tokens count from 0; a place is the number of
+-- the token that stands there.
 -- HCL native syntax specification, Comments and Whitespace, and Structural Elements.
 use Rattle.std.specs.Prelude.{ℕ, suc, ◌+◌, ◌==◌, ◌&&◌, Bool, true, false, if◌then◌else◌, List, drop, slice_get, Option, Some, None, nat_eq, codes}
 use Rattle.std.specs.List.{prefix_len}
@@ -13,7 +14,8 @@ use Rattle.hcl_token.specs.declared.kind.Kind.TheVariants as k
 abbrev pub Token : Type 0
 Token = Kind × List ℕ
 
--- Inline comments are dropped everywhere. Inside parentheses, brackets, template sequences and the braces of a `for` line ends and line comments are dropped too.
+-- Inline comments are dropped everywhere. Inside parentheses, brackets, template sequences and the
+-- braces of a `for` line ends and line comments are dropped too.
 abbrev pub is_dropped : Bool → Kind → Bool
 is_dropped inside k.InlineComment = true
 is_dropped inside k.LineEnd = inside

@@ -1,7 +1,7 @@
 //! What a parser of expressions is asked for.
 
 /// What is to be parsed.
-#[derive(Clone, Copy, Debug, PartialEq, Eq)]
+#[derive(Clone, Copy)]
 pub enum Goal {
     /// A whole expression.
     Whole,

@@ -1,13 +1,14 @@
-//! The syntax tree of a text, and the grammar of the HCL native syntax: which tree stands over which tokens.
+//! The syntax tree of a text, and the grammar of the HCL native syntax: which tree stands over
+//! which tokens.
 #![tactic(auto)]
 
 pub mod bounds;
-pub mod error;
+pub mod fault;
 pub mod goal;
 pub mod tree;
 
 pub use bounds::MAX_NESTING;
-pub use error::TokenFault;
+pub use fault::TokenFault;
 pub use goal::Goal;
 pub use plain_tree::{Boxed, Items};
 pub use tree::{

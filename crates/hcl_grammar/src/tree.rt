@@ -1,15 +1,16 @@
 //! The tree of a text.
 //!
-//! A node has the numbers of its tokens in the text's list of tokens, from 0: `first` is that of its first token, and
-//! `past` the one past its last; they are equal where the node has no token. What is dropped between two tokens of a node
-//! (comments and, inside brackets, line ends) is counted, what stands before its first is not.
+//! A node has the numbers of its tokens in the text's list of tokens, from 0: `first` is that of
+//! its first token, and `past` the one past its last; they are equal where the node has no token.
+//! What is dropped between two tokens of a node (comments and, inside brackets, line ends) is
+//! counted, what stands before its first is not.
 //!
 //! HCL native syntax specification, Structural Elements, Expressions and Templates.
 
 use plain_tree::{Boxed, Items};
 
 /// An operator before its operand.
-#[derive(Clone, Copy, Debug, PartialEq, Eq)]
+#[derive(Clone, Copy)]
 pub enum Prefix {
     /// `-`
     Minus,
@@ -18,7 +19,7 @@ pub enum Prefix {
 }
 
 /// An operator between two operands.
-#[derive(Clone, Copy, Debug, PartialEq, Eq)]
+#[derive(Clone, Copy)]
 pub enum Operator {
     /// `||`
     Or,
@@ -76,7 +77,8 @@ pub enum Form {
     Plain(Term),
 }
 
-/// An operator of a chain, and the operand behind it. The operator stands alone between the operand before it and this one.
+/// An operator of a chain, and the operand behind it. The operator stands alone between the operand
+/// before it and this one.
 #[cycle(tree)]
 #[derive(Drop)]
 pub struct Link {
@@ -206,8 +208,8 @@ pub struct ForObject {
     pub filter: Option<Boxed<Expr>>,
 }
 
-/// Literal text with interpolations and directives: what stands between the quotes, between the lines of a heredoc, or
-/// between directives.
+/// Literal text with interpolations and directives: what stands between the quotes, between the
+/// lines of a heredoc, or between directives.
 #[cycle(tree)]
 #[derive(Drop)]
 pub struct Template {
@@ -277,13 +279,14 @@ pub struct Attribute {
 }
 
 /// A label of a block: a name, or quoted text.
-#[derive(Clone, Copy, Debug, PartialEq, Eq)]
+#[derive(Clone, Copy)]
 pub struct Label {
     /// The number of its first token: the name, or the quote that opens it.
     pub first: usize,
     /// The number past its last token.
     pub past: usize,
-    /// The number of the token that is its text, without quotes; none where nothing stands between the quotes.
+    /// The number of the token that is its text, without quotes; none where nothing stands between
+    /// the quotes.
     pub name: Option<usize>,
 }
 
@@ -293,7 +296,8 @@ pub struct Label {
 pub struct Block {
     /// The number of its first token, the word.
     pub first: u32,
-    /// The number past its last token; the comment and the line end behind the brace are its tokens.
+    /// The number past its last token; the comment and the line end behind the brace are its
+    /// tokens.
     pub past: u32,
     /// The number of the token of the word that it begins with.
     pub word: u32,
@@ -317,7 +321,8 @@ pub enum Content {
 #[cycle(body)]
 #[derive(Drop)]
 pub struct Body {
-    /// The number of its first token, blank lines and comments too; where it has none, the number past the token before it.
+    /// The number of its first token, blank lines and comments too; where it has none, the number
+    /// past the token before it.
     pub first: usize,
     /// The number past its last token.
     pub past: usize,

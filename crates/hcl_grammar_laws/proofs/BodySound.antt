@@ -2,8 +2,8 @@
 use Rattle.std.proofs.Common.{◌≡◌, ◌≢◌, ℕ, zero, suc, Bool, true, false, List, [], ◌∷◌, ◌++◌, length, Option, Some, None, Ok, Err, refl, sym, ap, ◌∙◌, subst, append_assoc, append-nil}
 use Rattle.hcl_token.specs.declared.kind.Kind.{Kind}
 use Rattle.hcl_token.specs.declared.kind.Kind.TheVariants as k
-use Rattle.hcl_grammar.specs.declared.error.TokenFault.{TokenFault}
-use Rattle.hcl_grammar.specs.declared.error.TokenFault.TheVariants.{TooDeep}
+use Rattle.hcl_grammar.specs.declared.fault.TokenFault.{TokenFault}
+use Rattle.hcl_grammar.specs.declared.fault.TokenFault.TheVariants.{TooDeep}
 use Rattle.hcl_grammar.specs.declared.tree.Attribute.{Attribute}
 use Rattle.hcl_grammar.specs.declared.tree.Content.{Content}
 use Rattle.hcl_grammar.specs.declared.tree.Content.TheVariants as content
@@ -15,13 +15,13 @@ use Rattle.hcl_grammar.specs.Pure.BodyParser as bodies
 use Rattle.hcl_grammar.specs.Pure.BodyParser.{deeper_members}
 use Rattle.hcl_grammar.specs.Lines.{At, IsLine, IsEol, eol_line, eol_end, eol_comment}
 use Rattle.hcl_grammar.specs.Nodes as node
-use Rattle.hcl_grammar.specs.Pure.Reading.{Outcome, and_then, pure, expect, past}
+use Rattle.hcl_grammar.specs.Pure.Reading.{Outcome, go_on, pure, expect, past}
 use Rattle.hcl_grammar.specs.Tokens.{Token, start, next, after, first_of}
 use Rattle.hcl_grammar_laws.proofs.Inverts.{bind_inv, done, along, eaten, uneaten, eat_inv, expect_then, some_along, none_some, some_none, then_some, then, otherwise, chosen}
 use Rattle.hcl_grammar_laws.proofs.Steps.{sees-yes}
 use Rattle.hcl_grammar_laws.proofs.Sound.{sound, line-true, line-false, inner-true, inner-false}
 
-pub shut : {A B : Type 0} {y : B} {j : ℕ} (o : Outcome A) (x : TokenFault) → and_then o (λ _ i. Err x) ≡ done y j → ⊥
+pub shut : {A B : Type 0} {y : B} {j : ℕ} (o : Outcome A) (x : TokenFault) → go_on o (λ _ i. Err x) ≡ done y j → ⊥
 shut (Ok q) x e = absurd (cc)
 shut (Err f) x e = absurd (cc)
 
@@ -242,7 +242,7 @@ module _ (ts : List Token) where
   -- ---- whole texts
 
   file_end : (b i : ℕ) → IsFront ts i → (ms : List Member) (to : ℕ) → IsMembers ts b ms i to → (t : Tree) (j : ℕ)
-      → and_then (bodies.ended ts (next ts false (past ts false k.LineComment to)) (past ts false k.LineComment to)) (λ _. pure (node.tree (length ts) (node.body (first_of ts false i to) to ms))) ≡ done t j → IsFile ts b t
+      → go_on (bodies.ended ts (next ts false (past ts false k.LineComment to)) (past ts false k.LineComment to)) (λ _. pure (node.tree (length ts) (node.body (first_of ts false i to) to ms))) ≡ done t j → IsFile ts b t
   file_end b i f ms to h t j e = elim (eat_inv ts false k.LineComment to) [
     | eaten q s l ↦ (let v = bind_inv _ _ (rw l at e) in let x = ended_inv (after ts false to) v.is in along (λ t _. IsFile ts b t) v.rest (file f h (at_comment q x.0)))
     | uneaten s l ↦ (let v = bind_inv _ _ (rw l at e) in let x = ended_inv to v.is in along (λ t _. IsFile ts b t) v.rest (file f h (at_end x.0)))

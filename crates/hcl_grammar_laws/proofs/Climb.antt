@@ -8,10 +8,10 @@ use Rattle.hcl_grammar.specs.declared.tree.Operator.{Operator}
 use Rattle.hcl_grammar.specs.Operators.{operator_of}
 use Rattle.hcl_grammar.specs.Pure.Climb.{level_by, level_of, binds, rest}
 use Rattle.hcl_grammar.specs.Pure.Parser as p
-use Rattle.hcl_grammar.specs.Pure.Reading.{Outcome, Parser, and_then}
+use Rattle.hcl_grammar.specs.Pure.Reading.{Outcome, Step, go_on}
 use Rattle.hcl_grammar.specs.Tokens.{Token, start, next}
 
-then_then : {A B C : Type 0} (r : Outcome A) (f : A → Parser B) (g : B → Parser C) → and_then (and_then r f) g ≡ and_then r (λ x i. and_then (f x i) g)
+then_then : {A B C : Type 0} (r : Outcome A) (f : A → Step B) (g : B → Step C) → go_on (go_on r f) g ≡ go_on r (λ x i. go_on (f x i) g)
 then_then (Ok q) f g = refl
 then_then (Err e) f g = refl
 
@@ -20,11 +20,11 @@ other n l h = elim (eqb_tells l n) [ inl w ↦ absurd (omega arith) | inr w ↦ 
 
 module _ (ts : List Token) (depth : ℕ) (inner : p.Under) where
   -- a level is an operand and what stands behind it
-  pub level-is : (n : ℕ) (m : Bool) (i : ℕ) → p.level ts depth inner n m i ≡ and_then (p.unary ts depth inner m i) (rest ts depth inner n m (start ts m i))
+  pub level-is : (n : ℕ) (m : Bool) (i : ℕ) → p.level ts depth inner n m i ≡ go_on (p.unary ts depth inner m i) (rest ts depth inner n m (start ts m i))
   unfolding p.level rest
   level-is zero m i = sym (then_pure (p.unary ts depth inner m i))
     where
-      then_pure : (r : Outcome Expr) → and_then r (λ x j. Ok (x, j)) ≡ r
+      then_pure : (r : Outcome Expr) → go_on r (λ x j. Ok (x, j)) ≡ r
       then_pure (Ok q) = refl
       then_pure (Err e) = refl
   level-is (suc n) m i = rw (level-is n m i) (then_then (p.unary ts depth inner m i) (rest ts depth inner n m (start ts m i)) _)
@@ -42,7 +42,7 @@ module _ (ts : List Token) (depth : ℕ) (inner : p.Under) where
       go None h = refl
       go (Some t) h = by (operator_of t) h
 
-  links-not : (operand : Bool → Parser Expr) (n : ℕ) (m : Bool) (turns : ℕ) (xs : List Link) (i : ℕ) → n < binds ts m i → p.links_from ts depth inner operand m n turns xs i ≡ Ok (xs, i)
+  links-not : (operand : Bool → Step Expr) (n : ℕ) (m : Bool) (turns : ℕ) (xs : List Link) (i : ℕ) → n < binds ts m i → p.links_from ts depth inner operand m n turns xs i ≡ Ok (xs, i)
   unfolding p.links_from
   links-not operand n m zero xs i h = refl
   links-not operand n m (suc turns) xs i h = rw (operator-not n m i h)

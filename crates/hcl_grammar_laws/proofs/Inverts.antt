@@ -2,17 +2,17 @@
 use Rattle.std.proofs.Common.{◌≡◌, ◌≢◌, ℕ, Bool, true, false, cond, List, Option, Some, None, Ok, Err, refl, sym, ap, ◌∙◌, subst}
 use Rattle.hcl_token.specs.declared.kind.Kind.{Kind}
 use Rattle.hcl_grammar.specs.Tokens.{Token, next, after, is_kind}
-use Rattle.hcl_grammar.specs.Pure.Reading.{Outcome, Parser, and_then, sees, past, taken, expect, bump, refuse, pure, reads, word}
+use Rattle.hcl_grammar.specs.Pure.Reading.{Outcome, Step, go_on, sees, past, taken, expect, bump, refuse, pure, reads, word}
 use Rattle.hcl_grammar.specs.Lines.{At, Word, NoWord}
 use Rattle.hcl_grammar_laws.proofs.Steps.{same-eq, sees-yes, past-yes, past-no, reads-yes, reads-word}
 
-pub record Parsed {A B : Type 0} (r : Outcome A) (f : A → Parser B) (y : B) (j : ℕ) : Type 0 where
+pub record Parsed {A B : Type 0} (r : Outcome A) (f : A → Step B) (y : B) (j : ℕ) : Type 0 where
   pub value : A
   pub at : ℕ
   pub is : r ≡ Ok (value, at)
   pub rest : f value at ≡ Ok (y, j)
 
-pub bind_inv : {A B : Type 0} {y : B} {j : ℕ} (r : Outcome A) (f : A → Parser B) → and_then r f ≡ Ok (y, j) → Parsed r f y j
+pub bind_inv : {A B : Type 0} {y : B} {j : ℕ} (r : Outcome A) (f : A → Step B) → go_on r f ≡ Ok (y, j) → Parsed r f y j
 bind_inv (Ok p) f e = record { value = p.0; at = p.1; is = refl; rest = e }
 bind_inv (Err x) f e = absurd (cc)
 
@@ -81,22 +81,22 @@ pub some_none : {A : Type 0} {x : A} {i j : ℕ} → done (Some x) i ≡ done No
 some_none {A} {x} e = along (λ (o : Option A) _. o ≡ None → ⊥) e (λ c. cc) refl
 
 -- which way a test went
-pub data Chosen {A : Type 0} (b : Bool) (p q : Parser A) (i : ℕ) (r : Outcome A) : Type 0 where
+pub data Chosen {A : Type 0} (b : Bool) (p q : Step A) (i : ℕ) (r : Outcome A) : Type 0 where
   then : b ≡ true → p i ≡ r → Chosen b p q i r
   otherwise : b ≡ false → q i ≡ r → Chosen b p q i r
 
-pub chosen : {A : Type 0} (b : Bool) (p q : Parser A) (i : ℕ) {r : Outcome A} → cond b p q i ≡ r → Chosen b p q i r
+pub chosen : {A : Type 0} (b : Bool) (p q : Step A) (i : ℕ) {r : Outcome A} → cond b p q i ≡ r → Chosen b p q i r
 chosen true p q i e = then refl e
 chosen false p q i e = otherwise refl e
 
 pub unseen : (ts : List Token) (m : Bool) (t : Kind) (i : ℕ) → sees ts m t i ≡ false → next ts m i ≢ Some t
 unseen ts m t i h e = let clash : true ≡ false = sym (sees-yes ts m t i e) ∙ h in cc
 
-pub then_true : {A : Type 0} (r : Outcome A) {j : ℕ} → and_then r (λ _. pure true) ≡ done false j → ⊥
+pub then_true : {A : Type 0} (r : Outcome A) {j : ℕ} → go_on r (λ _. pure true) ≡ done false j → ⊥
 then_true (Ok p) e = true_false e
 then_true (Err x) e = absurd (cc)
 
-pub then_false : {A : Type 0} (r : Outcome A) {j : ℕ} → and_then r (λ _. pure false) ≡ done true j → ⊥
+pub then_false : {A : Type 0} (r : Outcome A) {j : ℕ} → go_on r (λ _. pure false) ≡ done true j → ⊥
 then_false (Ok p) e = false_true e
 then_false (Err x) e = absurd (cc)
 
@@ -108,12 +108,12 @@ pub some_along : {A : Type 0} {x y : A} {i j : ℕ} (R : A → ℕ → Type 0) �
 unfolding some_or
 some_along {x} R e r = along (λ o j. R (some_or x o) j) e r
 
-pub then_some : {A B : Type 0} (r : Outcome A) (f : A → B) {j : ℕ} → and_then r (λ x. pure (Some (f x))) ≡ done None j → ⊥
+pub then_some : {A B : Type 0} (r : Outcome A) (f : A → B) {j : ℕ} → go_on r (λ x. pure (Some (f x))) ≡ done None j → ⊥
 then_some (Ok p) f e = some_none e
 then_some (Err x) f e = absurd (cc)
 
 -- a token that was expected stands there, and what follows went on behind it
-pub expect_then : {B : Type 0} (ts : List Token) (m : Bool) (t : Kind) (i : ℕ) (f : Unit {0} → Parser B) {y : B} {j : ℕ} → and_then (expect ts m t i) f ≡ done y j → At ts m t i × (f tt (after ts m i) ≡ done y j)
+pub expect_then : {B : Type 0} (ts : List Token) (m : Bool) (t : Kind) (i : ℕ) (f : Unit {0} → Step B) {y : B} {j : ℕ} → go_on (expect ts m t i) f ≡ done y j → At ts m t i × (f tt (after ts m i) ≡ done y j)
 unfolding expect
 expect_then ts m t i f {y} {j} e = go (sees ts m t i) refl
   where
@@ -121,7 +121,7 @@ expect_then ts m t i f {y} {j} e = go (sees ts m t i) refl
     go true h = (sees-true ts m t i h, rw h at e)
     go false h = absurd (let made : refuse ts m i ≡ done y j = rw h at e in cc)
 
-pub word_then : {B : Type 0} (ts : List Token) (m : Bool) (w : List ℕ) (i : ℕ) (f : Unit {0} → Parser B) {y : B} {j : ℕ} → and_then (word ts m w i) f ≡ done y j → Word ts m w i × (f tt (after ts m i) ≡ done y j)
+pub word_then : {B : Type 0} (ts : List Token) (m : Bool) (w : List ℕ) (i : ℕ) (f : Unit {0} → Step B) {y : B} {j : ℕ} → go_on (word ts m w i) f ≡ done y j → Word ts m w i × (f tt (after ts m i) ≡ done y j)
 unfolding word
 word_then ts m w i f {y} {j} e = go (reads ts m w i) refl
   where

@@ -2,7 +2,7 @@
 use Rattle.std.proofs.Common.{◌≡◌, ℕ, zero, suc, ◌+◌, ◌≤◌, true, false, List, length, Ok, refl, ap, ◌∙◌, arith}
 use Rattle.hcl_token.specs.declared.kind.Kind.TheVariants as k
 use Rattle.hcl_grammar.specs.Tokens.{Token, after, same_kind}
-use Rattle.hcl_grammar.specs.Pure.Reading.{Outcome, Parser, and_then, sees}
+use Rattle.hcl_grammar.specs.Pure.Reading.{Outcome, Step, go_on, sees}
 use Rattle.hcl_grammar.specs.Pure.Parser as p
 use Rattle.hcl_grammar.specs.Lines.{At, IsLine, line_end, comment, IsLines, no_lines, line, IsSep, comma, lines}
 use Rattle.hcl_grammar_laws.proofs.Steps.{expect-yes, sees-yes, past-yes, past-no}
@@ -10,8 +10,8 @@ use Rattle.hcl_grammar_laws.proofs.Ahead.{sees-other, Begins, no-begin}
 use Rattle.hcl_grammar_laws.proofs.Spans.{Spans, span_line, span_lines}
 
 -- a step that succeeds
-pub on : {A B : Type 0} (r : Outcome A) (x : A) (j : ℕ) (f : A → Parser B) → r ≡ Ok (x, j) → and_then r f ≡ f x j
-on r x j f e = ap (λ o. and_then o f) e
+pub on : {A B : Type 0} (r : Outcome A) (x : A) (j : ℕ) (f : A → Step B) → r ≡ Ok (x, j) → go_on r f ≡ f x j
+on r x j f e = ap (λ o. go_on o f) e
 
 -- no line end comes next
 pub record NoLine (ts : List Token) (i : ℕ) : Type 0 where

@@ -8,9 +8,9 @@ use denote.Enum.Bare.{same_true}
 use Rattle.hcl_token.specs.contracts.kind.Kind.{the_type}
 use Rattle.hcl_token.specs.declared.kind.Kind.{Kind}
 use Rattle.hcl_token.specs.declared.kind.Kind.TheVariants as k
-use Rattle.hcl_grammar.specs.declared.error.TokenFault.TheVariants.{TooDeep}
+use Rattle.hcl_grammar.specs.declared.fault.TokenFault.TheVariants.{TooDeep}
 use Rattle.hcl_grammar.specs.Tokens.{Token, token, next, after, same_kind, is_kind, is_word}
-use Rattle.hcl_grammar.specs.Pure.Reading.{Outcome, Parser, and_then, sees, past, expect, bump, reads, word}
+use Rattle.hcl_grammar.specs.Pure.Reading.{Outcome, Step, go_on, sees, past, expect, bump, reads, word}
 use Rattle.hcl_grammar.specs.Lines.{At, Word}
 
 -- The parser answers this value and goes on from j. Where fewer constructs may nest than do, it may find that too.
@@ -18,7 +18,7 @@ pub data Answers {A : Type 0} (d b : ℕ) (x : A) (j : ℕ) : Outcome A → Type
   found : Answers d b x j (Ok (x, j))
   deep : {at : ℕ} → b < d → Answers d b x j (Err (TooDeep at))
 
-pub bind : {A B : Type 0} {d b : ℕ} {x : A} {j : ℕ} {y : B} {k : ℕ} {r : Outcome A} (f : A → Parser B) → Answers d b x j r → Answers d b y k (f x j) → Answers d b y k (and_then r f)
+pub bind : {A B : Type 0} {d b : ℕ} {x : A} {j : ℕ} {y : B} {k : ℕ} {r : Outcome A} (f : A → Step B) → Answers d b x j r → Answers d b y k (f x j) → Answers d b y k (go_on r f)
 bind f found h = h
 bind f (deep l) h = deep l
 

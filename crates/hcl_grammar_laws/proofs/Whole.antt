@@ -1,7 +1,7 @@
 -- What a parser of whole texts ensures that answers the pure one.
 use Rattle.std.proofs.Common.{◌≡◌, ◌≢◌, ℕ, ◌+◌, ◌≤◌, false, List, ◌∷◌, Option, Some, None, Result, Ok, Err, MatchResult, IfOk, IfSome, IfNone, refl, sym, ◌∙◌, arith}
-use Rattle.hcl_grammar.specs.declared.error.TokenFault.{TokenFault}
-use Rattle.hcl_grammar.specs.declared.error.TokenFault.TheVariants.{Syntax, TooDeep, Memory}
+use Rattle.hcl_grammar.specs.declared.fault.TokenFault.{TokenFault}
+use Rattle.hcl_grammar.specs.declared.fault.TokenFault.TheVariants.{Syntax, TooDeep, Memory}
 use Rattle.hcl_token.specs.declared.kind.Kind.TheVariants.{Identifier}
 use Rattle.hcl_grammar.specs.declared.tree.Member.{Member}
 use Rattle.hcl_grammar.specs.declared.tree.Tree.{Tree}

@@ -17,4 +17,5 @@ unsaid t = if is_line_comment t.0 then (t.0, []) else t
 
 -- tokens that differ in what their line comments say, and in nothing else, have the same trees
 abbrev pub CommentsSayNothing : Type 0
-CommentsSayNothing = (ts us : List Token) (d : ℕ) (t : Tree) → map unsaid ts ≡ map unsaid us → IsFile ts d t → IsFile us d t
+CommentsSayNothing = (ts us : List Token) (d : ℕ) (t : Tree) → map unsaid ts ≡ map unsaid us
+    → IsFile ts d t → IsFile us d t

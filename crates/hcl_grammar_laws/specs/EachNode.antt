@@ -1,4 +1,5 @@
--- What stands in a tree, and over which tokens: each node over those from its number `first` up to its number `past`, without what is dropped.
+-- What stands in a tree, and over which tokens: each node over those from its number `first` up to
+-- its number `past`, without what is dropped.
 use Rattle.std.specs.Prelude.{ℕ, Bool, List, [], ◌∷◌, ◌++◌, map, Option, Some, None}
 use Rattle.std.specs.List.{flat_map}
 use Rattle.hcl_grammar.specs.declared.tree.Attribute.{Attribute}
@@ -48,19 +49,27 @@ pub data Node : Type 0 where
   if_directive : IfDirective → Node
   for_directive : ForDirective → Node
 
--- The tokens from the node's first up to its past derive it; an attribute, a block and a label are each a list of one.
+-- The tokens from the node's first up to its past derive it; an attribute, a block and a label are
+-- each a list of one.
 pub data Derives (ts : List Token) : Node → Type 0 where
   is_body : {d : ℕ} {x : Body} → IsMembers ts d x.members x.first x.past → Derives ts (body x)
-  is_block : {d : ℕ} {x : Block} → IsMembers ts d (member.Block x ∷ []) x.first x.past → Derives ts (block x)
-  is_attribute : {d : ℕ} {x : Attribute} → IsMembers ts d (member.Attribute x ∷ []) x.first x.past → Derives ts (attribute x)
-  is_on_line : {d : ℕ} {x : Attribute} → IsOnLine ts d (Some x) x.first x.past → Derives ts (on_line x)
+  is_block : {d : ℕ} {x : Block} → IsMembers ts d (member.Block x ∷ []) x.first x.past
+      → Derives ts (block x)
+  is_attribute : {d : ℕ} {x : Attribute} → IsMembers ts d (member.Attribute x ∷ []) x.first x.past
+      → Derives ts (attribute x)
+  is_on_line : {d : ℕ} {x : Attribute} → IsOnLine ts d (Some x) x.first x.past
+      → Derives ts (on_line x)
   is_label : {x : Label} → IsLabels ts (x ∷ []) x.first x.past → Derives ts (label x)
   is_expr : {d : ℕ} {m : Bool} {x : Expr} → IsExpr ts d m x x.first x.past → Derives ts (expr x)
   is_term : {d : ℕ} {m : Bool} {x : Term} → IsTerm ts d m x x.first x.past → Derives ts (term x)
   is_intro : {d : ℕ} {x : Intro} → IsIntro ts d x x.first x.past → Derives ts (intro x)
-  is_template : {d : ℕ} {m : Bool} {x : Template} → IsParts ts d m x.parts x.first x.past → Derives ts (template x)
-  is_if_directive : {d : ℕ} {m : Bool} {x : IfDirective} → IsPart ts d m (part.If x) (out-IfDirective x).first (out-IfDirective x).past → Derives ts (if_directive x)
-  is_for_directive : {d : ℕ} {m : Bool} {x : ForDirective} → IsPart ts d m (part.For x) x.first x.past → Derives ts (for_directive x)
+  is_template : {d : ℕ} {m : Bool} {x : Template} → IsParts ts d m x.parts x.first x.past
+      → Derives ts (template x)
+  is_if_directive : {d : ℕ} {m : Bool} {x : IfDirective}
+      → IsPart ts d m (part.If x) (out-IfDirective x).first (out-IfDirective x).past
+      → Derives ts (if_directive x)
+  is_for_directive : {d : ℕ} {m : Bool} {x : ForDirective}
+      → IsPart ts d m (part.For x) x.first x.past → Derives ts (for_directive x)
 
 -- ---- what stands directly in a node, in the order of the text
 
@@ -76,11 +85,13 @@ content_nodes (Content-F.Lines b) = body b ∷ []
 content_nodes (Content-F.Line None) = []
 content_nodes (Content-F.Line (Some a)) = on_line a ∷ []
 
-abbrev pub tail_nodes : Tail-F Form Part Shape Tail Call Elem Expr ForDirective ForObject ForTuple IfDirective Intro Link Template Term → List Node
+abbrev pub tail_nodes : Tail-F Form Part Shape Tail Call Elem Expr ForDirective ForObject ForTuple
+    IfDirective Intro Link Template Term → List Node
 tail_nodes (Tail-F.Index e) = expr e ∷ []
 tail_nodes _ = []
 
-abbrev pub form_nodes : Form-F Form Part Shape Tail Call Elem Expr ForDirective ForObject ForTuple IfDirective Intro Link Template Term → List Node
+abbrev pub form_nodes : Form-F Form Part Shape Tail Call Elem Expr ForDirective ForObject ForTuple
+    IfDirective Intro Link Template Term → List Node
 form_nodes (Form-F.Conditional c met unmet) = expr c ∷ expr met ∷ expr unmet ∷ []
 form_nodes (Form-F.Chain head links) = expr head ∷ map (λ (l : Link). expr l.operand) links
 form_nodes (Form-F.Prefixed op operand) = expr operand ∷ []
@@ -94,19 +105,25 @@ abbrev pub filter_nodes : Option Expr → List Node
 filter_nodes None = []
 filter_nodes (Some e) = expr e ∷ []
 
-abbrev pub shape_nodes : Shape-F Form Part Shape Tail Call Elem Expr ForDirective ForObject ForTuple IfDirective Intro Link Template Term → List Node
+abbrev pub shape_nodes : Shape-F Form Part Shape Tail Call Elem Expr ForDirective ForObject
+    ForTuple IfDirective Intro Link Template Term → List Node
 shape_nodes Shape-F.Number = []
 shape_nodes Shape-F.Identifier = []
 shape_nodes (Shape-F.Call c) = map expr (out-Call c).arguments
 shape_nodes (Shape-F.Tuple es) = map expr es
 shape_nodes (Shape-F.Object xs) = flat_map elem_nodes xs
-shape_nodes (Shape-F.ForTuple f) = intro (out-ForTuple f).intro ∷ expr (out-ForTuple f).value ∷ filter_nodes (out-ForTuple f).filter
-shape_nodes (Shape-F.ForObject f) = intro (out-ForObject f).intro ∷ expr (out-ForObject f).key ∷ expr (out-ForObject f).value ∷ filter_nodes (out-ForObject f).filter
+shape_nodes (Shape-F.ForTuple f) =
+    intro (out-ForTuple f).intro ∷ expr (out-ForTuple f).value
+    ∷ filter_nodes (out-ForTuple f).filter
+shape_nodes (Shape-F.ForObject f) =
+    intro (out-ForObject f).intro ∷ expr (out-ForObject f).key ∷ expr (out-ForObject f).value
+    ∷ filter_nodes (out-ForObject f).filter
 shape_nodes (Shape-F.Quoted t) = template t ∷ []
 shape_nodes (Shape-F.Heredoc t) = template t ∷ []
 shape_nodes (Shape-F.Parens e) = expr e ∷ []
 
-abbrev pub part_nodes : Part-F Form Part Shape Tail Call Elem Expr ForDirective ForObject ForTuple IfDirective Intro Link Template Term → List Node
+abbrev pub part_nodes : Part-F Form Part Shape Tail Call Elem Expr ForDirective ForObject ForTuple
+    IfDirective Intro Link Template Term → List Node
 part_nodes (Part-F.Literal n) = []
 part_nodes (Part-F.Interp e) = expr e ∷ []
 part_nodes (Part-F.If x) = if_directive x ∷ []
@@ -126,7 +143,9 @@ nodes (expr x) = form_nodes (out-Form x.form)
 nodes (term x) = shape_nodes (out-Shape x.shape)
 nodes (intro x) = expr x.source ∷ []
 nodes (template x) = flat_map (λ (p : Part). part_nodes (out-Part p)) x.parts
-nodes (if_directive x) = expr (out-IfDirective x).condition ∷ template (out-IfDirective x).met ∷ else_nodes (out-IfDirective x).unmet
+nodes (if_directive x) =
+    expr (out-IfDirective x).condition ∷ template (out-IfDirective x).met
+    ∷ else_nodes (out-IfDirective x).unmet
 nodes (for_directive x) = intro x.intro ∷ template x.body ∷ []
 
 mutual
@@ -141,4 +160,5 @@ mutual
 
 -- in the tree of a list of tokens each node stands over its own tokens
 abbrev pub EachNode : Type 0
-EachNode = (ts : List Token) (d : ℕ) (t : Tree) → IsFile ts d t → (n : Node) → StandsIn n (body t.body) → Derives ts n
+EachNode = (ts : List Token) (d : ℕ) (t : Tree) → IsFile ts d t → (n : Node)
+    → StandsIn n (body t.body) → Derives ts n

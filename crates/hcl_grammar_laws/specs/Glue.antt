@@ -17,4 +17,5 @@ glues _ _ w = false
 
 -- no such two stand side by side, whatever is dropped
 abbrev pub NoGlue : Type 0
-NoGlue = (ts : List Token) (d : ℕ) (t : Tree) → IsFile ts d t → (n : ℕ) (a b : Token) → slice_get ts n ≡ Some a → slice_get ts (suc n) ≡ Some b → glues a.0 b.0 b.1 ≡ false
+NoGlue = (ts : List Token) (d : ℕ) (t : Tree) → IsFile ts d t → (n : ℕ) (a b : Token)
+    → slice_get ts n ≡ Some a → slice_get ts (suc n) ≡ Some b → glues a.0 b.0 b.1 ≡ false

@@ -13,7 +13,8 @@ pub fn one_tree()
     ensures { OneTree }
 {}
 
-/// Lists of tokens that differ in what their line comments say, and in nothing else, have the same trees.
+/// Lists of tokens that differ in what their line comments say, and in nothing else, have the same
+/// trees.
 pub fn comments_say_nothing()
     ensures { CommentsSayNothing }
 {}
@@ -23,19 +24,20 @@ pub fn nesting_is_a_bound()
     ensures { NestingIsABound }
 {}
 
-/// Where the grammar is followed, `<` does not stand beside `<`, `.` beside `.` or a legacy index, nor a number beside a
-/// name that begins with `e` or `E`.
+/// Where the grammar is followed, `<` does not stand beside `<`, `.` beside `.` or a legacy index,
+/// nor a number beside a name that begins with `e` or `E`.
 pub fn no_glue()
     ensures { NoGlue }
 {}
 
-/// Each node that stands in the tree of a list of tokens is derived by those from its `first` up to its `past`, without
-/// those that are dropped.
+/// Each node that stands in the tree of a list of tokens is derived by those from its `first` up to
+/// its `past`, without those that are dropped.
 pub fn each_node_over_its_tokens()
     ensures { EachNode }
 {}
 
-/// For a parser: an answer that is the pure parser's, memory aside, is the tree that is derived, or the fault.
+/// For a parser: an answer that is the pure parser's, memory aside, is the tree that is derived, or
+/// the fault.
 pub fn file_answers()
     ensures { FileAnswers }
 {}
@@ -45,8 +47,8 @@ pub fn climbing()
     ensures { Climbing }
 {}
 
-/// For a parser: an answer that is the pure parser's at one member of a body, memory aside, is the member that stands there, or
-/// the fault.
+/// For a parser: an answer that is the pure parser's at one member of a body, memory aside, is the
+/// member that stands there, or the fault.
 pub fn member_answers()
     ensures { MemberAnswers }
 {}

@@ -1,8 +1,2 @@
-pub mod Cells
-pub mod Columns
-pub mod Indent
-pub mod Inner
-pub mod Kinds
-pub mod Layout
-pub mod Lines
-pub mod Space
+pub mod LayoutLaws
+pub mod Layouts

@@ -1,48 +1,76 @@
-//! What holds of layouts. Each law is the contract of a function that does nothing.
+//! What holds of the layouts of texts. Each law is the contract of a function that does nothing.
 
-ghost use Rattle.std.specs.Prelude.{◌≡◌, ℕ, List};
-ghost use Rattle.hcl_token.specs.Tokens.{Pair};
-ghost use Rattle.hcl_scan.specs.Cut.{IsCut};
-ghost use Rattle.hcl_scan.specs.Follows.{tokens_of};
-ghost use Rattle.hcl_layout.specs.Lines.{Line, lines_of, pairs_in};
-ghost use Rattle.hcl_layout.specs.Cells.{assignment, closing_comment, aligned};
-ghost use Rattle.hcl_layout.specs.Columns.{AreAligned, CommentsEndLines};
-ghost use Rattle.hcl_layout.specs.Layout.{laid_out, laid_out_lines};
+ghost use Rattle.hcl_layout.specs.LayoutLaws.{LayoutFits, LayoutIsCut, LaidOutIsText, OneLayout, LayoutParses, LayoutKeepsTokens, LayoutIsLaidOut, LayoutOfLayout};
 
-use hcl_scan::laws::cut_follows;
-
-/// The lines of a text have all its tokens, in order.
-pub fn lines_have_all_tokens()
-    ensures { (pairs : List Pair) → pairs_in (lines_of pairs) ≡ pairs }
-{}
-
-/// The layout has the tokens of the text, line ends and comments among them.
-pub fn keeps_tokens()
-    ensures { (pairs : List Pair) → tokens_of (laid_out pairs) ≡ tokens_of pairs }
-{}
-
-/// The layout of a layout is that layout.
-pub fn own_layout()
-    ensures { (pairs : List Pair) → laid_out (laid_out pairs) ≡ laid_out pairs }
-{}
-
-/// Where lines are aligned by their assignments, or by their closing comments, those of lines one behind the other begin in
-/// one column.
-pub fn cells_in_columns()
-    ensures assignments { (lines : List Line) → AreAligned assignment (aligned assignment lines) }
-    ensures comments { (lines : List Line) → AreAligned closing_comment (aligned closing_comment lines) }
-{}
-
-/// In the lines of a layout the assignments of lines one behind the other begin in one column, and
-/// so do their closing comments: to put comments in columns moves no assignment, since a line
-/// comment goes on to the end of its line.
-pub fn layouts_have_columns()
-    ensures ends { (text : List ℕ) (pairs : List Pair) (last : List ℕ)
-        → IsCut text pairs last → CommentsEndLines pairs }
-    ensures assignments { (pairs : List Pair)
-        → CommentsEndLines pairs → AreAligned assignment (laid_out_lines (lines_of pairs)) }
-    ensures comments { (pairs : List Pair)
-        → AreAligned closing_comment (laid_out_lines (lines_of pairs)) }
+/// The gaps of a layout can stand between the tokens, and none is empty between two that join.
+pub fn layout_fits()
+    ensures { LayoutFits }
 {
-    cut_follows();
+    hcl_scan::laws::cut_follows();
+    hcl_scan::laws::gaps_of();
+    hcl_gaps::laws::lines_have_all_tokens();
+}
+
+/// A layout within the limit is cut into the same tokens, with the gaps of the layout.
+pub fn layout_is_cut()
+    ensures { LayoutIsCut }
+{
+    layout_fits();
+    hcl_scan::laws::cut_follows();
+    hcl_scan::laws::other_gaps();
+    hcl_scan::laws::writes_back();
+    hcl_gaps::laws::keeps_tokens();
+}
+
+/// The gaps are those of the layout exactly where the layout is the text.
+pub fn laid_out_is_text()
+    ensures { LaidOutIsText }
+{
+    layout_is_cut();
+    hcl_scan::laws::one_cut();
+}
+
+/// A text has one layout at most.
+pub fn one_layout()
+    ensures { OneLayout }
+{
+    hcl_scan::laws::one_cut();
+}
+
+/// The layout of a text that parses, if it is within the limit, parses to the same tree.
+pub fn layout_parses()
+    ensures { LayoutParses }
+{
+    layout_is_cut();
+    hcl_scan::laws::one_cut();
+    hcl_gaps::laws::keeps_tokens();
+    hcl_text_laws::laws::parsed_apart();
+}
+
+/// It has the same tokens.
+pub fn layout_keeps_tokens()
+    ensures { LayoutKeepsTokens }
+{
+    layout_is_cut();
+    hcl_scan::laws::one_cut();
+    hcl_gaps::laws::keeps_tokens();
+    hcl_text_laws::laws::parsed_apart();
+}
+
+/// It is its own layout.
+pub fn layout_is_laid_out()
+    ensures { LayoutIsLaidOut }
+{
+    layout_is_cut();
+    hcl_scan::laws::one_cut();
+    hcl_gaps::laws::own_layout();
+    hcl_text_laws::laws::parsed_apart();
+}
+
+/// To lay it out again changes nothing.
+pub fn layout_of_layout()
+    ensures { LayoutOfLayout }
+{
+    layout_is_laid_out();
+    one_layout();
 }

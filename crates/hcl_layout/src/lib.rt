@@ -1,20 +1,13 @@
-//! The layout of Terraform texts: gaps between tokens, and nothing else, by the Terraform style conventions.
+//! Formatting of texts that parse: their layout has the same tokens and the same tree, and is its
+//! own layout.
 //!
-//! `layout` answers the edits that lay out a text, `is_laid_out` whether there are none. Both read its tokens alone. `laws` says
-//! what holds of every layout.
+//! `layout` answers the edits that lay out a text with its tree, `is_laid_out` whether it is its
+//! own layout; `layout_of_parsed` and `is_parsed_laid_out` want no tree, only that there is one.
+//! `laws` says what holds of the layouts of texts.
 #![tactic(auto)]
 
-mod cells;
-mod edits;
-mod fault;
-mod gaps;
-mod indent;
-mod kinds;
 pub mod laws;
-mod lines;
-mod setting;
-mod space;
-mod whole;
+mod parsed;
 
-pub use fault::LayoutFault;
-pub use whole::{is_laid_out, layout};
+pub use hcl_gaps::LayoutFault;
+pub use parsed::{is_laid_out, is_parsed_laid_out, layout, layout_of_parsed};

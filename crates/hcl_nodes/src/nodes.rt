@@ -259,7 +259,8 @@ pub fn label(first: usize, past: usize, name: Option<usize>) -> Label
     Label { first, past, name }
 }
 
-/// The number of a token, in 32 bits; `AllocError` past them, where no list of tokens has room for so many.
+/// The number of a token, in 32 bits; `AllocError` past them, where no list of tokens has room for
+/// so many.
 fn narrow(number: usize) -> Result<u32, AllocError>
     ensures ok { IfOk result (λ n. n ≡ number) }
     ensures err { IfErr result (λ _. 2 ^ 32 ≤ number) }

@@ -19,7 +19,8 @@ pub fn prefix_of(kind: Kind) -> Option<Prefix>
     }
 }
 
-/// The operator between operands that a token is, with its level, if it is one. Level 0 binds closest.
+/// The operator between operands that a token is, with its level, if it is one. Level 0 binds
+/// closest.
 pub fn operator_of(kind: Kind) -> Option<(usize, Operator)>
     ensures { result ≡ operators.operator_of kind }
 {

@@ -8,8 +8,8 @@ use Rattle.std.specs.Str.Lossy.{utf8_valid_len}
 use Rattle.std.proofs.lemmas.Str.{utf8_valid_len-IsValidUpTo}
 use Rattle.hcl_token.specs.declared.kind.Kind.{Kind}
 use Rattle.hcl_token.specs.Tokens.{Pair, whole_text}
-use Rattle.hcl_scan.specs.declared.error.ScanFault.{ScanFault}
-use Rattle.hcl_scan.specs.declared.error.ScanFault.TheVariants.{NotUtf8}
+use Rattle.hcl_scan.specs.declared.fault.ScanFault.{ScanFault}
+use Rattle.hcl_scan.specs.declared.fault.ScanFault.TheVariants.{NotUtf8}
 use Rattle.hcl_scan.specs.Characters.{is_blank}
 use Rattle.hcl_scan.specs.Modes.{Mode, mode_of, is_literal}
 use Rattle.hcl_scan.specs.Modes.Mode.{Expression}

@@ -23,7 +23,8 @@ continues c = is_xid_continue c || c == 45
 abbrev pub is_sigil : ℕ → Bool
 is_sigil b = b == 36 || b == 37
 
--- A `$` begins `$${` if that stands there, else an opening if `${` stands there, else it is itself; the same for `%`.
+-- A `$` begins `$${` if that stands there, else an opening if `${` stands there, else it is itself;
+-- the same for `%`.
 abbrev pub sigil_length : ℕ → List ℕ → ℕ
 sigil_length sigil rest =
     if slice_index rest 0 == sigil && slice_index rest 1 == 123 then 3

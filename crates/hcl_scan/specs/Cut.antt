@@ -15,13 +15,15 @@ byte_order_mark = 239 ∷ 187 ∷ 191 ∷ []
 
 -- the byte order mark at the front of a text is a token; nothing where there is none
 abbrev pub front_of : List ℕ → List Pair
-front_of text = if begins byte_order_mark text then record { gap = []; kind = Mark; spelling = byte_order_mark } ∷ [] else []
+front_of text = if begins byte_order_mark text
+    then record { gap = []; kind = Mark; spelling = byte_order_mark } ∷ [] else []
 
 -- blanks; in literal text there are no gaps
 abbrev pub IsGap : Mode → List ℕ → Type 0
 IsGap mode gap = (list_all is_blank gap ≡ true) × (is_literal mode ≡ true → gap ≡ [])
 
--- The pairs are cut one by one, from these modes on: each token is the longest lexeme of its mode, with all that is behind it.
+-- The pairs are cut one by one, from these modes on: each token is the longest lexeme of its mode,
+-- with all that is behind it.
 -- Behind the pairs stands rest, in the modes that are left.
 abbrev pub CutsFrom : List Mode → List Pair → List ℕ → List Mode → Type 0
 CutsFrom modes [] rest left = modes ≡ left
@@ -31,7 +33,8 @@ CutsFrom modes (p ∷ ps) rest left =
     × CutsFrom (after p.kind p.spelling modes) ps rest left
 
 -- the pairs are cut from the front of a text, and rest is left, in these modes
-pub record Cuts (text : List ℕ) (pairs : List Pair) (rest : List ℕ) (left : List Mode) : Type 0 where
+pub record Cuts (text : List ℕ) (pairs : List Pair) (rest : List ℕ)
+    (left : List Mode) : Type 0 where
   pub text_is : text ≡ whole_text pairs rest
   pub body : List Pair
   pub front : pairs ≡ front_of text ++ body

@@ -1,11 +1,12 @@
--- The fault of a text that has no cut, and where it stands. HCL native syntax specification, Lexical Elements.
+-- The fault of a text that has no cut, and where it stands. HCL native syntax specification,
+-- Lexical Elements.
 use Rattle.std.specs.Prelude.{◌≡◌, ◌≢◌, ℕ, ◌+◌, ◌<◌, ◌≤◌, false, ◌&&◌, if◌then◌else◌, List, [], ◌∷◌, ◌++◌, length, drop, slice_index, IsUtf8, ◌==◌, ◌⊎◌}
 use Rattle.std.specs.Str.{IsValidUpTo}
 use Rattle.hcl_token.specs.declared.kind.Kind.{Kind}
 use Rattle.hcl_token.specs.declared.kind.Kind.TheVariants.{OpenBrace, CloseBrace, QuoteOpen, QuoteClose, HereOpen, HereClose, InterpOpen, DirectiveOpen, SeqClose}
 use Rattle.hcl_token.specs.Tokens.{Pair, whole_text}
-use Rattle.hcl_scan.specs.declared.error.ScanFault.{ScanFault}
-use Rattle.hcl_scan.specs.declared.error.ScanFault.TheVariants.{TooLong, NotUtf8, BadCharacter, BadEscape, OpenString, OpenTemplate, OpenHeredoc, OpenComment}
+use Rattle.hcl_scan.specs.declared.fault.ScanFault.{ScanFault}
+use Rattle.hcl_scan.specs.declared.fault.ScanFault.TheVariants.{TooLong, NotUtf8, BadCharacter, BadEscape, OpenString, OpenTemplate, OpenHeredoc, OpenComment}
 use Rattle.hcl_scan.specs.Characters.{is_blank}
 use Rattle.hcl_scan.specs.Modes.{Mode, mode_of, is_literal, is_braces, in_sequence, after}
 use Rattle.hcl_scan.specs.Modes.Mode.{Expression, Sequence, Braces, Quoted, Heredoc}
@@ -14,9 +15,11 @@ use Rattle.hcl_scan.specs.Cut.{IsGap, Cuts, MAX_TEXT}
 
 -- no gap and token can be cut from the front of this text
 abbrev pub IsEnd : Mode → List ℕ → Type 0
-IsEnd mode rest = (gap s more : List ℕ) (kind : Kind) → IsGap mode gap → IsLexeme mode kind s more → rest ≢ gap ++ (s ++ more)
+IsEnd mode rest = (gap s more : List ℕ) (kind : Kind) → IsGap mode gap → IsLexeme mode kind s more
+    → rest ≢ gap ++ (s ++ more)
 
--- the places of the openings that are not closed, innermost first, one for each mode: behind a token that begins at this place
+-- the places of the openings that are not closed, innermost first, one for each mode: behind a
+-- token that begins at this place
 abbrev pub places_after : Kind → ℕ → List Mode → List ℕ → List ℕ
 places_after QuoteOpen at modes places = at ∷ places
 places_after HereOpen at modes places = at ∷ places
@@ -26,7 +29,8 @@ places_after QuoteClose at modes places = drop 1 places
 places_after HereClose at modes places = drop 1 places
 places_after SeqClose at modes places = drop 1 places
 places_after OpenBrace at modes places = if in_sequence (mode_of modes) then at ∷ places else places
-places_after CloseBrace at modes places = if is_braces (mode_of modes) then drop 1 places else places
+places_after CloseBrace at modes places =
+    if is_braces (mode_of modes) then drop 1 places else places
 places_after _ at modes places = places
 
 -- behind these pairs, of which the first gap begins at this place
@@ -44,9 +48,11 @@ innermost (mode ∷ modes) (at ∷ places) = if is_braces mode then innermost mo
 
 -- outside of literal text
 abbrev pub token_fault : ℕ → List ℕ → ScanFault
-token_fault at rest = if slice_index rest 0 == 47 && slice_index rest 1 == 42 then OpenComment at else BadCharacter at
+token_fault at rest =
+    if slice_index rest 0 == 47 && slice_index rest 1 == 42 then OpenComment at else BadCharacter at
 
--- the fault where no token can be cut: in this mode, whose innermost template begins at `opened`, at this place, with this text from there on
+-- the fault where no token can be cut: in this mode, whose innermost template begins at `opened`,
+-- at this place, with this text from there on
 abbrev pub fault_at : Mode → ℕ → ℕ → List ℕ → ScanFault
 fault_at Expression opened at rest = token_fault at rest
 fault_at Sequence opened at [] = OpenTemplate opened
@@ -54,11 +60,13 @@ fault_at Sequence opened at (b ∷ rest) = token_fault at (b ∷ rest)
 fault_at Braces opened at [] = OpenTemplate opened
 fault_at Braces opened at (b ∷ rest) = token_fault at (b ∷ rest)
 -- behind a `\` no escape, a line end, or the end of the text
-fault_at Quoted opened at rest = if slice_index rest 0 == 92 then BadEscape at else OpenString opened
+fault_at Quoted opened at rest =
+    if slice_index rest 0 == 92 then BadEscape at else OpenString opened
 -- the end of the text
 fault_at (Heredoc name fresh) opened at rest = OpenHeredoc opened
 
--- the fault stands at the end of the longest front of the text that can be cut, openings left open allowed
+-- the fault stands at the end of the longest front of the text that can be cut, openings left open
+-- allowed
 pub record Stops (text : List ℕ) (fault : ScanFault) : Type 0 where
   pub pairs : List Pair
   pub gap : List ℕ
@@ -71,9 +79,12 @@ pub record Stops (text : List ℕ) (fault : ScanFault) : Type 0 where
   pub past : is_literal (mode_of left) ≡ false → is_blank (slice_index rest 0) ≡ false
   -- the text is not cut to its end
   pub unfinished : left ≡ [] → rest ≢ []
-  pub fault_is : fault ≡ fault_at (mode_of left) (innermost left (places_behind 0 [] [] pairs)) (length (whole_text pairs gap)) rest
+  pub fault_is : fault
+      ≡ fault_at (mode_of left) (innermost left (places_behind 0 [] [] pairs))
+      (length (whole_text pairs gap)) rest
 
--- the fault of a text: it has too many bytes; else it is not UTF-8 at the first byte of the first sequence that is ill-formed; else as above
+-- the fault of a text: it has too many bytes; else it is not UTF-8 at the first byte of the first
+-- sequence that is ill-formed; else as above
 abbrev pub IsFault : List ℕ → ScanFault → Type 0
 IsFault text fault =
     ((fault ≡ TooLong) × (MAX_TEXT < length text))

@@ -1,4 +1,5 @@
--- Lists of gaps and tokens that can be written one behind the other: the tokens are then those of the text that was written.
+-- Lists of gaps and tokens that can be written one behind the other: the tokens are then those of
+-- the text that was written.
 -- HCL native syntax specification, Lexical Elements and Templates.
 use Rattle.std.specs.Prelude.{◌≡◌, ◌≢◌, ℕ, Bool, true, false, ◌||◌, List, [], ◌∷◌, ◌++◌, map, IsUtf8, ◌⊎◌, ⊤}
 use Rattle.std.specs.List.{list_all}
@@ -26,16 +27,20 @@ abbrev pub IsOther : Kind → List Pair → Type 0
 IsOther kind [] = ⊤
 IsOther kind (p ∷ ps) = p.kind ≢ kind
 
--- what a token of the kind asks of those behind it, beside its spelling: a comment goes on to the end of its line, and no two literals stand side by side
+-- what a token of the kind asks of those behind it, beside its spelling: a comment goes on to the
+-- end of its line, and no two literals stand side by side
 abbrev pub Behind : Kind → List Pair → List ℕ → Type 0
 Behind LineComment ps last = EndsLine ps last
 Behind QuoteLit ps last = IsOther QuoteLit ps
 Behind HereLit ps last = IsOther HereLit ps
 Behind kind ps last = ⊤
 
--- From these modes on, each gap can stand in its mode, each token is a lexeme of its mode with its neighbour behind it, and the modes that are left are these.
--- So a `}` has the kind that its mode asks for; a comment that ends in CR has no LF alone behind it; text that ends in `$` or `%` has no opening behind it
--- that begins with the same byte; the text of a heredoc holds no closing line; and a closing line stands where a line begins, with its line end, or nothing, behind it.
+-- From these modes on, each gap can stand in its mode, each token is a lexeme of its mode with its
+-- neighbour behind it, and the modes that are left are these.
+-- So a `}` has the kind that its mode asks for; a comment that ends in CR has no LF alone behind
+-- it; text that ends in `$` or `%` has no opening behind it that begins with the same byte; the
+-- text of a heredoc holds no closing line; and a closing line stands where a line begins, with its
+-- line end, or nothing, behind it.
 abbrev pub FollowsFrom : List Mode → List Pair → List ℕ → List Mode → Type 0
 FollowsFrom modes [] last left = modes ≡ left
 FollowsFrom modes (p ∷ ps) last left =
@@ -55,7 +60,8 @@ pub record Follows (pairs : List Pair) (last : List ℕ) (left : List Mode) : Ty
   pub follows : FollowsFrom [] body last left
   pub blank : list_all is_blank last ≡ true
 
--- a token of the kind, so spelt, does not join with the one behind it, if no gap stands between them
+-- a token of the kind, so spelt, does not join with the one behind it, if no gap stands between
+-- them
 abbrev pub IsApart : Kind → List ℕ → List Pair → Type 0
 IsApart kind spelling [] = ⊤
 IsApart kind spelling (q ∷ qs) = q.gap ≡ [] → joins_with kind spelling q.kind q.spelling ≡ false
@@ -87,7 +93,8 @@ has_no_gap_behind LineComment = true
 has_no_gap_behind HereClose = true
 has_no_gap_behind kind = false
 
--- Each gap is of blanks, and empty where the kinds beside it ask for that; the first stands behind a token that does, or not.
+-- Each gap is of blanks, and empty where the kinds beside it ask for that; the first stands behind
+-- a token that does, or not.
 abbrev pub AreGaps : Bool → List Pair → List ℕ → Type 0
 AreGaps must_be_empty [] last = (list_all is_blank last ≡ true) × (must_be_empty ≡ true → last ≡ [])
 AreGaps must_be_empty (p ∷ ps) last =

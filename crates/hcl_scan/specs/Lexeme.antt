@@ -20,7 +20,8 @@ abbrev pub is_heredoc : Mode → Bool
 is_heredoc (Heredoc name fresh) = true
 is_heredoc _ = false
 
--- whether tokens of the kind can stand in the mode; the byte order mark stands in none, but at the front of a text
+-- whether tokens of the kind can stand in the mode; the byte order mark stands in none, but at the
+-- front of a text
 abbrev pub stands_in : Mode → Kind → Bool
 stands_in mode Mark = false
 stands_in mode QuoteClose = is_quoted mode
@@ -49,17 +50,20 @@ abbrev pub is_simple_escape : ℕ → Bool
 is_simple_escape e = e == 110 || e == 114 || e == 116 || e == 34 || e == 92
 
 abbrev pub has_four_hex : List ℕ → Bool
-has_four_hex t = is_ascii_hexdigit (slice_index t 0) && is_ascii_hexdigit (slice_index t 1) && is_ascii_hexdigit (slice_index t 2) && is_ascii_hexdigit (slice_index t 3)
+has_four_hex t = is_ascii_hexdigit (slice_index t 0) && is_ascii_hexdigit (slice_index t 1)
+    && is_ascii_hexdigit (slice_index t 2) && is_ascii_hexdigit (slice_index t 3)
 
--- the number of bytes of the escape behind a `\`, 0 where there is none: one of those letters, `u` with four
--- hexadecimal digits, or `U` with eight
+-- the number of bytes of the escape behind a `\`, 0 where there is none: one of those letters, `u`
+-- with four hexadecimal digits, or `U` with eight
 abbrev pub escape_length : List ℕ → ℕ
 escape_length t =
     if is_simple_escape (slice_index t 0) then 1
     else (if slice_index t 0 == 117 && has_four_hex (drop 1 t) then 5
-    else (if slice_index t 0 == 85 && (has_four_hex (drop 1 t) && has_four_hex (drop 5 t)) then 9 else 0))
+    else (if slice_index t 0 == 85 && (has_four_hex (drop 1 t) && has_four_hex (drop 5 t)) then 9
+    else 0))
 
--- a unit of quoted text: an escape, `$${`, `%%{`, or any character but `"`, `\` and a line end, at which no `${` or `%{` begins
+-- a unit of quoted text: an escape, `$${`, `%%{`, or any character but `"`, `\` and a line end, at
+-- which no `${` or `%{` begins
 abbrev pub quote_unit : UnitLength
 quote_unit fresh [] = 0
 quote_unit fresh (b ∷ rest) =
@@ -84,7 +88,8 @@ IsIdentifier s = IsUtf8 s × IsTrue (is_identifier (chars s))
 
 -- nothing, or `.` and digits
 abbrev pub IsFraction : List ℕ → Type 0
-IsFraction s = (s ≡ []) ⊎ ((digits : List ℕ) × (s ≡ codes "." ++ digits) × IsTrue (is_decimal digits))
+IsFraction s =
+    (s ≡ []) ⊎ ((digits : List ℕ) × (s ≡ codes "." ++ digits) × IsTrue (is_decimal digits))
 
 abbrev pub IsSign : List ℕ → Type 0
 IsSign s = (s ≡ []) ⊎ ((s ≡ codes "+") ⊎ (s ≡ codes "-"))
@@ -142,14 +147,18 @@ Spells mode LineComment s rest =
     ⊎ ((body : List ℕ) × (s ≡ codes "//" ++ body) × IsRun comment_unit false body rest)
 -- `/*` up to the first `*/`
 Spells mode InlineComment s rest =
-    (body : List ℕ) × (s ≡ codes "/*" ++ (body ++ codes "*/")) × IsRun inline_unit false body (codes "*/" ++ rest)
+    (body : List ℕ) × (s ≡ codes "/*" ++ (body ++ codes "*/"))
+    × IsRun inline_unit false body (codes "*/" ++ rest)
 Spells mode Identifier s rest = IsIdentifier s
 Spells mode Number s rest =
-    (whole : List ℕ) × (fraction : List ℕ) × (exponent : List ℕ) × (s ≡ whole ++ (fraction ++ exponent))
+    (whole : List ℕ) × (fraction : List ℕ) × (exponent : List ℕ)
+    × (s ≡ whole ++ (fraction ++ exponent))
     × IsTrue (is_decimal whole) × IsFraction fraction × IsExponent exponent
-Spells mode DotIndex s rest = (digits : List ℕ) × (s ≡ codes "." ++ digits) × IsTrue (is_decimal digits)
+Spells mode DotIndex s rest =
+    (digits : List ℕ) × (s ≡ codes "." ++ digits) × IsTrue (is_decimal digits)
 -- no operator directly before `*` or `/`
-Spells mode Slash s rest = (fixed Slash ≡ Some s) × ((slice_index rest 0 == 42 || slice_index rest 0 == 47) ≡ false)
+Spells mode Slash s rest =
+    (fixed Slash ≡ Some s) × ((slice_index rest 0 == 42 || slice_index rest 0 == 47) ≡ false)
 -- `<<` or `<<-`, the marker, and the end of the line
 Spells mode HereOpen s rest =
     (dash : List ℕ) × (name : List ℕ) × (end : List ℕ) × (s ≡ codes "<<" ++ (dash ++ (name ++ end)))
@@ -169,4 +178,5 @@ IsLexeme mode kind s rest = (stands_in mode kind ≡ true) × Spells mode kind s
 abbrev pub IsLongest : Mode → Kind → List ℕ → List ℕ → Type 0
 IsLongest mode kind s rest =
     IsLexeme mode kind s rest
-    × ((other : Kind) (s' rest' : List ℕ) → IsLexeme mode other s' rest' → s' ++ rest' ≡ s ++ rest → length s' ≤ length s)
+    × ((other : Kind) (s' rest' : List ℕ) → IsLexeme mode other s' rest' → s' ++ rest' ≡ s ++ rest
+    → length s' ≤ length s)

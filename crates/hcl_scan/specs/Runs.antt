@@ -1,4 +1,5 @@
--- Runs of units. A unit is told by its length: how many bytes of a text the unit at its front has, 0 where there is none.
+-- Runs of units. A unit is told by its length: how many bytes of a text the unit at its front has,
+-- 0 where there is none.
 -- It may ask whether a line begins there.
 use Rattle.std.specs.Prelude.{◌≡◌, ℕ, ◌<◌, ◌==◌, Bool, List, [], ◌∷◌, ◌++◌, length, if◌then◌else◌, ⊤}
 use Rattle.std.specs.List.{concat}

@@ -5,20 +5,20 @@ ghost use Rattle.hcl_token.specs.Items.{pairs_of, InOrder};
 ghost use Rattle.hcl_scan.specs.Inner.Markers.{HasMarker};
 ghost use Rattle.hcl_scan.specs.Characters.{begins};
 ghost use Rattle.hcl_scan.specs.Cut.{IsCut, MAX_TEXT, byte_order_mark};
-ghost use Rattle.hcl_scan.specs.declared.error.ScanFault.TheVariants.{Memory};
+ghost use Rattle.hcl_scan.specs.declared.fault.ScanFault.TheVariants.{Memory};
 ghost use Rattle.hcl_scan.specs.Fault.{Stops, IsFault, token_fault, fault_at};
 ghost use Rattle.hcl_scan.specs.Inner.Next.{token};
 ghost use Rattle.hcl_scan.specs.Inner.Openings.{mode_view};
 ghost use Rattle.hcl_scan.specs.Inner.MarkItem.{front_items, front_length};
 
 use crate::bytes::{byte, part};
-use crate::error::ScanFault;
+use crate::fault::ScanFault;
 use crate::mode::{Mode, Opening, mode_of, opened_at, shift};
 use crate::token::{gap_end, token};
 use hcl_token::{Item, Kind, MAX_TEXT};
 use std::alloc::{AllocError, Global};
 
-// The fault outside of literal text, at a place where no token can be cut.
+/// The fault outside of literal text, at a place where no token can be cut.
 fn token_fault(text: &[u8], at: usize) -> ScanFault
     requires { at ≤ length text.now }
     ensures { result ≡ token_fault at (drop at text.now) }
@@ -30,7 +30,7 @@ fn token_fault(text: &[u8], at: usize) -> ScanFault
     }
 }
 
-// The fault at a place where no token can be cut, in a template that begins at `opened`.
+/// The fault at a place where no token can be cut, in a template that begins at `opened`.
 fn fault_at(text: &[u8], mode: Mode<'_>, opened: usize, at: usize) -> ScanFault
     requires { at ≤ length text.now }
     ensures { result ≡ fault_at (mode_view mode.entry) opened at (drop at text.now) }
@@ -58,21 +58,22 @@ fn fault_at(text: &[u8], mode: Mode<'_>, opened: usize, at: usize) -> ScanFault
     }
 }
 
-// Whether the text is cut to its end.
+/// Whether the text is cut to its end.
 fn is_done(openings: &[Opening<'_>], start: usize, len: usize) -> bool
     ensures { IsTrue result ↔ ((start ≡ len) × (openings.now ≡ [])) }
 {
     start == len && openings.is_empty()
 }
 
-// Whether a byte order mark stands at the front.
+/// Whether a byte order mark stands at the front.
 fn begins_mark(text: &[u8]) -> bool
     ensures { result ≡ begins byte_order_mark text.now }
 {
     byte(text, 0) == 0xef && byte(text, 1) == 0xbb && byte(text, 2) == 0xbf
 }
 
-// The byte order mark at the front of a text, if one stands there, becomes the first item; the answer is its length.
+/// The byte order mark at the front of a text, if one stands there, becomes the first item; the
+/// answer is its length.
 fn push_mark(items: &mut Vec<Item>, text: &[u8]) -> Result<usize, AllocError>
     ensures items { OnOk result (items.new.items ≡ items.old.items ++ front_items text.now) }
     ensures length { IfOk result (λ at. at ≡ front_length text.now) }
@@ -89,7 +90,7 @@ fn push_mark(items: &mut Vec<Item>, text: &[u8]) -> Result<usize, AllocError>
     Ok(3)
 }
 
-// The token at a place; none at the end.
+/// The token at a place; none at the end.
 fn token_at(text: &str, at: usize, mode: Mode<'_>) -> Option<(Kind, usize)>
     requires within { at ≤ length text.now }
     requires utf8 { IsUtf8 (drop at text.now) }
@@ -104,10 +105,11 @@ fn token_at(text: &str, at: usize, mode: Mode<'_>) -> Option<(Kind, usize)>
     }
 }
 
-// The items of a text, in a list that has room, and where its last gap begins.
+/// The items of a text, in a list that has room, and where its last gap begins.
 fn cut(alloc: Global, room: Vec<Item>, text: &str) -> Result<(Vec<Item>, usize), ScanFault>
     requires { length text.now ≤ MAX_TEXT }
-    ensures cut { IfOk result (λ r. IsCut text.now (pairs_of text.now r.0.items) (drop r.1 text.now)) }
+    ensures cut { IfOk result
+        (λ r. IsCut text.now (pairs_of text.now r.0.items) (drop r.1 text.now)) }
     ensures order { IfOk result (λ r. InOrder 0 r.0.items r.1 × (r.1 ≤ length text.now)) }
     ensures fault { IfErr result (λ e. (e ≡ Memory) ⊎ Stops text.now e) }
 {
@@ -143,12 +145,15 @@ fn cut(alloc: Global, room: Vec<Item>, text: &str) -> Result<(Vec<Item>, usize),
     }
 }
 
-/// The items of a text, in a list that has room, and where its last gap begins; or its fault. A text that is too long or not UTF-8 takes no
-/// memory.
+/// The items of a text, in a list that has room, and where its last gap begins; or its fault. A
+/// text that is too long or not UTF-8 takes no memory.
 pub fn cut_of(alloc: Global, room: Vec<Item>, text: &[u8]) -> Result<(Vec<Item>, usize), ScanFault>
-    ensures cut { IfOk result (λ r. IsCut text.now (pairs_of text.now r.0.items) (drop r.1 text.now)) }
+    ensures cut { IfOk result
+        (λ r. IsCut text.now (pairs_of text.now r.0.items) (drop r.1 text.now)) }
     ensures order { IfOk result (λ r. InOrder 0 r.0.items r.1 × (r.1 ≤ length text.now)) }
-    ensures fault { IfErr result (λ e. ((e ≡ Memory) × (length text.now ≤ MAX_TEXT) × IsUtf8 text.now) ⊎ IsFault text.now e) }
+    ensures fault { IfErr result
+        (λ e. ((e ≡ Memory) × (length text.now ≤ MAX_TEXT) × IsUtf8 text.now)
+        ⊎ IsFault text.now e) }
 {
     if text.len() > MAX_TEXT {
         return Err(ScanFault::TooLong);

@@ -11,7 +11,7 @@ use crate::ident::{begins_word, identifier};
 use crate::runs::{Unit, is_sigil, run_end, sigil_len};
 use hcl_token::Kind;
 
-// Whether a line ends at the place.
+/// Whether a line ends at the place.
 fn ends_line(text: &[u8], at: usize) -> bool
     requires { at ≤ length text.now }
     ensures { result ≡ ends_line (drop at text.now) }
@@ -19,7 +19,7 @@ fn ends_line(text: &[u8], at: usize) -> bool
     at == text.len() || begins_line_end(text, at)
 }
 
-// Whether the marker stands at the place.
+/// Whether the marker stands at the place.
 fn begins(text: &[u8], at: usize, marker: &[u8]) -> bool
     requires { at ≤ length text.now }
     ensures value { result ≡ begins marker.now (drop at text.now) }
@@ -28,10 +28,11 @@ fn begins(text: &[u8], at: usize, marker: &[u8]) -> bool
     part(text, at, text.len()).starts_with(marker)
 }
 
-// How many bytes the closing line has that begins at the place.
+/// How many bytes the closing line has that begins at the place.
 fn closing_len(text: &[u8], at: usize, marker: &[u8]) -> Option<usize>
     requires { at ≤ length text.now }
-    ensures { result ≡ (if is_closing marker.now (drop at text.now) then Some (closing_length marker.now (drop at text.now)) else None) }
+    ensures { result ≡ (if is_closing marker.now (drop at text.now)
+        then Some (closing_length marker.now (drop at text.now)) else None) }
 {
     let name = blanks_end(text, at);
     if !begins(text, name, marker) {
@@ -45,10 +46,11 @@ fn closing_len(text: &[u8], at: usize, marker: &[u8]) -> Option<usize>
     }
 }
 
-// The same where a line of the heredoc begins; `fresh` says whether one does.
+/// The same where a line of the heredoc begins; `fresh` says whether one does.
 fn closing(text: &[u8], at: usize, marker: &[u8], fresh: bool) -> Option<usize>
     requires { at ≤ length text.now }
-    ensures { result ≡ (if fresh && is_closing marker.now (drop at text.now) then Some (closing_length marker.now (drop at text.now)) else None) }
+    ensures { result ≡ (if fresh && is_closing marker.now (drop at text.now)
+        then Some (closing_length marker.now (drop at text.now)) else None) }
 {
     if fresh {
         closing_len(text, at, marker)
@@ -57,7 +59,7 @@ fn closing(text: &[u8], at: usize, marker: &[u8], fresh: bool) -> Option<usize>
     }
 }
 
-// Text of a heredoc.
+/// Text of a heredoc.
 #[derive(Clone, Copy)]
 struct HereUnit<'t> {
     marker: &'t [u8],
@@ -101,7 +103,7 @@ pub fn opening(text: &[u8], at: usize) -> (Kind, usize)
     (kind, len)
 }
 
-// The opening or the literal text at a place where the heredoc is not closed.
+/// The opening or the literal text at a place where the heredoc is not closed.
 fn inner_token(text: &[u8], at: usize, marker: &[u8], fresh: bool) -> Option<(Kind, usize)>
     requires { at ≤ length text.now }
     ensures { result ≡ inner_token marker.now fresh (drop at text.now) }
@@ -117,7 +119,8 @@ fn inner_token(text: &[u8], at: usize, marker: &[u8], fresh: bool) -> Option<(Ki
     }
 }
 
-/// The token in the text of a heredoc with this marker; `fresh` says whether a line begins at the place.
+/// The token in the text of a heredoc with this marker; `fresh` says whether a line begins at the
+/// place.
 pub fn here_token(text: &[u8], at: usize, marker: &[u8], fresh: bool) -> Option<(Kind, usize)>
     requires { at ≤ length text.now }
     ensures { result ≡ here_token marker.now fresh (drop at text.now) }
@@ -128,7 +131,7 @@ pub fn here_token(text: &[u8], at: usize, marker: &[u8], fresh: bool) -> Option<
     }
 }
 
-// How many bytes the line end at the place has, 0 where none stands.
+/// How many bytes the line end at the place has, 0 where none stands.
 fn line_end_len(text: &[u8], at: usize) -> usize
     requires { at ≤ length text.now }
     ensures value { result ≡ line_end_length (drop at text.now) }
@@ -144,7 +147,7 @@ fn line_end_len(text: &[u8], at: usize) -> usize
     }
 }
 
-// How many bytes `<<` or `<<-` has.
+/// How many bytes `<<` or `<<-` has.
 fn intro_len(text: &[u8], at: usize) -> usize
     requires { at ≤ length text.now }
     ensures { result ≡ intro_length (drop at text.now) }
@@ -152,11 +155,12 @@ fn intro_len(text: &[u8], at: usize) -> usize
     if byte(text, at + 2) == b'-' { 3 } else { 2 }
 }
 
-// The opening whose marker stands so many bytes behind the place, if a line end stands behind it.
+/// The opening whose marker stands so many bytes behind the place, if a line end stands behind it.
 fn named(text: &str, at: usize, before: usize) -> Option<(Kind, usize)>
     requires within { at + before ≤ length text.now }
     requires utf8 { IsUtf8 (drop (at + before) text.now) }
-    ensures { result ≡ named before (drop (at + before) text.now) (identifier (drop (at + before) text.now)) }
+    ensures { result ≡ named before (drop (at + before) text.now)
+        (identifier (drop (at + before) text.now)) }
 {
     let bytes = text.as_bytes();
     let name = at + before;

@@ -9,11 +9,12 @@ ghost use Rattle.hcl_scan.specs.Inner.Front.{begins_word, continue_length, ident
 use hcl_token::Kind;
 use unicode_ident::{is_xid_continue, is_xid_start};
 
-// The character at a place.
+/// The character at a place.
 fn char_at(text: &str, at: usize) -> char
     requires within { at < length text.now }
     requires utf8 { IsUtf8 (drop at text.now) }
-    ensures chars { chars (drop at text.now) ≡ result ∷ chars (drop (at + len_utf8 result) text.now) }
+    ensures chars { chars (drop at text.now)
+        ≡ result ∷ chars (drop (at + len_utf8 result) text.now) }
     ensures rest { IsUtf8 (drop (at + len_utf8 result) text.now) }
     ensures within { at + len_utf8 result ≤ length text.now }
 {

@@ -1,10 +1,10 @@
-//! What holds of the cuts and the faults of texts, and of a text that is written token by token. Each law is the contract
-//! of a function that does nothing.
+//! What holds of the cuts and the faults of texts, and of a text that is written token by token.
+//! Each law is the contract of a function that does nothing.
 
 ghost use Rattle.std.specs.Prelude.{◌≡◌, ℕ, ◌≤◌, false, List, [], length};
 ghost use Rattle.hcl_token.specs.Tokens.{Pair, whole_text};
 ghost use Rattle.hcl_scan.specs.Cut.{MAX_TEXT, IsCut};
-ghost use Rattle.hcl_scan.specs.declared.error.ScanFault.{ScanFault};
+ghost use Rattle.hcl_scan.specs.declared.fault.ScanFault.{ScanFault};
 ghost use Rattle.hcl_scan.specs.Fault.{IsFault};
 ghost use Rattle.hcl_scan.specs.Follows.{Follows, AreApart, AreGaps, tokens_of};
 
@@ -16,33 +16,39 @@ pub fn one_cut()
 
 /// A text with a fault has no cut.
 pub fn no_cut_with_fault()
-    ensures { (text : List ℕ) (fault : ScanFault) (pairs : List Pair) (last : List ℕ) → IsFault text fault → IsCut text pairs last → ⊥ }
+    ensures { (text : List ℕ) (fault : ScanFault) (pairs : List Pair) (last : List ℕ)
+        → IsFault text fault → IsCut text pairs last → ⊥ }
 {}
 
 /// A text has at most one fault.
 pub fn one_fault()
-    ensures { (text : List ℕ) (fault other : ScanFault) → IsFault text fault → IsFault text other → fault ≡ other }
+    ensures { (text : List ℕ) (fault other : ScanFault) → IsFault text fault → IsFault text other
+        → fault ≡ other }
 {}
 
-/// Gaps and tokens that follow the modes, leave no opening open, are within the limit and have no empty gap between two
-/// tokens that join, are the cut of the text that they make.
+/// Gaps and tokens that follow the modes, leave no opening open, are within the limit and have no
+/// empty gap between two tokens that join, are the cut of the text that they make.
 pub fn writes_back()
-    ensures { (pairs : List Pair) (last : List ℕ) → Follows pairs last [] → AreApart pairs → length (whole_text pairs last) ≤ MAX_TEXT
+    ensures { (pairs : List Pair) (last : List ℕ) → Follows pairs last [] → AreApart pairs
+        → length (whole_text pairs last) ≤ MAX_TEXT
         → IsCut (whole_text pairs last) pairs last }
 {}
 
 /// The cut of a text follows the modes.
 pub fn cut_follows()
-    ensures { (text : List ℕ) (pairs : List Pair) (last : List ℕ) → IsCut text pairs last → Follows pairs last [] }
+    ensures { (text : List ℕ) (pairs : List Pair) (last : List ℕ) → IsCut text pairs last
+        → Follows pairs last [] }
 {}
 
 /// Where gaps and tokens follow the modes, each gap can stand between its tokens.
 pub fn gaps_of()
-    ensures { (pairs : List Pair) (last : List ℕ) → Follows pairs last [] → AreGaps false pairs last }
+    ensures { (pairs : List Pair) (last : List ℕ) → Follows pairs last []
+        → AreGaps false pairs last }
 {}
 
 /// The same tokens with other gaps follow the modes, where each gap can stand between its tokens.
 pub fn other_gaps()
-    ensures { (pairs others : List Pair) (last other : List ℕ) → Follows pairs last [] → tokens_of others ≡ tokens_of pairs
+    ensures { (pairs others : List Pair) (last other : List ℕ) → Follows pairs last []
+        → tokens_of others ≡ tokens_of pairs
         → AreGaps false others other → AreApart others → Follows others other [] }
 {}

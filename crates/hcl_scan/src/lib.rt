@@ -1,12 +1,13 @@
 //! Cuts a text of the HCL native syntax into tokens.
 //!
-//! `scan` answers the cut of a text or its fault, and `Scanned` lends the tokens. That a text has one cut or one fault,
-//! and what can be said of a text that is written token by token, is what `laws` says.
+//! `scan` answers the cut of a text or its fault, and `Scanned` lends the tokens. That a text has
+//! one cut or one fault, and what can be said of a text that is written token by token, is what
+//! `laws` says.
 #![tactic(auto)]
 
 mod bytes;
 mod cut;
-mod error;
+mod fault;
 mod here;
 mod ident;
 pub mod laws;
@@ -17,6 +18,6 @@ mod runs;
 mod scanned;
 mod token;
 
-pub use error::ScanFault;
+pub use fault::ScanFault;
 pub use hcl_token::{Item, Kind, MAX_TEXT, Place};
 pub use scanned::{Scanned, scan, scan_in};

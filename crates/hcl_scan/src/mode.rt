@@ -27,7 +27,8 @@ pub enum Mode<'t> {
     Heredoc { marker: &'t [u8], fresh: bool },
 }
 
-/// An opening that is not closed: where its token begins, in bytes from 0, and how the text behind it is read.
+/// An opening that is not closed: where its token begins, in bytes from 0, and how the text behind
+/// it is read.
 #[derive(Clone, Copy)]
 pub struct Opening<'t> {
     pub at: usize,
@@ -44,7 +45,7 @@ pub fn mode_of<'t>(openings: &[Opening<'t>]) -> Mode<'t>
     }
 }
 
-// Directly in a template sequence, or in braces of it.
+/// Directly in a template sequence, or in braces of it.
 fn in_sequence(mode: Mode<'_>) -> bool
     ensures { result ≡ in_sequence (mode_view mode.entry) }
 {
@@ -54,7 +55,7 @@ fn in_sequence(mode: Mode<'_>) -> bool
     }
 }
 
-// Behind a `{` in a template sequence.
+/// Behind a `{` in a template sequence.
 fn is_braces(mode: Mode<'_>) -> bool
     ensures { result ≡ is_braces (mode_view mode.entry) }
 {
@@ -64,7 +65,7 @@ fn is_braces(mode: Mode<'_>) -> bool
     }
 }
 
-// Whether a line of the heredoc begins here.
+/// Whether a line of the heredoc begins here.
 fn begins_line(mode: Mode<'_>) -> bool
     ensures { result ≡ begins_line (mode_view mode.entry) }
 {
@@ -74,7 +75,7 @@ fn begins_line(mode: Mode<'_>) -> bool
     }
 }
 
-// The heredoc, at a place where a line of it begins or not.
+/// The heredoc, at a place where a line of it begins or not.
 fn with_line<'t>(mode: Mode<'t>, fresh: bool) -> Mode<'t>
     ensures { mode_view result ≡ with_line fresh (mode_view mode.entry) }
 {
@@ -84,7 +85,7 @@ fn with_line<'t>(mode: Mode<'t>, fresh: bool) -> Mode<'t>
     }
 }
 
-// Whether a line begins behind a text, where one begins before it or not.
+/// Whether a line begins behind a text, where one begins before it or not.
 fn line_behind(fresh: bool, text: &[u8]) -> bool
     ensures { result ≡ line_behind fresh text.now }
 {
@@ -95,7 +96,7 @@ fn line_behind(fresh: bool, text: &[u8]) -> bool
     }
 }
 
-// The marker that the opening of a heredoc names.
+/// The marker that the opening of a heredoc names.
 fn marker_of(spelling: &[u8]) -> &[u8]
     ensures { result.now ≡ marker_of spelling.now }
 {
@@ -107,14 +108,14 @@ fn marker_of(spelling: &[u8]) -> &[u8]
     }
 }
 
-// Neither LF nor CR.
+/// Neither LF nor CR.
 fn is_in_line(b: u8) -> bool
     ensures { result ≡ is_in_line b }
 {
     !((b == b'\n') | (b == b'\r'))
 }
 
-// The first LF or CR from a place on.
+/// The first LF or CR from a place on.
 fn marker_end(text: &[u8], from: usize) -> usize
     requires { from ≤ length text.now }
     ensures value { result ≡ from + prefix_len is_in_line (drop from text.now) }
@@ -127,17 +128,19 @@ fn marker_end(text: &[u8], from: usize) -> usize
     at
 }
 
-// One opening more.
+/// One opening more.
 #[tactic(auto, using(crate::proofs::OpeningLemmas::opening_lemmas))]
 fn push<'t>(openings: &mut Vec<Opening<'t>>, at: usize, mode: Mode<'t>) -> Result<(), AllocError>
-    ensures modes { OnOk result (modes_of openings.new.items ≡ mode_view mode.entry ∷ modes_of openings.old.items) }
-    ensures places { OnOk result (places_of openings.new.items ≡ at ∷ places_of openings.old.items) }
+    ensures modes { OnOk result
+        (modes_of openings.new.items ≡ mode_view mode.entry ∷ modes_of openings.old.items) }
+    ensures places { OnOk result
+        (places_of openings.new.items ≡ at ∷ places_of openings.old.items) }
 {
     openings.push(Opening { at, mode })?;
     Ok(())
 }
 
-// The innermost opening is closed.
+/// The innermost opening is closed.
 #[tactic(auto, using(crate::proofs::OpeningLemmas::opening_lemmas))]
 fn pop<'t>(openings: &mut Vec<Opening<'t>>)
     ensures modes { modes_of openings.new.items ≡ drop 1 (modes_of openings.old.items) }
@@ -146,10 +149,11 @@ fn pop<'t>(openings: &mut Vec<Opening<'t>>)
     let _ = openings.pop();
 }
 
-// The innermost opening, if it is a heredoc, goes on where a line of it begins or not.
+/// The innermost opening, if it is a heredoc, goes on where a line of it begins or not.
 #[tactic(auto, using(crate::proofs::OpeningLemmas::opening_lemmas))]
 fn read_on<'t>(openings: &mut Vec<Opening<'t>>, fresh: bool) -> Result<(), AllocError>
-    ensures modes { OnOk result (modes_of openings.new.items ≡ with_line_in fresh (modes_of openings.old.items)) }
+    ensures modes { OnOk result
+        (modes_of openings.new.items ≡ with_line_in fresh (modes_of openings.old.items)) }
     ensures places { OnOk result (places_of openings.new.items ≡ places_of openings.old.items) }
 {
     match openings.pop() {
@@ -158,10 +162,12 @@ fn read_on<'t>(openings: &mut Vec<Opening<'t>>, fresh: bool) -> Result<(), Alloc
     }
 }
 
-// Whether a token of the kind can do anything to the openings.
+/// Whether a token of the kind can do anything to the openings.
 fn opens_or_closes(kind: Kind) -> bool
-    ensures modes { (spelling : List ℕ) (modes : List spec.Mode) → result ≡ false → after kind spelling modes ≡ modes }
-    ensures places { (at : ℕ) (modes : List spec.Mode) (places : List ℕ) → result ≡ false → places_after kind at modes places ≡ places }
+    ensures modes { (spelling : List ℕ) (modes : List spec.Mode) → result ≡ false
+        → after kind spelling modes ≡ modes }
+    ensures places { (at : ℕ) (modes : List spec.Mode) (places : List ℕ) → result ≡ false
+        → places_after kind at modes places ≡ places }
 {
     matches!(
         kind,
@@ -185,8 +191,11 @@ pub fn shift<'t>(
     spelling: &'t [u8],
     at: usize,
 ) -> Result<(), AllocError>
-    ensures modes { OnOk result (modes_of openings.new.items ≡ after kind spelling.now (modes_of openings.old.items)) }
-    ensures places { OnOk result (places_of openings.new.items ≡ places_after kind at (modes_of openings.old.items) (places_of openings.old.items)) }
+    ensures modes { OnOk result
+        (modes_of openings.new.items ≡ after kind spelling.now (modes_of openings.old.items)) }
+    ensures places { OnOk result
+        (places_of openings.new.items
+        ≡ places_after kind at (modes_of openings.old.items) (places_of openings.old.items)) }
 {
     if !opens_or_closes(kind) {
         return Ok(());

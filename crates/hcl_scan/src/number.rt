@@ -5,7 +5,7 @@ ghost use Rattle.hcl_scan.specs.Inner.Next.{is_sign, is_exponent_letter, fractio
 
 use crate::bytes::{byte, digits_end};
 
-// How many bytes the `.` and the digits at a place have, 0 where none stand.
+/// How many bytes the `.` and the digits at a place have, 0 where none stand.
 fn fraction_len(text: &[u8], at: usize) -> usize
     requires { at ≤ length text.now }
     ensures value { result ≡ fraction_length (drop at text.now) }
@@ -30,7 +30,7 @@ fn is_exponent_letter(b: u8) -> bool
     (b == b'e') | (b == b'E')
 }
 
-// How many bytes the exponent at a place has, 0 where none stands.
+/// How many bytes the exponent at a place has, 0 where none stands.
 fn exponent_len(text: &[u8], at: usize) -> usize
     requires { at ≤ length text.now }
     ensures value { result ≡ exponent_length (drop at text.now) }

@@ -5,7 +5,8 @@ ghost use Rattle.hcl_scan.specs.Inner.Next.{single, compound, operator};
 
 use hcl_token::Kind;
 
-/// The longest operator that begins with these bytes, and its length. Past the end of a text stands a 0.
+/// The longest operator that begins with these bytes, and its length. Past the end of a text stands
+/// a 0.
 ///
 /// HCL native syntax specification, Operators and Delimiters.
 pub fn operator(first: u8, second: u8, third: u8) -> Option<(Kind, usize)>
@@ -19,7 +20,7 @@ pub fn operator(first: u8, second: u8, third: u8) -> Option<(Kind, usize)>
     }
 }
 
-// An operator of one byte, of which no other begins with that byte.
+/// An operator of one byte, of which no other begins with that byte.
 fn single(first: u8) -> Option<(Kind, usize)>
     ensures { result ≡ single first }
 {
@@ -39,7 +40,7 @@ fn single(first: u8) -> Option<(Kind, usize)>
     }
 }
 
-// One of the operators of which several begin with the same byte.
+/// One of the operators of which several begin with the same byte.
 fn compound(first: u8, second: u8, third: u8) -> Option<(Kind, usize)>
     ensures { result ≡ compound first second third }
 {
@@ -67,7 +68,7 @@ fn compound(first: u8, second: u8, third: u8) -> Option<(Kind, usize)>
     }
 }
 
-// The operator of two bytes, or else that of the first byte alone.
+/// The operator of two bytes, or else that of the first byte alone.
 fn either(two: bool, long: Kind, short: Kind) -> Option<(Kind, usize)>
     ensures { result ≡ (if two then Some (long, 2) else Some (short, 1)) }
 {

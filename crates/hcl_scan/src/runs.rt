@@ -13,7 +13,8 @@ use crate::bytes::{begins_line_end, byte};
 pub trait Unit {
     ghost len: { Self → UnitLength };
 
-    // How many bytes the unit at the place has, 0 where there is none; `fresh` says whether a line begins there.
+    /// How many bytes the unit at the place has, 0 where there is none; `fresh` says whether a line
+    /// begins there.
     fn len_at(&self, text: &[u8], at: usize, fresh: bool) -> usize
         requires { at < length text.now }
         ensures value { result ≡ len self.now fresh (drop at text.now) }
@@ -87,13 +88,14 @@ fn has_four_hex(text: &[u8], at: usize) -> bool
 
 fn has_eight_hex(text: &[u8], at: usize) -> bool
     requires { at ≤ length text.now }
-    ensures value { result ≡ (has_four_hex (drop at text.now) && has_four_hex (drop (at + 4) text.now)) }
+    ensures value { result
+        ≡ (has_four_hex (drop at text.now) && has_four_hex (drop (at + 4) text.now)) }
     ensures within { result ≡ true → at + 8 ≤ length text.now }
 {
     has_four_hex(text, at) && has_four_hex(text, at + 4)
 }
 
-// How many bytes the escape behind a `\` has, 0 where there is none.
+/// How many bytes the escape behind a `\` has, 0 where there is none.
 fn escape_len(text: &[u8], at: usize) -> usize
     requires { at ≤ length text.now }
     ensures value { result ≡ escape_length (drop at text.now) }
@@ -111,7 +113,8 @@ fn escape_len(text: &[u8], at: usize) -> usize
     }
 }
 
-/// How many bytes the unit has that begins with a `$` or a `%` before the place, 0 where an opening begins there.
+/// How many bytes the unit has that begins with a `$` or a `%` before the place, 0 where an opening
+/// begins there.
 pub fn sigil_len(text: &[u8], at: usize, sigil: u8) -> usize
     requires within { at ≤ length text.now }
     requires sigil { 0 < sigil }

@@ -5,10 +5,10 @@ ghost use Rattle.hcl_token.specs.CutText.{CutText, AreUtf8, kind_of, spelling_of
 ghost use Rattle.hcl_token.specs.Place.{place_of};
 ghost use Rattle.hcl_scan.specs.Cut.{IsCut, MAX_TEXT};
 ghost use Rattle.hcl_scan.specs.Fault.{IsFault};
-ghost use Rattle.hcl_scan.specs.declared.error.ScanFault.TheVariants.{Memory};
+ghost use Rattle.hcl_scan.specs.declared.fault.ScanFault.TheVariants.{Memory};
 
 use crate::cut::cut_of;
-use crate::error::ScanFault;
+use crate::fault::ScanFault;
 use hcl_token::{Item, Kind, Place, Tokens};
 use std::alloc::Global;
 use std::marker::Model;
@@ -31,22 +31,28 @@ impl<'t> Model for Scanned<'t> {
 
 /// The cut of a text, or its fault.
 ///
-/// A text has at most 16,777,216 bytes and is UTF-8; one that is not is refused before any memory is taken.
+/// A text has at most 16,777,216 bytes and is UTF-8; one that is not is refused before any memory
+/// is taken.
 ///
 /// HCL native syntax specification, Lexical Elements and Templates.
 pub fn scan<'t>(alloc: Global, text: &'t [u8]) -> Result<Scanned<'t>, ScanFault>
     ensures text { IfOk result (λ s. s.text ≡ text.now) }
     ensures cut { IfOk result (λ s. IsCut text.now s.pairs s.last) }
-    ensures fault { IfErr result (λ e. ((e ≡ Memory) × (length text.now ≤ MAX_TEXT) × IsUtf8 text.now) ⊎ IsFault text.now e) }
+    ensures fault { IfErr result
+        (λ e. ((e ≡ Memory) × (length text.now ≤ MAX_TEXT) × IsUtf8 text.now)
+        ⊎ IsFault text.now e) }
 {
     scan_in(alloc, Vec::new(alloc), text)
 }
 
-/// The same, with the tokens in a list that has room, as `Scanned::into_room` gives it back. What stands in the list is given up.
+/// The same, with the tokens in a list that has room, as `Scanned::into_room` gives it back. What
+/// stands in the list is given up.
 pub fn scan_in<'t>(alloc: Global, room: Vec<Item>, text: &'t [u8]) -> Result<Scanned<'t>, ScanFault>
     ensures text { IfOk result (λ s. s.text ≡ text.now) }
     ensures cut { IfOk result (λ s. IsCut text.now s.pairs s.last) }
-    ensures fault { IfErr result (λ e. ((e ≡ Memory) × (length text.now ≤ MAX_TEXT) × IsUtf8 text.now) ⊎ IsFault text.now e) }
+    ensures fault { IfErr result
+        (λ e. ((e ≡ Memory) × (length text.now ≤ MAX_TEXT) × IsUtf8 text.now)
+        ⊎ IsFault text.now e) }
 {
     let (items, last_at) = cut_of(alloc, room, text)?;
     let tokens = Tokens::new(alloc, text, items, last_at)?;
@@ -126,8 +132,8 @@ impl<'t> Scanned<'t> {
         self.tokens.last_gap()
     }
 
-    /// Whether token `i` joins with token `j`, if that stands right behind it with an empty gap: the two, and what
-    /// follows, could then be cut otherwise.
+    /// Whether token `i` joins with token `j`, if that stands right behind it with an empty gap:
+    /// the two, and what follows, could then be cut otherwise.
     pub fn joins(&self, i: usize, j: usize) -> bool
         requires first { i < length self.now.pairs }
         requires second { j < length self.now.pairs }

@@ -14,7 +14,7 @@ use crate::operator::operator;
 use crate::runs::{CommentUnit, InlineUnit, QuoteUnit, run_end};
 use hcl_token::Kind;
 
-// The comment whose `/*` stands before the place.
+/// The comment whose `/*` stands before the place.
 fn inline_comment(text: &[u8], body: usize) -> Option<(Kind, usize)>
     requires { body ≤ length text.now }
     ensures { result ≡ inline_comment (drop body text.now) }
@@ -27,7 +27,8 @@ fn inline_comment(text: &[u8], body: usize) -> Option<(Kind, usize)>
     }
 }
 
-// The token that begins with neither a letter nor a digit. A `}` closes a template sequence where `closes` says so.
+/// The token that begins with neither a letter nor a digit. A `}` closes a template sequence where
+/// `closes` says so.
 fn punctuation(text: &[u8], at: usize, closes: bool) -> Option<(Kind, usize)>
     requires { at < length text.now }
     ensures { result ≡ punctuation closes (drop at text.now) }
@@ -74,7 +75,7 @@ fn punctuation(text: &[u8], at: usize, closes: bool) -> Option<(Kind, usize)>
     }
 }
 
-// The token outside of literal text. A `}` closes a template sequence where `closes` says so.
+/// The token outside of literal text. A `}` closes a template sequence where `closes` says so.
 fn expression_token(text: &str, at: usize, closes: bool) -> Option<(Kind, usize)>
     requires within { at < length text.now }
     requires utf8 { IsUtf8 (drop at text.now) }
@@ -93,7 +94,7 @@ fn expression_token(text: &str, at: usize, closes: bool) -> Option<(Kind, usize)
     }
 }
 
-// Where `<<` opens no heredoc, its first byte is an operator.
+/// Where `<<` opens no heredoc, its first byte is an operator.
 fn here_or_less(found: Option<(Kind, usize)>) -> Option<(Kind, usize)>
     ensures { result ≡ here_or_less found }
 {
@@ -103,7 +104,7 @@ fn here_or_less(found: Option<(Kind, usize)>) -> Option<(Kind, usize)>
     }
 }
 
-// The token in quoted text.
+/// The token in quoted text.
 fn quoted_token(text: &[u8], at: usize) -> Option<(Kind, usize)>
     requires { at < length text.now }
     ensures { result ≡ quoted_token (drop at text.now) }
@@ -138,7 +139,7 @@ pub fn gap_end(text: &[u8], at: usize, mode: Mode<'_>) -> usize
     }
 }
 
-// A `}` here closes a template sequence.
+/// A `}` here closes a template sequence.
 fn closes_sequence(mode: Mode<'_>) -> bool
     ensures { result ≡ closes_sequence (mode_view mode.entry) }
 {

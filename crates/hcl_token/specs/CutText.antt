@@ -45,4 +45,6 @@ item_of pairs i = option_map (λ (p : Pair). item_behind (take i pairs) p) (slic
 -- token i, with token j right behind it, joins
 abbrev pub joins_of : List Pair → ℕ → ℕ → Option Bool
 joins_of pairs i j =
-    option_and_then (λ (p : Pair). option_map (λ (q : Pair). joins_with p.kind p.spelling q.kind q.spelling) (slice_get pairs j)) (slice_get pairs i)
+    option_and_then (λ (p : Pair). option_map
+    (λ (q : Pair). joins_with p.kind p.spelling q.kind q.spelling) (slice_get pairs j))
+    (slice_get pairs i)

@@ -1,4 +1,5 @@
--- Which tokens join: with an empty gap between them, the two and what follows could be cut otherwise (as `1`, `e`, `+`, `5`).
+-- Which tokens join: with an empty gap between them, the two and what follows could be cut
+-- otherwise (as `1`, `e`, `+`, `5`).
 -- HCL native syntax specification, Lexical Elements.
 use Rattle.std.specs.Prelude.{ℕ, nat_le, ◌==◌, Bool, true, false, not, ◌&&◌, ◌||◌, List, [], ◌∷◌}
 use Rattle.std.specs.List.{list_all}
@@ -25,7 +26,8 @@ after_identifier Number = true
 after_identifier Minus = true
 after_identifier _ = false
 
--- behind a Number: Number; an Identifier that begins with `e` or `E`; behind digits alone a DotIndex
+-- behind a Number: Number; an Identifier that begins with `e` or `E`; behind digits alone a
+-- DotIndex
 abbrev pub after_number : List ℕ → Kind → List ℕ → Bool
 after_number number Number next = true
 after_number number Identifier next = begins_with 101 next || begins_with 69 next

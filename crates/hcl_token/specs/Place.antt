@@ -37,13 +37,15 @@ last_line (b ∷ text) = if list_any is_lf (b ∷ text) then last_line text else
 -- the pieces, or parts of them, that stand behind the last LF in all of them
 abbrev pub last_line_pieces : List (List ℕ) → List (List ℕ)
 last_line_pieces [] = []
-last_line_pieces (piece ∷ pieces) = if list_any is_lf (concat pieces) then last_line_pieces pieces else last_line piece ∷ pieces
+last_line_pieces (piece ∷ pieces) =
+    if list_any is_lf (concat pieces) then last_line_pieces pieces else last_line piece ∷ pieces
 
 -- one more than the LFs before token i
 abbrev pub line_of : List Pair → ℕ → ℕ
 line_of pairs i = 1 + count_by is_lf (concat (pieces_before pairs i))
 
--- one more than the clusters of the pieces between the last LF before token i and the token, each piece counted by itself
+-- one more than the clusters of the pieces between the last LF before token i and the token, each
+-- piece counted by itself
 abbrev pub column_of : List Pair → ℕ → ℕ
 column_of pairs i = 1 + sum_by clusters (last_line_pieces (pieces_before pairs i))
 

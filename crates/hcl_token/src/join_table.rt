@@ -49,8 +49,8 @@ fn after_opening(opening: &[u8], kind: Kind, next: &[u8]) -> bool
     }
 }
 
-/// Whether a token joins with one right behind it: with an empty gap between them, the two and what follows could be cut
-/// into other tokens.
+/// Whether a token joins with one right behind it: with an empty gap between them, the two and what
+/// follows could be cut into other tokens.
 ///
 /// HCL native syntax specification, Lexical Elements.
 pub fn joins(first: Kind, first_spelling: &[u8], second: Kind, second_spelling: &[u8]) -> bool

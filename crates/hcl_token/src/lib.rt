@@ -1,4 +1,5 @@
-//! Tokens of the HCL native syntax: their kinds, where they stand in a text, and what gap stands before each.
+//! Tokens of the HCL native syntax: their kinds, where they stand in a text, and what gap stands
+//! before each.
 #![tactic(auto)]
 
 mod graphemes;

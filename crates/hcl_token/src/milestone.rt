@@ -13,11 +13,11 @@ use crate::place::Place;
 use memchr::memrchr;
 use std::alloc::{AllocError, Global};
 
-// How many tokens apart the places are that are kept.
+/// How many tokens apart the places are that are kept.
 const SPACING: usize = 64;
 
 /// The place of the gap before a token; a text is so short that 32 bits hold its lines and columns.
-#[derive(Clone, Copy, Debug)]
+#[derive(Clone, Copy)]
 pub(crate) struct Milestone {
     pub line: u32,
     pub column: u32,
@@ -63,7 +63,7 @@ fn has_mark(items: &[Item]) -> bool
     items.iter().any(|item| is_mark(item.kind))
 }
 
-// Counted in 32 bits, of which the processor adds several at once.
+/// Counted in 32 bits, of which the processor adds several at once.
 fn line_ends(piece: &[u8]) -> usize
     requires { length piece.now < 2 ^ 32 }
     ensures value { result ≡ count_by is_lf piece.now }
@@ -85,7 +85,7 @@ fn last_line(piece: &[u8]) -> &[u8]
     }
 }
 
-// The place behind a piece of text.
+/// The place behind a piece of text.
 fn after_piece(at: Place, piece: &[u8]) -> Place
     requires utf8 { IsUtf8 piece.now }
     requires line { at.line + length piece.now < 2 ^ 32 }
@@ -106,7 +106,7 @@ fn after_piece(at: Place, piece: &[u8]) -> Place
     }
 }
 
-// The place behind a gap and its token.
+/// The place behind a gap and its token.
 fn after_item(text: &[u8], item: Item, at: Place) -> Place
     requires { IsStretch text.now (item ∷ []) item.gap_at item.stop at }
     ensures value { result ≡ after_pair at (pair_at text.now item) }
@@ -120,7 +120,7 @@ fn after_item(text: &[u8], item: Item, at: Place) -> Place
     }
 }
 
-// The place behind items, one after the other.
+/// The place behind items, one after the other.
 fn after_each(text: &[u8], items: &[Item], at: Place) -> Place
     requires { (from to : ℕ) × IsStretch text.now items.now from to at }
     ensures { result ≡ after_pairs at (pairs_of text.now items.now) }
@@ -132,7 +132,7 @@ fn after_each(text: &[u8], items: &[Item], at: Place) -> Place
     place
 }
 
-// The place behind a piece of text in which each byte ends a line or is a column.
+/// The place behind a piece of text in which each byte ends a line or is a column.
 fn after_plain(at: Place, piece: &[u8]) -> Place
     requires plain { is_plain piece.now ≡ true }
     requires line { at.line + length piece.now < 2 ^ 32 }
@@ -151,8 +151,8 @@ fn after_plain(at: Place, piece: &[u8]) -> Place
     }
 }
 
-// The place behind items that take the bytes between two offsets. Where all of these are ASCII without CR, they are one
-// piece.
+/// The place behind items that take the bytes between two offsets. Where all of these are ASCII
+/// without CR, they are one piece.
 fn after_items(text: &[u8], items: &[Item], from: u32, to: u32, at: Place) -> Place
     requires { IsStretch text.now items.now from to at }
     ensures value { result ≡ after_pairs at (pairs_of text.now items.now) }
@@ -166,7 +166,7 @@ fn after_items(text: &[u8], items: &[Item], from: u32, to: u32, at: Place) -> Pl
     }
 }
 
-// Where the gap of an item begins, or the gap behind the last item.
+/// Where the gap of an item begins, or the gap behind the last item.
 fn offset(items: &[Item], last_at: u32, i: usize) -> u32
     ensures { result ≡ offset items.now last_at i }
 {
@@ -184,7 +184,8 @@ pub(crate) fn milestones(
     last_at: u32,
 ) -> Result<Vec<Milestone>, AllocError>
     requires { IsOrdered text.now items.now last_at }
-    ensures { IfOk result (λ milestones. AreMilestones (pairs_of text.now items.now) milestones.items) }
+    ensures { IfOk result
+        (λ milestones. AreMilestones (pairs_of text.now items.now) milestones.items) }
 {
     let mut milestones = Vec::with_capacity(alloc, items.len() / SPACING + 1)?;
     let mut at = Place { line: 1, column: 1 };

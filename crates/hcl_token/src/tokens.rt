@@ -40,8 +40,8 @@ impl<'t> Model for Tokens<'t> {
 }
 
 impl<'t> Tokens<'t> {
-    /// The tokens of a text, which stand one behind the other from its front, and the offset in bytes of the gap behind
-    /// the last of them. The text is read once.
+    /// The tokens of a text, which stand one behind the other from its front, and the offset in
+    /// bytes of the gap behind the last of them. The text is read once.
     pub fn new(
         alloc: Global,
         text: &'t [u8],
@@ -143,7 +143,8 @@ impl<'t> Tokens<'t> {
         &self.text[self.last_at as usize..]
     }
 
-    /// Whether token `i` joins with token `j`, if that stands right behind it with an empty gap (`joins`).
+    /// Whether token `i` joins with token `j`, if that stands right behind it with an empty gap
+    /// (`joins`).
     pub fn joins(&self, i: usize, j: usize) -> bool
         requires first { i < length self.now.pairs }
         requires second { j < length self.now.pairs }
@@ -165,7 +166,8 @@ impl<'t> Tokens<'t> {
         clusters(self.spelling(i))
     }
 
-    /// The line and the column of token `i`, from 1: found from a milestone at most 63 tokens before it.
+    /// The line and the column of token `i`, from 1: found from a milestone at most 63 tokens
+    /// before it.
     pub fn place_of(&self, i: usize) -> Place
         requires { i < length self.now.pairs }
         ensures { result ≡ place_of self.now.pairs i }

@@ -4,15 +4,15 @@ use Rattle.hcl_expr.specs.Rules.{Here}
 use Rattle.hcl_token.specs.CutText.{CutText}
 use Rattle.hcl_token.specs.Tokens.{Pair}
 use Rattle.hcl_scan.specs.Follows.{tokens_of}
-use Rattle.hcl_grammar.specs.declared.error.TokenFault.{TokenFault}
-use Rattle.hcl_grammar.specs.declared.error.TokenFault.TheVariants as token
+use Rattle.hcl_grammar.specs.declared.fault.TokenFault.{TokenFault}
+use Rattle.hcl_grammar.specs.declared.fault.TokenFault.TheVariants as token
 use Rattle.hcl_grammar.specs.declared.tree.Tree.{Tree}
 use Rattle.hcl_grammar.specs.Bodies.{IsFile}
 use Rattle.hcl_grammar.specs.Faults as pure
 use Rattle.hcl_grammar.specs.Tokens.{Token}
 use Rattle.hcl_grammar_laws.specs.Pure.Answering.{IsAnswer}
 use Rattle.hcl_grammar.specs.declared.bounds.TheConstants.{MAX_NESTING}
-use Rattle.hcl_parses.specs.Parses.{Parses}
+use Rattle.hcl_text_laws.specs.Parses.{Parses}
 use Rattle.hcl_tree.specs.Faults.{IsMemory, IsMemoryOrDeep, in_bytes}
 
 -- the text's own tokens are those of its cut

@@ -5,8 +5,8 @@ use Rattle.hcl_grammar.specs.Pure.BodyParser.{deeper_members, ended, file, membe
 use Rattle.hcl_grammar.specs.Pure.Parser.{line}
 use Rattle.hcl_grammar.specs.Pure.Reading.{Gives, Outcome, past}
 use Rattle.hcl_grammar.specs.Tokens.{Token, first_of, next}
-use Rattle.hcl_grammar.specs.declared.error.TokenFault.{TokenFault}
-use Rattle.hcl_grammar.specs.declared.error.TokenFault.TheVariants.{Memory}
+use Rattle.hcl_grammar.specs.declared.fault.TokenFault.{TokenFault}
+use Rattle.hcl_grammar.specs.declared.fault.TokenFault.TheVariants.{Memory}
 use Rattle.hcl_grammar.specs.declared.tree.Member.{Member}
 use Rattle.hcl_grammar.specs.declared.tree.Tree.{Tree}
 use Rattle.hcl_tree.specs.Rules.{Passes}

@@ -3,10 +3,10 @@ use Rattle.std.specs.Prelude.{ℕ, length, unwrap_or}
 use Rattle.std.specs.Option.{option_map}
 use Rattle.hcl_token.specs.CutText.{CutText, item_of}
 use Rattle.hcl_token.specs.declared.item.Item.{Item}
-use Rattle.hcl_grammar.specs.declared.error.TokenFault.{TokenFault}
-use Rattle.hcl_grammar.specs.declared.error.TokenFault.TheVariants as token
-use Rattle.hcl_tree.specs.declared.error.ParseFault.{ParseFault}
-use Rattle.hcl_tree.specs.declared.error.ParseFault.TheVariants as fault
+use Rattle.hcl_grammar.specs.declared.fault.TokenFault.{TokenFault}
+use Rattle.hcl_grammar.specs.declared.fault.TokenFault.TheVariants as token
+use Rattle.hcl_tree.specs.declared.fault.ParseFault.{ParseFault}
+use Rattle.hcl_tree.specs.declared.fault.ParseFault.TheVariants as fault
 
 abbrev pub IsMemory : ParseFault → Type 0
 IsMemory fault.Memory = Unit {0}
@@ -21,7 +21,8 @@ IsMemoryOrDeep (fault.Syntax at) = ⊥
 
 -- the byte where a token begins; the length of the text, if there is none
 abbrev pub start_of : CutText → ℕ → ℕ
-start_of t number = unwrap_or (option_map (λ (i : Item). i.start) (item_of t.pairs number)) (length t.text)
+start_of t number =
+    unwrap_or (option_map (λ (i : Item). i.start) (item_of t.pairs number)) (length t.text)
 
 -- a fault by the number of its token, as one by its byte
 abbrev pub in_bytes : CutText → TokenFault → ParseFault

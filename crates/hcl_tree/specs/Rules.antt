@@ -1,69 +1,71 @@
 -- For proofs: the rules of the pure parser of bodies, over a text as it is read at one place.
 use Rattle.std.specs.Prelude.{◌≡◌, ◌≢◌, ℕ, suc, false, List, [], length, Option, Result, Ok, Err}
 use Rattle.hcl_expr.specs.Rules.{Here}
-use Rattle.hcl_grammar.specs.declared.error.TokenFault.{TokenFault}
-use Rattle.hcl_grammar.specs.declared.error.TokenFault.TheVariants.{Memory}
+use Rattle.hcl_grammar.specs.declared.fault.TokenFault.{TokenFault}
+use Rattle.hcl_grammar.specs.declared.fault.TokenFault.TheVariants.{Memory}
 use Rattle.hcl_grammar.specs.declared.tree.Content.{Content}
 use Rattle.hcl_grammar.specs.declared.tree.Label.{Label}
 use Rattle.hcl_grammar.specs.declared.tree.Member.{Member}
 use Rattle.hcl_grammar.specs.declared.tree.Tree.{Tree}
 use Rattle.hcl_grammar.specs.Pure.BodyParser as b
-use Rattle.hcl_grammar.specs.Pure.Reading.{Outcome, Parser}
+use Rattle.hcl_grammar.specs.Pure.Reading.{Outcome, Step}
 use Rattle.hcl_grammar.specs.Tokens as tokens
 
 module _ (t : Here) where
   -- nothing comes next
-  abbrev pub ended : Parser (Unit {0})
+  abbrev pub ended : Step (Unit {0})
   ended i = b.ended t.tokens (tokens.next t.tokens false i) i
 
-  abbrev pub eol : Parser (Unit {0})
+  abbrev pub eol : Step (Unit {0})
   eol = b.eol t.tokens
 
-  abbrev pub quoted_label : ℕ → Parser Label
+  abbrev pub quoted_label : ℕ → Step Label
   quoted_label first = b.quoted_label t.tokens first
 
-  abbrev pub label : Parser (Option Label)
+  abbrev pub label : Step (Option Label)
   label = b.label_of t.tokens
 
-  abbrev pub labels_from : ℕ → List Label → Parser (List Label)
+  abbrev pub labels_from : ℕ → List Label → Step (List Label)
   labels_from turns found = b.labels_from t.tokens turns found
 
-  abbrev pub labels : Parser (List Label)
+  abbrev pub labels : Step (List Label)
   labels = labels_from (length t.tokens) []
 
-  abbrev pub attribute : ℕ → Parser Member
+  abbrev pub attribute : ℕ → Step Member
   attribute first = b.attribute_by t.tokens t.depth (b.deeper_members t.tokens t.depth) first
 
-  abbrev pub block : ℕ → Parser Member
+  abbrev pub block : ℕ → Step Member
   block first = b.block_by t.tokens t.depth (b.deeper_members t.tokens t.depth) first
 
-  abbrev pub named : ℕ → Parser Member
+  abbrev pub named : ℕ → Step Member
   named first = b.named_member t.tokens t.depth (b.deeper_members t.tokens t.depth) first
 
-  abbrev pub member : Parser (Option Member)
+  abbrev pub member : Step (Option Member)
   member = b.member_of t.tokens t.depth (b.deeper_members t.tokens t.depth)
 
-  abbrev pub members_from : ℕ → List Member → Parser (List Member)
-  members_from turns found = b.members_from t.tokens t.depth (b.deeper_members t.tokens t.depth) turns found
+  abbrev pub members_from : ℕ → List Member → Step (List Member)
+  members_from turns found =
+      b.members_from t.tokens t.depth (b.deeper_members t.tokens t.depth) turns found
 
-  abbrev pub members : Parser (List Member)
+  abbrev pub members : Step (List Member)
   members = b.members t.tokens t.depth
 
-  abbrev pub file : Parser Tree
+  abbrev pub file : Step Tree
   file = b.file t.tokens t.depth
 
 -- what stands in the braces of a block, which were opened
 module _ (t : Here) where
-  abbrev pub on_line : Parser Content
+  abbrev pub on_line : Step Content
   on_line = b.on_line t.tokens t.depth
 
-  abbrev pub nested_body : Parser Content
+  abbrev pub nested_body : Step Content
   nested_body = b.nested_body t.tokens (suc t.depth) (b.members t.tokens t.depth)
 
-  abbrev pub block_content : Parser Content
+  abbrev pub block_content : Step Content
   block_content = b.block_content t.tokens (suc t.depth) (b.members t.tokens t.depth)
 
--- what a function that reads and keeps nothing ensures: the parser's place behind what it reads, or its fault, unless memory fails
+-- what a function that reads and keeps nothing ensures: the parser's place behind what it reads, or
+-- its fault, unless memory fails
 abbrev pub Passes : {A : Type 0} → Outcome A → Result (Unit {0}) TokenFault → ℕ → Type 0
 Passes {A} outcome (Ok u) new = (a : A) × (outcome ≡ Ok (a, new))
 Passes outcome (Err e) new = e ≢ Memory → outcome ≡ Err e

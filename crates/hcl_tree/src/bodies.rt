@@ -9,7 +9,7 @@ ghost use Rattle.hcl_tree.specs.Rules as spec;
 
 use crate::labels::labels;
 use hcl_expr::Reader;
-use hcl_grammar::error::TokenFault;
+use hcl_grammar::fault::TokenFault;
 use hcl_grammar::goal::Goal;
 use hcl_grammar::tree::{Content, Member};
 use hcl_nodes::nodes;
@@ -27,7 +27,8 @@ pub fn ended(reader: &Reader<'_, '_>, at: &mut usize) -> Result<(), TokenFault>
     }
 }
 
-/// Takes the end of a line: a line end with the comment before it, or the end of the text behind a comment or none.
+/// Takes the end of a line: a line end with the comment before it, or the end of the text behind a
+/// comment or none.
 #[tactic(auto, unfolding(hcl_grammar::specs::Pure::BodyParser::eol))]
 fn eol(reader: &Reader<'_, '_>, at: &mut usize) -> Result<(), TokenFault>
     ensures { Gives (spec.eol reader.now at.old) result at.new }
@@ -78,7 +79,8 @@ fn nested_body(reader: &Reader<'_, '_>, at: &mut usize) -> Result<Content, Token
     Ok(nodes::lines(reader.alloc(), nodes::body(first, to, members))?)
 }
 
-/// What stands behind the `{` of a block that was opened: a line end and a body, or what stands on the line.
+/// What stands behind the `{` of a block that was opened: a line end and a body, or what stands on
+/// the line.
 #[cycle(nest)]
 #[tactic(auto, unfolding(hcl_grammar::specs::Pure::BodyParser::block_content))]
 fn block_content(reader: &Reader<'_, '_>, at: &mut usize) -> Result<Content, TokenFault>
@@ -154,7 +156,8 @@ pub fn members(reader: &Reader<'_, '_>, at: &mut usize) -> Result<Items<Member>,
 
 /// The member of a text's body that comes next, if one does.
 ///
-/// Line ends before it are not taken. A text's members, one behind the other, are what `parse` makes its tree of.
+/// Line ends before it are not taken. A text's members, one behind the other, are what `parse`
+/// makes its tree of.
 pub fn member(reader: &Reader<'_, '_>, at: &mut usize) -> Result<Option<Member>, TokenFault>
     ensures derived { IsMember reader.now.tokens reader.now.depth at.old result at.new }
     ensures reads { Reads (spec.member reader.now at.old) result at.new }

@@ -6,7 +6,7 @@ ghost use Rattle.hcl_grammar.specs.Pure.Reading.{Gives, Reads};
 ghost use Rattle.hcl_tree.specs.Rules as spec;
 
 use hcl_expr::Reader;
-use hcl_grammar::error::TokenFault;
+use hcl_grammar::fault::TokenFault;
 use hcl_grammar::tree::Label;
 use hcl_nodes::nodes;
 use hcl_token::Kind;

@@ -1,16 +1,16 @@
 //! The parser of the HCL native syntax: the tree of a text, if it parses.
 //!
-//! `parse` answers the one tree of a text that is cut into tokens, `check` whether there is one. Which texts parse, and which tree is theirs, is what
-//! `hcl_grammar` and `hcl_parses` say.
+//! `parse` answers the one tree of a text that is cut into tokens, `check` whether there is one.
+//! Which texts parse, and which tree is theirs, is what `hcl_grammar` and `hcl_text_laws` say.
 #![tactic(auto)]
 
 mod bodies;
-mod error;
+mod fault;
 mod labels;
 mod parsing;
 
 pub use bodies::{ended, member};
-pub use error::ParseFault;
+pub use fault::ParseFault;
 pub use hcl_expr::Reader;
 pub use hcl_grammar::tree::{Attribute, Block, Body, Expr, Template, Term, Tree};
 pub use hcl_grammar::{MAX_NESTING, tree};

@@ -6,17 +6,17 @@ ghost use Rattle.std.specs.Prelude.{◌≡◌, ℕ, IfOk, IfErr, MatchResult, On
 ghost use Rattle.hcl_grammar.specs.Bodies.{IsFile};
 ghost use Rattle.hcl_grammar.specs.Pure.Reading.{Reads};
 ghost use Rattle.hcl_grammar.specs.declared.tree.Tree as tree;
-ghost use Rattle.hcl_parses.specs.Parses.{Parses};
+ghost use Rattle.hcl_text_laws.specs.Parses.{Parses};
 ghost use Rattle.hcl_scan.specs.Follows.{tokens_of};
 ghost use Rattle.hcl_tree.specs.Rules as spec;
 ghost use Rattle.hcl_tree.specs.Rules.{Passes};
 ghost use Rattle.hcl_tree.specs.Faults.{IsMemory, IsMemoryOrDeep, start_of, in_bytes};
 
 use crate::bodies::{ended, member, members};
-use crate::error::ParseFault;
+use crate::fault::ParseFault;
 use hcl_expr::Reader;
 use hcl_grammar::MAX_NESTING;
-use hcl_grammar::error::TokenFault;
+use hcl_grammar::fault::TokenFault;
 use hcl_grammar::tree::Tree;
 use hcl_nodes::nodes;
 use hcl_scan::Scanned;
@@ -65,17 +65,21 @@ pub fn in_bytes(scanned: &Scanned<'_>, fault: TokenFault) -> ParseFault
     }
 }
 
-/// The tree of a text, if it parses: if its tokens follow the grammar, with at most 100 constructs in one another.
+/// The tree of a text, if it parses: if its tokens follow the grammar, with at most 100 constructs
+/// in one another.
 ///
-/// Each node has the numbers of its first token and past its last. The text is read once, from left to right.
+/// Each node has the numbers of its first token and past its last. The text is read once, from left
+/// to right.
 pub fn parse(alloc: Global, scanned: &Scanned<'_>) -> Result<Tree, ParseFault>
     // The text parses, and this is its tree.
     ensures parses { IfOk result (λ t. Parses scanned.now.text t) }
     ensures derived { IfOk result (λ t. IsFile (tokens_of scanned.now.pairs) MAX_NESTING t) }
     // A text that parses is not refused, unless memory runs out.
-    ensures only { (t : tree.Tree) → Parses scanned.now.text t → MatchResult result (λ x. x ≡ t) IsMemory }
+    ensures only { (t : tree.Tree) → Parses scanned.now.text t
+        → MatchResult result (λ x. x ≡ t) IsMemory }
     // Where the tokens follow the grammar with more constructs in one another, the fault is that.
-    ensures deeper { (d : ℕ) (t : tree.Tree) → IsFile (tokens_of scanned.now.pairs) d t → MatchResult result (λ x. x ≡ t) IsMemoryOrDeep }
+    ensures deeper { (d : ℕ) (t : tree.Tree) → IsFile (tokens_of scanned.now.pairs) d t
+        → MatchResult result (λ x. x ≡ t) IsMemoryOrDeep }
 {
     hcl_grammar_laws::laws::file_answers();
     hcl_scan::laws::one_cut();
@@ -113,15 +117,17 @@ fn pass_file(reader: &Reader<'_, '_>, at: &mut usize) -> Result<(), TokenFault>
     ended(reader, at)
 }
 
-/// Whether a text parses, as `parse` says it, with no tree of it kept: each attribute or block of its body is given up before
-/// the next is read.
+/// Whether a text parses, as `parse` says it, with no tree of it kept: each attribute or block of
+/// its body is given up before the next is read.
 pub fn check(alloc: Global, scanned: &Scanned<'_>) -> Result<(), ParseFault>
     // A tree stands over the text.
-    ensures parses { OnOk result ((t : tree.Tree) × IsFile (tokens_of scanned.now.pairs) MAX_NESTING t) }
+    ensures parses { OnOk result
+        ((t : tree.Tree) × IsFile (tokens_of scanned.now.pairs) MAX_NESTING t) }
     // A text that parses is not refused, unless memory runs out.
     ensures only { (t : tree.Tree) → Parses scanned.now.text t → IfErr result IsMemory }
     // Where the tokens follow the grammar with more constructs in one another, the fault is that.
-    ensures deeper { (d : ℕ) (t : tree.Tree) → IsFile (tokens_of scanned.now.pairs) d t → IfErr result IsMemoryOrDeep }
+    ensures deeper { (d : ℕ) (t : tree.Tree) → IsFile (tokens_of scanned.now.pairs) d t
+        → IfErr result IsMemoryOrDeep }
 {
     hcl_grammar_laws::laws::file_answers();
     hcl_scan::laws::one_cut();

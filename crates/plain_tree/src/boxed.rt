@@ -37,7 +37,8 @@ impl<T, A: Allocator> Boxed<T, A> {
 }
 
 impl<T: Drop, A: Allocator> Boxed<T, A> {
-    /// Puts a value into memory of its own; `AllocError` where there is none, and then the value is dropped.
+    /// Puts a value into memory of its own; `AllocError` where there is none, and then the value is
+    /// dropped.
     pub fn new(alloc: A, value: T) -> Result<Boxed<T, A>, AllocError>
         ensures { IfOk result (λ b. b ≡ value) }
     {

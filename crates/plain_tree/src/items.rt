@@ -55,7 +55,8 @@ impl<T, A: Allocator> Items<T, A> {
 }
 
 impl<T: Drop, A: Allocator> Items<T, A> {
-    /// Puts an element at the end; `AllocError` where there is no room for one more, and then the element is dropped.
+    /// Puts an element at the end; `AllocError` where there is no room for one more, and then the
+    /// element is dropped.
     pub fn push(&mut self, item: T) -> Result<(), AllocError>
         ensures ok { OnOk result (self.new ≡ self.old ++ item ∷ []) }
         ensures err { OnErr result (self.new ≡ self.old) }

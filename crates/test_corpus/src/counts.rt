@@ -26,7 +26,8 @@ fn short(rule: Rule) -> &'static str {
     name.strip_prefix("terraform_").unwrap_or(name)
 }
 
-/// Writes the rules of the issues behind the line, in their order, each with the number of its issues.
+/// Writes the rules of the issues behind the line, in their order, each with the number of its
+/// issues.
 pub fn tell(issues: &[Issue], line: &mut String, report: &mut Report) {
     for rule in Rule::ALL {
         let count = issues.iter().filter(|issue| issue.rule == rule).count();

@@ -1,8 +1,9 @@
-//! Texts of Terraform: what the rules find in each, and what comes of fixing it, laying it out and taking that back.
+//! Texts of Terraform: what the rules find in each, and what comes of fixing it, laying it out and
+//! taking that back.
 //!
-//! The file `expected` has a line for each text: the name of its file, how many issues of each rule it has, and how many are left once
-//! nothing can be fixed any more. What is printed are the texts of which something else comes, what occurs in none of them, and
-//! their number.
+//! The file `expected` has a line for each text: the name of its file, how many issues of each rule
+//! it has, and how many are left once nothing can be fixed any more. What is printed are the texts
+//! of which something else comes, what occurs in none of them, and their number.
 #![tactic(auto)]
 
 mod counts;

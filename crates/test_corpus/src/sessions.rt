@@ -1,7 +1,6 @@
 //! One command with what always holds of it, and what holds of all that a session did.
 
-use edit_record::{Change, Edits, Record, Refused};
-use edit_squash::{Unmet, squash};
+use edit_record::{Change, Edits, Record, Refused, Unmet, squash};
 use std::alloc::Global;
 use test_trials::{Report, State};
 use tf_session::{Command, Done, Fault, Session};
@@ -43,7 +42,8 @@ pub fn goes_back(session: &Session, first: &[u8], report: &mut Report) {
     report.hold(more == Err(Fault::NoRecord), "there is a record too many");
 }
 
-/// Whether the edits of all records, squashed from the first on, go between this text and that of the session.
+/// Whether the edits of all records, squashed from the first on, go between this text and that of
+/// the session.
 pub fn is_one_list(session: &Session, first: &[u8], report: &mut Report) {
     let goes = match Edits::make(first.len(), Vec::new(report.alloc)) {
         Ok(none) => match squashed(report.alloc, none, session.journal().records()) {

@@ -54,7 +54,8 @@ fn is_right(fault: Fault, number: usize, count: usize) -> bool {
     }
 }
 
-/// Whether all records but that of this number are there, each with what it removed and added, those before it in their places.
+/// Whether all records but that of this number are there, each with what it removed and added,
+/// those before it in their places.
 fn is_taken(session: &Session, copy: &Session, number: usize, done: Done, report: &mut Report) {
     let differs = copy.text() != session.text();
     report.hold(done.changed == differs, "the answer tells another change");

@@ -1,12 +1,11 @@
-//! Readers that fail behind each byte, and one that never ends: no call goes on, and nothing is written. No call takes more than one byte
-//! over the limit of a text.
+//! Readers that fail behind each byte, and one that never ends: no call goes on, and nothing is
+//! written. No call takes more than one byte over the limit of a text.
 
 use crate::outer::stream;
 use crate::streams::{Behind, Drops, Room};
 use test_trials::{Report, State};
-use tf_journal::load;
 use tf_session::{
-    Command, RuleSet, RunFault, Told, check_stream, lint_stream, step_stream, take_text,
+    Command, RuleSet, RunFault, Told, check_stream, lint_stream, load, step_stream, take_text,
 };
 
 /// One more than a text may have.

@@ -6,7 +6,8 @@ use std::str::from_utf8;
 use test_trials::Report;
 use tf_session::{Fault, ParseFault, ScanFault};
 
-/// Why no command reads a text; none if it parses. What is told of the text is held against the text.
+/// Why no command reads a text; none if it parses. What is told of the text is held against the
+/// text.
 pub fn refusal(text: &[u8], report: &mut Report) -> Option<Fault> {
     match scan(report.alloc, text) {
         Ok(scanned) => {
@@ -79,7 +80,8 @@ fn is_at(fault: ScanFault, text: &[u8]) -> bool {
     }
 }
 
-/// Whether the text is UTF-8 up to this place, and no more with the next byte and those that go on with it.
+/// Whether the text is UTF-8 up to this place, and no more with the next byte and those that go on
+/// with it.
 fn is_first_ill_formed(text: &[u8], at: usize) -> bool {
     let Some((front, rest)) = text.split_at_checked(at) else {
         return false;

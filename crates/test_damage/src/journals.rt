@@ -5,8 +5,7 @@ use crate::outer::{can_stay, outside};
 use crate::sessions::take_back;
 use crate::streams::{Behind, Drops};
 use test_trials::{Report, State};
-use tf_journal::{RecordFault, load};
-use tf_session::{Command, RunFault, Session, Told};
+use tf_session::{Command, RecordFault, RunFault, Session, Told, load};
 
 /// Tries the journal in all its damaged forms.
 pub fn hold(state: &State, report: &mut Report) {
@@ -117,7 +116,8 @@ fn take_out(state: &State, number: usize, goes: bool, first: &[u8], report: &mut
     }
 }
 
-/// A stream does what a session does, and writes what lies in it then, or tells the same fault and writes nothing.
+/// A stream does what a session does, and writes what lies in it then, or tells the same fault and
+/// writes nothing.
 fn same_outside(state: &State, command: Command, report: &mut Report) {
     let mut session = state.session(report);
     let answer = session.step(report.alloc, command);

@@ -40,7 +40,8 @@ fn serve(session: &mut Session, command: Command, refusal: Option<Fault>, report
     }
 }
 
-/// Whether a command is refused so: as the text is, and a fix also where what it makes does not parse.
+/// Whether a command is refused so: as the text is, and a fix also where what it makes does not
+/// parse.
 fn is_refused(command: Command, refusal: Option<Fault>, fault: Fault) -> bool {
     match refusal {
         Some(refusal) => fault == refusal,

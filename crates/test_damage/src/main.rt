@@ -1,8 +1,9 @@
-//! Texts and journals that are cut off or have a wrong byte, readers and writers that fail: what each call answers, and that nothing else
-//! changes.
+//! Texts and journals that are cut off or have a wrong byte, readers and writers that fail: what
+//! each call answers, and that nothing else changes.
 //!
-//! The arguments name texts; each stands in the file `NAME.tf`. What is printed are the texts at which something is not as it is to be,
-//! each with the first such thing, and how many texts and damaged ones were tried.
+//! The arguments name texts; each stands in the file `NAME.tf`. What is printed are the texts at
+//! which something is not as it is to be, each with the first such thing, and how many texts and
+//! damaged ones were tried.
 #![tactic(auto)]
 
 mod damaged;

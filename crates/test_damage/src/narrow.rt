@@ -1,4 +1,5 @@
-//! Writers that fail at each byte: what is told to have gone out is what went out, and nothing behind it.
+//! Writers that fail at each byte: what is told to have gone out is what went out, and nothing
+//! behind it.
 
 use crate::outer::{Came, outside, stream};
 use crate::streams::{Behind, Drops, Full, Room};
@@ -31,7 +32,8 @@ impl Narrow {
         }
     }
 
-    /// Whether an answer and what the writer holds are right, where these bytes are to be written to it as this part.
+    /// Whether an answer and what the writer holds are right, where these bytes are to be written
+    /// to it as this part.
     fn is_told(self, part: Part, right: &[u8], fault: Option<RunFault>, held: &[u8]) -> bool {
         match self.sent(right.len()) {
             Some(sent) => {
@@ -42,7 +44,8 @@ impl Narrow {
     }
 }
 
-/// Tries the lines of the text, what a command writes over the state, and the state's bytes by themselves.
+/// Tries the lines of the text, what a command writes over the state, and the state's bytes by
+/// themselves.
 pub fn hold(text: &[u8], state: &State, report: &mut Report) {
     for way in [Full::Fails, Full::TakesNothing, Full::FailsToFlush] {
         lines(text, way, report);

@@ -3,8 +3,9 @@
 use crate::streams::{Behind, Drops, Room};
 use std::alloc::Global;
 use test_trials::{Report, State};
-use tf_journal::{fix_stream, fmt_stream, revert_stream};
-use tf_session::{Command, Done, Fault, RuleSet, RunFault, Told};
+use tf_session::{
+    Command, Done, Fault, RuleSet, RunFault, Told, fix_stream, fmt_stream, revert_stream,
+};
 
 /// What a stream answered and wrote.
 #[derive(Drop)]
@@ -21,8 +22,8 @@ impl Came {
     }
 }
 
-/// What the stream of a command over these readers answers, and what it writes to these writers. That of a fix takes all rules, and
-/// a take, which has none, reverts.
+/// What the stream of a command over these readers answers, and what it writes to these writers.
+/// That of a fix takes all rules, and a take, which has none, reverts.
 pub fn stream(
     command: Command,
     text: &mut Drops<'_>,

@@ -21,7 +21,8 @@ pub fn worked(text: &[u8], report: &mut Report) -> State {
     State::of(&session, report)
 }
 
-/// Takes commands back as long as there are some, and answers whether all could be; one whose record does not stand changes nothing.
+/// Takes commands back as long as there are some, and answers whether all could be; one whose
+/// record does not stand changes nothing.
 pub fn take_back(session: &mut Session, report: &mut Report) -> bool {
     for _ in 0..session.journal().records().len() {
         let before = State::of(session, report);
@@ -40,7 +41,8 @@ pub fn take_back(session: &mut Session, report: &mut Report) -> bool {
     true
 }
 
-/// Whether the journal is a front of what it was, and the answer tells whether the text is another one.
+/// Whether the journal is a front of what it was, and the answer tells whether the text is another
+/// one.
 fn is_shorter(session: &Session, before: &State, changed: bool, report: &mut Report) {
     let after = State::of(session, report);
     let is_front = before.journal.starts_with(&after.journal);

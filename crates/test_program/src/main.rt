@@ -1,7 +1,8 @@
-//! Rows of examples of the whole program: files are made, `tfk` is run on them, and what it answers and writes is compared.
+//! Rows of examples of the whole program: files are made, `tfk` is run on them, and what it answers
+//! and writes is compared.
 //!
-//! The arguments name subjects; the rows of a subject stand in the file `SUBJECT.rows`. What is printed are the rows with
-//! another answer, each with that answer, and the number of rows.
+//! The arguments name subjects; the rows of a subject stand in the file `SUBJECT.rows`. What is
+//! printed are the rows with another answer, each with that answer, and the number of rows.
 #![tactic(auto)]
 
 mod streams;

@@ -116,7 +116,8 @@ impl World {
         Ok(Some(String::from_str(self.alloc, output)?))
     }
 
-    /// `usage | WORDS | PART`: the words are no command; the part stands in what standard error tells.
+    /// `usage | WORDS | PART`: the words are no command; the part stands in what standard error
+    /// tells.
     fn usage(&mut self, rt: &HostRuntime, row: &Row) -> Result<Option<String>> {
         let ran = self.ran(rt, row.word(1)?)?;
         let faults = from_utf8(&ran.faults)?;
@@ -178,7 +179,8 @@ fn prepare(rt: &HostRuntime, row: &Row) -> Result<()> {
     Ok(())
 }
 
-/// Whom a file lets do what: its owner nothing, read, or read and write, or what the octal digits say.
+/// Whom a file lets do what: its owner nothing, read, or read and write, or what the octal digits
+/// say.
 fn mode_of(word: &str) -> Result<u32> {
     match word {
         "none" => Ok(0),

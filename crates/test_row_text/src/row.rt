@@ -6,9 +6,9 @@ use std::str::from_utf8;
 
 /// The fields of a row: what is asked, of what, and last what is to be answered.
 ///
-/// Fields stand between ` | `. In a field `\n`, `\r`, `\t` and `\\` are as in Rust, `\xHH` is a byte, and `\e` nothing.
-/// `\+` stands between pieces of a field; a piece `\*N*PIECE` is the piece, N times, and in it `\(A+B)` is the number A at the
-/// first time, and B more each time.
+/// Fields stand between ` | `. In a field `\n`, `\r`, `\t` and `\\` are as in Rust, `\xHH` is a
+/// byte, and `\e` nothing. `\+` stands between pieces of a field; a piece `\*N*PIECE` is the piece,
+/// N times, and in it `\(A+B)` is the number A at the first time, and B more each time.
 #[derive(Drop)]
 pub struct Row {
     fields: Vec<Vec<u8>>,

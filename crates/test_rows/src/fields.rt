@@ -1,4 +1,5 @@
-//! The fields of a row, counted from 0. What is not there, or spelled otherwise, is empty, and a number past all others.
+//! The fields of a row, counted from 0. What is not there, or spelled otherwise, is empty, and a
+//! number past all others.
 
 use test_row_text::Row;
 

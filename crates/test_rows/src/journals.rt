@@ -3,9 +3,8 @@
 use crate::answer::Answer;
 use crate::fields::{text, word};
 use crate::spelled::journal_of;
-use edit_record::Journal;
-use edit_text::laws::{old_records_turn_alike, text_begins_alike, text_is_one};
-use edit_text::{RecordFault, decode, encode, encoded_len};
+use edit_record::laws::{old_records_turn_alike, text_begins_alike, text_is_one};
+use edit_record::{Journal, RecordFault, decode, encode, encoded_len};
 use std::alloc::Global;
 use std::fmt::Write;
 use test_row_text::Row;
@@ -43,7 +42,8 @@ fn written(journal: &Journal, out: &mut Answer) {
     }
 }
 
-/// Whether each front of the text but the empty one is cut short, at its end; the places of those that are not.
+/// Whether each front of the text but the empty one is cut short, at its end; the places of those
+/// that are not.
 fn fronts(text: &[u8], out: &mut Answer) {
     for at in 1..text.len() {
         if decode(out.alloc, &text[..at]).err() != Some(RecordFault::CutShort { at }) {
@@ -53,8 +53,8 @@ fn fronts(text: &[u8], out: &mut Answer) {
     out.put("cut short");
 }
 
-/// What an `x` in the place of the byte at this place leads to, where `mark` says what the byte belongs to; the last
-/// mark is that of a byte that an edit adds.
+/// What an `x` in the place of the byte at this place leads to, where `mark` says what the byte
+/// belongs to; the last mark is that of a byte that an edit adds.
 fn fault_at(mark: u8, at: usize, end: usize) -> Option<RecordFault> {
     match mark {
         b'T' => Some(RecordFault::BadHead { at: 0 }),
@@ -68,7 +68,8 @@ fn fault_at(mark: u8, at: usize, end: usize) -> Option<RecordFault> {
     }
 }
 
-/// Whether an `x` in the place of each byte is refused as the marks say; the places where it is not.
+/// Whether an `x` in the place of each byte is refused as the marks say; the places where it is
+/// not.
 fn marks(text: &[u8], marks: &[u8], out: &mut Answer) {
     let end = text.len().saturating_sub(4);
     for (at, mark) in marks.iter().enumerate() {
@@ -92,8 +93,8 @@ pub fn with_byte(text: &[u8], at: usize, byte: u8, out: &mut Answer) -> Vec<u8> 
     changed
 }
 
-/// Whether the text with another byte at any place is that of a journal, which is written so again, or is refused at one of
-/// its places; where it is not so.
+/// Whether the text with another byte at any place is that of a journal, which is written so again,
+/// or is refused at one of its places; where it is not so.
 fn bytes(text: &[u8], out: &mut Answer) {
     for at in 0..text.len() {
         for byte in 0..=255 {

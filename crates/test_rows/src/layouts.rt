@@ -4,8 +4,8 @@ use crate::answer::Answer;
 use crate::fields::{text, word};
 use crate::records::turned;
 use edit_record::Edits;
-use hcl_layout::laws::{cells_in_columns, keeps_tokens, lines_have_all_tokens, own_layout};
-use hcl_layout::{LayoutFault, is_laid_out, layout};
+use hcl_gaps::laws::{cells_in_columns, keeps_tokens, lines_have_all_tokens, own_layout};
+use hcl_gaps::{LayoutFault, is_laid_out, layout};
 use hcl_scan::scan;
 use std::alloc::Global;
 use std::fmt::Write;
@@ -46,7 +46,8 @@ fn tell(call: &str, row: &Row, edits: &Edits, is_laid_out: bool, out: &mut Answe
     }
 }
 
-/// The layout of a text, where it goes back to the text, is its own layout, and it is told whether the text is it.
+/// The layout of a text, where it goes back to the text, is its own layout, and it is told whether
+/// the text is it.
 fn tell_text(text: &[u8], edits: &Edits, is_laid_out: bool, out: &mut Answer) {
     turned(edits, "both", text, out);
     let is_told = is_laid_out == (out.text() == text);

@@ -35,7 +35,8 @@ fn rule(name: &str, out: &mut Answer) {
     }
 }
 
-/// A set spelled `all`, `none`, `+RULE` (that one alone) or `-RULE` (all others); any other word is none.
+/// A set spelled `all`, `none`, `+RULE` (that one alone) or `-RULE` (all others); any other word is
+/// none.
 fn set_of(spelled: &str) -> RuleSet {
     if let Some(rule) = spelled.strip_prefix('+').and_then(Rule::by_name) {
         return RuleSet::none().with(rule);
@@ -147,7 +148,8 @@ fn fix(row: &Row, out: &mut Answer) {
     }
 }
 
-/// The new text, where the old one comes back, or how many issues the fix mends, and how many edits it makes.
+/// The new text, where the old one comes back, or how many issues the fix mends, and how many edits
+/// it makes.
 fn tell_fixed(row: &Row, fixed: &Fixed, out: &mut Answer) {
     match &fixed.change {
         Some(change) if word(row, 0) == "fix" => {

@@ -1,7 +1,7 @@
 //! Rows of examples: for each what is asked, of which text, and what is to be answered.
 //!
-//! The arguments name subjects; the rows of a subject stand in the file `SUBJECT.rows`. What is printed are the rows with
-//! another answer, each with that answer, and the number of rows.
+//! The arguments name subjects; the rows of a subject stand in the file `SUBJECT.rows`. What is
+//! printed are the rows with another answer, each with that answer, and the number of rows.
 #![tactic(auto)]
 
 mod answer;

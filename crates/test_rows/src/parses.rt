@@ -27,7 +27,8 @@ pub fn read(row: &Row, text: &[u8], out: &mut Answer) {
     }
 }
 
-/// That there is a tree, or how many tokens it has, how many its body, and how many members that has, or what is found in it.
+/// That there is a tree, or how many tokens it has, how many its body, and how many members that
+/// has, or what is found in it.
 fn tell(row: &Row, scanned: &Scanned<'_>, tree: &Tree, out: &mut Answer) {
     match word(row, 0) {
         "parse" => out.put("parses"),

@@ -3,7 +3,7 @@
 use crate::answer::Answer;
 use crate::fields::{number, text, word};
 use crate::spelled::{edits_of, journal_of, list_of, name_of, word_of};
-use edit_record::laws::{
+use edit_list::laws::{
     apply_is_exact, edits_refuse_exactly, make_is_exact, pieces_make, pieces_turn,
     sides_fix_each_other, turned_texts_have_the_lengths, undo_is_exact,
 };
@@ -54,7 +54,8 @@ fn change<C: Change>(change: &C, row: &Row, out: &mut Answer) {
     turned(change, word(row, 2), text(row, 3), out);
 }
 
-/// The text as the change makes it, or as it was before it (`undo`), or as it makes it where the old one comes back (`both`).
+/// The text as the change makes it, or as it was before it (`undo`), or as it makes it where the
+/// old one comes back (`both`).
 pub fn turned<C: Change>(change: &C, way: &str, text: &[u8], out: &mut Answer) {
     let answer = if way == "undo" {
         change.undo(out.alloc, text)
@@ -93,7 +94,8 @@ fn all(row: &Row, out: &mut Answer) {
     }
 }
 
-/// The old lengths of the records as they are taken off, with what is left of the journal each time.
+/// The old lengths of the records as they are taken off, with what is left of the journal each
+/// time.
 fn popped(row: &Row, out: &mut Answer) {
     let mut journal = journal_of(word(row, 1), out);
     for _ in 0..journal.records().len() {

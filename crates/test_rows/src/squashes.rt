@@ -3,9 +3,8 @@
 use crate::answer::Answer;
 use crate::fields::word;
 use crate::spelled::{journal_of, list_of, spell};
-use edit_record::{Edits, Journal};
+use edit_record::{Edits, Journal, Unmet, squash};
 use edit_squash::laws::{squash_all_is_one, squash_associates, squash_is_one};
-use edit_squash::{Unmet, squash};
 use std::alloc::Global;
 use test_row_text::Row;
 

@@ -3,9 +3,8 @@
 use crate::answer::Answer;
 use crate::fields::word;
 use crate::spelled::{journal_of, list_of, name_of, spell};
-use edit_record::{Edits, Record};
+use edit_record::{Edits, Record, SwapFault, TakeOutFault, swap, take_out};
 use edit_swap::laws::{swap_is_one, taking_out_is_one};
-use edit_swap::{SwapFault, TakeFault, swap, take_out};
 use std::fmt::Write;
 use test_row_text::Row;
 
@@ -16,7 +15,7 @@ pub fn answer(row: &Row, out: &mut Answer) {
         _ => {
             out.show(&SwapFault::Memory);
             out.put(", ");
-            out.show(&TakeFault::Memory);
+            out.show(&TakeOutFault::Memory);
         }
     }
 }

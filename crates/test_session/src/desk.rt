@@ -5,18 +5,19 @@ use crate::row::{Came, decoded};
 use anyhow::{Result, anyhow};
 use std::alloc::{AllocError, Global};
 use std::str::from_utf8;
-use tf_journal::{fix_stream, fmt_stream, journal_text, load, revert_stream};
 use tf_session::{
-    Command, Done, Journal, Rule, RuleSet, RunFault, Session, Told, check_stream, lint_stream, run,
-    step_stream,
+    Command, Done, Journal, Rule, RuleSet, RunFault, Session, Told, check_stream, fix_stream,
+    fmt_stream, journal_text, lint_stream, load, revert_stream, run, step_stream,
 };
 
 /// Does a command.
 ///
-/// `text T` begins a session over T, and `fill N T` over T and as many `x` as make N bytes; `hand T` puts T in the place of its text by
-/// hand; `journal J` reads J beside its text. `fmt`, `fix` (by all rules), `fix-none`, `fix-RULE+RULE..` (by these alone), `revert` and
-/// `take-N` are done on it. `check`, `lint`, `run COMMAND ..`, `through COMMAND R W` and `stream COMMAND R J K W` leave it: they are done over
-/// its text, and its journal; the reads of numbers R and J fail, and the writers take K and W bytes.
+/// `text T` begins a session over T, and `fill N T` over T and as many `x` as make N bytes; `hand
+/// T` puts T in the place of its text by hand; `journal J` reads J beside its text. `fmt`, `fix`
+/// (by all rules), `fix-none`, `fix-RULE+RULE..` (by these alone), `revert` and `take-N` are done
+/// on it. `check`, `lint`, `run COMMAND ..`, `through COMMAND R W` and `stream COMMAND R J K W`
+/// leave it: they are done over its text, and its journal; the reads of numbers R and J fail, and
+/// the writers take K and W bytes.
 /// The commands of `run` are written as a field is.
 pub fn do_row(alloc: Global, session: &mut Session, row: &str) -> Result<Came> {
     let (word, rest) = row.split_once(' ').unwrap_or((row, ""));
@@ -60,7 +61,7 @@ fn command_of(word: &str) -> Result<Command> {
     }
 }
 
-// The rules of names with `+` between them.
+/// The rules of names with `+` between them.
 fn rules_of(names: &str) -> Result<RuleSet> {
     let mut rules = RuleSet::none();
     for name in names.split('+') {
@@ -76,7 +77,7 @@ fn number(word: Option<&str>) -> Result<usize> {
     Ok(word.unwrap_or("").parse::<usize>()?)
 }
 
-// A text, and as many `x` as make so many bytes.
+/// A text, and as many `x` as make so many bytes.
 fn filled(alloc: Global, rest: &str) -> Result<Vec<u8>> {
     let (len, front) = rest.split_once(' ').unwrap_or((rest, ""));
     let mut text = decoded(alloc, front)?;
@@ -91,7 +92,7 @@ fn start(alloc: Global, session: &mut Session, text: Vec<u8>) -> Result<Came> {
     lies(alloc, session, String::new(alloc))
 }
 
-// What lies on the desk.
+/// What lies on the desk.
 fn lies(alloc: Global, session: &Session, reply: String) -> Result<Came> {
     Ok(Came {
         reply,
@@ -142,7 +143,7 @@ fn checked(alloc: Global, session: &Session) -> Result<Came> {
     lies(alloc, session, reply)
 }
 
-// The lines go where the text would.
+/// The lines go where the text would.
 fn linted(alloc: Global, session: &Session) -> Result<Came> {
     let mut out = Told::new(Narrow::new(alloc, 1 << 30));
     let mut text = Told::new(Slow::new(session.text(), 0));

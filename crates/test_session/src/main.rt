@@ -1,7 +1,9 @@
-//! Rows of texts and commands, with what comes of each: does them, and prints those of which something else comes.
+//! Rows of texts and commands, with what comes of each: does them, and prints those of which
+//! something else comes.
 //!
-//! A row is a command and up to three fields behind ` | `: the reply, the text and the journal's text that there are then. A field that is
-//! left out is not compared. `desk` names the commands, `row` the form of a field. Lines that begin with `#` are skipped.
+//! A row is a command and up to three fields behind ` | `: the reply, the text and the journal's
+//! text that there are then. A field that is left out is not compared. `desk` names the commands,
+//! `row` the form of a field. Lines that begin with `#` are skipped.
 #![tactic(auto)]
 
 mod desk;

@@ -29,7 +29,8 @@ impl Came {
     }
 }
 
-/// The bytes of a field, which is written as the fields of `test_row_text` are; one of `-` has none.
+/// The bytes of a field, which is written as the fields of `test_row_text` are; one of `-` has
+/// none.
 pub fn decoded(alloc: Global, field: &str) -> Result<Vec<u8>> {
     if field == "-" {
         return Ok(Vec::new(alloc));

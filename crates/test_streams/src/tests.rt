@@ -18,7 +18,8 @@ pub fn given<T, E: Drop>(rt: &impl Abort, answer: Result<T, E>) -> T
     answer.ok().expect(rt, "a call failed")
 }
 
-/// Gives at most `step` bytes a read, `left` in all; the read of number `fails_at` fails, and those behind it work.
+/// Gives at most `step` bytes a read, `left` in all; the read of number `fails_at` fails, and those
+/// behind it work.
 #[derive(Drop)]
 pub struct Hashes {
     pub left: usize,
@@ -59,8 +60,8 @@ impl Read for Hashes {
     }
 }
 
-/// Takes `room` bytes in all, at most `step` a write, and then nothing; one write and one flush fail, and those behind them
-/// work.
+/// Takes `room` bytes in all, at most `step` a write, and then nothing; one write and one flush
+/// fail, and those behind them work.
 #[derive(Drop)]
 pub struct Narrow {
     pub held: Vec<u8>,

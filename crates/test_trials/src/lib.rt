@@ -1,4 +1,5 @@
-//! What programs that try texts share: a report of what is not as it is to be, and what lies in a session.
+//! What programs that try texts share: a report of what is not as it is to be, and what lies in a
+//! session.
 #![tactic(auto)]
 
 mod report;

@@ -1,8 +1,7 @@
 //! Sessions, and what lies in them.
 
 use crate::report::Report;
-use tf_journal::{journal_text, load};
-use tf_session::{Journal, Session, Told};
+use tf_session::{Journal, Session, Told, journal_text, load};
 
 /// A text and the text of a journal.
 #[derive(Drop)]

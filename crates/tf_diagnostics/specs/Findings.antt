@@ -16,17 +16,23 @@ use Rattle.tf_rules.specs.TopFindings.{top_findings}
 
 -- what is found at these nodes, at the blocks of a text and at its comments
 abbrev pub gathered : RuleSet → List Pair → List Member → List Node → List Finding
-gathered rules pairs members nodes = flat_map (node_findings rules pairs) nodes ++ (top_findings rules pairs members ++ comment_findings rules pairs)
+gathered rules pairs members nodes =
+    flat_map (node_findings rules pairs) nodes
+    ++ (top_findings rules pairs members ++ comment_findings rules pairs)
 
 -- what is found at the nodes of a tree whose body has these members, and then at its blocks
-pub record AreAtNodesAndBlocks (rules : RuleSet) (pairs : List Pair) (members : List Member) (found : List Finding) : Type 0 where
+pub record AreAtNodesAndBlocks (rules : RuleSet) (pairs : List Pair) (members : List Member)
+    (found : List Finding) : Type 0 where
   -- all nodes that stand in the tree
   pub nodes : List Node
   pub stand : Stand (map member members) nodes
-  pub are : found ≡ sound (length pairs) (flat_map (node_findings rules pairs) nodes ++ top_findings rules pairs members)
+  pub are : found ≡ sound (length pairs)
+      (flat_map (node_findings rules pairs) nodes ++ top_findings rules pairs members)
 
--- What the rules of the set find in a text whose body has these members, in the order of a report, without what comments silence.
-pub record AreFindings (rules : RuleSet) (pairs : List Pair) (members : List Member) (found : List Finding) : Type 0 where
+-- What the rules of the set find in a text whose body has these members, in the order of a report,
+-- without what comments silence.
+pub record AreFindings (rules : RuleSet) (pairs : List Pair) (members : List Member)
+    (found : List Finding) : Type 0 where
   -- all nodes that stand in the tree
   pub nodes : List Node
   pub stand : Stand (map member members) nodes
@@ -40,5 +46,6 @@ pub record AreFindings (rules : RuleSet) (pairs : List Pair) (members : List Mem
 
 -- a text has one list of findings
 abbrev pub FindingsAreOne : Type 0
-FindingsAreOne = (rules : RuleSet) (pairs : List Pair) (members : List Member) (xs ys : List Finding)
+FindingsAreOne =
+    (rules : RuleSet) (pairs : List Pair) (members : List Member) (xs ys : List Finding)
     → AreFindings rules pairs members xs → AreFindings rules pairs members ys → xs ≡ ys

@@ -14,7 +14,10 @@ use Rattle.tf_diagnostics.specs.Order.{rank}
 abbrev pub is_of : Rule → Finding → Bool
 is_of rule f = rank f.rule == rank rule
 
--- what one rule of a set finds in a text by itself is what, of all that the set finds there, is of that rule
+-- what one rule of a set finds in a text by itself is what, of all that the set finds there, is of
+-- that rule
 abbrev pub FoundByOne : Type 0
-FoundByOne = (rules : RuleSet) (rule : Rule) (pairs : List Pair) (members : List Member) (found : List Finding)
-    → has_rule rules rule ≡ true → AreFindings rules pairs members found → AreFindings (only rule) pairs members (filter (is_of rule) found)
+FoundByOne = (rules : RuleSet) (rule : Rule) (pairs : List Pair) (members : List Member)
+    (found : List Finding)
+    → has_rule rules rule ≡ true → AreFindings rules pairs members found
+    → AreFindings (only rule) pairs members (filter (is_of rule) found)

@@ -10,10 +10,13 @@ use Rattle.tf_diagnostics.specs.Comments.{silences}
 abbrev pub is_near : ℕ → ℕ → Bool
 is_near line comment = line == comment || line == comment + 1
 
--- a comment that silences the rule begins on this line, or on the line before; the first of the tokens looked at has number i
+-- a comment that silences the rule begins on this line, or on the line before; the first of the
+-- tokens looked at has number i
 abbrev pub silenced_from : List Pair → Rule → ℕ → ℕ → List Pair → Bool
 silenced_from pairs rule line i [] = false
-silenced_from pairs rule line i (p ∷ ps) = (silences p.kind p.spelling rule && is_near line (line_of pairs i)) || silenced_from pairs rule line (i + 1) ps
+silenced_from pairs rule line i (p ∷ ps) =
+    (silences p.kind p.spelling rule && is_near line (line_of pairs i))
+    || silenced_from pairs rule line (i + 1) ps
 
 -- whether a comment of the text silences what the rule finds on this line
 abbrev pub is_silenced_on : List Pair → Rule → ℕ → Bool

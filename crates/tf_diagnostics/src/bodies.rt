@@ -21,7 +21,9 @@ fn members(
     members: &Items<Member>,
     found: &mut Vec<Finding>,
 ) -> Result<(), AllocError>
-    ensures { OnOk result (Collects finder.now.rules finder.now.scanned.now.pairs (map member members.now) found.old.items found.new.items) }
+    ensures { OnOk result
+        (Collects finder.now.rules finder.now.scanned.now.pairs
+        (map member members.now) found.old.items found.new.items) }
 {
     for x in members.as_slice() {
         member(finder, x, found)?;
@@ -31,7 +33,9 @@ fn members(
 
 #[cycle(bodies)]
 fn member(finder: &Finder<'_, '_>, x: &Member, found: &mut Vec<Finding>) -> Result<(), AllocError>
-    ensures { OnOk result (Collects finder.now.rules finder.now.scanned.now.pairs (member_parts (out-Member x.now)) found.old.items found.new.items) }
+    ensures { OnOk result
+        (Collects finder.now.rules finder.now.scanned.now.pairs
+        (member_parts (out-Member x.now)) found.old.items found.new.items) }
 {
     match x {
         Member::Attribute(a) => expr(finder, Role::AttributeValue, a.value.get(), found),
@@ -45,7 +49,9 @@ fn content(
     content: &Content,
     found: &mut Vec<Finding>,
 ) -> Result<(), AllocError>
-    ensures { OnOk result (Collects finder.now.rules finder.now.scanned.now.pairs (content_parts (out-Content content.now)) found.old.items found.new.items) }
+    ensures { OnOk result
+        (Collects finder.now.rules finder.now.scanned.now.pairs
+        (content_parts (out-Content content.now)) found.old.items found.new.items) }
 {
     match content {
         Content::Lines(body) => members(finder, &body.get().members, found),
@@ -58,7 +64,9 @@ fn attribute_if(
     a: &Option<Boxed<Attribute>>,
     found: &mut Vec<Finding>,
 ) -> Result<(), AllocError>
-    ensures { OnOk result (Collects finder.now.rules finder.now.scanned.now.pairs (option_parts a.now) found.old.items found.new.items) }
+    ensures { OnOk result
+        (Collects finder.now.rules finder.now.scanned.now.pairs
+        (option_parts a.now) found.old.items found.new.items) }
 {
     match a {
         Some(a) => expr(finder, Role::AttributeValue, a.get().value.get(), found),
@@ -76,7 +84,9 @@ pub fn tree_findings(
     tree: &Tree,
     rules: RuleSet,
 ) -> Result<Vec<Finding>, AllocError>
-    ensures { IfOk result (λ found. AreTreeFindings rules scanned.now.pairs (map member tree.now.body.members) found.items) }
+    ensures { IfOk result
+        (λ found. AreTreeFindings rules scanned.now.pairs
+        (map member tree.now.body.members) found.items) }
 {
     let finder = Finder { scanned, rules };
     let mut found = Vec::new(alloc);
@@ -84,8 +94,8 @@ pub fn tree_findings(
     Ok(found)
 }
 
-/// Adds what the rules of the set find in an attribute or a block, as `tree_findings` finds it in a whole tree. `AllocError` where
-/// memory is refused.
+/// Adds what the rules of the set find in an attribute or a block, as `tree_findings` finds it in a
+/// whole tree. `AllocError` where memory is refused.
 ///
 /// TFLint ruleset for the Terraform language.
 pub fn add_member_findings(
@@ -94,7 +104,8 @@ pub fn add_member_findings(
     x: &Member,
     found: &mut Vec<Finding>,
 ) -> Result<(), AllocError>
-    ensures { OnOk result (AreAdded rules scanned.now.pairs (member x.now ∷ []) found.old.items found.new.items) }
+    ensures { OnOk result
+        (AreAdded rules scanned.now.pairs (member x.now ∷ []) found.old.items found.new.items) }
 {
     let finder = Finder { scanned, rules };
     member(&finder, x, found)

@@ -27,7 +27,9 @@ pub fn expr(
     e: &Expr,
     found: &mut Vec<Finding>,
 ) -> Result<(), AllocError>
-    ensures { OnOk result (Collects finder.now.rules finder.now.scanned.now.pairs (expr role e.now ∷ []) found.old.items found.new.items) }
+    ensures { OnOk result
+        (Collects finder.now.rules finder.now.scanned.now.pairs
+        (expr role e.now ∷ []) found.old.items found.new.items) }
 {
     at_expr(finder, role, e, found)?;
     form(finder, role, &e.form, found)?;
@@ -41,7 +43,9 @@ fn form(
     form: &Form,
     found: &mut Vec<Finding>,
 ) -> Result<(), AllocError>
-    ensures { OnOk result (Collects finder.now.rules finder.now.scanned.now.pairs (form_parts role (out-Form form.now)) found.old.items found.new.items) }
+    ensures { OnOk result
+        (Collects finder.now.rules finder.now.scanned.now.pairs
+        (form_parts role (out-Form form.now)) found.old.items found.new.items) }
 {
     match form {
         Form::Conditional(c, met, unmet) => {
@@ -78,7 +82,9 @@ fn boxed(
     e: &Boxed<Expr>,
     found: &mut Vec<Finding>,
 ) -> Result<(), AllocError>
-    ensures { OnOk result (Collects finder.now.rules finder.now.scanned.now.pairs (expr role e.now ∷ []) found.old.items found.new.items) }
+    ensures { OnOk result
+        (Collects finder.now.rules finder.now.scanned.now.pairs
+        (expr role e.now ∷ []) found.old.items found.new.items) }
 {
     expr(finder, role, e.get(), found)
 }
@@ -89,7 +95,10 @@ fn links(
     links: &Items<Link>,
     found: &mut Vec<Finding>,
 ) -> Result<(), AllocError>
-    ensures { OnOk result (Collects finder.now.rules finder.now.scanned.now.pairs (map (λ (l : Link). expr role.Elsewhere l.operand) links.now) found.old.items found.new.items) }
+    ensures { OnOk result
+        (Collects finder.now.rules finder.now.scanned.now.pairs
+        (map (λ (l : Link). expr role.Elsewhere l.operand) links.now) found.old.items
+        found.new.items) }
 {
     for link in links.as_slice() {
         expr(finder, Role::Elsewhere, &link.operand, found)?;
@@ -103,7 +112,9 @@ fn tails(
     tails: &Items<Tail>,
     found: &mut Vec<Finding>,
 ) -> Result<(), AllocError>
-    ensures { OnOk result (Collects finder.now.rules finder.now.scanned.now.pairs (tails_from false tails.now) found.old.items found.new.items) }
+    ensures { OnOk result
+        (Collects finder.now.rules finder.now.scanned.now.pairs
+        (tails_from false tails.now) found.old.items found.new.items) }
 {
     let mut splat = false;
     for t in tails.as_slice() {
@@ -120,7 +131,9 @@ fn tail(
     t: &Tail,
     found: &mut Vec<Finding>,
 ) -> Result<(), AllocError>
-    ensures { OnOk result (Collects finder.now.rules finder.now.scanned.now.pairs (tail splat t.now ∷ []) found.old.items found.new.items) }
+    ensures { OnOk result
+        (Collects finder.now.rules finder.now.scanned.now.pairs
+        (tail splat t.now ∷ []) found.old.items found.new.items) }
 {
     at_tail(finder, splat, t, found)?;
     in_tail(finder, t, found)?;
@@ -129,7 +142,9 @@ fn tail(
 
 #[cycle(expressions)]
 fn in_tail(finder: &Finder<'_, '_>, t: &Tail, found: &mut Vec<Finding>) -> Result<(), AllocError>
-    ensures { OnOk result (Collects finder.now.rules finder.now.scanned.now.pairs (tail_parts (out-Tail t.now)) found.old.items found.new.items) }
+    ensures { OnOk result
+        (Collects finder.now.rules finder.now.scanned.now.pairs
+        (tail_parts (out-Tail t.now)) found.old.items found.new.items) }
 {
     match t {
         Tail::Name(_) => Ok(()),
@@ -147,7 +162,9 @@ fn exprs(
     es: &Items<Expr>,
     found: &mut Vec<Finding>,
 ) -> Result<(), AllocError>
-    ensures { OnOk result (Collects finder.now.rules finder.now.scanned.now.pairs (map (expr role) es.now) found.old.items found.new.items) }
+    ensures { OnOk result
+        (Collects finder.now.rules finder.now.scanned.now.pairs
+        (map (expr role) es.now) found.old.items found.new.items) }
 {
     for e in es.as_slice() {
         expr(finder, role, e, found)?;
@@ -161,7 +178,9 @@ fn elems(
     xs: &Items<Elem>,
     found: &mut Vec<Finding>,
 ) -> Result<(), AllocError>
-    ensures { OnOk result (Collects finder.now.rules finder.now.scanned.now.pairs (flat_map elem_parts xs.now) found.old.items found.new.items) }
+    ensures { OnOk result
+        (Collects finder.now.rules finder.now.scanned.now.pairs
+        (flat_map elem_parts xs.now) found.old.items found.new.items) }
 {
     for x in xs.as_slice() {
         expr(finder, Role::ObjectKey, &x.key, found)?;
@@ -176,7 +195,9 @@ fn filter(
     filter: &Option<Boxed<Expr>>,
     found: &mut Vec<Finding>,
 ) -> Result<(), AllocError>
-    ensures { OnOk result (Collects finder.now.rules finder.now.scanned.now.pairs (filter_parts filter.now) found.old.items found.new.items) }
+    ensures { OnOk result
+        (Collects finder.now.rules finder.now.scanned.now.pairs
+        (filter_parts filter.now) found.old.items found.new.items) }
 {
     match filter {
         Some(e) => expr(finder, Role::Elsewhere, e.get(), found),
@@ -191,7 +212,9 @@ fn term(
     t: &Term,
     found: &mut Vec<Finding>,
 ) -> Result<(), AllocError>
-    ensures { OnOk result (Collects finder.now.rules finder.now.scanned.now.pairs (term role t.now ∷ []) found.old.items found.new.items) }
+    ensures { OnOk result
+        (Collects finder.now.rules finder.now.scanned.now.pairs
+        (term role t.now ∷ []) found.old.items found.new.items) }
 {
     at_term(finder, role, t, found)?;
     shape(finder, &t.shape, found)?;
@@ -200,7 +223,9 @@ fn term(
 
 #[cycle(expressions)]
 fn shape(finder: &Finder<'_, '_>, shape: &Shape, found: &mut Vec<Finding>) -> Result<(), AllocError>
-    ensures { OnOk result (Collects finder.now.rules finder.now.scanned.now.pairs (shape_parts (out-Shape shape.now)) found.old.items found.new.items) }
+    ensures { OnOk result
+        (Collects finder.now.rules finder.now.scanned.now.pairs
+        (shape_parts (out-Shape shape.now)) found.old.items found.new.items) }
 {
     match shape {
         Shape::Number => Ok(()),
@@ -222,7 +247,9 @@ fn for_tuple(
     f: &ForTuple,
     found: &mut Vec<Finding>,
 ) -> Result<(), AllocError>
-    ensures { OnOk result (Collects finder.now.rules finder.now.scanned.now.pairs (for_tuple_parts f.now) found.old.items found.new.items) }
+    ensures { OnOk result
+        (Collects finder.now.rules finder.now.scanned.now.pairs
+        (for_tuple_parts f.now) found.old.items found.new.items) }
 {
     expr(finder, Role::Elsewhere, &f.intro.source, found)?;
     expr(finder, Role::Elsewhere, &f.value, found)?;
@@ -236,7 +263,9 @@ fn for_object(
     f: &ForObject,
     found: &mut Vec<Finding>,
 ) -> Result<(), AllocError>
-    ensures { OnOk result (Collects finder.now.rules finder.now.scanned.now.pairs (for_object_parts f.now) found.old.items found.new.items) }
+    ensures { OnOk result
+        (Collects finder.now.rules finder.now.scanned.now.pairs
+        (for_object_parts f.now) found.old.items found.new.items) }
 {
     expr(finder, Role::Elsewhere, &f.intro.source, found)?;
     expr(finder, Role::Elsewhere, &f.key, found)?;
@@ -251,7 +280,9 @@ fn parts(
     parts: &Items<Part>,
     found: &mut Vec<Finding>,
 ) -> Result<(), AllocError>
-    ensures { OnOk result (Collects finder.now.rules finder.now.scanned.now.pairs (map part parts.now) found.old.items found.new.items) }
+    ensures { OnOk result
+        (Collects finder.now.rules finder.now.scanned.now.pairs
+        (map part parts.now) found.old.items found.new.items) }
 {
     for x in parts.as_slice() {
         part(finder, x, found)?;
@@ -261,7 +292,9 @@ fn parts(
 
 #[cycle(expressions)]
 fn part(finder: &Finder<'_, '_>, x: &Part, found: &mut Vec<Finding>) -> Result<(), AllocError>
-    ensures { OnOk result (Collects finder.now.rules finder.now.scanned.now.pairs (part_parts (out-Part x.now)) found.old.items found.new.items) }
+    ensures { OnOk result
+        (Collects finder.now.rules finder.now.scanned.now.pairs
+        (part_parts (out-Part x.now)) found.old.items found.new.items) }
 {
     match x {
         Part::Literal(_) => Ok(()),
@@ -277,7 +310,9 @@ fn if_directive(
     d: &IfDirective,
     found: &mut Vec<Finding>,
 ) -> Result<(), AllocError>
-    ensures { OnOk result (Collects finder.now.rules finder.now.scanned.now.pairs (if_parts d.now) found.old.items found.new.items) }
+    ensures { OnOk result
+        (Collects finder.now.rules finder.now.scanned.now.pairs
+        (if_parts d.now) found.old.items found.new.items) }
 {
     expr(finder, Role::Elsewhere, &d.condition, found)?;
     parts(finder, &d.met.parts, found)?;
@@ -291,7 +326,9 @@ fn unmet(
     unmet: &Option<Template>,
     found: &mut Vec<Finding>,
 ) -> Result<(), AllocError>
-    ensures { OnOk result (Collects finder.now.rules finder.now.scanned.now.pairs (else_parts unmet.now) found.old.items found.new.items) }
+    ensures { OnOk result
+        (Collects finder.now.rules finder.now.scanned.now.pairs
+        (else_parts unmet.now) found.old.items found.new.items) }
 {
     match unmet {
         Some(t) => parts(finder, &t.parts, found),
@@ -305,7 +342,10 @@ fn for_directive(
     d: &ForDirective,
     found: &mut Vec<Finding>,
 ) -> Result<(), AllocError>
-    ensures { OnOk result (Collects finder.now.rules finder.now.scanned.now.pairs (expr role.Elsewhere d.now.intro.source ∷ map part d.now.body.parts) found.old.items found.new.items) }
+    ensures { OnOk result
+        (Collects finder.now.rules finder.now.scanned.now.pairs
+        (expr role.Elsewhere d.now.intro.source
+        ∷ map part d.now.body.parts) found.old.items found.new.items) }
 {
     expr(finder, Role::Elsewhere, &d.intro.source, found)?;
     parts(finder, &d.body.parts, found)?;

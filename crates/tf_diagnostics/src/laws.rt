@@ -1,4 +1,5 @@
-//! Laws of what is found: functions that do nothing, for callers whose proofs want what their clauses say.
+//! Laws of what is found: functions that do nothing, for callers whose proofs want what their
+//! clauses say.
 
 ghost use Rattle.tf_rules.specs.Nodes.{OneListStands};
 ghost use Rattle.tf_diagnostics.specs.Findings.{FindingsAreOne};
@@ -22,8 +23,9 @@ pub fn found_by_one()
     ensures { FoundByOne }
 {}
 
-/// What a rule by itself finds is of that rule: the rule on comments finds comments that begin with `//`, and no other rule does; and
-/// where a fix can mend what a rule finds, the rule has a step in it.
+/// What a rule by itself finds is of that rule: the rule on comments finds comments that begin with
+/// `//`, and no other rule does; and where a fix can mend what a rule finds, the rule has a step in
+/// it.
 pub fn one_origin()
     ensures { OneOrigin }
 {}

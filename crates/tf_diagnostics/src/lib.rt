@@ -1,4 +1,5 @@
-//! What the rules find in a text: a walk over its tree, all of it in the order of a report, without what comments silence.
+//! What the rules find in a text: a walk over its tree, all of it in the order of a report, without
+//! what comments silence.
 #![tactic(auto)]
 
 mod bodies;
@@ -11,4 +12,4 @@ mod text;
 
 pub use bodies::add_member_findings;
 pub use one::of_rule;
-pub use text::{findings, told};
+pub use text::{complete_findings, findings};

@@ -8,8 +8,8 @@ use crate::order::rank;
 use std::alloc::{AllocError, Global};
 use tf_rule::{Finding, Rule};
 
-/// Those of the findings that are of the rule, in the same order; where there are none it takes no memory. `AllocError` where memory
-/// is refused.
+/// Those of the findings that are of the rule, in the same order; where there are none it takes no
+/// memory. `AllocError` where memory is refused.
 pub fn of_rule(alloc: Global, found: &[Finding], rule: Rule) -> Result<Vec<Finding>, AllocError>
     ensures are { IfOk result (λ r. r.items ≡ filter (is_of rule) found.now) }
     ensures sound { (n : ℕ) → AreSound n found.now → IfOk result (λ r. AreSound n r.items) }

@@ -1,4 +1,5 @@
-//! Comments that silence what rules find, as `# tflint-ignore: terraform_deprecated_index, terraform_typed_variables # why`.
+//! Comments that silence what rules find, as `# tflint-ignore: terraform_deprecated_index,
+//! terraform_typed_variables # why`.
 //!
 //! TFLint, Annotations.
 

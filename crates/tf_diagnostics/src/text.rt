@@ -14,8 +14,8 @@ use std::alloc::{AllocError, Global};
 use tf_rule::{Finding, RuleSet, sound_is_sound};
 use tf_rules::{add_comment_findings, add_top_findings};
 
-/// What the rules of the set find in a text, by the first token, at one token by rule, and of one rule the longer first; without what
-/// comments silence. `AllocError` where memory is refused.
+/// What the rules of the set find in a text, by the first token, at one token by rule, and of one
+/// rule the longer first; without what comments silence. `AllocError` where memory is refused.
 ///
 /// It takes one pass over the tree and two over the tokens, and a sort of what is found.
 ///
@@ -26,24 +26,29 @@ pub fn findings(
     tree: &Tree,
     rules: RuleSet,
 ) -> Result<Vec<Finding>, AllocError>
-    ensures are { IfOk result (λ found. AreFindings rules scanned.now.pairs tree.now.body.members found.items) }
+    ensures are { IfOk result
+        (λ found. AreFindings rules scanned.now.pairs tree.now.body.members found.items) }
     ensures sound { IfOk result (λ found. AreSound (length scanned.now.pairs) found.items) }
 {
     let mut found = tree_findings(alloc, scanned, tree, rules)?;
     add_top_findings(scanned, tree, rules, &mut found)?;
-    told(alloc, scanned, rules, found)
+    complete_findings(alloc, scanned, rules, found)
 }
 
-/// What the rules of the set find in a text, where this is what they find at the nodes of its tree, as they stand, and then at its
-/// blocks: with its comments, in the order of a report, without what comments silence. `AllocError` where memory is refused.
-pub fn told(
+/// What the rules of the set find in a text, where this is what they find at the nodes of its tree,
+/// as they stand, and then at its blocks: with its comments, in the order of a report, without what
+/// comments silence. `AllocError` where memory is refused.
+pub fn complete_findings(
     alloc: Global,
     scanned: &Scanned<'_>,
     rules: RuleSet,
     found: Vec<Finding>,
 ) -> Result<Vec<Finding>, AllocError>
-    requires { (members : List Member) × AreAtNodesAndBlocks rules scanned.now.pairs members found.items }
-    ensures are { (members : List Member) → AreAtNodesAndBlocks rules scanned.now.pairs members found.items → IfOk result (λ told. AreFindings rules scanned.now.pairs members told.items) }
+    requires { (members : List Member)
+        × AreAtNodesAndBlocks rules scanned.now.pairs members found.items }
+    ensures are { (members : List Member)
+        → AreAtNodesAndBlocks rules scanned.now.pairs members found.items
+        → IfOk result (λ told. AreFindings rules scanned.now.pairs members told.items) }
     ensures sound { IfOk result (λ told. AreSound (length scanned.now.pairs) told.items) }
 {
     sound_is_sound();

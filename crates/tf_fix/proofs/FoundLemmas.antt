@@ -3,7 +3,7 @@ use Rattle.std.proofs.Common.{◌≡◌, ◌⊎◌, ◌<◌, ◌≤◌, ℕ, Lis
 use Rattle.std.specs.Prelude.{filter, IfOk, IfErr}
 use Rattle.hcl_scan.specs.Cut.{MAX_TEXT}
 use Rattle.hcl_token.specs.CutText.{CutText}
-use Rattle.edit_record.specs.Pieces.{EditList, Turns}
+use Rattle.edit_list.specs.Pieces.{EditList, Turns}
 use Rattle.tf_diagnostics.specs.OneRule.{is_of, FoundByOne}
 use Rattle.tf_fix.specs.ByPairs.{mended_text}
 use Rattle.tf_fix.specs.Mended.{mended_edits}

@@ -1,12 +1,12 @@
 -- One step of a fix: what `make` answers about its edits, and which texts they turn into each other.
 use Rattle.std.proofs.Common.{◌≡◌, ℕ, ◌*◌, ◌≤◌, ◌<◌, Bool, true, false, List, [], ◌∷◌, length, map, None, Result, Ok, Err, if◌then◌else◌, refl, sym, ap, subst, ◌∙◌, arith, nat_lt}
 use Rattle.std.proofs.lemmas.Bool.{ltb-true, ltb-false}
-use Rattle.edit_record.specs.Made.{made}
-use Rattle.edit_record.specs.Pieced.{AreChanges, PiecesTurn, PiecesMake}
-use Rattle.edit_record.specs.Pieces.{Entry, EditList, Piece, Turns, as_list, old_text, new_text, changes_from}
-use Rattle.edit_record.specs.declared.edit.BadEdits.{BadEdits}
-use Rattle.edit_record.specs.declared.edit.BadEdits.TheVariants.{TooLong}
-use Rattle.edit_record.specs.declared.edits.TheConstants.{MAX_TEXT}
+use Rattle.edit_list.specs.Made.{made}
+use Rattle.edit_list.specs.Pieced.{AreChanges, PiecesTurn, PiecesMake}
+use Rattle.edit_list.specs.Pieces.{Entry, EditList, Piece, Turns, as_list, old_text, new_text, changes_from}
+use Rattle.edit_list.specs.declared.edit.BadEdits.{BadEdits}
+use Rattle.edit_list.specs.declared.edit.BadEdits.TheVariants.{TooLong}
+use Rattle.edit_list.specs.declared.edits.TheConstants.{MAX_TEXT}
 use Rattle.hcl_scan.specs.Cut.{IsCut}
 use Rattle.hcl_scan.specs.Follows.{AreApart}
 use Rattle.hcl_token.specs.CutText.{CutText}

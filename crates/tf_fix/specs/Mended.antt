@@ -1,6 +1,6 @@
 -- By which edits one step of a fix makes a text into another.
 use Rattle.std.specs.Prelude.{List, length, map, if◌then◌else◌}
-use Rattle.edit_record.specs.Pieces.{Entry, EditList, as_list, changes_from}
+use Rattle.edit_list.specs.Pieces.{Entry, EditList, as_list, changes_from}
 use Rattle.hcl_token.specs.CutText.{CutText}
 use Rattle.tf_rule.specs.declared.finding.Finding.{Finding}
 use Rattle.tf_rule.specs.declared.rule.Rule.{Rule}
@@ -11,7 +11,8 @@ use Rattle.tf_fix.specs.Parts.{parts}
 use Rattle.tf_fix.specs.Replacements.{replaced_pieces}
 use Rattle.tf_fix.specs.Taking.{taken}
 
--- the edits of the step: an edit of two bytes for each comment that it takes; for the other rules the pieces of the text that change
+-- the edits of the step: an edit of two bytes for each comment that it takes; for the other rules
+-- the pieces of the text that change
 abbrev pub step_entries : Rule → CutText → List Finding → List Entry
 step_entries rule cut findings =
     if is_comment_rule rule then map (comment_edit cut.pairs) (taken findings)

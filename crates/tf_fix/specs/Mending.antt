@@ -35,10 +35,16 @@ pair gap kind spelling = record { gap = gap; kind = kind; spelling = spelling }
 -- the tokens that a fix writes, with the gaps between them
 abbrev pub inserted : List Pair → Insertion → List Pair
 inserted pairs Nothing = []
-inserted pairs (Index i) = pair [] OpenBracket (codes "[") ∷ pair [] Number (number_of pairs i) ∷ pair [] CloseBracket (codes "]") ∷ []
+inserted pairs (Index i) =
+    pair [] OpenBracket (codes "[") ∷ pair [] Number (number_of pairs i)
+    ∷ pair [] CloseBracket (codes "]") ∷ []
 inserted pairs Length = pair [] Identifier (codes "length") ∷ pair [] OpenParen (codes "(") ∷ []
-inserted pairs IsZero = pair [] CloseParen (codes ")") ∷ pair space DoubleEqual (codes "==") ∷ pair space Number (codes "0") ∷ []
-inserted pairs IsPositive = pair [] CloseParen (codes ")") ∷ pair space Greater (codes ">") ∷ pair space Number (codes "0") ∷ []
+inserted pairs IsZero =
+    pair [] CloseParen (codes ")") ∷ pair space DoubleEqual (codes "==")
+    ∷ pair space Number (codes "0") ∷ []
+inserted pairs IsPositive =
+    pair [] CloseParen (codes ")") ∷ pair space Greater (codes ">") ∷ pair space Number (codes "0")
+    ∷ []
 inserted pairs Opening = pair [] OpenBracket (codes "[") ∷ []
 inserted pairs Closing = pair [] CloseBracket (codes "]") ∷ []
 
@@ -47,8 +53,8 @@ abbrev pub body : List Pair → List Part
 body [] = []
 body (p ∷ ps) = Gap p.gap ∷ Token p.kind p.spelling ∷ body ps
 
--- What comes behind a place: behind the gap of the first token no further gap comes before what is written, and where a token
--- that stays follows right behind, none stands before that.
+-- What comes behind a place: behind the gap of the first token no further gap comes before what is
+-- written, and where a token that stays follows right behind, none stands before that.
 abbrev pub come : ℕ → List Pair → List Part → List Part
 come skip ps tail = drop skip (body ps ++ tail)
 
@@ -57,17 +63,20 @@ no_gap = Gap [] ∷ []
 
 -- what is replaced from a place on, where this is written first, and then so much is kept
 abbrev pub kept_from : List Pair → ℕ → ℕ → Insertion → List (Option Kept) → ℕ → List Replacement
-kept_from pairs place skip written [] past = record { from = place; to = at_gap past; come = come skip (inserted pairs written) [] } ∷ []
+kept_from pairs place skip written [] past =
+    record { from = place; to = at_gap past; come = come skip (inserted pairs written) [] } ∷ []
 kept_from pairs place skip written (None ∷ kept) past = kept_from pairs place skip written kept past
 kept_from pairs place skip written (Some k ∷ kept) past =
-    record { from = place; to = at_token k.from; come = come skip (inserted pairs written) no_gap } ∷ kept_from pairs (at_gap k.to) 0 k.behind kept past
+    record { from = place; to = at_token k.from; come = come skip (inserted pairs written) no_gap }
+    ∷ kept_from pairs (at_gap k.to) 0 k.behind kept past
 
--- What is replaced to mend the tokens from number first up to, not with, number past: whole tokens and gaps. Comments are mended by an
--- edit inside the token.
+-- What is replaced to mend the tokens from number first up to, not with, number past: whole tokens
+-- and gaps. Comments are mended by an edit inside the token.
 abbrev pub mended : List Pair → ℕ → ℕ → Option Fix → List Replacement
 mended pairs first past None = []
 mended pairs first past (Some Slashes) = []
-mended pairs first past (Some (Tokens before kept)) = kept_from pairs (at_token first) 1 before kept past
+mended pairs first past (Some (Tokens before kept)) =
+    kept_from pairs (at_token first) 1 before kept past
 
 abbrev pub finding_replacements : List Pair → Finding → List Replacement
 finding_replacements pairs finding = mended pairs finding.first finding.past finding.fix
@@ -76,9 +85,11 @@ finding_replacements pairs finding = mended pairs finding.first finding.past fin
 abbrev pub step_replacements : List Pair → List Finding → List Replacement
 step_replacements pairs findings = flat_map (finding_replacements pairs) (taken findings)
 
--- what the rule on comments finds is a comment that begins with `//`, and what the other rules find is none
+-- what the rule on comments finds is a comment that begins with `//`, and what the other rules find
+-- is none
 abbrev pub IsOf : Rule → List Pair → Finding → Type 0
-IsOf CommentSyntax pairs finding = (is_slashes finding.fix ≡ true) × IsSlashComment pairs finding.first
+IsOf CommentSyntax pairs finding =
+    (is_slashes finding.fix ≡ true) × IsSlashComment pairs finding.first
 IsOf _ pairs finding = is_slashes finding.fix ≡ false
 
 -- the findings are of this rule

@@ -2,7 +2,7 @@
 use Rattle.std.specs.Prelude.{◌≡◌, ◌≤◌, ◌<◌, ℕ, List, length}
 use Rattle.hcl_scan.specs.Cut.{MAX_TEXT}
 use Rattle.hcl_token.specs.CutText.{CutText}
-use Rattle.edit_record.specs.Pieces.{EditList, Turns}
+use Rattle.edit_list.specs.Pieces.{EditList, Turns}
 use Rattle.tf_rule.specs.declared.finding.Finding.{Finding}
 use Rattle.tf_rule.specs.declared.rule.Rule.{Rule}
 use Rattle.tf_rule.specs.declared.rule_set.RuleSet.{RuleSet}
@@ -18,7 +18,8 @@ use Rattle.tf_rule.specs.OneRule.{only}
 abbrev pub Finds : RuleSet → Parsed → List Finding → Type 0
 Finds rules p found = AreFindings rules p.scanned.pairs p.tree.body.members found
 
--- these are the gaps and tokens of a text that parses, and that is what the rules of the set find in it
+-- these are the gaps and tokens of a text that parses, and that is what the rules of the set find
+-- in it
 abbrev pub IsFound : RuleSet → Parsed → CutText → List Finding → Type 0
 IsFound rules p cut found = (p.scanned ≡ cut) × Reads p.scanned.text p × Finds rules p found
 
@@ -36,9 +37,11 @@ fix_count found = length (taken found)
 
 -- the text behind the step of the rule, over what it alone finds, is over the limit
 abbrev pub IsTooLong : Rule → Parsed → Type 0
-IsTooLong rule p = (found : List Finding) × Finds (only rule) p found × (MAX_TEXT < length (fixed_text p found))
+IsTooLong rule p =
+    (found : List Finding) × Finds (only rule) p found × (MAX_TEXT < length (fixed_text p found))
 
--- the step of the rule over a text: these edits, which turn it into the text behind the step, and so many findings that they mend
+-- the step of the rule over a text: these edits, which turn it into the text behind the step, and
+-- so many findings that they mend
 pub record IsFixStep (rule : Rule) (p : Parsed) (count : ℕ) (edits : EditList) : Type 0 where
   pub found : List Finding
   pub finds : Finds (only rule) p found

@@ -9,4 +9,5 @@ use Rattle.tf_fix.specs.declared.parsed.Parsed.{Parsed}
 -- the text parses, and these are its tokens and gaps, and the tree over them
 abbrev pub Reads : List ℕ → Parsed → Type 0
 Reads text p =
-    (p.scanned.text ≡ text) × IsCut p.scanned.text p.scanned.pairs p.scanned.last × IsFile (tokens_of p.scanned.pairs) MAX_NESTING p.tree
+    (p.scanned.text ≡ text) × IsCut p.scanned.text p.scanned.pairs p.scanned.last
+    × IsFile (tokens_of p.scanned.pairs) MAX_NESTING p.tree

@@ -5,7 +5,8 @@ use Rattle.hcl_token.specs.Joins.{joins_with}
 use Rattle.tf_fix.specs.Parts.{Part}
 use Rattle.tf_fix.specs.Parts.Part.{Gap, Token}
 
--- A token that stands right before, with nothing between; none at the front of a text and behind blanks.
+-- A token that stands right before, with nothing between; none at the front of a text and behind
+-- blanks.
 abbrev pub Neighbour : Type 0
 Neighbour = Option (Kind × List ℕ)
 
@@ -31,7 +32,8 @@ settled near [] = []
 settled near (Gap [] ∷ parts) = Gap [] ∷ settled near parts
 settled near (Gap (b ∷ bytes) ∷ parts) = Gap (b ∷ bytes) ∷ settled None parts
 settled near (Token kind spelling ∷ parts) =
-    if meets near kind spelling then Gap space ∷ Token kind spelling ∷ settled (Some (kind, spelling)) parts
+    if meets near kind spelling
+    then Gap space ∷ Token kind spelling ∷ settled (Some (kind, spelling)) parts
     else Token kind spelling ∷ settled (Some (kind, spelling)) parts
 
 -- a neighbour joins with the first token of the parts, and nothing stands between

@@ -20,7 +20,9 @@ pub fn added_text(
     coming: Insertion,
 ) -> Result<Vec<u8>, AllocError>
     requires { IsComing scanned.now.pairs coming }
-    ensures { IfOk result (λ text. text.items ≡ written (settled (near_view near.entry) (body (inserted scanned.now.pairs coming)))) }
+    ensures { IfOk result
+        (λ text. text.items
+        ≡ written (settled (near_view near.entry) (body (inserted scanned.now.pairs coming)))) }
 {
     let mut text = Vec::new(alloc);
     match coming {
@@ -47,7 +49,8 @@ pub fn added_text(
 
 /// The token that then stands last.
 pub fn near_coming<'t>(near: Near<'t>, coming: Insertion) -> Near<'t>
-    ensures { (pairs : _) → near_view result ≡ after (near_view near.entry) (body (inserted pairs coming)) }
+    ensures { (pairs : _)
+        → near_view result ≡ after (near_view near.entry) (body (inserted pairs coming)) }
 {
     match coming {
         Insertion::Nothing => near,

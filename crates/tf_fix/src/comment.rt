@@ -1,13 +1,13 @@
 //! The edits that mend comments: `//` becomes `#`.
 
 ghost use Rattle.std.specs.Prelude.{◌≡◌, ◌<◌, length, map, IfOk};
-ghost use Rattle.edit_record.specs.Pieces.{entry, entries};
+ghost use Rattle.edit_list.specs.Pieces.{entry, entries};
 ghost use Rattle.tf_fix.specs.Comments.{comment_edit};
 ghost use Rattle.tf_rule.specs.Findings.{AreSound};
 ghost use Rattle.tf_fix.specs.Taking.{taken};
 
 use crate::taking::is_taken;
-use edit_record::Edit;
+use edit_list::Edit;
 use hcl_scan::Scanned;
 use std::alloc::{AllocError, Global};
 use tf_rule::Finding;
@@ -30,7 +30,8 @@ pub fn comment_edits(
     findings: &[Finding],
 ) -> Result<Vec<Edit>, AllocError>
     requires { AreSound (length scanned.now.pairs) findings.now }
-    ensures { IfOk result (λ edits. entries edits.items ≡ map (comment_edit scanned.now.pairs) (taken findings.now)) }
+    ensures { IfOk result
+        (λ edits. entries edits.items ≡ map (comment_edit scanned.now.pairs) (taken findings.now)) }
 {
     let mut edits = Vec::new(alloc);
     let mut past = 0;

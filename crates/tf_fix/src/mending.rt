@@ -1,7 +1,7 @@
 //! One step of a fix.
 
 ghost use Rattle.std.specs.Prelude.{◌≡◌, ◌<◌, ◌≤◌, ◌⊎◌, length, IfOk, IfErr};
-ghost use Rattle.edit_record.specs.Pieces.{Turns, entries};
+ghost use Rattle.edit_list.specs.Pieces.{Turns, entries};
 ghost use Rattle.hcl_scan.specs.Cut.{MAX_TEXT};
 ghost use Rattle.hcl_scan.specs.Follows.{AreApart};
 ghost use Rattle.tf_rule.specs.Findings.{AreSound};
@@ -16,8 +16,8 @@ use crate::comment::comment_edits;
 use crate::fault::LintFault;
 use crate::replaced::taken_replacements;
 use crate::replacing::replacement_edits;
-use edit_record::laws::{pieces_make, pieces_turn};
-use edit_record::{Edit, Edits};
+use edit_list::laws::{pieces_make, pieces_turn};
+use edit_list::{Edit, Edits};
 use hcl_scan::Scanned;
 use std::alloc::Global;
 use tf_rule::{Finding, Rule};
@@ -36,7 +36,8 @@ fn step_edits(
 ) -> Result<Vec<Edit>, LintFault>
     requires filled { AreFilled scanned.now.pairs }
     requires sound { AreSound (length scanned.now.pairs) findings.now }
-    ensures ok { IfOk result (λ edits. entries edits.items ≡ step_entries rule scanned.now findings.now) }
+    ensures ok { IfOk result
+        (λ edits. entries edits.items ≡ step_entries rule scanned.now findings.now) }
     ensures err { IfErr result (λ e. e ≡ Memory) }
 {
     if is_comment_rule(rule) {
@@ -46,8 +47,9 @@ fn step_edits(
     Ok(replacement_edits(alloc, scanned, &all)?)
 }
 
-/// The edits that mend the findings of a rule which one step of a fix takes. They turn the text into the mended one, and there are no
-/// others. `TooLong` where that would have more than 16,777,216 bytes; the only other refusal is `Memory`.
+/// The edits that mend the findings of a rule which one step of a fix takes. They turn the text
+/// into the mended one, and there are no others. `TooLong` where that would have more than
+/// 16,777,216 bytes; the only other refusal is `Memory`.
 ///
 /// A text that parses has no empty gap between two tokens that join.
 pub fn mended_edits(
@@ -60,9 +62,13 @@ pub fn mended_edits(
     requires of { AreOf rule scanned.now.pairs findings.now }
     requires sound { AreSound (length scanned.now.pairs) findings.now }
     ensures edits { IfOk result (λ edits. edits ≡ mended_edits rule scanned.now findings.now) }
-    ensures turns { IfOk result (λ edits. Turns edits scanned.now.text (mended_text scanned.now findings.now)) }
-    ensures short { IfOk result (λ edits. length (mended_text scanned.now findings.now) ≤ MAX_TEXT) }
-    ensures err { IfErr result (λ e. (e ≡ Memory) ⊎ ((e ≡ TooLong) × (MAX_TEXT < length (mended_text scanned.now findings.now)))) }
+    ensures turns { IfOk result
+        (λ edits. Turns edits scanned.now.text (mended_text scanned.now findings.now)) }
+    ensures short { IfOk result
+        (λ edits. length (mended_text scanned.now findings.now) ≤ MAX_TEXT) }
+    ensures err { IfErr result
+        (λ e. (e ≡ Memory)
+        ⊎ ((e ≡ TooLong) × (MAX_TEXT < length (mended_text scanned.now findings.now)))) }
 {
     let text = scanned.text();
     let edits = step_edits(alloc, scanned, rule, findings)?;

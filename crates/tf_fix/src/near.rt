@@ -45,7 +45,8 @@ pub fn meets(near: Near<'_>, kind: Kind, spelling: &[u8]) -> bool
 fn near_gap<'t>(scanned: &Scanned<'t>, near: Near<'t>, from: Edge, i: usize) -> Near<'t>
     requires order { place_of from ≤ 2 * i }
     requires within { i ≤ length scanned.now.pairs }
-    ensures { near_view result ≡ after (near_view near.entry) (slice_range (parts scanned.now) (place_of from) (2 * i)) }
+    ensures { near_view result
+        ≡ after (near_view near.entry) (slice_range (parts scanned.now) (place_of from) (2 * i)) }
 {
     if is_gap(from, i) {
         near
@@ -58,7 +59,9 @@ fn near_gap<'t>(scanned: &Scanned<'t>, near: Near<'t>, from: Edge, i: usize) -> 
 pub fn near_behind<'t>(scanned: &Scanned<'t>, near: Near<'t>, from: Edge, to: Edge) -> Near<'t>
     requires order { place_of from ≤ place_of to }
     requires within { place_of to ≤ 2 * length scanned.now.pairs }
-    ensures { near_view result ≡ after (near_view near.entry) (slice_range (parts scanned.now) (place_of from) (place_of to)) }
+    ensures { near_view result
+        ≡ after (near_view near.entry)
+        (slice_range (parts scanned.now) (place_of from) (place_of to)) }
 {
     match to {
         Edge::Gap(i) => near_gap(scanned, near, from, i),
@@ -74,11 +77,13 @@ pub fn near_behind<'t>(scanned: &Scanned<'t>, near: Near<'t>, from: Edge, to: Ed
     }
 }
 
-/// Whether `near`, which stands before `from`, joins with the first token up to `to`, with nothing between.
+/// Whether `near`, which stands before `from`, joins with the first token up to `to`, with nothing
+/// between.
 pub fn is_glued(scanned: &Scanned<'_>, near: Near<'_>, from: Edge, to: Edge) -> bool
     requires order { place_of from ≤ place_of to }
     requires within { place_of to ≤ 2 * length scanned.now.pairs + 1 }
-    ensures { result ≡ glued (near_view near.entry) (slice_range (parts scanned.now) (place_of from) (place_of to)) }
+    ensures { result ≡ glued (near_view near.entry)
+        (slice_range (parts scanned.now) (place_of from) (place_of to)) }
 {
     match from {
         Edge::Gap(i) => {

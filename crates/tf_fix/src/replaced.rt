@@ -13,7 +13,7 @@ use hcl_scan::Scanned;
 use std::alloc::{AllocError, Global};
 use tf_rule::{Finding, Fix, Insertion, Kept};
 
-// What is replaced from a place on, where this is written first, and then so much is kept.
+/// What is replaced from a place on, where this is written first, and then so much is kept.
 fn push_kept(
     all: &mut Vec<Replacement>,
     scanned: &Scanned<'_>,
@@ -23,8 +23,13 @@ fn push_kept(
     past: usize,
 ) -> Result<(), AllocError>
     requires coming { AreKeptComing scanned.now.pairs written kept.now }
-    ensures items { IfOk result (λ _. replacements scanned.now.pairs all.new.items ≡ replacements scanned.now.pairs all.old.items ++ kept_from scanned.now.pairs (place_of from) (skip_of from) written kept.now past) }
-    ensures coming { IfOk result (λ _. AreComing scanned.now.pairs all.old.items → AreComing scanned.now.pairs all.new.items) }
+    ensures items { IfOk result
+        (λ _. replacements scanned.now.pairs all.new.items
+        ≡ replacements scanned.now.pairs all.old.items
+        ++ kept_from scanned.now.pairs (place_of from) (skip_of from) written kept.now past) }
+    ensures coming { IfOk result
+        (λ _. AreComing scanned.now.pairs all.old.items
+        → AreComing scanned.now.pairs all.new.items) }
 {
     match kept {
         [] => {
@@ -47,7 +52,7 @@ fn push_kept(
     }
 }
 
-// What is replaced to mend the finding, behind what is replaced before it.
+/// What is replaced to mend the finding, behind what is replaced before it.
 fn push_replacements(
     all: &mut Vec<Replacement>,
     scanned: &Scanned<'_>,
@@ -55,8 +60,13 @@ fn push_replacements(
 ) -> Result<(), AllocError>
     requires filled { AreFilled scanned.now.pairs }
     requires fits { Fits (length scanned.now.pairs) one.now }
-    ensures items { IfOk result (λ _. replacements scanned.now.pairs all.new.items ≡ replacements scanned.now.pairs all.old.items ++ finding_replacements scanned.now.pairs one.now) }
-    ensures coming { IfOk result (λ _. AreComing scanned.now.pairs all.old.items → AreComing scanned.now.pairs all.new.items) }
+    ensures items { IfOk result
+        (λ _. replacements scanned.now.pairs all.new.items
+        ≡ replacements scanned.now.pairs all.old.items
+        ++ finding_replacements scanned.now.pairs one.now) }
+    ensures coming { IfOk result
+        (λ _. AreComing scanned.now.pairs all.old.items
+        → AreComing scanned.now.pairs all.new.items) }
 {
     match &one.fix {
         Some(fix) => match fix {
@@ -85,7 +95,9 @@ pub fn taken_replacements(
 ) -> Result<Vec<Replacement>, AllocError>
     requires filled { AreFilled scanned.now.pairs }
     requires sound { AreSound (length scanned.now.pairs) findings.now }
-    ensures items { IfOk result (λ all. replacements scanned.now.pairs all.items ≡ step_replacements scanned.now.pairs findings.now) }
+    ensures items { IfOk result
+        (λ all. replacements scanned.now.pairs all.items
+        ≡ step_replacements scanned.now.pairs findings.now) }
     ensures coming { IfOk result (λ all. AreComing scanned.now.pairs all.items) }
 {
     let mut all = Vec::new(alloc);

@@ -1,7 +1,7 @@
 //! The edits of replacements, in one pass over these.
 
 ghost use Rattle.std.specs.Prelude.{◌≡◌, ◌≤◌, ◌+◌, ◌*◌, length, take, slice_range, IfOk};
-ghost use Rattle.edit_record.specs.Pieces.{entry, entries, changes_from};
+ghost use Rattle.edit_list.specs.Pieces.{entry, entries, changes_from};
 ghost use Rattle.tf_fix.specs.Parts.{parts, written};
 ghost use Rattle.tf_fix.specs.Mending.{body, inserted};
 ghost use Rattle.tf_fix.specs.Replacements.{AreInOrder, added, replaced_pieces};
@@ -10,7 +10,7 @@ ghost use Rattle.tf_fix.specs.Inner.Views.{place_of, next_place, near_view, comi
 use crate::coming::{added_text, near_coming};
 use crate::edge::{Edge, between, offset};
 use crate::near::{Near, is_glued, near_behind};
-use edit_record::Edit;
+use edit_list::Edit;
 use hcl_scan::Scanned;
 use std::alloc::{AllocError, Global};
 use tf_rule::Insertion;
@@ -25,7 +25,8 @@ pub struct Replacement {
 
 /// Where the next replacement begins, or the end of the text.
 fn next_edge(scanned: &Scanned<'_>, rest: &[Replacement]) -> Edge
-    ensures { place_of result ≡ next_place (2 * length scanned.now.pairs + 1) (replacements scanned.now.pairs rest.now) }
+    ensures { place_of result
+        ≡ next_place (2 * length scanned.now.pairs + 1) (replacements scanned.now.pairs rest.now) }
 {
     match rest.first() {
         Some(next) => next.from,
@@ -45,7 +46,10 @@ fn settled_text(
     requires order { place_of to ≤ place_of end }
     requires within { place_of end ≤ 2 * length scanned.now.pairs + 1 }
     requires coming { IsComing scanned.now.pairs coming }
-    ensures { IfOk result (λ text. text.items ≡ added (near_view near.entry) (body (inserted scanned.now.pairs coming)) (slice_range (parts scanned.now) (place_of to) (place_of end))) }
+    ensures { IfOk result
+        (λ text. text.items
+        ≡ added (near_view near.entry) (body (inserted scanned.now.pairs coming))
+        (slice_range (parts scanned.now) (place_of to) (place_of end))) }
 {
     let mut text = added_text(alloc, scanned, near, coming)?;
     if is_glued(scanned, near_coming(near, coming), to, end) {
@@ -67,9 +71,16 @@ fn one_edit(
     requires within { place_of one.to ≤ 2 * length scanned.now.pairs }
     requires end { place_of end ≤ 2 * length scanned.now.pairs + 1 }
     requires coming { IsComing scanned.now.pairs one.coming }
-    ensures at { IfOk result (λ edit. edit.at ≡ length (written (take (place_of one.from) (parts scanned.now)))) }
-    ensures removed { IfOk result (λ edit. edit.removed.items ≡ written (slice_range (parts scanned.now) (place_of one.from) (place_of one.to))) }
-    ensures added { IfOk result (λ edit. edit.added.items ≡ added (near_view near.entry) (coming_parts scanned.now.pairs one.from one.to one.coming) (slice_range (parts scanned.now) (place_of one.to) (place_of end))) }
+    ensures at { IfOk result
+        (λ edit. edit.at ≡ length (written (take (place_of one.from) (parts scanned.now)))) }
+    ensures removed { IfOk result
+        (λ edit. edit.removed.items
+        ≡ written (slice_range (parts scanned.now) (place_of one.from) (place_of one.to))) }
+    ensures added { IfOk result
+        (λ edit. edit.added.items
+        ≡ added (near_view near.entry)
+        (coming_parts scanned.now.pairs one.from one.to one.coming)
+        (slice_range (parts scanned.now) (place_of one.to) (place_of end))) }
 {
     Ok(Edit {
         at: offset(scanned, one.from),
@@ -84,9 +95,13 @@ pub fn replacement_edits(
     scanned: &Scanned<'_>,
     all: &[Replacement],
 ) -> Result<Vec<Edit>, AllocError>
-    requires order { AreInOrder 0 (replacements scanned.now.pairs all.now) (2 * length scanned.now.pairs) }
+    requires order { AreInOrder 0 (replacements scanned.now.pairs all.now)
+        (2 * length scanned.now.pairs) }
     requires coming { AreComing scanned.now.pairs all.now }
-    ensures { IfOk result (λ edits. entries edits.items ≡ changes_from 0 (replaced_pieces (parts scanned.now) (replacements scanned.now.pairs all.now))) }
+    ensures { IfOk result
+        (λ edits. entries edits.items
+        ≡ changes_from 0 (replaced_pieces (parts scanned.now)
+        (replacements scanned.now.pairs all.now))) }
 {
     let mut edits = Vec::new(alloc);
     let mut near = Near::Nothing;

@@ -2,7 +2,7 @@
 
 ghost use Rattle.std.specs.Prelude.{◌≡◌, ◌≤◌, ◌<◌, ◌⊎◌, true, length, IfOk, IfErr};
 ghost use Rattle.hcl_scan.specs.Cut.{MAX_TEXT};
-ghost use Rattle.edit_record.specs.Pieces.{Turns};
+ghost use Rattle.edit_list.specs.Pieces.{Turns};
 ghost use Rattle.tf_fix.specs.Reading.{Reads};
 ghost use Rattle.tf_rule.specs.Findings.{AreSound};
 ghost use Rattle.tf_rule.specs.OneRule.{only};
@@ -18,9 +18,9 @@ use crate::laws::taken_are_few;
 use crate::mending::mended_edits;
 use crate::parsed::Parsed;
 use crate::taking::taken;
-use edit_record::Edits;
-use hcl_parses::laws::parsed_apart;
+use edit_list::Edits;
 use hcl_scan::Scanned;
+use hcl_text_laws::laws::parsed_apart;
 use std::alloc::Global;
 use tf_diagnostics::laws::{found_by_one, one_origin};
 use tf_diagnostics::{findings, of_rule};
@@ -35,21 +35,25 @@ pub struct Mended {
     pub edits: Edits,
 }
 
-// The edits that mend what a rule finds in a text.
+/// The edits that mend what a rule finds in a text.
 fn step_edits(
     alloc: Global,
     scanned: &Scanned<'_>,
     rule: Rule,
     found: &[Finding],
 ) -> Result<Mended, LintFault>
-    requires finds { (p : Parsed) × (p.scanned ≡ scanned.now) × Reads p.scanned.text p × Finds (only rule) p found.now }
+    requires finds { (p : Parsed) × (p.scanned ≡ scanned.now) × Reads p.scanned.text p
+        × Finds (only rule) p found.now }
     requires sound { AreSound (length scanned.now.pairs) found.now }
     ensures count { IfOk result (λ mended. mended.count ≡ fix_count found.now) }
     ensures few { IfOk result (λ mended. mended.count ≤ MAX_TEXT) }
     ensures edits { IfOk result (λ mended. mended.edits ≡ mended_edits rule scanned.now found.now) }
-    ensures turns { IfOk result (λ mended. Turns mended.edits scanned.now.text (mended_text scanned.now found.now)) }
+    ensures turns { IfOk result
+        (λ mended. Turns mended.edits scanned.now.text (mended_text scanned.now found.now)) }
     ensures short { IfOk result (λ mended. length (mended_text scanned.now found.now) ≤ MAX_TEXT) }
-    ensures fault { IfErr result (λ fault. (fault ≡ Memory) ⊎ ((fault ≡ TooLong) × (MAX_TEXT < length (mended_text scanned.now found.now)))) }
+    ensures fault { IfErr result
+        (λ fault. (fault ≡ Memory)
+        ⊎ ((fault ≡ TooLong) × (MAX_TEXT < length (mended_text scanned.now found.now)))) }
 {
     parsed_apart();
     one_origin();
@@ -59,10 +63,11 @@ fn step_edits(
     Ok(Mended { count, edits })
 }
 
-/// One rule's fix of a text that parses: of what the rule finds, all is mended that can be and shares no token with what was taken before
-/// it, exactly by the stated edits.
+/// One rule's fix of a text that parses: of what the rule finds, all is mended that can be and
+/// shares no token with what was taken before it, exactly by the stated edits.
 ///
-/// `TooLong` where the new text would have more than 16,777,216 bytes, and `Memory`. Whether the new text parses is not asked.
+/// `TooLong` where the new text would have more than 16,777,216 bytes, and `Memory`. Whether the
+/// new text parses is not asked.
 pub fn fix_step(alloc: Global, parsed: &Parsed<'_>, rule: Rule) -> Result<Mended, LintFault>
     requires { Reads parsed.now.scanned.text parsed.now }
     ensures step { IfOk result (λ mended. IsFixStep rule parsed.now mended.count mended.edits) }

@@ -13,8 +13,9 @@ pub fn is_taken(one: &Finding, past: usize) -> bool
     one.is_fixable() && past <= one.first
 }
 
-/// How many findings one step of a fix takes. They are looked at in order: by their first token, of those with one first token
-/// the longer first. One that can be fixed is taken where it shares no token with one that is taken before it.
+/// How many findings one step of a fix takes. They are looked at in order: by their first token, of
+/// those with one first token the longer first. One that can be fixed is taken where it shares no
+/// token with one that is taken before it.
 pub fn taken(findings: &[Finding]) -> usize
     ensures { result ≡ length (taken findings.now) }
 {

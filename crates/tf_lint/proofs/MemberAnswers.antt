@@ -1,7 +1,7 @@
 -- One member: what the parser answers is derived, and what is derived is answered.
 use Rattle.std.proofs.Common.{◌≡◌, ℕ, zero, suc, false, List, [], length, Some, refl, subst, arith}
 use Rattle.hcl_token.specs.declared.kind.Kind.TheVariants as k
-use Rattle.hcl_grammar.specs.declared.error.TokenFault.TheVariants.{TooDeep}
+use Rattle.hcl_grammar.specs.declared.fault.TokenFault.TheVariants.{TooDeep}
 use Rattle.hcl_grammar.specs.declared.tree.Content.{Content}
 use Rattle.hcl_grammar.specs.declared.tree.Label.{Label}
 use Rattle.hcl_grammar.specs.declared.tree.Member.{Member}

@@ -3,8 +3,8 @@ use Rattle.std.proofs.Common.{◌≡◌, ◌∙◌, ◌≤◌, ◌<◌, ◌⊎�
 use Rattle.hcl_token.specs.CutText.{CutText}
 use Rattle.hcl_scan.specs.Cut.{MAX_TEXT}
 use Rattle.hcl_grammar.specs.declared.tree.Tree.{Tree}
-use Rattle.hcl_parses.specs.Parses.{OneParse}
-use Rattle.edit_record.specs.Pieces.{EditList}
+use Rattle.hcl_text_laws.specs.Parses.{OneParse}
+use Rattle.edit_list.specs.Pieces.{EditList}
 use Rattle.edit_squash.specs.Grouping.{SquashAsOne}
 use Rattle.tf_rule.specs.declared.finding.Finding.{Finding}
 use Rattle.tf_rule.specs.declared.rule.Rule.{Rule}

@@ -5,7 +5,7 @@ use Rattle.std.proofs.lemmas.Slice.Eq.{bytes_eq-Decides}
 use Rattle.std.specs.Global.{Vec}
 use Rattle.std.specs.Prelude.{IfOk, IfErr}
 use Rattle.std.specs.Result.{IsErr, IsErrAnd}
-use Rattle.edit_record.specs.Pieces.{EditList, Turns}
+use Rattle.edit_list.specs.Pieces.{EditList, Turns}
 use Rattle.edit_squash.specs.Squash.{IsSquash}
 use Rattle.tf_lint.specs.declared.issue.Issue.{Issue}
 use Rattle.tf_lint.specs.Reports.{report, report_of}
@@ -17,7 +17,7 @@ use Rattle.tf_rule.specs.Rules.{all_rules, is_fixed}
 use Rattle.tf_lint.specs.declared.fault.FixFault.{FixFault}
 use Rattle.tf_lint.specs.declared.fault.FixFault.TheVariants.{FixBroken, Memory}
 use Rattle.tf_fix.specs.declared.parsed.Parsed.{Parsed}
-use Rattle.tf_lint.specs.declared.step.Change.{Change}
+use Rattle.tf_lint.specs.declared.step.NewText.{NewText}
 use Rattle.tf_lint.specs.declared.step.Step.{Step}
 use Rattle.tf_lint.specs.declared.steps.Passed.{Passed}
 use Rattle.tf_lint.specs.declared.steps.Passed.TheVariants.{Same, Changed}
@@ -94,17 +94,17 @@ stayed_pass rules rule order p count (Changed fixed change by rest) step chosen 
     )
 
 -- what steps from here on make, by what those behind the change make
-abbrev pub GoesOn : RuleSet → List Rule → List Rule → Rule → Parsed → ℕ → Change → Type 0
+abbrev pub GoesOn : RuleSet → List Rule → List Rule → Rule → Parsed → ℕ → NewText → Type 0
 GoesOn rules order rest by p n change =
     ((next : Parsed) (more : Steps) → Reads change.text.items next → RunFixed rules rest next (Ok more)
     → RunFixed rules order p (Ok (record { text = more.text; lists = change.edits ∷ more.lists; fixed = n + more.fixed })))
     × ((next : Parsed) (fault : FixFault) → Reads change.text.items next → RunFixed rules rest next (Err fault) → RunFixed rules order p (Err fault))
     × (IsUnread change.text.items → RunFixed rules order p (Err (FixBroken by)))
 
-pub changed_turns : (rule : Rule) (p : Parsed) (step : Step) (change : Change) → IsStep rule p step → step.change ≡ Some change → Turns change.edits p.scanned.text change.text.items
+pub changed_turns : (rule : Rule) (p : Parsed) (step : Step) (change : NewText) → IsStep rule p step → step.change ≡ Some change → Turns change.edits p.scanned.text change.text.items
 changed_turns rule p step change s some = let c : IsChange rule p s.found (Some change) = subst (IsChange rule p s.found) some s.change in c.3
 
-pub changed_pass : (rules : RuleSet) (rule : Rule) (order : List Rule) (p : Parsed) (step : Step) (change : Change) → has_step rules rule ≡ true → IsStep rule p step → step.change ≡ Some change
+pub changed_pass : (rules : RuleSet) (rule : Rule) (order : List Rule) (p : Parsed) (step : Step) (change : NewText) → has_step rules rule ≡ true → IsStep rule p step → step.change ≡ Some change
     → GoesOn rules (rule ∷ order) order rule p step.count change
 changed_pass rules rule order p step change chosen s some =
     let c : IsChange rule p s.found (Some change) = subst (IsChange rule p s.found) some s.change in
@@ -137,7 +137,7 @@ no_more rules order text p done count fixed left reads (n, number, reported, run
   left_is = one_each rules p left.items reported;
 }
 
-pub and_more : (rules : RuleSet) (order : List Rule) (text : List ℕ) (p : Parsed) (done both : EditList) (count fixed : ℕ) (change : Change) (by : Rule) (rest : Bor (List Rule)) (made : Made)
+pub and_more : (rules : RuleSet) (order : List Rule) (text : List ℕ) (p : Parsed) (done both : EditList) (count fixed : ℕ) (change : NewText) (by : Rule) (rest : Bor (List Rule)) (made : Made)
     → Reads text p → Passes rules order p count (Changed fixed change by rest) → IsSquash done change.edits both
     → FixesFrom rules rest.now change.text.items both fixed made → FixesFrom rules order text done count made
 and_more rules order text p done both count fixed change by rest made reads (n, number, few, shorter, turns, on, off, gone) joins f =
@@ -155,7 +155,7 @@ and_more rules order text p done both count fixed change by rest made reads (n, 
       left_is = f.left_is;
     }
 
-pub and_refuses : (rules : RuleSet) (order : List Rule) (text : List ℕ) (p : Parsed) (count fixed : ℕ) (change : Change) (made_by by : Rule) (rest : Bor (List Rule)) (fault : FixFault)
+pub and_refuses : (rules : RuleSet) (order : List Rule) (text : List ℕ) (p : Parsed) (count fixed : ℕ) (change : NewText) (made_by by : Rule) (rest : Bor (List Rule)) (fault : FixFault)
     → Reads text p → Passes rules order p count (Changed fixed change by rest)
     → RefusesFrom rules rest.now change.text.items by fault → RefusesFrom rules order text made_by fault
 and_refuses rules order text p count fixed change made_by by rest fault reads to (inl memory) = inl memory
@@ -205,7 +205,7 @@ none_changed rules text p fixed left reads (n, number, reported, runs) =
       left_is = one_each rules p left.items reported;
     }
 
-pub all_fixed : (rules : RuleSet) (text : List ℕ) (p : Parsed) (fixed : ℕ) (change : Change) (by : Rule) (rest : Bor (List Rule)) (made : Made)
+pub all_fixed : (rules : RuleSet) (text : List ℕ) (p : Parsed) (fixed : ℕ) (change : NewText) (by : Rule) (rest : Bor (List Rule)) (made : Made)
     → Reads text p → Passes rules all_rules p 0 (Changed fixed change by rest) → FixesFrom rules rest.now change.text.items change.edits fixed made → Fixes rules text made
 all_fixed rules text p fixed change by rest made reads (n, number, few, shorter, turns, on, off, gone) f =
     let more = f.fixed_is in
@@ -231,7 +231,7 @@ pub first_refuses : (rules : RuleSet) (text : List ℕ) (p : Parsed) (fault : Fi
 first_refuses rules text p fault reads (inl is) = inl (memory_at text p fault reads is)
 first_refuses rules text p fault reads (inr runs) = inr (p, reads, run_is rules all_rules p (Err fault) runs)
 
-pub all_refuses : (rules : RuleSet) (text : List ℕ) (p : Parsed) (fixed : ℕ) (change : Change) (by : Rule) (rest : Bor (List Rule)) (fault : FixFault)
+pub all_refuses : (rules : RuleSet) (text : List ℕ) (p : Parsed) (fixed : ℕ) (change : NewText) (by : Rule) (rest : Bor (List Rule)) (fault : FixFault)
     → Reads text p → Passes rules all_rules p 0 (Changed fixed change by rest) → RefusesFrom rules rest.now change.text.items by fault → Refuses rules text fault
 all_refuses rules text p fixed change by rest fault reads to (inl is) = inl (memory_at text p fault reads is)
 all_refuses rules text p fixed change by rest fault reads (n, number, few, shorter, turns, on, off, gone) (inr (inl unread)) = inr (p, reads, run_is rules all_rules p (Err fault) (rw unread.0 (gone unread.1)))

@@ -3,11 +3,11 @@ use Rattle.std.proofs.Common.{◌≡◌, ◌⊎◌, ℕ, List, length, refl, sym
 use Rattle.hcl_grammar.specs.Bodies.{IsFile}
 use Rattle.hcl_grammar.specs.declared.tree.Tree.{Tree}
 use Rattle.hcl_grammar.specs.declared.bounds.TheConstants.{MAX_NESTING}
-use Rattle.hcl_parses.specs.Parses.{Parses}
+use Rattle.hcl_text_laws.specs.Parses.{Parses}
 use Rattle.hcl_scan.specs.Cut.{IsCut}
 use Rattle.hcl_scan.specs.Follows.{tokens_of}
 use Rattle.hcl_tree.specs.Faults.{IsMemory, IsMemoryOrDeep}
-use Rattle.hcl_tree.specs.declared.error.ParseFault.{ParseFault}
+use Rattle.hcl_tree.specs.declared.fault.ParseFault.{ParseFault}
 use Rattle.hcl_token.specs.CutText.{CutText}
 use Rattle.tf_diagnostics.specs.Findings.{AreFindings}
 use Rattle.tf_lint.specs.Seen.{AreSeen}

@@ -1,7 +1,7 @@
 -- One step of a fix.
 use Rattle.std.proofs.Common.{◌≡◌, ℕ, List, true, refl, sym, subst, ◌∙◌}
-use Rattle.edit_record.specs.Made.{HaveLengths}
-use Rattle.edit_record.specs.Pieces.{EditList, Turns}
+use Rattle.edit_list.specs.Made.{HaveLengths}
+use Rattle.edit_list.specs.Pieces.{EditList, Turns}
 use Rattle.edit_squash.specs.Squash.{CanFollow, Squashes}
 use Rattle.edit_squash.specs.declared.squashing.Unmet.{Unmet}
 use Rattle.edit_squash.specs.declared.squashing.Unmet.TheVariants.{LengthsDiffer, Contradicts, Memory}

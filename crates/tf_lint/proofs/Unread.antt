@@ -2,16 +2,16 @@
 use Rattle.std.proofs.Common.{◌≡◌, ◌∙◌, ◌⊎◌, ℕ, List, refl, sym, ap, subst, inl, inr}
 use Rattle.hcl_token.specs.CutText.{CutText}
 use Rattle.hcl_token.specs.Tokens.{Pair}
-use Rattle.hcl_scan.specs.declared.error.ScanFault.{ScanFault}
+use Rattle.hcl_scan.specs.declared.fault.ScanFault.{ScanFault}
 use Rattle.hcl_scan.specs.Cut.{IsCut}
 use Rattle.hcl_scan.specs.Fault.{IsFault}
 use Rattle.hcl_scan.specs.Follows.{tokens_of}
 use Rattle.hcl_grammar.specs.declared.tree.Tree.{Tree}
 use Rattle.hcl_grammar.specs.Bodies.{IsFile}
 use Rattle.hcl_grammar.specs.declared.bounds.TheConstants.{MAX_NESTING}
-use Rattle.hcl_parses.specs.Parses.{Parses}
-use Rattle.hcl_tree.specs.declared.error.ParseFault.{ParseFault}
-use Rattle.hcl_tree.specs.declared.error.ParseFault.TheVariants as parse
+use Rattle.hcl_text_laws.specs.Parses.{Parses}
+use Rattle.hcl_tree.specs.declared.fault.ParseFault.{ParseFault}
+use Rattle.hcl_tree.specs.declared.fault.ParseFault.TheVariants as parse
 use Rattle.hcl_tree.specs.Faults.{IsMemory, IsMemoryOrDeep}
 use Rattle.tf_lint.specs.declared.fault.FixFault.{FixFault}
 use Rattle.tf_lint.specs.declared.fault.FixFault.TheVariants.{Scan, Parse, FixBroken, TooLong, Memory}

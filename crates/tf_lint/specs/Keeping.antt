@@ -13,19 +13,23 @@ use Rattle.tf_rule.specs.Findings.{sound}
 use Rattle.tf_rule.specs.declared.rule_set.RuleSet.{RuleSet}
 use Rattle.tf_rules.specs.TopFindings.{member_findings}
 
--- so many tokens stand from number `from` on in the one list, and from number `to` on in the other: of the same kinds, spelled alike
+-- so many tokens stand from number `from` on in the one list, and from number `to` on in the other:
+-- of the same kinds, spelled alike
 pub record SameTokens (old new : List Token) (from to count : ℕ) : Type 0 where
   pub in_old : from + count ≤ length old
   pub in_new : to + count ≤ length new
   pub fits : to + count < 2 ^ 64
   pub same : take count (drop from old) ≡ take count (drop to new)
 
--- A member that stands over these tokens, with others behind it, stands over them elsewhere, and the
--- same is found in it, its numbers moved.
+-- A member that stands over these tokens, with others behind it, stands over them elsewhere, and
+-- the same is found in it, its numbers moved.
 abbrev pub MembersKeep : Type 0
-MembersKeep = (rules : RuleSet) (old new : List Pair) (depth from to count : ℕ) (x : Member) → SameTokens (tokens_of old) (tokens_of new) from to count
+MembersKeep = (rules : RuleSet) (old new : List Pair) (depth from to count : ℕ) (x : Member)
+    → SameTokens (tokens_of old) (tokens_of new) from to count
     → IsOneMember (tokens_of old) depth x from (from + count)
     → next (tokens_of old) false (from + count) ≢ None
     → (y : Member) × IsOneMember (tokens_of new) depth y to (to + count)
-    × ((found : List Finding) → AreTreeFindings rules old (member x ∷ []) found → AreTreeFindings rules new (member y ∷ []) (map (moved_finding from to) found))
-    × (sound (length new) (member_findings rules new y) ≡ map (moved_finding from to) (sound (length old) (member_findings rules old x)))
+    × ((found : List Finding) → AreTreeFindings rules old (member x ∷ []) found
+    → AreTreeFindings rules new (member y ∷ []) (map (moved_finding from to) found))
+    × (sound (length new) (member_findings rules new y)
+    ≡ map (moved_finding from to) (sound (length old) (member_findings rules old x)))

@@ -10,7 +10,8 @@ use Rattle.tf_rule.specs.declared.fix.Insertion.TheVariants.{Index}
 use Rattle.tf_rule.specs.declared.fix.Kept.{Kept}
 use Rattle.tf_rule.specs.Fixes.{kept}
 
--- the number of a token, where the tokens that stood from number `from` on stand from number `to` on; no greater than a usize can be
+-- the number of a token, where the tokens that stood from number `from` on stand from number `to`
+-- on; no greater than a usize can be
 abbrev pub moved : ℕ → ℕ → ℕ → ℕ
 moved from to n = min (to + (n - from)) (2 ^ 64 - 1)
 
@@ -21,12 +22,14 @@ moved_insertion from to written = written
 
 -- in tokens that a fix keeps
 abbrev pub moved_kept : ℕ → ℕ → Kept → Kept
-moved_kept from to k = kept (moved from to k.from) (moved from to k.to) (moved_insertion from to k.behind)
+moved_kept from to k =
+    kept (moved from to k.from) (moved from to k.to) (moved_insertion from to k.behind)
 
 -- in a fix
 abbrev pub moved_fix : ℕ → ℕ → Fix → Fix
 moved_fix from to Slashes = Slashes
-moved_fix from to (Tokens before kept) = Tokens (moved_insertion from to before) (map (option_map (moved_kept from to)) kept)
+moved_fix from to (Tokens before kept) =
+    Tokens (moved_insertion from to before) (map (option_map (moved_kept from to)) kept)
 
 -- in a message
 abbrev pub moved_message : ℕ → ℕ → Message → Message

@@ -16,13 +16,21 @@ use Rattle.hcl_grammar.specs.Tokens.{Token, start, after, first_of}
 -- What the grammar says of the first member of a body (`IsMembers`), with nothing of those behind
 -- it: an attribute or a block from its name on up to the end of its last line.
 pub data IsOneMember (ts : List Token) : ℕ → Member → ℕ → ℕ → Type 0 where
-  attribute : {d : ℕ} {e : Expr} {i j n : ℕ} → At ts false k.Identifier i → At ts false k.Equal (after ts false i) → IsExpr ts d false e (after ts false (after ts false i)) j → IsEol ts j n
+  attribute : {d : ℕ} {e : Expr} {i j n : ℕ} → At ts false k.Identifier i
+      → At ts false k.Equal (after ts false i)
+      → IsExpr ts d false e (after ts false (after ts false i)) j → IsEol ts j n
       → IsOneMember ts d (member.Attribute (node.attribute (start ts false i) n e)) i n
-  block : {d : ℕ} {ls : List Label} {bs : List Member} {i j n o q : ℕ} → At ts false k.Identifier i → IsLabels ts ls (after ts false i) j → At ts false k.OpenBrace j
-      → IsLine ts (after ts false j) n → IsMembers ts d bs n o → At ts false k.CloseBrace o → IsEol ts (after ts false o) q
-      → IsOneMember ts (suc d) (node.block (start ts false i) q ls (content.Lines (node.body (first_of ts false n o) o bs))) i q
-  line_block : {d : ℕ} {ls : List Label} {a : Option Attribute} {i j o q : ℕ} → At ts false k.Identifier i → IsLabels ts ls (after ts false i) j → At ts false k.OpenBrace j
-      → IsOnLine ts d a (after ts false j) o → At ts false k.CloseBrace o → IsEol ts (after ts false o) q
+  block : {d : ℕ} {ls : List Label} {bs : List Member} {i j n o q : ℕ} → At ts false k.Identifier i
+      → IsLabels ts ls (after ts false i) j → At ts false k.OpenBrace j
+      → IsLine ts (after ts false j) n → IsMembers ts d bs n o → At ts false k.CloseBrace o
+      → IsEol ts (after ts false o) q
+      → IsOneMember ts (suc d)
+      (node.block (start ts false i) q ls
+      (content.Lines (node.body (first_of ts false n o) o bs))) i q
+  line_block : {d : ℕ} {ls : List Label} {a : Option Attribute} {i j o q : ℕ}
+      → At ts false k.Identifier i → IsLabels ts ls (after ts false i) j → At ts false k.OpenBrace j
+      → IsOnLine ts d a (after ts false j) o → At ts false k.CloseBrace o
+      → IsEol ts (after ts false o) q
       → IsOneMember ts (suc d) (node.block (start ts false i) q ls (content.Line a)) i q
 
 -- A member with the members of a body behind it begins a body.

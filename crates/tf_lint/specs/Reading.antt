@@ -6,9 +6,9 @@ use Rattle.hcl_scan.specs.Fault.{IsFault}
 use Rattle.hcl_scan.specs.Follows.{tokens_of}
 use Rattle.hcl_grammar.specs.declared.tree.Tree.{Tree}
 use Rattle.hcl_grammar.specs.Bodies.{IsFile}
-use Rattle.hcl_parses.specs.Parses.{Parses}
-use Rattle.hcl_tree.specs.declared.error.ParseFault.{ParseFault}
-use Rattle.hcl_tree.specs.declared.error.ParseFault.TheVariants.{Syntax, TooDeep, Memory}
+use Rattle.hcl_text_laws.specs.Parses.{Parses}
+use Rattle.hcl_tree.specs.declared.fault.ParseFault.{ParseFault}
+use Rattle.hcl_tree.specs.declared.fault.ParseFault.TheVariants.{Syntax, TooDeep, Memory}
 use Rattle.tf_lint.specs.declared.fault.FixFault.{FixFault}
 
 -- the text does not parse
@@ -17,14 +17,17 @@ IsUnread text = (t : Tree) → ¬ (Parses text t)
 
 -- no tree stands over the tokens of the text, however much may nest in it
 abbrev pub HasNoTree : List ℕ → Type 0
-HasNoTree text = (pairs : List Pair) × (last : List ℕ) × IsCut text pairs last × ((d : ℕ) (t : Tree) → ¬ (IsFile (tokens_of pairs) d t))
+HasNoTree text = (pairs : List Pair) × (last : List ℕ) × IsCut text pairs last
+    × ((d : ℕ) (t : Tree) → ¬ (IsFile (tokens_of pairs) d t))
 
 -- the text has tokens, and does not parse
 abbrev pub HasNoTreeInLimit : List ℕ → Type 0
-HasNoTreeInLimit text = (pairs : List Pair) × (last : List ℕ) × IsCut text pairs last × IsUnread text
+HasNoTreeInLimit text =
+    (pairs : List Pair) × (last : List ℕ) × IsCut text pairs last × IsUnread text
 
--- Why a text that has tokens does not parse. Where a tree stands over them, in which more nests than may, the fault is TooDeep; where there
--- is none it may be either. Of the place nothing is said.
+-- Why a text that has tokens does not parse. Where a tree stands over them, in which more nests
+-- than may, the fault is TooDeep; where there is none it may be either. Of the place nothing is
+-- said.
 abbrev pub IsParseFault : List ℕ → ParseFault → Type 0
 IsParseFault text (Syntax at) = HasNoTree text
 IsParseFault text (TooDeep at) = HasNoTreeInLimit text
@@ -34,7 +37,8 @@ IsParseFault text Memory = ⊥
 abbrev pub IsText : List ℕ → Type 0
 IsText text = (length text ≤ MAX_TEXT) × IsUtf8 text
 
--- why a text is not read: it has no tokens, it does not parse, or a growth was refused while it was looked into
+-- why a text is not read: it has no tokens, it does not parse, or a growth was refused while it was
+-- looked into
 abbrev pub NotRead : List ℕ → FixFault → Type 0
 NotRead text (FixFault.Scan fault) = IsFault text fault
 NotRead text (FixFault.Parse fault) = IsParseFault text fault

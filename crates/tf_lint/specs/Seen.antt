@@ -34,5 +34,7 @@ blocks_of x = x.blocks.items
 
 -- the member, or none, that the parser reads from one place up to another, with what is found in it
 abbrev pub IsNext : RuleSet → List Pair → ℕ → Option SeenMember → ℕ → Type 0
-IsNext rules pairs from None past = member_of (tokens_of pairs) MAX_NESTING (deeper_members (tokens_of pairs) MAX_NESTING) from ≡ Ok (None, past)
+IsNext rules pairs from None past =
+    member_of (tokens_of pairs) MAX_NESTING (deeper_members (tokens_of pairs) MAX_NESTING) from
+    ≡ Ok (None, past)
 IsNext rules pairs from (Some x) past = (x.from ≡ from) × (x.past ≡ past) × IsSeen rules pairs x

@@ -1,8 +1,9 @@
--- What a fix makes of a text: the steps of its rules one after another, each over the text that the one before left.
+-- What a fix makes of a text: the steps of its rules one after another, each over the text that the
+-- one before left.
 use Rattle.std.specs.Prelude.{◌≡◌, ◌≤◌, ◌<◌, ◌+◌, ◌⊎◌, ℕ, Bool, List, [], ◌∷◌, length, Result, Ok, Err, filter, not, if◌then◌else◌, MatchBool}
 use Rattle.std.specs.Str.{bytes_eq}
 use Rattle.hcl_scan.specs.Cut.{MAX_TEXT}
-use Rattle.edit_record.specs.Pieces.{EditList, as_list}
+use Rattle.edit_list.specs.Pieces.{EditList, as_list}
 use Rattle.edit_squash.specs.Grouping.{SquashAll}
 use Rattle.tf_rule.specs.declared.finding.Finding.{Finding}
 use Rattle.tf_rule.specs.declared.rule.Rule.{Rule}
@@ -40,7 +41,8 @@ differ t u = not (bytes_eq t u)
 abbrev pub fix_order : List Rule
 fix_order = filter is_fixed all_rules
 
--- what steps lead to: the text, the edits of each step that changed it, and how many findings were mended
+-- what steps lead to: the text, the edits of each step that changed it, and how many findings were
+-- mended
 pub record Steps : Type 0 where
   pub text : List ℕ
   pub lists : List EditList
@@ -53,7 +55,8 @@ no_steps text = record { text = text; lists = []; fixed = 0 }
 abbrev pub step_before : Rule → Parsed → List Finding → Steps → Steps
 step_before rule p found more = record {
   text = more.text;
-  lists = if differ p.scanned.text (fixed_text p found) then fix_edits rule p found ∷ more.lists else more.lists;
+  lists = if differ p.scanned.text (fixed_text p found) then fix_edits rule p found ∷ more.lists
+      else more.lists;
   fixed = fix_count found + more.fixed;
 }
 
@@ -61,42 +64,52 @@ step_before rule p found more = record {
 abbrev pub StepBreaks : Rule → Parsed → List Finding → FixFault → Type 0
 StepBreaks rule p found (Scan fault) = ⊥
 StepBreaks rule p found (Parse fault) = ⊥
-StepBreaks rule p found (FixBroken broken) = (broken ≡ rule) × (length (fixed_text p found) ≤ MAX_TEXT) × IsUnread (fixed_text p found)
+StepBreaks rule p found (FixBroken broken) =
+    (broken ≡ rule) × (length (fixed_text p found) ≤ MAX_TEXT) × IsUnread (fixed_text p found)
 StepBreaks rule p found TooLong = MAX_TEXT < length (fixed_text p found)
 StepBreaks rule p found Memory = ⊥
 
 -- the step of the rule, over what it alone finds, can't be done
 abbrev pub CannotStep : Rule → Parsed → FixFault → Type 0
-CannotStep rule p fault = (found : List Finding) × Finds (only rule) p found × StepBreaks rule p found fault
+CannotStep rule p fault =
+    (found : List Finding) × Finds (only rule) p found × StepBreaks rule p found fault
 
--- the step of a rule that found this, and then the others over its text; the first that can't be done ends all
-abbrev pub FoundThen : Rule → Parsed → List Finding → (Parsed → Result Steps FixFault → Type 0) → Result Steps FixFault → Type 0
+-- the step of a rule that found this, and then the others over its text; the first that can't be
+-- done ends all
+abbrev pub FoundThen : Rule → Parsed → List Finding → (Parsed → Result Steps FixFault → Type 0)
+    → Result Steps FixFault → Type 0
 FoundThen rule p found Others (Ok steps) =
-    (length (fixed_text p found) ≤ MAX_TEXT) × (next : Parsed) × (more : Steps) × Reads (fixed_text p found) next
+    (length (fixed_text p found) ≤ MAX_TEXT) × (next : Parsed) × (more : Steps)
+    × Reads (fixed_text p found) next
     × Others next (Ok more) × (steps ≡ step_before rule p found more)
 FoundThen rule p found Others (Err fault) =
     StepBreaks rule p found fault
-    ⊎ ((length (fixed_text p found) ≤ MAX_TEXT) × (next : Parsed) × Reads (fixed_text p found) next × Others next (Err fault))
+    ⊎ ((length (fixed_text p found) ≤ MAX_TEXT) × (next : Parsed) × Reads (fixed_text p found) next
+    × Others next (Err fault))
 
 -- the step of the rule, over what it alone finds, and then the others
-abbrev pub StepThen : Rule → Parsed → (Parsed → Result Steps FixFault → Type 0) → Result Steps FixFault → Type 0
-StepThen rule p Others answer = (found : List Finding) × Finds (only rule) p found × FoundThen rule p found Others answer
+abbrev pub StepThen : Rule → Parsed → (Parsed → Result Steps FixFault → Type 0)
+    → Result Steps FixFault → Type 0
+StepThen rule p Others answer =
+    (found : List Finding) × Finds (only rule) p found × FoundThen rule p found Others answer
 
 -- the steps of these rules, as far as they are in the set
 abbrev pub RunSteps : RuleSet → List Rule → Parsed → Result Steps FixFault → Type 0
 RunSteps rules [] p answer = answer ≡ Ok (no_steps p.scanned.text)
 RunSteps rules (rule ∷ others) p answer =
-    MatchBool (has_rule rules rule) (StepThen rule p (RunSteps rules others) answer) (RunSteps rules others p answer)
+    MatchBool (has_rule rules rule) (StepThen rule p (RunSteps rules others) answer)
+    (RunSteps rules others p answer)
 
 -- ---- the whole fix
 
--- One list in the place of those of all steps, squashed from the first on, each into the result so far: none changes nothing, and a single
--- one stays as it is.
+-- One list in the place of those of all steps, squashed from the first on, each into the result so
+-- far: none changes nothing, and a single one stays as it is.
 abbrev pub IsOneList : ℕ → List EditList → EditList → Type 0
 IsOneList len [] edits = edits ≡ as_list len []
 IsOneList len (first ∷ more) edits = SquashAll first more edits
 
--- a new text, the edits that lead to it, how many findings were mended, and how many findings of the chosen rules the new text has
+-- a new text, the edits that lead to it, how many findings were mended, and how many findings of
+-- the chosen rules the new text has
 pub record Made : Type 0 where
   pub text : List ℕ
   pub edits : EditList

@@ -1,4 +1,5 @@
-//! Laws of what is kept and of fixes: functions that do nothing, for callers whose proofs want what their clauses say.
+//! Laws of what is kept and of fixes: functions that do nothing, for callers whose proofs want what
+//! their clauses say.
 
 ghost use Rattle.std.specs.Prelude.{◌≡◌, ℕ, List, [], ◌∷◌};
 ghost use Rattle.tf_rule.specs.declared.rule.Rule.TheVariants.{CommentSyntax, DeprecatedIndex, DeprecatedInterpolation, EmptyListEquality, DeprecatedLookup};
@@ -8,8 +9,8 @@ ghost use Rattle.tf_lint.specs.OneMember.{StandsInFront};
 ghost use Rattle.tf_lint.specs.Steps.{OneFix, fix_order};
 
 use edit_squash::laws::squash_all_is_one;
-use hcl_parses::laws::one_parse;
 use hcl_scan::laws::one_cut;
+use hcl_text_laws::laws::one_parse;
 use tf_diagnostics::laws::findings_are_one;
 
 /// A member whose tokens stand elsewhere too stands there, and what the rules find in it is the
@@ -35,5 +36,7 @@ pub fn one_fix()
 
 /// The steps of a fix are those of these rules, in this order.
 pub fn steps_in_order()
-    ensures { fix_order ≡ CommentSyntax ∷ DeprecatedIndex ∷ DeprecatedInterpolation ∷ EmptyListEquality ∷ DeprecatedLookup ∷ [] }
+    ensures { fix_order
+        ≡ CommentSyntax ∷ DeprecatedIndex ∷ DeprecatedInterpolation ∷ EmptyListEquality
+        ∷ DeprecatedLookup ∷ [] }
 {}

@@ -3,7 +3,7 @@
 ghost use Rattle.std.specs.Prelude.{◌≡◌, ◌≢◌, ◌+◌, ◌-◌, ◌<◌, ◌^◌, ◌∷◌, [], length, true, false, None, IfOk, IfErr, IfSome, Err};
 ghost use Rattle.hcl_grammar.specs.Pure.BodyParser as spec;
 ghost use Rattle.hcl_grammar.specs.Tokens as tokens;
-ghost use Rattle.hcl_grammar.specs.declared.error.TokenFault.TheVariants as fault;
+ghost use Rattle.hcl_grammar.specs.declared.fault.TokenFault.TheVariants as fault;
 ghost use Rattle.hcl_grammar.specs.declared.bounds.TheConstants.{MAX_NESTING};
 ghost use Rattle.hcl_scan.specs.Follows.{tokens_of};
 ghost use Rattle.tf_rules.specs.Nodes as node;
@@ -17,7 +17,7 @@ ghost use Rattle.tf_rules.specs.TopFindings.{member_findings};
 use crate::laws::members_keep;
 use crate::moving::moved_findings;
 use crate::tokens::same_tokens;
-use hcl_grammar::error::TokenFault;
+use hcl_grammar::fault::TokenFault;
 use hcl_grammar::tree::Member;
 use hcl_scan::Scanned;
 use hcl_tree::{MAX_NESTING, Reader, member};
@@ -27,7 +27,8 @@ use tf_rule::{Finding, RuleSet};
 /// A member of a text's body: where it was read, and what the rules find in it.
 #[derive(Drop)]
 pub struct SeenMember {
-    /// The number of the token that it was read from. What is dropped before its first token stands behind that.
+    /// The number of the token that it was read from. What is dropped before its first token stands
+    /// behind that.
     pub from: usize,
     /// The number past its last token.
     pub past: usize,
@@ -47,8 +48,12 @@ fn looked_at(
     x: &Member,
 ) -> Result<SeenMember, AllocError>
     ensures place { IfOk result (λ seen. (seen.from ≡ from) × (seen.past ≡ past)) }
-    ensures at_nodes { IfOk result (λ seen. AreTreeFindings rules scanned.now.pairs (node.member x.now ∷ []) seen.nodes.items) }
-    ensures at_block { IfOk result (λ seen. seen.blocks.items ≡ sound (length scanned.now.pairs) (member_findings rules scanned.now.pairs x.now)) }
+    ensures at_nodes { IfOk result
+        (λ seen. AreTreeFindings rules scanned.now.pairs
+        (node.member x.now ∷ []) seen.nodes.items) }
+    ensures at_block { IfOk result
+        (λ seen. seen.blocks.items
+        ≡ sound (length scanned.now.pairs) (member_findings rules scanned.now.pairs x.now)) }
 {
     let mut nodes = Vec::new(alloc);
     tf_diagnostics::add_member_findings(scanned, rules, x, &mut nodes)?;
@@ -70,7 +75,9 @@ fn new_member(
     at: &mut usize,
 ) -> Result<Option<SeenMember>, TokenFault>
     ensures next { IfOk result (λ x. IsNext rules scanned.now.pairs at.old x at.new) }
-    ensures fault { let ts = tokens_of scanned.now.pairs in IfErr result (λ e. e ≢ fault.Memory → spec.member_of ts MAX_NESTING (spec.deeper_members ts MAX_NESTING) at.old ≡ Err e) }
+    ensures fault { let ts = tokens_of scanned.now.pairs in
+        IfErr result (λ e. e ≢ fault.Memory
+        → spec.member_of ts MAX_NESTING (spec.deeper_members ts MAX_NESTING) at.old ≡ Err e) }
 {
     let from = *at;
     let Some(x) = member(&Reader::new(alloc, scanned), at)? else {
@@ -79,8 +86,8 @@ fn new_member(
     Ok(Some(looked_at(alloc, scanned, rules, from, *at, &x)?))
 }
 
-/// Whether the tokens of a member of the old text stand in the new one from number `at` on. The last member of a text is read again: what ends it may be the
-/// end of the text.
+/// Whether the tokens of a member of the old text stand in the new one from number `at` on. The
+/// last member of a text is read again: what ends it may be the end of the text.
 fn stands(
     alloc: Global,
     old: &Scanned<'_>,
@@ -88,9 +95,13 @@ fn stands(
     seen: &SeenMember,
     at: usize,
 ) -> bool
-    ensures same { result ≡ true → SameTokens (tokens_of old.now.pairs) (tokens_of scanned.now.pairs) seen.now.from at (seen.now.past - seen.now.from) }
-    ensures whole { result ≡ true → seen.now.from + (seen.now.past - seen.now.from) ≡ seen.now.past }
-    ensures more { result ≡ true → tokens.next (tokens_of old.now.pairs) false seen.now.past ≢ None }
+    ensures same { result ≡ true
+        → SameTokens (tokens_of old.now.pairs) (tokens_of scanned.now.pairs) seen.now.from at
+        (seen.now.past - seen.now.from) }
+    ensures whole { result ≡ true
+        → seen.now.from + (seen.now.past - seen.now.from) ≡ seen.now.past }
+    ensures more { result ≡ true
+        → tokens.next (tokens_of old.now.pairs) false seen.now.past ≢ None }
     ensures fits { result ≡ true → at + (seen.now.past - seen.now.from) < 2 ^ 64 }
 {
     let _all = scanned.len();
@@ -111,7 +122,8 @@ fn kept(
     seen: &SeenMember,
     at: usize,
 ) -> Result<Option<SeenMember>, AllocError>
-    ensures { (rules : RuleSet) → IsSeen rules old.now.pairs seen.now → IfOk result (λ o. IfSome o (λ x. (x.from ≡ at) × IsSeen rules scanned.now.pairs x)) }
+    ensures { (rules : RuleSet) → IsSeen rules old.now.pairs seen.now
+        → IfOk result (λ o. IfSome o (λ x. (x.from ≡ at) × IsSeen rules scanned.now.pairs x)) }
 {
     members_keep();
     if !stands(alloc, old, scanned, seen, at) {
@@ -127,7 +139,8 @@ fn kept(
     }))
 }
 
-/// The member with this index of the old text, if there is one, and it stands in the new one from number `at` on.
+/// The member with this index of the old text, if there is one, and it stands in the new one from
+/// number `at` on.
 fn old_member(
     alloc: Global,
     old: &Scanned<'_>,
@@ -136,7 +149,8 @@ fn old_member(
     index: usize,
     at: usize,
 ) -> Result<Option<SeenMember>, AllocError>
-    ensures { (rules : RuleSet) → AreSeen rules old.now.pairs seen.now → IfOk result (λ o. IfSome o (λ x. (x.from ≡ at) × IsSeen rules scanned.now.pairs x)) }
+    ensures { (rules : RuleSet) → AreSeen rules old.now.pairs seen.now
+        → IfOk result (λ o. IfSome o (λ x. (x.from ≡ at) × IsSeen rules scanned.now.pairs x)) }
 {
     if index >= seen.len() {
         return Ok(None);
@@ -144,7 +158,8 @@ fn old_member(
     kept(alloc, old, scanned, &seen[index], at)
 }
 
-/// The member that comes next, if one does: that of the old text with this index, if its tokens stand here, else as it is read.
+/// The member that comes next, if one does: that of the old text with this index, if its tokens
+/// stand here, else as it is read.
 pub fn next_member(
     alloc: Global,
     scanned: &Scanned<'_>,
@@ -156,7 +171,9 @@ pub fn next_member(
 ) -> Result<Option<SeenMember>, TokenFault>
     requires { AreSeen rules old.now.pairs seen.now }
     ensures next { IfOk result (λ x. IsNext rules scanned.now.pairs at.old x at.new) }
-    ensures fault { let ts = tokens_of scanned.now.pairs in IfErr result (λ e. e ≢ fault.Memory → spec.member_of ts MAX_NESTING (spec.deeper_members ts MAX_NESTING) at.old ≡ Err e) }
+    ensures fault { let ts = tokens_of scanned.now.pairs in
+        IfErr result (λ e. e ≢ fault.Memory
+        → spec.member_of ts MAX_NESTING (spec.deeper_members ts MAX_NESTING) at.old ≡ Err e) }
 {
     let Some(x) = old_member(alloc, old, scanned, seen, index, *at)? else {
         return new_member(alloc, scanned, rules, at);

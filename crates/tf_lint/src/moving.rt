@@ -8,14 +8,15 @@ ghost use Rattle.tf_lint.specs.Moving.{moved_finding};
 use std::alloc::{AllocError, Global};
 use tf_rule::{Finding, Fix, Insertion, Kept, Message};
 
-// The number of a token, where the tokens that stood from number `from` on stand from number `to` on.
+/// The number of a token, where the tokens that stood from number `from` on stand from number `to`
+/// on.
 fn moved(number: usize, from: usize, to: usize) -> usize
     ensures { result ≡ spec.moved from to number }
 {
     to.saturating_add(number.saturating_sub(from))
 }
 
-// What a fix writes, with such numbers.
+/// What a fix writes, with such numbers.
 fn moved_insertion(written: Insertion, from: usize, to: usize) -> Insertion
     ensures { result ≡ spec.moved_insertion from to written }
 {
@@ -25,7 +26,7 @@ fn moved_insertion(written: Insertion, from: usize, to: usize) -> Insertion
     }
 }
 
-// Tokens that a fix keeps.
+/// Tokens that a fix keeps.
 fn moved_kept(kept: Option<Kept>, from: usize, to: usize) -> Option<Kept>
     ensures { result ≡ option_map (spec.moved_kept from to) kept }
 {
@@ -39,7 +40,7 @@ fn moved_kept(kept: Option<Kept>, from: usize, to: usize) -> Option<Kept>
     }
 }
 
-// What a fix does.
+/// What a fix does.
 fn moved_fix(fix: Fix, from: usize, to: usize) -> Fix
     ensures { result ≡ spec.moved_fix from to fix }
 {
@@ -56,7 +57,7 @@ fn moved_fix(fix: Fix, from: usize, to: usize) -> Fix
     }
 }
 
-// The fix, where there is one.
+/// The fix, where there is one.
 fn moved_choice(fix: Option<Fix>, from: usize, to: usize) -> Option<Fix>
     ensures { result ≡ option_map (spec.moved_fix from to) fix }
 {
@@ -66,7 +67,7 @@ fn moved_choice(fix: Option<Fix>, from: usize, to: usize) -> Option<Fix>
     }
 }
 
-// What a message names.
+/// What a message names.
 fn moved_message(message: Message, from: usize, to: usize) -> Message
     ensures { result ≡ spec.moved_message from to message }
 {
@@ -80,7 +81,7 @@ fn moved_message(message: Message, from: usize, to: usize) -> Message
     }
 }
 
-// A finding with such numbers.
+/// A finding with such numbers.
 fn moved_finding(finding: Finding, from: usize, to: usize) -> Finding
     ensures { result ≡ spec.moved_finding from to finding }
 {

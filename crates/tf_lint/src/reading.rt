@@ -25,7 +25,8 @@ pub fn read_text<'t>(alloc: Global, text: &'t [u8]) -> Result<Parsed<'t>, FixFau
 
 /// The tokens of a text, if it parses. No tree of it is kept.
 pub fn check_text<'t>(alloc: Global, text: &'t [u8]) -> Result<Scanned<'t>, FixFault>
-    ensures reads { IfOk result (λ scanned. (t : tree.Tree) × Reads text.now (record { scanned = scanned; tree = t })) }
+    ensures reads { IfOk result
+        (λ scanned. (t : tree.Tree) × Reads text.now (record { scanned = scanned; tree = t })) }
     ensures fault { IfErr result (λ fault. NotRead text.now fault) }
 {
     let scanned = scan(alloc, text)?;

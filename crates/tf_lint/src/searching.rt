@@ -39,7 +39,8 @@ pub fn search_text<'t>(
     }
 }
 
-// The same of a text that came from one that was searched: what stayed as it was is not read again. Its tokens come into a list that has room.
+/// The same of a text that came from one that was searched: what stayed as it was is not read
+/// again. Its tokens come into a list that has room.
 fn search_again<'t>(
     alloc: Global,
     text: &'t [u8],
@@ -64,9 +65,10 @@ fn search_again<'t>(
     }
 }
 
-// Why a text that the step of a rule made is not read.
+/// Why a text that the step of a rule made is not read.
 fn broken(fault: FixFault, rule: Rule) -> FixFault
-    ensures { ((fault ≡ FixFault.Memory) × (result ≡ FixFault.Memory)) ⊎ ((fault ≢ FixFault.Memory) × (result ≡ FixFault.FixBroken rule)) }
+    ensures { ((fault ≡ FixFault.Memory) × (result ≡ FixFault.Memory))
+        ⊎ ((fault ≢ FixFault.Memory) × (result ≡ FixFault.FixBroken rule)) }
 {
     match fault {
         FixFault::Memory => FixFault::Memory,
@@ -85,7 +87,9 @@ pub fn search_made<'t>(
     requires { (p : Parsed) × IsOf p before.now }
     ensures searched { IfOk result (λ searched. (p : Parsed) × Reads text.now p × IsOf p searched) }
     ensures rules { IfOk result (λ searched. searched.rules ≡ before.now.rules) }
-    ensures fault { IfErr result (λ fault. (fault ≡ FixFault.Memory) ⊎ ((fault ≡ FixFault.FixBroken rule) × IsUnread text.now)) }
+    ensures fault { IfErr result
+        (λ fault. (fault ≡ FixFault.Memory)
+        ⊎ ((fault ≡ FixFault.FixBroken rule) × IsUnread text.now)) }
 {
     no_cut_with_fault();
     one_cut();

@@ -1,9 +1,10 @@
 //! The steps of several rules, one after another.
 
 ghost use Rattle.std.specs.Prelude.{◌≡◌, ◌≤◌, ◌⊎◌, ◌+◌, ◌*◌, ℕ, List, length, Err, IfOk, IfErr, IfSome};
-ghost use Rattle.edit_record.specs.Pieces.{Turns};
+ghost use Rattle.edit_list.specs.Pieces.{Turns};
 ghost use Rattle.edit_squash.specs.Squash.{CanFollow, IsSquash};
 ghost use Rattle.tf_lint.specs.Fixed.{made_of, text_after};
+ghost use Rattle.hcl_scan.specs.Cut.{MAX_TEXT};
 ghost use Rattle.tf_fix.specs.Reading.{Reads};
 ghost use Rattle.tf_lint.specs.Searching.{IsOf};
 ghost use Rattle.tf_lint.specs.Steps.{Reports, IsReport, Fixes, Refuses};
@@ -16,9 +17,9 @@ use crate::issue::Issue;
 use crate::listing::issues_of;
 use crate::searched::Searched;
 use crate::searching::{search_made, search_text};
-use crate::step::{Change, Step, one_step};
-use edit_record::Edits;
-use edit_record::laws::turned_texts_have_the_lengths;
+use crate::step::{NewText, Step, one_step};
+use edit_list::Edits;
+use edit_list::laws::turned_texts_have_the_lengths;
 use edit_squash::{Unmet, squash};
 use hcl_scan::Item;
 use std::alloc::Global;
@@ -28,7 +29,7 @@ use tf_rule::{Rule, RuleSet};
 #[derive(Drop)]
 pub struct Fixed {
     /// None where no rule changes the text.
-    pub change: Option<Change>,
+    pub change: Option<NewText>,
     /// How many findings were mended.
     pub fixed: usize,
     /// What the chosen rules report of the new text.
@@ -46,13 +47,13 @@ enum Passed<'o> {
     /// This rule is the first that does, and those of the rest come behind it.
     Changed {
         fixed: usize,
-        change: Change,
+        change: NewText,
         by: Rule,
         rest: &'o [Rule],
     },
 }
 
-// The edits so far with those of one more step.
+/// The edits so far with those of one more step.
 fn gather(alloc: Global, done: &Edits, edits: &Edits) -> Result<Edits, FixFault>
     requires { CanFollow done.now edits.now }
     ensures both { IfOk result (λ both. IsSquash done.now edits.now both) }
@@ -70,7 +71,8 @@ fn gather(alloc: Global, done: &Edits, edits: &Edits) -> Result<Edits, FixFault>
 
 fn reported(alloc: Global, searched: &Searched<'_>) -> Result<Vec<Issue>, FixFault>
     requires { (p : Parsed) × IsOf p searched.now }
-    ensures issues { (p : Parsed) → IsOf p searched.now → IfOk result (λ issues. Reports searched.now.rules p issues.items) }
+    ensures issues { (p : Parsed) → IsOf p searched.now
+        → IfOk result (λ issues. Reports searched.now.rules p issues.items) }
     ensures fault { IfErr result (λ fault. fault ≡ FixFault.Memory) }
 {
     match issues_of(alloc, &searched.scanned, searched.found.as_slice()) {
@@ -79,14 +81,14 @@ fn reported(alloc: Global, searched: &Searched<'_>) -> Result<Vec<Issue>, FixFau
     }
 }
 
-// Whether a fix by these rules has a step of this one.
+/// Whether a fix by these rules has a step of this one.
 fn has_step(rules: RuleSet, rule: Rule) -> bool
     ensures { result ≡ has_step rules rule }
 {
     rule.is_fixed() && rules.has(rule)
 }
 
-// The first of the rules that changes the text, where so many findings were mended before.
+/// The first of the rules that changes the text, where so many findings were mended before.
 fn first_change<'o>(
     alloc: Global,
     searched: &Searched<'_>,
@@ -94,9 +96,12 @@ fn first_change<'o>(
     count: usize,
 ) -> Result<Passed<'o>, FixFault>
     requires searched { (p : Parsed) × IsOf p searched.now }
-    requires few { count + room order.now ≤ 16777216 * 16 }
-    ensures passes { (p : Parsed) → IsOf p searched.now → IfOk result (λ passed. Passes searched.now.rules order.now p count passed) }
-    ensures fault { (p : Parsed) → IsOf p searched.now → IfErr result (λ fault. (fault ≡ FixFault.Memory) ⊎ RunFixed searched.now.rules order.now p (Err fault)) }
+    requires few { count + room order.now ≤ MAX_TEXT * 16 }
+    ensures passes { (p : Parsed) → IsOf p searched.now
+        → IfOk result (λ passed. Passes searched.now.rules order.now p count passed) }
+    ensures fault { (p : Parsed) → IsOf p searched.now
+        → IfErr result (λ fault. (fault ≡ FixFault.Memory)
+        ⊎ RunFixed searched.now.rules order.now p (Err fault)) }
 {
     if let [rule, rest @ ..] = order {
         if !has_step(searched.rules, *rule) {
@@ -129,7 +134,8 @@ struct Searching<'t, 'o> {
     passed: Passed<'o>,
 }
 
-// The first of the rules that changes a text which the step of one made of one that was searched. Its tokens come into a list that has room.
+/// The first of the rules that changes a text which the step of one made of one that was searched.
+/// Its tokens come into a list that has room.
 fn pass<'t, 'o>(
     alloc: Global,
     text: &'t [u8],
@@ -140,10 +146,13 @@ fn pass<'t, 'o>(
     count: usize,
 ) -> Result<Searching<'t, 'o>, FixFault>
     requires searched { (p : Parsed) × IsOf p before.now }
-    requires few { count + room order.now ≤ 16777216 * 16 }
-    ensures passes { IfOk result (λ pass. (parsed : Parsed) × Reads text.now parsed × IsOf parsed pass.searched × Passes before.now.rules order.now parsed count pass.passed) }
+    requires few { count + room order.now ≤ MAX_TEXT * 16 }
+    ensures passes { IfOk result
+        (λ pass. (parsed : Parsed) × Reads text.now parsed × IsOf parsed pass.searched
+        × Passes before.now.rules order.now parsed count pass.passed) }
     ensures rules { IfOk result (λ pass. pass.searched.rules ≡ before.now.rules) }
-    ensures fault { IfErr result (λ fault. RefusesFrom before.now.rules order.now text.now by fault) }
+    ensures fault { IfErr result
+        (λ fault. RefusesFrom before.now.rules order.now text.now by fault) }
 {
     match search_made(alloc, text, before, spare, by) {
         Ok(searched) => {
@@ -157,41 +166,48 @@ fn pass<'t, 'o>(
 /// What all steps did to a text that the first of them changed.
 #[derive(Drop)]
 struct Ended {
-    change: Change,
+    change: NewText,
     fixed: usize,
     left: Vec<Issue>,
 }
 
-// The steps of these rules over a text that the step of one made of one that was searched, behind the edits so far.
+/// The steps of these rules over a text that the step of one made of one that was searched, behind
+/// the edits so far.
 fn run(
     alloc: Global,
     before: Searched<'_>,
     spare: Vec<Item>,
-    done: Change,
+    done: NewText,
     order: &[Rule],
     by: Rule,
     count: usize,
 ) -> Result<Ended, FixFault>
     requires searched { (p : Parsed) × IsOf p before }
     requires leads { (old : List ℕ) × Turns done.edits old done.text.items }
-    requires few { count + room order.now ≤ 16777216 * 16 }
-    ensures made { IfOk result (λ ended. FixesFrom before.entry.rules order.now done.text.items done.edits count (made_by ended)) }
-    ensures turns { (old : List ℕ) → Turns done.edits old done.text.items → IfOk result (λ ended. Turns ended.change.edits old ended.change.text.items) }
-    ensures left { IfOk result (λ ended. IsReport before.entry.rules ended.change.text.items ended.left.items) }
-    ensures fault { IfErr result (λ fault. RefusesFrom before.entry.rules order.now done.text.items by fault) }
+    requires few { count + room order.now ≤ MAX_TEXT * 16 }
+    ensures made { IfOk result
+        (λ ended. FixesFrom before.entry.rules order.now done.text.items done.edits count
+        (made_by ended)) }
+    ensures turns { (old : List ℕ) → Turns done.edits old done.text.items
+        → IfOk result (λ ended. Turns ended.change.edits old ended.change.text.items) }
+    ensures left { IfOk result
+        (λ ended. IsReport before.entry.rules ended.change.text.items ended.left.items) }
+    ensures fault { IfErr result
+        (λ fault. RefusesFrom before.entry.rules order.now done.text.items by fault) }
 {
-    let Change {
+    let NewText {
         text,
         edits: so_far,
     } = done;
     let Searching { searched, passed } = pass(alloc, &text, &before, spare, order, by, count)?;
-    // The text before the last step is not asked any more: the tokens of the next one come into the memory of its tokens.
+    // The text before the last step is not asked any more: the tokens of the next one come into the
+    // memory of its tokens.
     let spare = before.scanned.into_room();
     match passed {
         Passed::Same { fixed, left } => {
             drop(searched);
             Ok(Ended {
-                change: Change {
+                change: NewText {
                     text,
                     edits: so_far,
                 },
@@ -210,7 +226,7 @@ fn run(
                 alloc,
                 searched,
                 spare,
-                Change {
+                NewText {
                     text: change.text,
                     edits,
                 },
@@ -225,12 +241,14 @@ fn run(
 /// The text fixed by the rules of the set, in the order of their table,
 /// each over the text that the one before left.
 ///
-/// A text is read once for each rule that changes it, and once more. `FixBroken` where what a rule makes does not parse; `TooLong`
-/// where it would have more than 16,777,216 bytes.
+/// A text is read once for each rule that changes it, and once more. `FixBroken` where what a rule
+/// makes does not parse; `TooLong` where it would have more than 16,777,216 bytes.
 pub fn fix_text(alloc: Global, text: &[u8], rules: RuleSet) -> Result<Fixed, FixFault>
     ensures made { IfOk result (λ fixed. Fixes rules text.now (made_of text.now fixed)) }
-    ensures turns { IfOk result (λ fixed. IfSome fixed.change (λ change. Turns change.edits text.now change.text.items)) }
-    ensures left { IfOk result (λ fixed. IsReport rules (text_after text.now fixed.change) fixed.left.items) }
+    ensures turns { IfOk result
+        (λ fixed. IfSome fixed.change (λ change. Turns change.edits text.now change.text.items)) }
+    ensures left { IfOk result
+        (λ fixed. IsReport rules (text_after text.now fixed.change) fixed.left.items) }
     ensures fault { IfErr result (λ fault. Refuses rules text.now fault) }
 {
     let searched = search_text(alloc, text, rules)?;

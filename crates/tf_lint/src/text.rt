@@ -3,14 +3,14 @@
 ghost use Rattle.std.specs.Prelude.{◌≡◌, ◌≢◌, ◌++◌, ℕ, List, length, IfOk, IfErr, Ok, Err};
 ghost use Rattle.hcl_grammar.specs.Bodies.{IsFile};
 ghost use Rattle.hcl_grammar.specs.Pure.BodyParser as spec;
-ghost use Rattle.hcl_grammar.specs.declared.error.TokenFault.TheVariants as fault;
+ghost use Rattle.hcl_grammar.specs.declared.fault.TokenFault.TheVariants as fault;
 ghost use Rattle.hcl_grammar.specs.declared.tree.Member.{Member};
 ghost use Rattle.hcl_grammar.specs.declared.tree.Tree.{Tree};
 ghost use Rattle.hcl_grammar.specs.declared.bounds.TheConstants.{MAX_NESTING};
-ghost use Rattle.hcl_parses.specs.Parses.{Parses};
+ghost use Rattle.hcl_text_laws.specs.Parses.{Parses};
 ghost use Rattle.hcl_scan.specs.Follows.{tokens_of};
 ghost use Rattle.hcl_tree.specs.Faults.{IsMemory, IsMemoryOrDeep};
-ghost use Rattle.hcl_tree.specs.declared.error.ParseFault.TheVariants.{Memory};
+ghost use Rattle.hcl_tree.specs.declared.fault.ParseFault.TheVariants.{Memory};
 ghost use Rattle.tf_diagnostics.specs.Findings.{AreAtNodesAndBlocks, AreFindings};
 ghost use Rattle.tf_lint.specs.Inner.Seeing.{AreOf};
 ghost use Rattle.tf_lint.specs.Seen.{AreSeen};
@@ -18,11 +18,12 @@ ghost use Rattle.tf_rule.specs.Findings.{AreSound};
 
 use crate::body::{body, gathered};
 use crate::member::SeenMember;
-use hcl_grammar::error::TokenFault;
-use hcl_scan::{Kind, Scanned};
+use hcl_grammar::fault::TokenFault;
+use hcl_scan::Scanned;
+use hcl_token::Kind;
 use hcl_tree::{MAX_NESTING, ParseFault, Reader, ended, in_bytes};
 use std::alloc::Global;
-use tf_diagnostics::told;
+use tf_diagnostics::complete_findings;
 use tf_rule::{Finding, RuleSet};
 
 /// What the rules find in a text, and in each member of its body.
@@ -34,7 +35,7 @@ pub struct Seen {
     pub found: Vec<Finding>,
 }
 
-// The members of a text's body, up to its end.
+/// The members of a text's body, up to its end.
 fn file(
     alloc: Global,
     scanned: &Scanned<'_>,
@@ -44,8 +45,13 @@ fn file(
     at: &mut usize,
 ) -> Result<Vec<SeenMember>, TokenFault>
     requires { AreSeen rules old.now.pairs seen.now }
-    ensures found { IfOk result (λ found. (t : Tree) × (spec.file (tokens_of scanned.now.pairs) MAX_NESTING at.old ≡ Ok (t, at.new)) × AreOf rules scanned.now.pairs t.body.members found.items) }
-    ensures fault { IfErr result (λ e. e ≢ fault.Memory → spec.file (tokens_of scanned.now.pairs) MAX_NESTING at.old ≡ Err e) }
+    ensures found { IfOk result
+        (λ found. (t : Tree)
+        × (spec.file (tokens_of scanned.now.pairs) MAX_NESTING at.old ≡ Ok (t, at.new))
+        × AreOf rules scanned.now.pairs t.body.members found.items) }
+    ensures fault { IfErr result
+        (λ e. e ≢ fault.Memory
+        → spec.file (tokens_of scanned.now.pairs) MAX_NESTING at.old ≡ Err e) }
 {
     let reader = Reader::new(alloc, scanned);
     let _is_mark = reader.eat(Kind::Mark, at);
@@ -55,25 +61,28 @@ fn file(
     Ok(members)
 }
 
-// What was found at the nodes and at the blocks, with the comments, in the order of a report.
+/// What was found at the nodes and at the blocks, with the comments, in the order of a report.
 fn in_order(
     alloc: Global,
     scanned: &Scanned<'_>,
     rules: RuleSet,
     found: Vec<Finding>,
 ) -> Result<Vec<Finding>, ParseFault>
-    requires { (members : List Member) × AreAtNodesAndBlocks rules scanned.now.pairs members found.items }
-    ensures are { (members : List Member) → AreAtNodesAndBlocks rules scanned.now.pairs members found.items → IfOk result (λ told. AreFindings rules scanned.now.pairs members told.items) }
+    requires { (members : List Member)
+        × AreAtNodesAndBlocks rules scanned.now.pairs members found.items }
+    ensures are { (members : List Member)
+        → AreAtNodesAndBlocks rules scanned.now.pairs members found.items
+        → IfOk result (λ told. AreFindings rules scanned.now.pairs members told.items) }
     ensures sound { IfOk result (λ told. AreSound (length scanned.now.pairs) told.items) }
     ensures fault { IfErr result (λ fault. fault ≡ Memory) }
 {
-    match told(alloc, scanned, rules, found) {
+    match complete_findings(alloc, scanned, rules, found) {
         Ok(found) => Ok(found),
         Err(_) => Err(ParseFault::Memory),
     }
 }
 
-// What was found in the members of a text, with the comments, in the order of a report.
+/// What was found in the members of a text, with the comments, in the order of a report.
 fn reported(
     alloc: Global,
     scanned: &Scanned<'_>,
@@ -81,7 +90,8 @@ fn reported(
     members: &[SeenMember],
 ) -> Result<Vec<Finding>, ParseFault>
     requires { (ms : List Member) × AreOf rules scanned.now.pairs ms members.now }
-    ensures are { (ms : List Member) → AreOf rules scanned.now.pairs ms members.now → IfOk result (λ told. AreFindings rules scanned.now.pairs ms told.items) }
+    ensures are { (ms : List Member) → AreOf rules scanned.now.pairs ms members.now
+        → IfOk result (λ told. AreFindings rules scanned.now.pairs ms told.items) }
     ensures sound { IfOk result (λ told. AreSound (length scanned.now.pairs) told.items) }
     ensures fault { IfErr result (λ fault. fault ≡ Memory) }
 {
@@ -91,12 +101,13 @@ fn reported(
     }
 }
 
-/// What the rules of the set find in a text, if it parses, as `tf_diagnostics::findings` finds it in its tree; or why it does not parse, as
-/// `hcl_tree::parse` says it.
+/// What the rules of the set find in a text, if it parses, as `tf_diagnostics::findings` finds it
+/// in its tree; or why it does not parse, as `hcl_tree::parse` says it.
 ///
-/// The text is read once, from left to right. Of its tree no more is kept at a time than one attribute or block of its body. Of another
-/// text, that was read before with the same rules, the members are handed in: where the tokens of the next of them stand here too, what was found
-/// in it is taken as it was, its numbers moved, and it is not read again. There need not be any.
+/// The text is read once, from left to right. Of its tree no more is kept at a time than one
+/// attribute or block of its body. Of another text, that was read before with the same rules, the
+/// members are handed in: where the tokens of the next of them stand here too, what was found in it
+/// is taken as it was, its numbers moved, and it is not read again. There need not be any.
 pub fn findings(
     alloc: Global,
     scanned: &Scanned<'_>,
@@ -106,13 +117,16 @@ pub fn findings(
 ) -> Result<Seen, ParseFault>
     requires { AreSeen rules old.now.pairs seen.now }
     // The text parses, and this is what the rules find in its tree.
-    ensures found { IfOk result (λ seen. (t : Tree) × IsFile (tokens_of scanned.now.pairs) MAX_NESTING t × AreFindings rules scanned.now.pairs t.body.members seen.found.items) }
+    ensures found { IfOk result
+        (λ seen. (t : Tree) × IsFile (tokens_of scanned.now.pairs) MAX_NESTING t
+        × AreFindings rules scanned.now.pairs t.body.members seen.found.items) }
     ensures members { IfOk result (λ seen. AreSeen rules scanned.now.pairs seen.members.items) }
     ensures sound { IfOk result (λ seen. AreSound (length scanned.now.pairs) seen.found.items) }
     // A text that parses is not refused, unless memory runs out.
     ensures only { (t : Tree) → Parses scanned.now.text t → IfErr result IsMemory }
     // Where the tokens follow the grammar with more constructs in one another, the fault is that.
-    ensures deeper { (d : ℕ) (t : Tree) → IsFile (tokens_of scanned.now.pairs) d t → IfErr result IsMemoryOrDeep }
+    ensures deeper { (d : ℕ) (t : Tree) → IsFile (tokens_of scanned.now.pairs) d t
+        → IfErr result IsMemoryOrDeep }
 {
     hcl_grammar_laws::laws::file_answers();
     hcl_scan::laws::one_cut();

@@ -4,9 +4,10 @@ ghost use Rattle.std.specs.Prelude.{◌≡◌, ◌≢◌, ◌<◌, true, false, 
 ghost use Rattle.hcl_scan.specs.Follows.{tokens_of};
 ghost use Rattle.tf_lint.specs.Keeping.{SameTokens};
 
-use hcl_scan::{Kind, Scanned};
+use hcl_scan::Scanned;
+use hcl_token::Kind;
 
-// Whether two kinds are one.
+/// Whether two kinds are one.
 fn same_kind(a: Kind, b: Kind) -> bool
     ensures same { result ≡ true → a ≡ b }
     ensures other { result ≡ false → a ≢ b }
@@ -14,7 +15,7 @@ fn same_kind(a: Kind, b: Kind) -> bool
     a == b
 }
 
-// Whether two spellings are one.
+/// Whether two spellings are one.
 fn same_spelling(a: &[u8], b: &[u8]) -> bool
     ensures same { result ≡ true → a.now ≡ b.now }
     ensures other { result ≡ false → a.now ≢ b.now }
@@ -22,12 +23,14 @@ fn same_spelling(a: &[u8], b: &[u8]) -> bool
     a == b
 }
 
-// Whether a token of the one text is of the same kind as one of the other, and spelled alike.
+/// Whether a token of the one text is of the same kind as one of the other, and spelled alike.
 fn same_token(old: &Scanned<'_>, new: &Scanned<'_>, i: usize, j: usize) -> bool
     requires old { i < length old.now.pairs }
     requires new { j < length new.now.pairs }
-    ensures same { result ≡ true → slice_get (tokens_of old.now.pairs) i ≡ slice_get (tokens_of new.now.pairs) j }
-    ensures other { result ≡ false → slice_get (tokens_of old.now.pairs) i ≢ slice_get (tokens_of new.now.pairs) j }
+    ensures same { result ≡ true
+        → slice_get (tokens_of old.now.pairs) i ≡ slice_get (tokens_of new.now.pairs) j }
+    ensures other { result ≡ false
+        → slice_get (tokens_of old.now.pairs) i ≢ slice_get (tokens_of new.now.pairs) j }
 {
     if !same_kind(old.kind(i), new.kind(j)) {
         return false;
@@ -35,7 +38,8 @@ fn same_token(old: &Scanned<'_>, new: &Scanned<'_>, i: usize, j: usize) -> bool
     same_spelling(old.spelling(i), new.spelling(j))
 }
 
-/// Whether `count` tokens stand in the old text from number `from` on, and the same in the new one from number `to` on.
+/// Whether `count` tokens stand in the old text from number `from` on, and the same in the new one
+/// from number `to` on.
 pub fn same_tokens(
     old: &Scanned<'_>,
     new: &Scanned<'_>,
@@ -43,8 +47,10 @@ pub fn same_tokens(
     to: usize,
     count: usize,
 ) -> bool
-    ensures same { result ≡ true → SameTokens (tokens_of old.now.pairs) (tokens_of new.now.pairs) from to count }
-    ensures other { result ≡ false → ¬ (SameTokens (tokens_of old.now.pairs) (tokens_of new.now.pairs) from to count) }
+    ensures same { result ≡ true
+        → SameTokens (tokens_of old.now.pairs) (tokens_of new.now.pairs) from to count }
+    ensures other { result ≡ false
+        → ¬ (SameTokens (tokens_of old.now.pairs) (tokens_of new.now.pairs) from to count) }
 {
     if count > old.len() || from > old.len() - count {
         return false;

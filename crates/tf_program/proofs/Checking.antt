@@ -2,7 +2,7 @@
 use Rattle.std.proofs.Common.{◌≡◌, Bool, true, false, refl, sym, subst}
 use Rattle.tf_outcome.specs.declared.outcome.Met.{Met}
 use Rattle.tf_stream.specs.Streams.{Source}
-use Rattle.tf_session.specs.Streaming as streaming
+use Rattle.tf_commands.specs.Streaming as streaming
 use Rattle.tf_program.specs.Inputs.{Checks}
 
 pub checked : (met : Met) (yes : Bool) (source : Source) → (yes ≡ true → met ≡ Met.Nothing)

@@ -1,14 +1,14 @@
 -- What a fix of an input comes to, from what its calls answer. Its session has the text that came,
 -- and an empty journal.
 use Rattle.std.proofs.Common.{◌≡◌, ℕ, List, [], Result, Ok, Err, OnOk, IfOk, IfErr, refl, subst, inl, inr}
-use Rattle.edit_record.specs.Journal.{Entered}
+use Rattle.edit_list.specs.Journal.{Entered}
 use Rattle.tf_rule.specs.declared.rule_set.RuleSet.{RuleSet}
 use Rattle.tf_stream.specs.Streams.{Source, Target, Puts, Untouched}
-use Rattle.tf_session.specs.declared.command.Command.TheVariants.{Fix}
-use Rattle.tf_session.specs.declared.command.Done.{Done}
-use Rattle.tf_session.specs.declared.fault.RunFault.{RunFault}
-use Rattle.tf_session.specs.Records.{DoesStep}
-use Rattle.tf_session.specs.Streams.{TakesText}
+use Rattle.tf_commands.specs.declared.command.Command.TheVariants.{Fix}
+use Rattle.tf_commands.specs.declared.command.Done.{Done}
+use Rattle.tf_commands.specs.declared.fault.RunFault.{RunFault}
+use Rattle.tf_commands.specs.Records.{DoesStep}
+use Rattle.tf_commands.specs.Streams.{TakesText}
 use Rattle.tf_outcome.specs.declared.outcome.Met.{Met}
 use Rattle.tf_program.specs.Inputs.{ComesTo, FixesText, NotFixed, NotPutBoth, Fixes, FixesAtFault}
 

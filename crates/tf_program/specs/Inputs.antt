@@ -1,21 +1,21 @@
 -- What the work on one input took of it, what it wrote, and what it has met.
 use Rattle.std.specs.Prelude.{◌≡◌, ◌<◌, ◌⊎◌, ℕ, true, false, List, []}
-use Rattle.edit_record.specs.Journal.{Entered}
+use Rattle.edit_list.specs.Journal.{Entered}
 use Rattle.tf_rule.specs.declared.rule_set.RuleSet.{RuleSet}
 use Rattle.tf_lint.specs.declared.issue.Issue.{Issue}
 use Rattle.tf_lint.specs.Issues.{reports}
 use Rattle.tf_lint.specs.Steps.{IsReport}
 use Rattle.tf_stream.specs.Streams.{Source, Target, Puts, Untouched}
-use Rattle.tf_session.specs.declared.command.Command.TheVariants.{Fmt, Fix}
-use Rattle.tf_session.specs.declared.command.Done.{Done}
-use Rattle.tf_session.specs.declared.command.Fault.{Fault}
-use Rattle.tf_session.specs.declared.fault.RunFault.{RunFault}
-use Rattle.tf_session.specs.declared.fault.Part.{Part}
-use Rattle.tf_session.specs.Faults.{run_fault_of}
-use Rattle.tf_session.specs.Lines as lines
-use Rattle.tf_session.specs.Records.{DoesStep, RefusesStep}
-use Rattle.tf_session.specs.Streaming as streaming
-use Rattle.tf_session.specs.Streams.{TakesText, NotTaken, NotPut}
+use Rattle.tf_commands.specs.declared.command.Command.TheVariants.{Fmt, Fix}
+use Rattle.tf_commands.specs.declared.command.Done.{Done}
+use Rattle.tf_commands.specs.declared.command.Fault.{Fault}
+use Rattle.tf_commands.specs.declared.fault.RunFault.{RunFault}
+use Rattle.tf_commands.specs.declared.fault.Part.{Part}
+use Rattle.tf_commands.specs.Faults.{run_fault_of}
+use Rattle.tf_commands.specs.Lines as lines
+use Rattle.tf_commands.specs.Records.{DoesStep, RefusesStep}
+use Rattle.tf_commands.specs.Streaming as streaming
+use Rattle.tf_commands.specs.Streams.{TakesText, NotTaken, NotPut}
 use Rattle.tf_outcome.specs.declared.outcome.Met.{Met}
 
 -- what so many issues come to
@@ -51,7 +51,8 @@ abbrev pub FixesText : List ℕ → RuleSet → List ℕ → List Entered → Do
     → List Entered → Type 0
 FixesText name rules t js d left u ks =
     DoesStep (Fix rules) t js d u ks
-    × (issues : List Issue) × IsReport rules u issues × (left ≡ lines.lines_of name (reports issues))
+    × (issues : List Issue) × IsReport rules u issues
+    × (left ≡ lines.lines_of name (reports issues))
 
 -- The fix refused them; or it was done, and a growth was refused for those lines.
 abbrev pub NotFixed : RuleSet → List ℕ → List Entered → RunFault → Type 0

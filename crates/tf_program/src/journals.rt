@@ -6,8 +6,7 @@ use std::alloc::Global;
 use std::io::{ErrorKind, Read};
 use std::rt::Files;
 use std::{fs, io};
-use tf_journal::{journal_text, load};
-use tf_session::{RunFault, Session, Told};
+use tf_session::{RunFault, Session, Told, journal_text, load};
 
 /// A file and its journal, as they were read. A journal that is not there is the empty one.
 #[derive(Drop)]

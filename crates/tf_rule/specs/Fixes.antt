@@ -50,7 +50,9 @@ abbrev pub are_in_order : ℕ → ℕ → ℕ → Insertion → List (Option Kep
 are_in_order first past at written [] = is_read first past written && is_end first written at past
 are_in_order first past at written (None ∷ kept) = are_in_order first past at written kept
 are_in_order first past at written (Some k ∷ kept) =
-    is_read first past written && (is_something written at k.from && (nat_lt k.from k.to && are_in_order first past k.to k.behind kept))
+    is_read first past written
+    && (is_something written at k.from
+    && (nat_lt k.from k.to && are_in_order first past k.to k.behind kept))
 
 -- what a fix keeps stands in order in the tokens from number first up to past
 abbrev pub is_in_order : ℕ → ℕ → Fix → Bool
@@ -74,7 +76,8 @@ abbrev pub AreInOrder : ℕ → ℕ → ℕ → Insertion → List (Option Kept)
 AreInOrder first past at written [] = IsRead first past written × IsEnd first written at past
 AreInOrder first past at written (None ∷ kept) = AreInOrder first past at written kept
 AreInOrder first past at written (Some k ∷ kept) =
-    IsRead first past written × IsSomething written at k.from × (k.from < k.to) × AreInOrder first past k.to k.behind kept
+    IsRead first past written × IsSomething written at k.from × (k.from < k.to)
+    × AreInOrder first past k.to k.behind kept
 
 abbrev pub IsInOrder : ℕ → ℕ → Fix → Type 0
 IsInOrder first past Slashes = past ≡ first + 1

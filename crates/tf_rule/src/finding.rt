@@ -9,7 +9,7 @@ use crate::rule::Rule;
 use std::alloc::AllocError;
 
 /// What a name stands for.
-#[derive(Clone, Copy, Debug, PartialEq, Eq)]
+#[derive(Clone, Copy, Debug)]
 pub enum Named {
     Resource,
     Data,
@@ -19,8 +19,9 @@ pub enum Named {
     Local,
 }
 
-/// What the message of a finding names beside the words of its rule. An empty name in quotes has no token.
-#[derive(Clone, Copy, Debug, PartialEq, Eq)]
+/// What the message of a finding names beside the words of its rule. An empty name in quotes has no
+/// token.
+#[derive(Clone, Copy, Debug)]
 pub struct Message {
     pub named: Option<Named>,
     pub name: Option<usize>,
@@ -35,7 +36,7 @@ impl Message {
 }
 
 /// What a rule has found: its tokens, from number `first` up to, not with, number `past`.
-#[derive(Clone, Copy, Debug, PartialEq, Eq)]
+#[derive(Clone, Copy)]
 pub struct Finding {
     pub rule: Rule,
     pub first: usize,
@@ -65,7 +66,8 @@ impl Finding {
         }
     }
 
-    /// Whether its tokens are tokens of a text that has `count`, and what its fix keeps stands in order in them.
+    /// Whether its tokens are tokens of a text that has `count`, and what its fix keeps stands in
+    /// order in them.
     pub fn is_sound(&self, count: usize) -> bool
         ensures { result ≡ is_sound count self.now }
     {
@@ -73,14 +75,15 @@ impl Finding {
     }
 }
 
-/// Adds a finding to those in a text that has `count` tokens, if it is sound there; in the text's own tree each is.
-/// `AllocError` where there is no room for one more, and then nothing is added.
+/// Adds a finding to those in a text that has `count` tokens, if it is sound there; in the text's
+/// own tree each is. `AllocError` where there is no room for one more, and then nothing is added.
 pub fn add_finding(
     found: &mut Vec<Finding>,
     count: usize,
     finding: Finding,
 ) -> Result<(), AllocError>
-    ensures added { OnOk result (found.new.items ≡ found.old.items ++ filter (is_sound count) (finding ∷ [])) }
+    ensures added { OnOk result
+        (found.new.items ≡ found.old.items ++ filter (is_sound count) (finding ∷ [])) }
     ensures kept { OnErr result (found.new.items ≡ found.old.items) }
 {
     if finding.is_sound(count) {
@@ -91,5 +94,6 @@ pub fn add_finding(
 
 /// The test of a finding says the same as facts on its numbers.
 pub fn sound_is_sound()
-    ensures { (count : ℕ) (finding : Finding) → is_sound count finding ≡ true → IsSound count finding }
+    ensures { (count : ℕ) (finding : Finding) → is_sound count finding ≡ true
+        → IsSound count finding }
 {}

@@ -29,7 +29,7 @@ pub enum Rule {
 }
 
 /// How much an issue weighs.
-#[derive(Clone, Copy, Debug, PartialEq, Eq)]
+#[derive(Clone, Copy)]
 pub enum Severity {
     Warning,
     Notice,
@@ -48,7 +48,7 @@ impl Severity {
 }
 
 /// What is the same in each finding of a rule.
-#[derive(Clone, Copy, Debug)]
+#[derive(Clone, Copy)]
 pub struct Row {
     /// The name in reports and on the command line, as `terraform_comment_syntax`.
     pub name: &'static str,

@@ -58,7 +58,8 @@ impl RuleSet {
 
     /// The rules of either set.
     pub fn union(self, other: RuleSet) -> RuleSet
-        ensures { (rule : Rule) → has_rule result rule ≡ (has_rule self rule || has_rule other rule) }
+        ensures { (rule : Rule)
+            → has_rule result rule ≡ (has_rule self rule || has_rule other rule) }
     {
         RuleSet {
             on: Rule::ALL.map(
@@ -72,7 +73,8 @@ impl RuleSet {
     /// The set with the rule in it, whether it was there or not.
     pub fn with(self, rule: Rule) -> RuleSet
         ensures added { has_rule result rule ≡ true }
-        ensures others { (other : Rule) → other ≢ rule → has_rule result other ≡ has_rule self other }
+        ensures others { (other : Rule) → other ≢ rule
+            → has_rule result other ≡ has_rule self other }
     {
         let mut set = self;
         set.on[rule.index()] = true;
@@ -82,7 +84,8 @@ impl RuleSet {
     /// The set with the rule not in it, whether it was there or not.
     pub fn without(self, rule: Rule) -> RuleSet
         ensures removed { has_rule result rule ≡ false }
-        ensures others { (other : Rule) → other ≢ rule → has_rule result other ≡ has_rule self other }
+        ensures others { (other : Rule) → other ≢ rule
+            → has_rule result other ≡ has_rule self other }
     {
         let mut set = self;
         set.on[rule.index()] = false;

@@ -1,4 +1,5 @@
--- The attributes of a block, on lines of their own or on the line of the braces. HCL native syntax specification, Structural Elements.
+-- The attributes of a block, on lines of their own or on the line of the braces. HCL native syntax
+-- specification, Structural Elements.
 use Rattle.std.specs.Prelude.{ℕ, not, ◌&&◌, ◌||◌, Bool, true, false, List, [], ◌∷◌, Option, Some, None}
 use Rattle.std.specs.List.{flat_map, list_any}
 use Rattle.std.specs.Str.{bytes_eq}
@@ -53,7 +54,8 @@ is_empty_text e = is_empty_text_form (out-Form e.form)
 
 -- an attribute of this name, and, where that is asked for, with the value `""`
 abbrev pub is_attribute : List Pair → List ℕ → Bool → Attribute → Bool
-is_attribute pairs name empty a = bytes_eq (word pairs a.name) name && (not empty || is_empty_text a.value)
+is_attribute pairs name empty a =
+    bytes_eq (word pairs a.name) name && (not empty || is_empty_text a.value)
 
 -- whether one of the attributes is such
 abbrev pub has_attribute : List Pair → List ℕ → Bool → List Attribute → Bool

@@ -22,19 +22,29 @@ use Rattle.hcl_grammar.specs.declared.tree.Template.{Template}
 use Rattle.hcl_grammar.specs.declared.tree.Term.{Term}
 
 abbrev pub FormLayer : Type 0
-FormLayer = Form-F Form Part Shape Tail Call Elem Expr ForDirective ForObject ForTuple IfDirective Intro Link Template Term
+FormLayer =
+    Form-F Form Part Shape Tail Call Elem Expr ForDirective ForObject ForTuple IfDirective Intro
+    Link Template Term
 
 abbrev pub ShapeLayer : Type 0
-ShapeLayer = Shape-F Form Part Shape Tail Call Elem Expr ForDirective ForObject ForTuple IfDirective Intro Link Template Term
+ShapeLayer =
+    Shape-F Form Part Shape Tail Call Elem Expr ForDirective ForObject ForTuple IfDirective Intro
+    Link Template Term
 
 abbrev pub TailLayer : Type 0
-TailLayer = Tail-F Form Part Shape Tail Call Elem Expr ForDirective ForObject ForTuple IfDirective Intro Link Template Term
+TailLayer =
+    Tail-F Form Part Shape Tail Call Elem Expr ForDirective ForObject ForTuple IfDirective Intro
+    Link Template Term
 
 abbrev pub PartLayer : Type 0
-PartLayer = Part-F Form Part Shape Tail Call Elem Expr ForDirective ForObject ForTuple IfDirective Intro Link Template Term
+PartLayer =
+    Part-F Form Part Shape Tail Call Elem Expr ForDirective ForObject ForTuple IfDirective Intro
+    Link Template Term
 
 abbrev pub CallLayer : Type 0
-CallLayer = Call-F Form Part Shape Tail Call Elem Expr ForDirective ForObject ForTuple IfDirective Intro Link Template Term
+CallLayer =
+    Call-F Form Part Shape Tail Call Elem Expr ForDirective ForObject ForTuple IfDirective Intro
+    Link Template Term
 
 abbrev pub ContentLayer : Type 0
 ContentLayer = Content-F Content Member Block Body

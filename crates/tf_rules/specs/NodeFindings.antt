@@ -16,10 +16,15 @@ use Rattle.tf_rules.specs.Nodes.{Node, expr, term, tail, part, member}
 
 -- what the rules of the set find at a node, not in what stands in it
 abbrev pub node_findings : RuleSet → List Pair → Node → List Finding
-node_findings rules pairs (expr role e) = if has_rule rules EmptyListEquality then equality_findings pairs e.first (out-Form e.form) else []
+node_findings rules pairs (expr role e) =
+    if has_rule rules EmptyListEquality then equality_findings pairs e.first (out-Form e.form)
+    else []
 node_findings rules pairs (term role t) =
-    (if has_rule rules DeprecatedInterpolation then interpolation_findings pairs role t.first t.past (sole_in (out-Shape t.shape)) else [])
-    ++ (if has_rule rules DeprecatedLookup then lookup_findings pairs t.first t.past (out-Shape t.shape) else [])
-node_findings rules pairs (tail splat t) = if has_rule rules DeprecatedIndex then index_findings pairs splat (out-Tail t) else []
+    (if has_rule rules DeprecatedInterpolation
+    then interpolation_findings pairs role t.first t.past (sole_in (out-Shape t.shape)) else [])
+    ++ (if has_rule rules DeprecatedLookup
+    then lookup_findings pairs t.first t.past (out-Shape t.shape) else [])
+node_findings rules pairs (tail splat t) =
+    if has_rule rules DeprecatedIndex then index_findings pairs splat (out-Tail t) else []
 node_findings rules pairs (part x) = []
 node_findings rules pairs (member m) = []

@@ -29,7 +29,8 @@ pub data Node : Type 0 where
   expr : Role → Expr → Node
   -- a term, and as what the expression stands that is this term and nothing else
   term : Role → Term → Node
-  -- a tail of a term, and whether, going back from it over names and legacy indices, one comes to the tail `.*`
+  -- a tail of a term, and whether, going back from it over names and legacy indices, one comes to
+  -- the tail `.*`
   tail : Bool → Tail → Node
   -- a part of a template
   part : Part → Node
@@ -38,8 +39,8 @@ pub data Node : Type 0 where
 
 -- What stands directly in a node, in the order of the text.
 
--- Whether, going back from behind a tail over names and legacy indices, one comes to `.*`; the flag says so of the role before the
--- tail.
+-- Whether, going back from behind a tail over names and legacy indices, one comes to `.*`; the flag
+-- says so of the role before the tail.
 abbrev pub splat_behind : Bool → TailLayer → Bool
 splat_behind splat (Tail-F.Name n) = splat
 splat_behind splat (Tail-F.Legacy n) = splat
@@ -52,8 +53,10 @@ tails_from splat [] = []
 tails_from splat (t ∷ ts) = tail splat t ∷ tails_from (splat_behind splat (out-Tail t)) ts
 
 abbrev pub form_parts : Role → FormLayer → List Node
-form_parts p (Form-F.Conditional c met unmet) = expr Elsewhere c ∷ expr Elsewhere met ∷ expr Elsewhere unmet ∷ []
-form_parts p (Form-F.Chain head links) = expr Elsewhere head ∷ map (λ (l : Link). expr Elsewhere l.operand) links
+form_parts p (Form-F.Conditional c met unmet) =
+    expr Elsewhere c ∷ expr Elsewhere met ∷ expr Elsewhere unmet ∷ []
+form_parts p (Form-F.Chain head links) =
+    expr Elsewhere head ∷ map (λ (l : Link). expr Elsewhere l.operand) links
 form_parts p (Form-F.Prefixed op operand) = expr Elsewhere operand ∷ []
 form_parts p (Form-F.Tailed t tails) = term Elsewhere t ∷ tails_from false tails
 form_parts p (Form-F.Plain t) = term p t ∷ []
@@ -66,11 +69,14 @@ filter_parts None = []
 filter_parts (Some e) = expr Elsewhere e ∷ []
 
 abbrev pub for_tuple_parts : ForTuple → List Node
-for_tuple_parts f = expr Elsewhere (out-ForTuple f).intro.source ∷ expr Elsewhere (out-ForTuple f).value ∷ filter_parts (out-ForTuple f).filter
+for_tuple_parts f =
+    expr Elsewhere (out-ForTuple f).intro.source ∷ expr Elsewhere (out-ForTuple f).value
+    ∷ filter_parts (out-ForTuple f).filter
 
 abbrev pub for_object_parts : ForObject → List Node
 for_object_parts f =
-    expr Elsewhere (out-ForObject f).intro.source ∷ expr Elsewhere (out-ForObject f).key ∷ expr Elsewhere (out-ForObject f).value ∷ filter_parts (out-ForObject f).filter
+    expr Elsewhere (out-ForObject f).intro.source ∷ expr Elsewhere (out-ForObject f).key
+    ∷ expr Elsewhere (out-ForObject f).value ∷ filter_parts (out-ForObject f).filter
 
 abbrev pub shape_parts : ShapeLayer → List Node
 shape_parts Shape-F.Number = []
@@ -93,7 +99,8 @@ else_parts None = []
 else_parts (Some t) = map part t.parts
 
 abbrev pub if_parts : IfDirective → List Node
-if_parts d = expr Elsewhere (out-IfDirective d).condition ∷ (map part (out-IfDirective d).met.parts ++ else_parts (out-IfDirective d).unmet)
+if_parts d = expr Elsewhere (out-IfDirective d).condition
+    ∷ (map part (out-IfDirective d).met.parts ++ else_parts (out-IfDirective d).unmet)
 
 abbrev pub part_parts : PartLayer → List Node
 part_parts (Part-F.Literal n) = []
@@ -123,7 +130,8 @@ parts (member m) = member_parts (out-Member m)
 -- What stands in some nodes: each of them, followed by what stands in its parts.
 pub data Stand : List Node → List Node → Type 0 where
   nothing : Stand [] []
-  one : {n : Node} {ns inside others : List Node} → Stand (parts n) inside → Stand ns others → Stand (n ∷ ns) (n ∷ (inside ++ others))
+  one : {n : Node} {ns inside others : List Node} → Stand (parts n) inside → Stand ns others
+      → Stand (n ∷ ns) (n ∷ (inside ++ others))
 
 -- in some nodes stands one list
 abbrev pub OneListStands : Type 0

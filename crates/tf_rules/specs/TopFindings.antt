@@ -15,7 +15,8 @@ use Rattle.tf_rules.specs.Rules.Naming.{naming_findings}
 
 abbrev pub block_findings : RuleSet → List Pair → Block → List Finding
 block_findings rules pairs b =
-    (if has_rule rules NamingConvention then naming_findings pairs b else []) ++ missing_findings rules pairs b (slice_get b.labels 0)
+    (if has_rule rules NamingConvention then naming_findings pairs b else [])
+    ++ missing_findings rules pairs b (slice_get b.labels 0)
 
 abbrev pub member_findings_in : RuleSet → List Pair → MemberLayer → List Finding
 member_findings_in rules pairs (Member-F.Attribute a) = []

@@ -37,7 +37,8 @@ fn member_has(scanned: &Scanned<'_>, name: &[u8], empty: bool, m: &Member) -> bo
 }
 
 fn members_have(scanned: &Scanned<'_>, name: &[u8], empty: bool, members: &[Member]) -> bool
-    ensures { result ≡ has_attribute scanned.now.pairs name.now empty (flat_map member_attributes members.now) }
+    ensures { result ≡ has_attribute scanned.now.pairs name.now empty
+        (flat_map member_attributes members.now) }
 {
     for m in members {
         if member_has(scanned, name, empty, m) {
@@ -56,7 +57,8 @@ fn option_has(scanned: &Scanned<'_>, name: &[u8], empty: bool, a: &Option<Boxed<
     }
 }
 
-/// Whether a block has an attribute of this name, and, where that is asked for, with the value `""`.
+/// Whether a block has an attribute of this name, and, where that is asked for, with the value
+/// `""`.
 pub fn has_attribute(scanned: &Scanned<'_>, name: &[u8], empty: bool, b: &Block) -> bool
     ensures { result ≡ has_attribute scanned.now.pairs name.now empty (attributes b.now) }
 {

@@ -17,7 +17,9 @@ pub struct Finder<'s, 't> {
 impl<'s, 't> Finder<'s, 't> {
     /// Adds a finding, if it is sound in the text.
     pub fn add(&self, finding: Finding, found: &mut Vec<Finding>) -> Result<(), AllocError>
-        ensures { OnOk result (found.new.items ≡ found.old.items ++ sound (length self.now.scanned.now.pairs) (finding ∷ [])) }
+        ensures { OnOk result
+            (found.new.items ≡ found.old.items
+            ++ sound (length self.now.scanned.now.pairs) (finding ∷ [])) }
     {
         add_finding(found, self.scanned.len(), finding)
     }

@@ -1,5 +1,5 @@
-//! What each rule finds: a module a rule in `rules`, at the nodes of a syntax tree (`node`), at the blocks of a text (`top`), and at
-//! its comments.
+//! What each rule finds: a module a rule in `rules`, at the nodes of a syntax tree (`node`), at the
+//! blocks of a text (`top`), and at its comments.
 #![tactic(auto)]
 
 mod attributes;

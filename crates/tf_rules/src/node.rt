@@ -19,7 +19,10 @@ pub fn at_expr(
     e: &Expr,
     found: &mut Vec<Finding>,
 ) -> Result<(), AllocError>
-    ensures { OnOk result (found.new.items ≡ found.old.items ++ sound (length finder.now.scanned.now.pairs) (node_findings finder.now.rules finder.now.scanned.now.pairs (expr role e.now))) }
+    ensures { OnOk result
+        (found.new.items ≡ found.old.items
+        ++ sound (length finder.now.scanned.now.pairs)
+        (node_findings finder.now.rules finder.now.scanned.now.pairs (expr role e.now))) }
 {
     equality::find(finder, e, found)
 }
@@ -31,21 +34,28 @@ pub fn at_term(
     t: &Term,
     found: &mut Vec<Finding>,
 ) -> Result<(), AllocError>
-    ensures { OnOk result (found.new.items ≡ found.old.items ++ sound (length finder.now.scanned.now.pairs) (node_findings finder.now.rules finder.now.scanned.now.pairs (term role t.now))) }
+    ensures { OnOk result
+        (found.new.items ≡ found.old.items
+        ++ sound (length finder.now.scanned.now.pairs)
+        (node_findings finder.now.rules finder.now.scanned.now.pairs (term role t.now))) }
 {
     interpolation::find(finder, role, t, found)?;
     lookup::find(finder, t, found)?;
     Ok(())
 }
 
-/// At a tail of a term, and whether, going back from it over names and legacy indices, one comes to `.*`.
+/// At a tail of a term, and whether, going back from it over names and legacy indices, one comes to
+/// `.*`.
 pub fn at_tail(
     finder: &Finder<'_, '_>,
     splat: bool,
     t: &Tail,
     found: &mut Vec<Finding>,
 ) -> Result<(), AllocError>
-    ensures { OnOk result (found.new.items ≡ found.old.items ++ sound (length finder.now.scanned.now.pairs) (node_findings finder.now.rules finder.now.scanned.now.pairs (tail splat t.now))) }
+    ensures { OnOk result
+        (found.new.items ≡ found.old.items
+        ++ sound (length finder.now.scanned.now.pairs)
+        (node_findings finder.now.rules finder.now.scanned.now.pairs (tail splat t.now))) }
 {
     index::find(finder, splat, t, found)
 }

@@ -34,7 +34,8 @@ fn is_rest(rest: &[u8]) -> bool
     !bar
 }
 
-/// Whether a name is a lower-case letter, then lower-case letters and digits, with single `_` between them.
+/// Whether a name is a lower-case letter, then lower-case letters and digits, with single `_`
+/// between them.
 pub fn is_snake_case(name: &[u8]) -> bool
     ensures { result ≡ is_snake_case name.now }
 {

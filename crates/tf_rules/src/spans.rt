@@ -3,7 +3,8 @@
 ghost use Rattle.std.specs.Prelude.{◌≡◌, ◌==◌, ◌&&◌, ◌<◌, ◌≤◌, ◌+◌, ◌^◌};
 ghost use Rattle.tf_rules.specs.Spans.{tokens, is_break, is_trivia, opens, closes, depth_behind, has_break, has_trivia, is_here_close};
 
-use hcl_scan::{Kind, Scanned};
+use hcl_scan::Scanned;
+use hcl_token::Kind;
 
 fn is_break(comments: bool, kind: Kind) -> bool
     ensures { result ≡ is_break comments kind }
@@ -78,7 +79,8 @@ pub fn has_trivia(scanned: &Scanned<'_>, first: usize, past: usize) -> bool
     false
 }
 
-/// Whether a line end, or a line comment, stands among the tokens outside of brackets and sequences that open among them.
+/// Whether a line end, or a line comment, stands among the tokens outside of brackets and sequences
+/// that open among them.
 pub fn has_break(scanned: &Scanned<'_>, comments: bool, first: usize, past: usize) -> bool
     ensures { result ≡ has_break comments 0 (tokens scanned.now.pairs first past) }
 {

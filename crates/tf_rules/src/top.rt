@@ -12,7 +12,10 @@ use std::alloc::AllocError;
 use tf_rule::{Finding, RuleSet};
 
 fn at_block(finder: &Finder<'_, '_>, b: &Block, found: &mut Vec<Finding>) -> Result<(), AllocError>
-    ensures { OnOk result (found.new.items ≡ found.old.items ++ sound (length finder.now.scanned.now.pairs) (block_findings finder.now.rules finder.now.scanned.now.pairs b.now)) }
+    ensures { OnOk result
+        (found.new.items ≡ found.old.items
+        ++ sound (length finder.now.scanned.now.pairs)
+        (block_findings finder.now.rules finder.now.scanned.now.pairs b.now)) }
 {
     naming::find(finder, b, found)?;
     missing::find(finder, b, found)?;
@@ -24,7 +27,10 @@ fn at_member(
     m: &Member,
     found: &mut Vec<Finding>,
 ) -> Result<(), AllocError>
-    ensures { OnOk result (found.new.items ≡ found.old.items ++ sound (length finder.now.scanned.now.pairs) (member_findings finder.now.rules finder.now.scanned.now.pairs m.now)) }
+    ensures { OnOk result
+        (found.new.items ≡ found.old.items
+        ++ sound (length finder.now.scanned.now.pairs)
+        (member_findings finder.now.rules finder.now.scanned.now.pairs m.now)) }
 {
     match m {
         Member::Attribute(_) => Ok(()),
@@ -37,7 +43,10 @@ fn at_members(
     members: &[Member],
     found: &mut Vec<Finding>,
 ) -> Result<(), AllocError>
-    ensures { OnOk result (found.new.items ≡ found.old.items ++ sound (length finder.now.scanned.now.pairs) (top_findings finder.now.rules finder.now.scanned.now.pairs members.now)) }
+    ensures { OnOk result
+        (found.new.items ≡ found.old.items
+        ++ sound (length finder.now.scanned.now.pairs)
+        (top_findings finder.now.rules finder.now.scanned.now.pairs members.now)) }
 {
     for m in members {
         at_member(finder, m, found)?;
@@ -45,8 +54,8 @@ fn at_members(
     Ok(())
 }
 
-/// Adds what the rules of the set find at the blocks of a text's body, from the first to the last. `AllocError` where memory is
-/// refused.
+/// Adds what the rules of the set find at the blocks of a text's body, from the first to the last.
+/// `AllocError` where memory is refused.
 ///
 /// TFLint ruleset for the Terraform language.
 pub fn add_top_findings(
@@ -55,7 +64,10 @@ pub fn add_top_findings(
     rules: RuleSet,
     found: &mut Vec<Finding>,
 ) -> Result<(), AllocError>
-    ensures { OnOk result (found.new.items ≡ found.old.items ++ sound (length scanned.now.pairs) (top_findings rules scanned.now.pairs tree.now.body.members)) }
+    ensures { OnOk result
+        (found.new.items ≡ found.old.items
+        ++ sound (length scanned.now.pairs)
+        (top_findings rules scanned.now.pairs tree.now.body.members)) }
 {
     at_members(
         &Finder { scanned, rules },
@@ -64,8 +76,8 @@ pub fn add_top_findings(
     )
 }
 
-/// Adds what the rules of the set find at an attribute or a block of a text's body, as `add_top_findings` adds it for all of them.
-/// `AllocError` where memory is refused.
+/// Adds what the rules of the set find at an attribute or a block of a text's body, as
+/// `add_top_findings` adds it for all of them. `AllocError` where memory is refused.
 ///
 /// TFLint ruleset for the Terraform language.
 pub fn add_member_findings(
@@ -74,7 +86,9 @@ pub fn add_member_findings(
     m: &Member,
     found: &mut Vec<Finding>,
 ) -> Result<(), AllocError>
-    ensures { OnOk result (found.new.items ≡ found.old.items ++ sound (length scanned.now.pairs) (member_findings rules scanned.now.pairs m.now)) }
+    ensures { OnOk result
+        (found.new.items ≡ found.old.items
+        ++ sound (length scanned.now.pairs) (member_findings rules scanned.now.pairs m.now)) }
 {
     at_member(&Finder { scanned, rules }, m, found)
 }

@@ -1,4 +1,5 @@
--- What stands in a tree is listed twice: here are the nodes that the rules go through, in the laws of the grammar those that have tokens of their own.
+-- What stands in a tree is listed twice: here are the nodes that the rules go through, in the laws
+-- of the grammar those that have tokens of their own.
 use Rattle.std.specs.Prelude.{◌≡◌, Bool, true, false, List, ◌∷◌, map}
 use Rattle.hcl_grammar.specs.declared.tree.Attribute.{Attribute}
 use Rattle.hcl_grammar.specs.declared.tree.Block.{Block}
@@ -15,8 +16,9 @@ use Rattle.hcl_grammar_laws.specs.EachNode as grammar
 use Rattle.tf_rules.specs.declared.role.Role.{Role}
 use Rattle.tf_rules.specs.Nodes.{Node, expr, term, part, member, Stand}
 
--- The nodes that are in both lists. The other nodes of the grammar have no node of their own among those of the rules, but what they hold stands there: a body, a template,
--- what begins a `for`, the attribute of a block on one line, and a label, which holds nothing.
+-- The nodes that are in both lists. The other nodes of the grammar have no node of their own among
+-- those of the rules, but what they hold stands there: a body, a template, what begins a `for`, the
+-- attribute of a block on one line, and a label, which holds nothing.
 abbrev pub is_in_both : grammar.Node → Bool
 is_in_both (grammar.body b) = false
 is_in_both (grammar.on_line a) = false
@@ -29,10 +31,14 @@ is_in_both _ = true
 pub data IsSame : grammar.Node → Node → Type 0 where
   same_expr : {p : Role} {e : Expr} → IsSame (grammar.expr e) (expr p e)
   same_term : {p : Role} {t : Term} → IsSame (grammar.term t) (term p t)
-  same_if : {x : Part} {d : IfDirective} → out-Part x ≡ Part-F.If d → IsSame (grammar.if_directive d) (part x)
-  same_for : {x : Part} {d : ForDirective} → out-Part x ≡ Part-F.For d → IsSame (grammar.for_directive d) (part x)
-  same_attribute : {m : Member} {a : Attribute} → out-Member m ≡ Member-F.Attribute a → IsSame (grammar.attribute a) (member m)
-  same_block : {m : Member} {b : Block} → out-Member m ≡ Member-F.Block b → IsSame (grammar.block b) (member m)
+  same_if : {x : Part} {d : IfDirective} → out-Part x ≡ Part-F.If d
+      → IsSame (grammar.if_directive d) (part x)
+  same_for : {x : Part} {d : ForDirective} → out-Part x ≡ Part-F.For d
+      → IsSame (grammar.for_directive d) (part x)
+  same_attribute : {m : Member} {a : Attribute} → out-Member m ≡ Member-F.Attribute a
+      → IsSame (grammar.attribute a) (member m)
+  same_block : {m : Member} {b : Block} → out-Member m ≡ Member-F.Block b
+      → IsSame (grammar.block b) (member m)
 
 -- a node of the grammar is among nodes of the rules
 pub data IsAmong (n : grammar.Node) : List Node → Type 0 where
@@ -41,8 +47,10 @@ pub data IsAmong (n : grammar.Node) : List Node → Type 0 where
 
 -- what stands in a body for the grammar stands there for the rules
 abbrev pub EachIsGoneThrough : Type 0
-EachIsGoneThrough = (b : Body) (ns : List Node) → Stand (map member b.members) ns → (n : grammar.Node) → is_in_both n ≡ true → grammar.StandsIn n (grammar.body b) → IsAmong n ns
+EachIsGoneThrough = (b : Body) (ns : List Node) → Stand (map member b.members) ns
+    → (n : grammar.Node) → is_in_both n ≡ true → grammar.StandsIn n (grammar.body b) → IsAmong n ns
 
 -- and the other way round
 abbrev pub EachIsOfTheGrammar : Type 0
-EachIsOfTheGrammar = (b : Body) (ns : List Node) → Stand (map member b.members) ns → (n : grammar.Node) → IsAmong n ns → grammar.StandsIn n (grammar.body b)
+EachIsOfTheGrammar = (b : Body) (ns : List Node) → Stand (map member b.members) ns
+    → (n : grammar.Node) → IsAmong n ns → grammar.StandsIn n (grammar.body b)

@@ -39,7 +39,8 @@ pub data Own : Type 0 where
 
 abbrev pub form_own : FormLayer → List Own
 form_own (Form-F.Conditional c met unmet) = number 0 ∷ []
-form_own (Form-F.Chain head links) = number 1 ∷ operators (map (λ (l : Link). l.operator) links) ∷ []
+form_own (Form-F.Chain head links) =
+    number 1 ∷ operators (map (λ (l : Link). l.operator) links) ∷ []
 form_own (Form-F.Prefixed op operand) = number 2 ∷ prefix op ∷ []
 form_own (Form-F.Tailed t tails) = number 3 ∷ []
 form_own (Form-F.Plain t) = number 4 ∷ []
@@ -57,7 +58,8 @@ shape_own (Shape-F.Call c) = number 2 ∷ numbers (out-Call c).names ∷ flag (o
 shape_own (Shape-F.Tuple es) = number 3 ∷ []
 shape_own (Shape-F.Object xs) = number 4 ∷ []
 shape_own (Shape-F.ForTuple f) = number 5 ∷ intro_own (out-ForTuple f).intro
-shape_own (Shape-F.ForObject f) = number 6 ∷ flag (out-ForObject f).grouped ∷ intro_own (out-ForObject f).intro
+shape_own (Shape-F.ForObject f) =
+    number 6 ∷ flag (out-ForObject f).grouped ∷ intro_own (out-ForObject f).intro
 shape_own (Shape-F.Quoted t) = number 7 ∷ template_own t
 shape_own (Shape-F.Heredoc t) = number 8 ∷ template_own t
 shape_own (Shape-F.Parens e) = number 9 ∷ []
@@ -79,8 +81,11 @@ part_own (Part-F.Literal n) = number 0 ∷ number n ∷ []
 part_own (Part-F.Interp e) = number 1 ∷ []
 part_own (Part-F.If d) =
     number 2 ∷ number (out-IfDirective d).first ∷ number (out-IfDirective d).past
-    ∷ number (length (out-IfDirective d).met.parts) ∷ number (out-IfDirective d).met.first ∷ number (out-IfDirective d).met.past ∷ else_own (out-IfDirective d).unmet
-part_own (Part-F.For d) = number 3 ∷ number d.first ∷ number d.past ∷ number d.body.first ∷ number d.body.past ∷ intro_own d.intro
+    ∷ number (length (out-IfDirective d).met.parts) ∷ number (out-IfDirective d).met.first
+    ∷ number (out-IfDirective d).met.past ∷ else_own (out-IfDirective d).unmet
+part_own (Part-F.For d) =
+    number 3 ∷ number d.first ∷ number d.past ∷ number d.body.first ∷ number d.body.past
+    ∷ intro_own d.intro
 
 abbrev pub attribute_own : Attribute → List Own
 attribute_own a = number a.first ∷ number a.past ∷ number a.name ∷ []
@@ -92,7 +97,9 @@ content_own (Content-F.Line (Some a)) = number 2 ∷ attribute_own a
 
 abbrev pub member_own : MemberLayer → List Own
 member_own (Member-F.Attribute a) = number 0 ∷ attribute_own a
-member_own (Member-F.Block b) = number 1 ∷ number b.first ∷ number b.past ∷ number b.word ∷ labels b.labels ∷ content_own (out-Content b.content)
+member_own (Member-F.Block b) =
+    number 1 ∷ number b.first ∷ number b.past ∷ number b.word ∷ labels b.labels
+    ∷ content_own (out-Content b.content)
 
 abbrev pub own : Node → List Own
 own (expr p e) = number 0 ∷ role p ∷ number e.first ∷ number e.past ∷ form_own (out-Form e.form)
@@ -101,7 +108,8 @@ own (tail splat t) = number 2 ∷ flag splat ∷ tail_own (out-Tail t)
 own (part x) = number 3 ∷ part_own (out-Part x)
 own (member m) = number 4 ∷ member_own (out-Member m)
 
--- A node is told by what it has of its own and by its parts, so that `parts` forgets nothing that stands in it.
+-- A node is told by what it has of its own and by its parts, so that `parts` forgets nothing that
+-- stands in it.
 abbrev pub NoneForgotten : Type 0
 NoneForgotten = (a b : Node) → own a ≡ own b → parts a ≡ parts b → a ≡ b
 
@@ -109,7 +117,8 @@ NoneForgotten = (a b : Node) → own a ≡ own b → parts a ≡ parts b → a �
 abbrev pub mark : Node → List Own × ℕ
 mark n = (own n, length (parts n))
 
--- The nodes that stand in a tree tell the tree, each by what it has of its own and by how many parts it has: two trees of as many roots
--- in which the same stands in the same order are one.
+-- The nodes that stand in a tree tell the tree, each by what it has of its own and by how many
+-- parts it has: two trees of as many roots in which the same stands in the same order are one.
 abbrev pub TreeTold : Type 0
-TreeTold = (ns ms xs ys : List Node) → length ns ≡ length ms → Stand ns xs → Stand ms ys → map mark xs ≡ map mark ys → ns ≡ ms
+TreeTold = (ns ms xs ys : List Node) → length ns ≡ length ms → Stand ns xs → Stand ms ys
+    → map mark xs ≡ map mark ys → ns ≡ ms

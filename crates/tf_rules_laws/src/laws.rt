@@ -4,13 +4,14 @@ ghost use Rattle.tf_rules_laws.specs.Both.{EachIsGoneThrough, EachIsOfTheGrammar
 ghost use Rattle.tf_rules_laws.specs.Own.{NoneForgotten, TreeTold};
 ghost use Rattle.tf_rules_laws.specs.Dropped.{NoneDropped};
 
-/// What stands directly in a node, together with what it has of its own, tells the node: none of its parts is forgotten.
+/// What stands directly in a node, together with what it has of its own, tells the node: none of
+/// its parts is forgotten.
 pub fn none_forgotten()
     ensures { NoneForgotten }
 {}
 
-/// The nodes that stand in a tree tell the tree, each by what it has of its own and by how many parts it has: nothing of a tree
-/// is left out of the list of them.
+/// The nodes that stand in a tree tell the tree, each by what it has of its own and by how many
+/// parts it has: nothing of a tree is left out of the list of them.
 pub fn tree_told()
     ensures { TreeTold }
 {}
@@ -25,7 +26,8 @@ pub fn each_is_of_the_grammar()
     ensures { EachIsOfTheGrammar }
 {}
 
-/// Over a text that parses, what the rules find is all that they name: the test of a finding's numbers drops none.
+/// Over a text that parses, what the rules find is all that they name: the test of a finding's
+/// numbers drops none.
 pub fn none_dropped()
     ensures { NoneDropped }
 {

@@ -1,31 +1,21 @@
-//! Sessions over a Terraform text, and whole texts from readers and to writers.
+//! Texts with their journals: read from two readers, worked on, and written to two writers, the
+//! journal first.
 //!
-//! A `Session` is a text with the journal of the commands that changed it; `run` does several commands. The streams read a whole
-//! text, work on it, and write what comes of it. `laws` says what holds of whole runs.
+//! Every reader and writer is handed over in a fresh `Told`, which keeps whether a call of it
+//! failed.
 #![tactic(auto)]
 
-mod command;
-mod fault;
-mod fixing;
-mod formatting;
 pub mod laws;
-mod linting;
-mod reading;
-mod removing;
-mod running;
-mod session;
+mod loading;
+mod saving;
 mod streaming;
-mod texts;
 
-pub use command::{Command, Done, Fault, Reply};
-pub use edit_record::{Journal, Refused};
-pub use fault::{Part, RunFault};
-pub use hcl_scan::ScanFault;
-pub use hcl_tree::ParseFault;
-pub use linting::{lint_stream, put_issues};
-pub use running::run;
-pub use session::Session;
-pub use streaming::{check_stream, fix_through, step_stream};
-pub use texts::{put_journal, put_text, take_text};
-pub use tf_lint::{Issue, Rule, RuleSet};
-pub use tf_stream::Told;
+pub use edit_record::RecordFault;
+pub use loading::{MAX_JOURNAL, load};
+pub use saving::{journal_text, save};
+pub use streaming::{fix_stream, fmt_stream, revert_stream};
+pub use tf_commands::{
+    Command, Done, Fault, Issue, Journal, ParseFault, Part, Refused, Reply, Rule, RuleSet,
+    RunFault, ScanFault, Session, Told, check_stream, fix_through, lint_stream, put_issues,
+    put_journal, put_text, run, step_stream, take_text,
+};

@@ -1,88 +1,187 @@
-//! One command over a whole text, from a reader to a writer, and whether a whole text is laid out.
+//! One command over a text and its journal, from readers to writers.
 
-ghost use Rattle.std.specs.Prelude.{◌≡◌, ◌↔◌, true, false, IfOk, IfErr, IsErrOf, IsErrAnd};
+ghost use Rattle.std.specs.Prelude.{◌≡◌, ◌↔◌, ◌⊎◌, true, false, IfOk, IfErr, IsErrOf, IsErrAnd};
 ghost use Rattle.tf_stream.specs.Told.{has_failed};
-ghost use Rattle.tf_stream.specs.Streams.{from, into};
-ghost use Rattle.tf_session.specs.Session.{text_of, records_of};
-ghost use Rattle.tf_session.specs.Streams.{is_write};
-ghost use Rattle.tf_session.specs.declared.command.Command.TheVariants.{Fix};
-ghost use Rattle.tf_lint.specs.Steps.{IsReport};
-ghost use Rattle.tf_session.specs.Streaming.{StepsThrough, StepsAtFault, Checks, ChecksAtFault};
+ghost use Rattle.tf_stream.specs.Streams.{from, into, Untouched};
+ghost use Rattle.tf_commands.specs.Streams.{is_write};
+ghost use Rattle.tf_commands.specs.declared.command.Command.TheVariants.{Fmt, Fix, Revert};
+ghost use Rattle.tf_session.specs.Journals.{IsWriteOf, Streams, NotStreamed};
 
-use crate::command::{Command, Done};
-use crate::fault::RunFault;
-use crate::formatting::has_own_layout;
-use crate::session::Session;
-use crate::texts::{put_text, take_text};
-use edit_record::Journal;
+use crate::loading::load;
+use crate::saving::save;
 use std::alloc::Global;
 use std::io::{Read, Write};
-use tf_lint::{Issue, RuleSet};
-use tf_stream::Told;
+use tf_commands::{Command, Done, Part, RuleSet, RunFault, Told};
 
-/// One command over the whole text of a reader, with no journal. The new text, changed or not, goes to the writer.
+/// Lays out the text of a reader, and writes the journal with the record of that, then the new
+/// text.
 ///
-/// Answers the session after the command, and what it did. Nothing is written at any fault but `Write`.
-pub fn step_stream<R: Read, W: Write>(
+/// What comes of it is written where nothing changed, too. Nothing is written at any fault but
+/// `Write`.
+pub fn fmt_stream<R: Read, J: Read, K: Write, W: Write>(
+    alloc: Global,
+    text: &mut Told<R>,
+    journal: &mut Told<J>,
+    journal_out: &mut Told<K>,
+    text_out: &mut Told<W>,
+) -> Result<Done, RunFault>
+    requires text_fresh { has_failed text.old ≡ false }
+    requires journal_fresh { has_failed journal.old ≡ false }
+    requires journal_out_fresh { has_failed journal_out.old ≡ false }
+    requires text_out_fresh { has_failed text_out.old ≡ false }
+    ensures done { IfOk result
+        (λ d. Streams Fmt d (from R.remaining text.old text.new)
+        (from J.remaining journal.old journal.new)
+        (into K.contents journal_out.old journal_out.new)
+        (into W.contents text_out.old text_out.new)) }
+    ensures fault { IfErr result
+        (λ fault. NotStreamed Fmt fault (from R.remaining text.old text.new)
+        (from J.remaining journal.old journal.new)
+        (into K.contents journal_out.old journal_out.new)
+        (into W.contents text_out.old text_out.new)) }
+    ensures untouched_journal { IfErr result
+        (λ fault. is_write fault ≡ false
+        → Untouched (into K.contents journal_out.old journal_out.new)) }
+    ensures untouched_text { IfErr result
+        (λ fault. is_write fault ≡ false → Untouched (into W.contents text_out.old text_out.new)) }
+    ensures read { IsErrOf result RunFault.Read
+        ↔ (has_failed text.new ≡ true) ⊎ (has_failed journal.new ≡ true) }
+    ensures journal_told { IsErrAnd result (IsWriteOf Part.Journal)
+        ↔ has_failed journal_out.new ≡ true }
+    ensures text_told { IsErrAnd result (IsWriteOf Part.Text) ↔ has_failed text_out.new ≡ true }
+{
+    command_stream(alloc, Command::Fmt, text, journal, journal_out, text_out)
+}
+
+/// Fixes what the rules find in the text of a reader, and writes the journal with the record of
+/// that, then the new text.
+///
+/// What comes of it is written where nothing changed, too. Nothing is written at any fault but
+/// `Write`.
+pub fn fix_stream<R: Read, J: Read, K: Write, W: Write>(
+    alloc: Global,
+    text: &mut Told<R>,
+    journal: &mut Told<J>,
+    journal_out: &mut Told<K>,
+    text_out: &mut Told<W>,
+    rules: RuleSet,
+) -> Result<Done, RunFault>
+    requires text_fresh { has_failed text.old ≡ false }
+    requires journal_fresh { has_failed journal.old ≡ false }
+    requires journal_out_fresh { has_failed journal_out.old ≡ false }
+    requires text_out_fresh { has_failed text_out.old ≡ false }
+    ensures done { IfOk result
+        (λ d. Streams (Fix rules) d (from R.remaining text.old text.new)
+        (from J.remaining journal.old journal.new)
+        (into K.contents journal_out.old journal_out.new)
+        (into W.contents text_out.old text_out.new)) }
+    ensures fault { IfErr result
+        (λ fault. NotStreamed (Fix rules) fault (from R.remaining text.old text.new)
+        (from J.remaining journal.old journal.new)
+        (into K.contents journal_out.old journal_out.new)
+        (into W.contents text_out.old text_out.new)) }
+    ensures untouched_journal { IfErr result
+        (λ fault. is_write fault ≡ false
+        → Untouched (into K.contents journal_out.old journal_out.new)) }
+    ensures untouched_text { IfErr result
+        (λ fault. is_write fault ≡ false → Untouched (into W.contents text_out.old text_out.new)) }
+    ensures read { IsErrOf result RunFault.Read
+        ↔ (has_failed text.new ≡ true) ⊎ (has_failed journal.new ≡ true) }
+    ensures journal_told { IsErrAnd result (IsWriteOf Part.Journal)
+        ↔ has_failed journal_out.new ≡ true }
+    ensures text_told { IsErrAnd result (IsWriteOf Part.Text) ↔ has_failed text_out.new ≡ true }
+{
+    command_stream(
+        alloc,
+        Command::Fix(rules),
+        text,
+        journal,
+        journal_out,
+        text_out,
+    )
+}
+
+/// Takes back the last command on the text of a reader, and writes the journal without its record,
+/// then the text that there was before it.
+///
+/// Nothing is written at any fault but `Write`.
+pub fn revert_stream<R: Read, J: Read, K: Write, W: Write>(
+    alloc: Global,
+    text: &mut Told<R>,
+    journal: &mut Told<J>,
+    journal_out: &mut Told<K>,
+    text_out: &mut Told<W>,
+) -> Result<Done, RunFault>
+    requires text_fresh { has_failed text.old ≡ false }
+    requires journal_fresh { has_failed journal.old ≡ false }
+    requires journal_out_fresh { has_failed journal_out.old ≡ false }
+    requires text_out_fresh { has_failed text_out.old ≡ false }
+    ensures done { IfOk result
+        (λ d. Streams Revert d (from R.remaining text.old text.new)
+        (from J.remaining journal.old journal.new)
+        (into K.contents journal_out.old journal_out.new)
+        (into W.contents text_out.old text_out.new)) }
+    ensures fault { IfErr result
+        (λ fault. NotStreamed Revert fault (from R.remaining text.old text.new)
+        (from J.remaining journal.old journal.new)
+        (into K.contents journal_out.old journal_out.new)
+        (into W.contents text_out.old text_out.new)) }
+    ensures untouched_journal { IfErr result
+        (λ fault. is_write fault ≡ false
+        → Untouched (into K.contents journal_out.old journal_out.new)) }
+    ensures untouched_text { IfErr result
+        (λ fault. is_write fault ≡ false → Untouched (into W.contents text_out.old text_out.new)) }
+    ensures read { IsErrOf result RunFault.Read
+        ↔ (has_failed text.new ≡ true) ⊎ (has_failed journal.new ≡ true) }
+    ensures journal_told { IsErrAnd result (IsWriteOf Part.Journal)
+        ↔ has_failed journal_out.new ≡ true }
+    ensures text_told { IsErrAnd result (IsWriteOf Part.Text) ↔ has_failed text_out.new ≡ true }
+{
+    command_stream(alloc, Command::Revert, text, journal, journal_out, text_out)
+}
+
+/// Any command in this way.
+fn command_stream<R: Read, J: Read, K: Write, W: Write>(
     alloc: Global,
     command: Command,
     text: &mut Told<R>,
-    out: &mut Told<W>,
-) -> Result<(Session, Done), RunFault>
+    journal: &mut Told<J>,
+    journal_out: &mut Told<K>,
+    text_out: &mut Told<W>,
+) -> Result<Done, RunFault>
     requires text_fresh { has_failed text.old ≡ false }
-    requires out_fresh { has_failed out.old ≡ false }
-    ensures done { IfOk result (λ made. StepsThrough command made.1 (text_of made.0) (records_of made.0) (from R.remaining text.old text.new) (into W.contents out.old out.new)) }
-    ensures fault { IfErr result (λ fault. StepsAtFault command fault (from R.remaining text.old text.new) (into W.contents out.old out.new)) }
-    ensures read { IsErrOf result RunFault.Read ↔ has_failed text.new ≡ true }
-    ensures write { IsErrAnd result (λ fault. is_write fault ≡ true) ↔ has_failed out.new ≡ true }
+    requires journal_fresh { has_failed journal.old ≡ false }
+    requires journal_out_fresh { has_failed journal_out.old ≡ false }
+    requires text_out_fresh { has_failed text_out.old ≡ false }
+    ensures done { IfOk result
+        (λ d. Streams command d (from R.remaining text.old text.new)
+        (from J.remaining journal.old journal.new)
+        (into K.contents journal_out.old journal_out.new)
+        (into W.contents text_out.old text_out.new)) }
+    ensures fault { IfErr result
+        (λ fault. NotStreamed command fault (from R.remaining text.old text.new)
+        (from J.remaining journal.old journal.new)
+        (into K.contents journal_out.old journal_out.new)
+        (into W.contents text_out.old text_out.new)) }
+    ensures untouched_journal { IfErr result
+        (λ fault. is_write fault ≡ false
+        → Untouched (into K.contents journal_out.old journal_out.new)) }
+    ensures untouched_text { IfErr result
+        (λ fault. is_write fault ≡ false → Untouched (into W.contents text_out.old text_out.new)) }
+    ensures read { IsErrOf result RunFault.Read
+        ↔ (has_failed text.new ≡ true) ⊎ (has_failed journal.new ≡ true) }
+    ensures journal_told { IsErrAnd result (IsWriteOf Part.Journal)
+        ↔ has_failed journal_out.new ≡ true }
+    ensures text_told { IsErrAnd result (IsWriteOf Part.Text) ↔ has_failed text_out.new ≡ true }
 {
-    let bytes = take_text(alloc, text)?;
-    let mut session = Session::start(bytes, Journal::empty(alloc));
-    let done = session.step(alloc, command)?;
-    match put_text(session.text(), out) {
-        Ok(()) => Ok((session, done)),
-        Err(fault) => Err(fault),
-    }
-}
-
-/// A fix by the rules of the set over the whole text of a reader, with no journal. The new text, changed or not, goes to the writer.
-///
-/// Answers the session after it, what it did, and what the rules report of the new text. Nothing is written at any fault but
-/// `Write`.
-pub fn fix_through<R: Read, W: Write>(
-    alloc: Global,
-    rules: RuleSet,
-    text: &mut Told<R>,
-    out: &mut Told<W>,
-) -> Result<(Session, Done, Vec<Issue>), RunFault>
-    requires text_fresh { has_failed text.old ≡ false }
-    requires out_fresh { has_failed out.old ≡ false }
-    ensures done { IfOk result (λ made. StepsThrough (Fix rules) made.1 (text_of made.0) (records_of made.0) (from R.remaining text.old text.new) (into W.contents out.old out.new)) }
-    ensures left { IfOk result (λ made. IsReport rules (text_of made.0) made.2.items) }
-    ensures fault { IfErr result (λ fault. StepsAtFault (Fix rules) fault (from R.remaining text.old text.new) (into W.contents out.old out.new)) }
-    ensures read { IsErrOf result RunFault.Read ↔ has_failed text.new ≡ true }
-    ensures write { IsErrAnd result (λ fault. is_write fault ≡ true) ↔ has_failed out.new ≡ true }
-{
-    let bytes = take_text(alloc, text)?;
-    let mut session = Session::start(bytes, Journal::empty(alloc));
-    let (done, left) = session.fix(alloc, rules)?;
-    match put_text(session.text(), out) {
-        Ok(()) => Ok((session, done, left)),
-        Err(fault) => Err(fault),
-    }
-}
-
-/// Whether the whole text of a reader is its own layout.
-///
-/// A text that a fmt refuses is refused here too, with the same fault: one that does not parse, or has a layout of more than
-/// 16,777,216 bytes.
-pub fn check_stream<R: Read>(alloc: Global, text: &mut Told<R>) -> Result<bool, RunFault>
-    requires { has_failed text.old ≡ false }
-    ensures answer { IfOk result (λ yes. Checks yes (from R.remaining text.old text.new)) }
-    ensures fault { IfErr result (λ fault. ChecksAtFault fault (from R.remaining text.old text.new)) }
-    ensures read { IsErrOf result RunFault.Read ↔ has_failed text.new ≡ true }
-{
-    let bytes = take_text(alloc, text)?;
-    let yes = has_own_layout(alloc, bytes.as_slice())?;
-    Ok(yes)
+    let mut session = match load(alloc, text, journal) {
+        Ok(session) => session,
+        Err(fault) => return Err(fault),
+    };
+    let done = match session.step(alloc, command) {
+        Ok(done) => done,
+        Err(refusal) => return Err(RunFault::from(refusal)),
+    };
+    save(alloc, &session, journal_out, text_out)?;
+    Ok(done)
 }

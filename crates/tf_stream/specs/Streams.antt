@@ -1,5 +1,6 @@
--- What a call has taken from a reader, or put to a writer. The words `Consumes` and `Appends` of the standard library
--- speak of the bytes that a reader has left and a writer holds, where these are known.
+-- What a call has taken from a reader, or put to a writer. The words `Consumes` and `Appends` of
+-- the standard library speak of the bytes that a reader has left and a writer holds, where these
+-- are known.
 use Rattle.std.specs.Prelude.{◌≡◌, ◌≤◌, ◌<◌, ◌+◌, ℕ, List, length, take, Option}
 use Rattle.std.specs.Io.KnownBytes.{Consumes, Appends, Keeps, IsAtEnd}
 use Rattle.tf_stream.specs.declared.fault.TakeFault.{TakeFault}
@@ -19,7 +20,8 @@ pub record Target : Type 0 where
 
 -- this reader as a source, by what readers of its type have left
 abbrev pub from : {R : Type 0} → (R → Option (List ℕ)) → Told R → Told R → Source
-from remaining old new = record { before = remaining (inner_of old); after = remaining (inner_of new) }
+from remaining old new =
+    record { before = remaining (inner_of old); after = remaining (inner_of new) }
 
 -- this writer as a target, by what writers of its type hold
 abbrev pub into : {W : Type 0} → (W → Option (List ℕ)) → Told W → Told W → Target
@@ -33,12 +35,15 @@ Takes source bytes = Consumes source.before source.after bytes
 abbrev pub TakesAll : ℕ → Source → List ℕ → Type 0
 TakesAll limit source bytes = Takes source bytes × IsAtEnd source.after × (length bytes ≤ limit)
 
--- What was taken at each fault. A read fails before more than the limit is taken. Endless comes past the limit alone, after just
--- one byte more. Memory is wanted only for what was read, and only within the limit.
+-- What was taken at each fault. A read fails before more than the limit is taken. Endless comes
+-- past the limit alone, after just one byte more. Memory is wanted only for what was read, and only
+-- within the limit.
 abbrev pub TakenAtFault : ℕ → TakeFault → Source → Type 0
 TakenAtFault limit Read source = (bytes : List ℕ) × Takes source bytes × (length bytes ≤ limit)
-TakenAtFault limit Endless source = (bytes : List ℕ) × Takes source bytes × (length bytes ≡ limit + 1)
-TakenAtFault limit Memory source = (bytes : List ℕ) × Takes source bytes × (0 < length bytes) × (length bytes ≤ limit)
+TakenAtFault limit Endless source =
+    (bytes : List ℕ) × Takes source bytes × (length bytes ≡ limit + 1)
+TakenAtFault limit Memory source =
+    (bytes : List ℕ) × Takes source bytes × (0 < length bytes) × (length bytes ≤ limit)
 
 -- these bytes went to the target, behind what it held
 abbrev pub Puts : Target → List ℕ → Type 0

@@ -16,4 +16,6 @@ Tells old new r = MatchResult r (λ _. new ≡ old) (λ _. new ≡ true)
 
 -- the same, and a write that took none of some bytes is kept too
 abbrev pub TellsWrite : {E : Type 0} → Bool → Bool → Result ℕ E → List ℕ → Type 0
-TellsWrite old new r buf = MatchResult r (λ n. (0 < n → new ≡ old) × (length buf ≡ 0 → new ≡ old) × (n ≡ 0 → 0 < length buf → new ≡ true)) (λ _. new ≡ true)
+TellsWrite old new r buf =
+    MatchResult r (λ n. (0 < n → new ≡ old) × (length buf ≡ 0 → new ≡ old)
+    × (n ≡ 0 → 0 < length buf → new ≡ true)) (λ _. new ≡ true)

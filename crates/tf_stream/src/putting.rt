@@ -10,12 +10,13 @@ use std::io::Write;
 
 /// Writes all the bytes and flushes.
 ///
-/// A write that fails or takes nothing is told with the number of bytes that went out before it, and is not tried again; a
-/// refused flush with all bytes sent.
+/// A write that fails or takes nothing is told with the number of bytes that went out before it,
+/// and is not tried again; a refused flush with all bytes sent.
 pub fn put<W: Write>(bytes: &[u8], writer: &mut Told<W>) -> Result<(), PutFault>
     requires { has_failed writer.old ≡ false }
     ensures ok { OnOk result (Puts (into W.contents writer.old writer.new) bytes.now) }
-    ensures fault { IfErr result (λ fault. PutsFront fault.sent (into W.contents writer.old writer.new) bytes.now) }
+    ensures fault { IfErr result
+        (λ fault. PutsFront fault.sent (into W.contents writer.old writer.new) bytes.now) }
     ensures told { is_ok result ≡ false ↔ has_failed writer.new ≡ true }
 {
     let mut sent = 0;

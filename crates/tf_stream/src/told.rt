@@ -8,7 +8,8 @@ ghost use Rattle.tf_stream.specs.Told.{inner_of, has_failed, Tells, TellsWrite};
 use std::io;
 use std::io::{Read, Write};
 
-/// A reader or writer that passes each call on, and keeps whether one failed or a write took nothing.
+/// A reader or writer that passes each call on, and keeps whether one failed or a write took
+/// nothing.
 #[derive(Drop)]
 pub struct Told<T> {
     inner: T,
@@ -48,7 +49,8 @@ impl<R: Read> Read for Told<R> {
 
     fn read(&mut self, buf: &mut [u8]) -> io::Result<usize>
         ensures bound { ReadsAtMost result buf.new }
-        ensures bytes { ReadConsumes (R.remaining (inner_of self.old)) (R.remaining (inner_of self.new)) result buf.new }
+        ensures bytes { ReadConsumes (R.remaining (inner_of self.old))
+            (R.remaining (inner_of self.new)) result buf.new }
         ensures told { Tells (has_failed self.old) (has_failed self.new) result }
     {
         let answer = self.inner.read(buf);
@@ -61,7 +63,8 @@ impl<W: Write> Write for Told<W> {
 
     fn write(&mut self, buf: &[u8]) -> io::Result<usize>
         ensures bound { WritesAtMost result buf.now }
-        ensures bytes { WriteAppends (W.contents (inner_of self.old)) (W.contents (inner_of self.new)) result buf.now }
+        ensures bytes { WriteAppends (W.contents (inner_of self.old))
+            (W.contents (inner_of self.new)) result buf.now }
         ensures told { TellsWrite (has_failed self.old) (has_failed self.new) result buf.now }
     {
         let answer = self.inner.write(buf);
@@ -80,7 +83,7 @@ impl<W: Write> Write for Told<W> {
     }
 }
 
-// The answer of an inner call; that it failed is kept.
+/// The answer of an inner call; that it failed is kept.
 fn tell<X>(failed: &mut bool, answer: io::Result<X>) -> io::Result<X>
     ensures same { result ≡ answer }
     ensures told { Tells failed.old failed.new result }

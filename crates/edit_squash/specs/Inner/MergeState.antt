@@ -1,6 +1,6 @@
 -- The state in the code.
 use Rattle.edit_squash.specs.declared.merge.Merge.{Merge}
-use Rattle.edit_record.specs.Pieces.{entries}
+use Rattle.edit_list.specs.Pieces.{entries}
 use Rattle.edit_squash.specs.Inner.Merge.{State}
 
 abbrev pub state : Merge → State

@@ -2,7 +2,7 @@
 use Rattle.std.specs.Prelude.{ℕ, zero, suc, false, if◌then◌else◌, List, [], ◌∷◌, ◌++◌, length, Option, Some, None, Err}
 use Rattle.hcl_token.specs.declared.kind.Kind.{Kind}
 use Rattle.hcl_token.specs.declared.kind.Kind.TheVariants as k
-use Rattle.hcl_grammar.specs.declared.error.TokenFault.TheVariants.{TooDeep}
+use Rattle.hcl_grammar.specs.declared.fault.TokenFault.TheVariants.{TooDeep}
 use Rattle.hcl_grammar.specs.declared.goal.Goal.TheVariants.{Whole}
 use Rattle.hcl_grammar.specs.declared.tree.Content.{Content}
 use Rattle.hcl_grammar.specs.declared.tree.Content.TheVariants as content
@@ -12,17 +12,17 @@ use Rattle.hcl_grammar.specs.declared.tree.Member.TheVariants as member
 use Rattle.hcl_grammar.specs.declared.tree.Tree.{Tree}
 use Rattle.hcl_grammar.specs.Nodes as node
 use Rattle.hcl_grammar.specs.Pure.Parser.{line, inner_line, expr, some}
-use Rattle.hcl_grammar.specs.Pure.Reading.{Parser, ◌>>=◌, ◌>>◌, pure, here, ahead, refuse, peek, eat, expect, skip, enter}
+use Rattle.hcl_grammar.specs.Pure.Reading.{Step, ◌>>=◌, ◌>>◌, pure, here, ahead, refuse, peek, eat, expect, skip, enter}
 use Rattle.hcl_grammar.specs.Tokens.{Token, first_of}
 
 module _ (ts : List Token) where
   -- nothing comes next
-  abbrev pub ended : Option Kind → Parser (Unit {0})
+  abbrev pub ended : Option Kind → Step (Unit {0})
   ended None = pure tt
   ended (Some t) = refuse ts false
 
   -- Eol
-  unfoldable pub eol : Parser (Unit {0})
+  unfoldable pub eol : Step (Unit {0})
   eol = do
     is_line ← line ts
     if is_line then pure tt else (do
@@ -31,7 +31,7 @@ module _ (ts : List Token) where
       ended t)
 
   -- after the opening quote
-  unfoldable pub quoted_label : ℕ → Parser Label
+  unfoldable pub quoted_label : ℕ → Step Label
   quoted_label first = do
     name ← ahead ts false
     is_text ← eat ts false k.QuoteLit
@@ -40,7 +40,7 @@ module _ (ts : List Token) where
     pure (node.label first end (if is_text then Some name else None))
 
   -- by the kind of the token that comes next
-  abbrev pub label_by : ℕ → Option Kind → Parser (Option Label)
+  abbrev pub label_by : ℕ → Option Kind → Step (Option Label)
   label_by first (Some k.Identifier) = do
     skip ts false
     end ← here
@@ -50,26 +50,27 @@ module _ (ts : List Token) where
   label_by first None = pure None
 
   -- a label, if one comes next
-  unfoldable pub label_of : Parser (Option Label)
+  unfoldable pub label_of : Step (Option Label)
   label_of = do
     first ← ahead ts false
     t ← peek ts false
     label_by first t
 
-  abbrev pub labels_step : (List Label → Parser (List Label)) → List Label → Option Label → Parser (List Label)
+  abbrev pub labels_step : (List Label → Step (List Label)) → List Label → Option Label
+      → Step (List Label)
   labels_step more found None = pure found
   labels_step more found (Some x) = more (found ++ x ∷ [])
 
   -- Label*
-  unfoldable pub labels_from : ℕ → List Label → Parser (List Label)
+  unfoldable pub labels_from : ℕ → List Label → Step (List Label)
   labels_from zero found = pure found
   labels_from (suc n) found = do
     x ← label_of
     labels_step (labels_from n) found x
 
-  module _ (depth : ℕ) (inner : Parser (List Member)) where
+  module _ (depth : ℕ) (inner : Step (List Member)) where
     -- after the name and `=`
-    unfoldable pub attribute_by : ℕ → Parser Member
+    unfoldable pub attribute_by : ℕ → Step Member
     attribute_by first = do
       value ← expr ts depth false Whole
       eol
@@ -77,7 +78,7 @@ module _ (ts : List Token) where
       pure (member.Attribute (node.attribute first end value))
 
     -- the body of a block, behind the line of its brace
-    unfoldable pub nested_body : Parser Content
+    unfoldable pub nested_body : Step Content
     nested_body = do
       from ← here
       members ← inner
@@ -85,7 +86,7 @@ module _ (ts : List Token) where
       pure (content.Lines (node.body (first_of ts false from to) to members))
 
   -- (Identifier "=" Expr)?, its expressions at this depth
-  unfoldable pub on_line : ℕ → Parser Content
+  unfoldable pub on_line : ℕ → Step Content
   on_line depth = do
     first ← ahead ts false
     is_name ← eat ts false k.Identifier
@@ -99,15 +100,15 @@ module _ (ts : List Token) where
   one_less zero = zero
   one_less (suc depth) = depth
 
-  module _ (depth : ℕ) (inner : Parser (List Member)) where
+  module _ (depth : ℕ) (inner : Step (List Member)) where
     -- after `{`
-    unfoldable pub block_content : Parser Content
+    unfoldable pub block_content : Step Content
     block_content = do
       is_line ← inner_line ts
       if is_line then nested_body depth inner else on_line (one_less depth)
 
     -- after the word
-    unfoldable pub block_by : ℕ → Parser Member
+    unfoldable pub block_by : ℕ → Step Member
     block_by first = do
       labels ← labels_from (length ts) []
       opening ← ahead ts false
@@ -120,24 +121,25 @@ module _ (ts : List Token) where
       pure (node.block first end labels x)
 
     -- after the name
-    unfoldable pub named_member : ℕ → Parser Member
+    unfoldable pub named_member : ℕ → Step Member
     named_member first = do
       is_attribute ← eat ts false k.Equal
       if is_attribute then attribute_by depth inner first else block_by first
 
     -- a member, if one comes next
-    unfoldable pub member_of : Parser (Option Member)
+    unfoldable pub member_of : Step (Option Member)
     member_of = do
       first ← ahead ts false
       is_name ← eat ts false k.Identifier
       if is_name then some (named_member first) else pure None
 
-    abbrev pub members_step : (List Member → Parser (List Member)) → List Member → Option Member → Parser (List Member)
+    abbrev pub members_step : (List Member → Step (List Member)) → List Member → Option Member
+        → Step (List Member)
     members_step more found None = pure found
     members_step more found (Some m) = more (found ++ m ∷ [])
 
     -- Body
-    unfoldable pub members_from : ℕ → List Member → Parser (List Member)
+    unfoldable pub members_from : ℕ → List Member → Step (List Member)
     members_from zero found = pure found
     members_from (suc n) found = do
       is_line ← line ts
@@ -146,16 +148,16 @@ module _ (ts : List Token) where
         members_step (members_from n) found m)
 
   -- a body with at most so many constructs in one another
-  unfoldable pub members : ℕ → Parser (List Member)
+  unfoldable pub members : ℕ → Step (List Member)
   members zero = members_from zero (λ i. Err (TooDeep i)) (length ts) []
   members (suc depth) = members_from (suc depth) (members depth) (length ts) []
 
-  abbrev pub deeper_members : ℕ → Parser (List Member)
+  abbrev pub deeper_members : ℕ → Step (List Member)
   deeper_members zero = λ i. Err (TooDeep i)
   deeper_members (suc depth) = members depth
 
   -- File
-  unfoldable pub file : ℕ → Parser Tree
+  unfoldable pub file : ℕ → Step Tree
   file depth = do
     is_mark ← eat ts false k.Mark
     from ← here

@@ -1,4 +1,5 @@
--- For proofs: the levels of operators, by one look behind the operand. Where no operator follows it, no level is gone into.
+-- For proofs: the levels of operators, by one look behind the operand. Where no operator follows
+-- it, no level is gone into.
 use Rattle.std.specs.Prelude.{ℕ, zero, suc, Bool, List, [], length, Option, Some, None}
 use Rattle.hcl_token.specs.declared.kind.Kind.{Kind}
 use Rattle.hcl_grammar.specs.declared.tree.Expr.{Expr}
@@ -6,7 +7,7 @@ use Rattle.hcl_grammar.specs.declared.tree.Operator.{Operator}
 use Rattle.hcl_grammar.specs.Nodes as node
 use Rattle.hcl_grammar.specs.Operators.{operator_of, levels}
 use Rattle.hcl_grammar.specs.Pure.Parser as p
-use Rattle.hcl_grammar.specs.Pure.Reading.{Parser, ◌>>=◌, pure, here}
+use Rattle.hcl_grammar.specs.Pure.Reading.{Step, ◌>>=◌, pure, here}
 use Rattle.hcl_grammar.specs.Tokens.{Token, next}
 
 -- the level of an operator; past all levels, if it is none
@@ -24,7 +25,7 @@ binds ts m i = level_of (next ts m i)
 
 module _ (ts : List Token) (depth : ℕ) (inner : p.Under) where
   -- the operators of the levels below n, behind an operand that was read
-  unfoldable pub rest : ℕ → Bool → ℕ → Expr → Parser Expr
+  unfoldable pub rest : ℕ → Bool → ℕ → Expr → Step Expr
   rest zero m first head = pure head
   rest (suc n) m first head = do
     lower ← rest n m first head

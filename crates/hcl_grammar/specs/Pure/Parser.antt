@@ -2,7 +2,7 @@
 use Rattle.std.specs.Prelude.{ℕ, zero, suc, ◌==◌, ◌||◌, Bool, true, false, if◌then◌else◌, List, [], ◌∷◌, ◌++◌, length, Option, Some, None, Ok, Err}
 use Rattle.hcl_token.specs.declared.kind.Kind.{Kind}
 use Rattle.hcl_token.specs.declared.kind.Kind.TheVariants as k
-use Rattle.hcl_grammar.specs.declared.error.TokenFault.TheVariants.{Syntax, TooDeep}
+use Rattle.hcl_grammar.specs.declared.fault.TokenFault.TheVariants.{Syntax, TooDeep}
 use Rattle.hcl_grammar.specs.declared.goal.Goal.{Goal}
 use Rattle.hcl_grammar.specs.declared.goal.Goal.TheVariants.{Whole, Operand}
 use Rattle.hcl_grammar.specs.declared.tree.Elem.{Elem}
@@ -21,21 +21,21 @@ use Rattle.hcl_grammar.specs.declared.tree.Template.{Template}
 use Rattle.hcl_grammar.specs.declared.tree.Term.{Term}
 use Rattle.hcl_grammar.specs.Nodes as node
 use Rattle.hcl_grammar.specs.Operators.{prefix_of, operator_of, levels}
-use Rattle.hcl_grammar.specs.Pure.Reading.{Outcome, Parser, ◌>>=◌, ◌>>◌, pure, here, ahead, refuse, peek, eat, expect, bump, skip, look, word, sees, past, reads, enter, enter_two}
+use Rattle.hcl_grammar.specs.Pure.Reading.{Outcome, Step, ◌>>=◌, ◌>>◌, pure, here, ahead, refuse, peek, eat, expect, bump, skip, look, word, sees, past, reads, enter, enter_two}
 use Rattle.hcl_grammar.specs.Tokens.{Token, next, after, first_of, for_word, in_word, if_word, else_word, endif_word, endfor_word}
 
 -- an answer, as one that is there
-abbrev pub some : {A : Type 0} → Parser A → Parser (Option A)
+abbrev pub some : {A : Type 0} → Step A → Step (Option A)
 some p = p >>= (λ x. pure (Some x))
 
--- the parsers of what stands one construct deeper
+-- the steps that read what stands one construct deeper
 pub record Under : Type 0 where
-  pub expr : Bool → Goal → Parser Expr
-  pub parts : Bool → Parser (List Part)
+  pub expr : Bool → Goal → Step Expr
+  pub parts : Bool → Step (List Part)
 
--- parsers of expressions
+-- steps that read expressions
 abbrev pub Exprs : Type 0
-Exprs = Bool → Goal → Parser Expr
+Exprs = Bool → Goal → Step Expr
 
 module _ (ts : List Token) where
   abbrev pub prefixing : Bool → ℕ → Option Prefix → Outcome (Option Prefix)
@@ -47,7 +47,7 @@ module _ (ts : List Token) where
   prefixes m i (Some t) = prefixing m i (prefix_of t)
 
   -- takes a prefix operator, if one comes next
-  unfoldable pub prefix : Bool → Parser (Option Prefix)
+  unfoldable pub prefix : Bool → Step (Option Prefix)
   prefix m = λ i. prefixes m i (next ts m i)
 
   abbrev pub operated : Bool → ℕ → ℕ → Option (ℕ × Operator) → Outcome (Option Operator)
@@ -59,45 +59,46 @@ module _ (ts : List Token) where
   operates m n i (Some t) = operated m n i (operator_of t)
 
   -- takes an operator of the level, if one comes next
-  unfoldable pub operator : Bool → ℕ → Parser (Option Operator)
+  unfoldable pub operator : Bool → ℕ → Step (Option Operator)
   operator m n = λ i. operates m n i (next ts m i)
 
   -- nl, if it comes next; a comment at the end of the text is none
-  unfoldable pub line : Parser Bool
-  line = λ i. let j = past ts false k.LineComment i in Ok (sees ts false k.LineEnd j, if sees ts false k.LineEnd j then after ts false j else i)
+  unfoldable pub line : Step Bool
+  line = λ i. let j = past ts false k.LineComment i in
+      Ok (sees ts false k.LineEnd j, if sees ts false k.LineEnd j then after ts false j else i)
 
   -- nl, if it comes next, where the text does not end
-  unfoldable pub inner_line : Parser Bool
+  unfoldable pub inner_line : Step Bool
   inner_line = do
     is_comment ← eat ts false k.LineComment
     if is_comment then (do expect ts false k.LineEnd; pure true) else eat ts false k.LineEnd
 
   -- nl*, at most so many
-  unfoldable pub lines_from : ℕ → Parser (Unit {0})
+  unfoldable pub lines_from : ℕ → Step (Unit {0})
   lines_from zero = pure tt
   lines_from (suc n) = do
     more ← inner_line
     if more then lines_from n else pure tt
 
   -- nl*
-  abbrev pub lines : Parser (Unit {0})
+  abbrev pub lines : Step (Unit {0})
   lines = lines_from (length ts)
 
   -- Sep, if it comes next
-  unfoldable pub separator : Parser Bool
+  unfoldable pub separator : Step Bool
   separator = do
     is_comma ← eat ts false k.Comma
     is_line ← (if is_comma then pure true else inner_line)
     if is_line then (do lines; pure true) else pure false
 
   -- a separator, else the closing brace
-  unfoldable pub separator_or_end : Parser Bool
+  unfoldable pub separator_or_end : Step Bool
   separator_or_end = do
     more ← separator
     if more then pure true else (do expect ts false k.CloseBrace; pure false)
 
   -- the names behind the first of a function's name
-  unfoldable pub names_from : Bool → ℕ → List ℕ → Parser (List ℕ)
+  unfoldable pub names_from : Bool → ℕ → List ℕ → Step (List ℕ)
   names_from m zero found = pure found
   names_from m (suc n) found = do
     more ← eat ts m k.DoubleColon
@@ -107,7 +108,7 @@ module _ (ts : List Token) where
       names_from m n (found ++ number ∷ [])) else pure found
 
   -- the second name of a `for`, if there is one
-  unfoldable pub second : Parser (Option ℕ)
+  unfoldable pub second : Step (Option ℕ)
   second = do
     more ← eat ts true k.Comma
     if more then (do
@@ -116,7 +117,7 @@ module _ (ts : List Token) where
       pure (Some number)) else pure None
 
   -- DirectiveOpen, the word and SeqClose
-  unfoldable pub keyword : Bool → List ℕ → Parser (Unit {0})
+  unfoldable pub keyword : Bool → List ℕ → Step (Unit {0})
   keyword m w = do
     expect ts m k.DirectiveOpen
     word ts true w
@@ -125,7 +126,7 @@ module _ (ts : List Token) where
   -- inner: the expressions of one construct deeper
   module _ (inner : Exprs) where
     -- (Expr ("," Expr)* ","?)? and `]`, put behind those that were found; so in the lists below
-    unfoldable pub items_from : ℕ → List Expr → Parser (List Expr)
+    unfoldable pub items_from : ℕ → List Expr → Step (List Expr)
     items_from zero found = refuse ts true
     items_from (suc n) found = do
       is_closed ← eat ts true k.CloseBracket
@@ -137,7 +138,7 @@ module _ (ts : List Token) where
           pure (found ++ x ∷ [])))
 
     -- (Expr ("," Expr)* (","|"...")?)? and `)`
-    unfoldable pub arguments_from : ℕ → List Expr → Parser (List Expr × Bool)
+    unfoldable pub arguments_from : ℕ → List Expr → Step (List Expr × Bool)
     arguments_from zero found = refuse ts true
     arguments_from (suc n) found = do
       is_closed ← eat ts true k.CloseParen
@@ -150,7 +151,7 @@ module _ (ts : List Token) where
           pure (found ++ x ∷ [], spread)))
 
     -- Elem
-    unfoldable pub element : Parser Elem
+    unfoldable pub element : Step Elem
     element = do
       key ← inner false Whole
       is_equals ← eat ts false k.Equal
@@ -160,7 +161,7 @@ module _ (ts : List Token) where
         pure (node.elem key value))
 
     -- (Elem (Sep Elem)* Sep?)? and `}`
-    unfoldable pub elements_from : ℕ → List Elem → Parser (List Elem)
+    unfoldable pub elements_from : ℕ → List Elem → Step (List Elem)
     elements_from zero found = refuse ts false
     elements_from (suc n) found = do
       is_closed ← eat ts false k.CloseBrace
@@ -170,7 +171,7 @@ module _ (ts : List Token) where
         if more then elements_from n (found ++ x ∷ []) else pure (found ++ x ∷ []))
 
     -- Intro
-    unfoldable pub intro : Parser Intro
+    unfoldable pub intro : Step Intro
     intro = do
       first ← ahead ts true
       word ts true for_word
@@ -183,7 +184,7 @@ module _ (ts : List Token) where
       pure (node.intro first end name o source)
 
     -- ("if" Expr)? and the closing bracket
-    unfoldable pub filter : Kind → Parser (Option Expr)
+    unfoldable pub filter : Kind → Step (Option Expr)
     filter close = do
       is_filter ← look ts true if_word
       if is_filter then (do
@@ -195,20 +196,20 @@ module _ (ts : List Token) where
           pure None)
 
     -- each after its opening bracket
-    unfoldable pub tuple : ℕ → Parser Term
+    unfoldable pub tuple : ℕ → Step Term
     tuple first = do
       es ← items_from (length ts) []
       end ← here
       pure (node.term first end (shape.Tuple es))
 
-    unfoldable pub object : ℕ → Parser Term
+    unfoldable pub object : ℕ → Step Term
     object first = do
       lines
       xs ← elements_from (length ts) []
       end ← here
       pure (node.term first end (shape.Object xs))
 
-    unfoldable pub for_tuple : ℕ → Parser Term
+    unfoldable pub for_tuple : ℕ → Step Term
     for_tuple first = do
       x ← intro
       expect ts true k.Colon
@@ -218,7 +219,7 @@ module _ (ts : List Token) where
       pure (node.term first end (node.for_tuple x value o))
 
     -- after the key
-    unfoldable pub for_value : ℕ → Intro → Expr → Parser Term
+    unfoldable pub for_value : ℕ → Intro → Expr → Step Term
     for_value first x key = do
       expect ts true k.FatArrow
       value ← inner true Whole
@@ -227,7 +228,7 @@ module _ (ts : List Token) where
       end ← here
       pure (node.term first end (node.for_object x key value grouped o))
 
-    unfoldable pub for_object : ℕ → Parser Term
+    unfoldable pub for_object : ℕ → Step Term
     for_object first = do
       x ← intro
       expect ts true k.Colon
@@ -237,21 +238,21 @@ module _ (ts : List Token) where
   -- depth: how many constructs may still nest
   module _ (depth : ℕ) (inner : Under) where
     -- after `[`
-    unfoldable pub bracket : ℕ → Parser Term
+    unfoldable pub bracket : ℕ → Step Term
     bracket first = do
       enter depth first
       is_for ← look ts true for_word
       if is_for then for_tuple inner.expr first else tuple inner.expr first
 
     -- after `{`
-    unfoldable pub brace : ℕ → Parser Term
+    unfoldable pub brace : ℕ → Step Term
     brace first = do
       enter depth first
       is_for ← look ts true for_word
       if is_for then for_object inner.expr first else object inner.expr first
 
     -- after `(`
-    unfoldable pub parens : ℕ → Parser Term
+    unfoldable pub parens : ℕ → Step Term
     parens first = do
       enter depth first
       e ← inner.expr true Whole
@@ -260,7 +261,7 @@ module _ (ts : List Token) where
       pure (node.term first end (shape.Parens e))
 
     -- the parts up to this token, as a template
-    unfoldable pub closed : Bool → Kind → Parser Template
+    unfoldable pub closed : Bool → Kind → Step Template
     closed m close = do
       from ← here
       ps ← inner.parts m
@@ -269,14 +270,14 @@ module _ (ts : List Token) where
       pure (node.template (first_of ts m from to) to ps)
 
     -- after the opening
-    unfoldable pub quoted : Bool → ℕ → Parser Term
+    unfoldable pub quoted : Bool → ℕ → Step Term
     quoted m first = do
       enter depth first
       t ← closed m k.QuoteClose
       end ← here
       pure (node.term first end (shape.Quoted t))
 
-    unfoldable pub heredoc : Bool → ℕ → Parser Term
+    unfoldable pub heredoc : Bool → ℕ → Step Term
     heredoc m first = do
       enter depth first
       t ← closed m k.HereClose
@@ -284,7 +285,7 @@ module _ (ts : List Token) where
       pure (node.term first end (shape.Heredoc t))
 
     -- a call, after its first name
-    unfoldable pub call : Bool → ℕ → Parser Term
+    unfoldable pub call : Bool → ℕ → Step Term
     call m first = do
       names ← names_from m (length ts) []
       opening ← ahead ts m
@@ -295,14 +296,14 @@ module _ (ts : List Token) where
       pure (node.term first end (node.call (first ∷ names) xs.0 xs.1))
 
     -- after the identifier
-    unfoldable pub named : Bool → ℕ → Parser Term
+    unfoldable pub named : Bool → ℕ → Step Term
     named m first = do
       end ← here
       is_call ← (λ i. Ok (sees ts m k.OpenParen i || sees ts m k.DoubleColon i, i))
       if is_call then call m first else pure (node.term first end shape.Identifier)
 
     -- by the kind of its first token, which was taken
-    abbrev pub term_by : Bool → ℕ → Kind → Parser Term
+    abbrev pub term_by : Bool → ℕ → Kind → Step Term
     term_by m first k.Number = do end ← here; pure (node.term first end shape.Number)
     term_by m first k.Identifier = named m first
     term_by m first k.OpenBracket = bracket first
@@ -313,14 +314,14 @@ module _ (ts : List Token) where
     term_by m first _ = λ i. Err (Syntax first)
 
     -- Term
-    unfoldable pub term : Bool → Parser Term
+    unfoldable pub term : Bool → Step Term
     term m = do
       first ← ahead ts m
       t ← bump ts m
       term_by m first t
 
     -- after `.`
-    unfoldable pub dotted : Bool → Parser Tail
+    unfoldable pub dotted : Bool → Step Tail
     dotted m = do
       is_splat ← eat ts m k.Star
       if is_splat then pure tail.AttributeSplat else (do
@@ -329,7 +330,7 @@ module _ (ts : List Token) where
         pure (tail.Name name))
 
     -- after `[`
-    unfoldable pub indexed : ℕ → Parser Tail
+    unfoldable pub indexed : ℕ → Step Tail
     indexed first = do
       enter depth first
       is_splat ← eat ts true k.Star
@@ -341,7 +342,7 @@ module _ (ts : List Token) where
           pure (tail.Index e))
 
     -- by the kind of the token that comes next
-    abbrev pub tail_by : Bool → ℕ → Option Kind → Parser (Option Tail)
+    abbrev pub tail_by : Bool → ℕ → Option Kind → Step (Option Tail)
     tail_by m first (Some k.Dot) = skip ts m >> some (dotted m)
     tail_by m first (Some k.DotIndex) = skip ts m >> some (pure (tail.Legacy first))
     tail_by m first (Some k.OpenBracket) = skip ts m >> some (indexed first)
@@ -349,25 +350,26 @@ module _ (ts : List Token) where
     tail_by m first None = pure None
 
     -- a tail, if one comes next
-    unfoldable pub tail_of : Bool → Parser (Option Tail)
+    unfoldable pub tail_of : Bool → Step (Option Tail)
     tail_of m = do
       first ← ahead ts m
       t ← peek ts m
       tail_by m first t
 
-    abbrev pub tails_step : (List Tail → Parser (List Tail)) → List Tail → Option Tail → Parser (List Tail)
+    abbrev pub tails_step : (List Tail → Step (List Tail)) → List Tail → Option Tail
+        → Step (List Tail)
     tails_step more found None = pure found
     tails_step more found (Some t) = more (found ++ t ∷ [])
 
     -- Tail*
-    unfoldable pub tails_from : Bool → ℕ → List Tail → Parser (List Tail)
+    unfoldable pub tails_from : Bool → ℕ → List Tail → Step (List Tail)
     tails_from m zero found = pure found
     tails_from m (suc n) found = do
       t ← tail_of m
       tails_step (tails_from m n) found t
 
     -- Post
-    unfoldable pub post : Bool → Parser Expr
+    unfoldable pub post : Bool → Step Expr
     post m = do
       first ← ahead ts m
       head ← term m
@@ -375,7 +377,7 @@ module _ (ts : List Token) where
       end ← here
       pure (node.tailed first end head found)
 
-    abbrev pub unary_by : Bool → ℕ → Option Prefix → Parser Expr
+    abbrev pub unary_by : Bool → ℕ → Option Prefix → Step Expr
     unary_by m first None = post m
     unary_by m first (Some op) = do
       enter depth first
@@ -384,28 +386,29 @@ module _ (ts : List Token) where
       pure (node.expr first end (form.Prefixed op e))
 
     -- Unary
-    unfoldable pub unary : Bool → Parser Expr
+    unfoldable pub unary : Bool → Step Expr
     unary m = do
       first ← ahead ts m
       op ← prefix m
       unary_by m first op
 
-    module _ (operand : Bool → Parser Expr) where
-      abbrev pub links_step : Bool → (List Link → Parser (List Link)) → List Link → Option Operator → Parser (List Link)
+    module _ (operand : Bool → Step Expr) where
+      abbrev pub links_step : Bool → (List Link → Step (List Link)) → List Link → Option Operator
+          → Step (List Link)
       links_step m more found None = pure found
       links_step m more found (Some op) = do
         x ← operand m
         more (found ++ node.link op x ∷ [])
 
       -- the operators of level n, each with the operand behind it
-      unfoldable pub links_from : Bool → ℕ → ℕ → List Link → Parser (List Link)
+      unfoldable pub links_from : Bool → ℕ → ℕ → List Link → Step (List Link)
       links_from m n zero found = pure found
       links_from m n (suc turns) found = do
         op ← operator m n
         links_step m (links_from m n turns) found op
 
     -- level n: level 0 is Unary, level 6 is Or
-    unfoldable pub level : ℕ → Bool → Parser Expr
+    unfoldable pub level : ℕ → Bool → Step Expr
     level zero m = unary m
     level (suc n) m = do
       first ← ahead ts m
@@ -415,7 +418,7 @@ module _ (ts : List Token) where
       pure (node.chain first end head found)
 
     -- Expr
-    unfoldable pub whole : Bool → Parser Expr
+    unfoldable pub whole : Bool → Step Expr
     whole m = do
       first ← ahead ts m
       c ← level levels m
@@ -429,12 +432,12 @@ module _ (ts : List Token) where
         end ← here
         pure (node.expr first end (form.Conditional c met unmet))) else pure c
 
-    abbrev pub goal : Bool → Goal → Parser Expr
+    abbrev pub goal : Bool → Goal → Step Expr
     goal m Whole = whole m
     goal m Operand = unary m
 
     -- after `${`
-    unfoldable pub interp : ℕ → Parser Part
+    unfoldable pub interp : ℕ → Step Part
     interp first = do
       enter depth first
       e ← inner.expr true Whole
@@ -442,7 +445,7 @@ module _ (ts : List Token) where
       pure (part.Interp e)
 
     -- ("else" and parts)? and "endif"
-    unfoldable pub otherwise : Bool → Parser (Option Template)
+    unfoldable pub otherwise : Bool → Step (Option Template)
     otherwise m = do
       is_else ← (λ i. Ok (reads ts true else_word (after ts m i), i))
       if is_else then (do
@@ -458,7 +461,7 @@ module _ (ts : List Token) where
     -- braces: the expressions of two constructs deeper
     module _ (braces : Exprs) where
       -- after `%{` of an `if`
-      unfoldable pub if_directive : Bool → ℕ → Parser Part
+      unfoldable pub if_directive : Bool → ℕ → Step Part
       if_directive m first = do
         enter_two depth first
         skip ts true
@@ -472,7 +475,7 @@ module _ (ts : List Token) where
         pure (node.if_part first end c (node.template (first_of ts m from to) to met) o)
 
       -- after `%{` of a `for`
-      unfoldable pub for_directive : Bool → ℕ → Parser Part
+      unfoldable pub for_directive : Bool → ℕ → Step Part
       for_directive m first = do
         enter_two depth first
         x ← intro braces
@@ -485,7 +488,7 @@ module _ (ts : List Token) where
         pure (node.for_part first end x (node.template (first_of ts m from to) to body))
 
       -- at `%{`
-      unfoldable pub directive : Bool → ℕ → Parser (Option Part)
+      unfoldable pub directive : Bool → ℕ → Step (Option Part)
       directive m first = do
         is_if ← (λ i. Ok (reads ts true if_word (after ts m i), i))
         if is_if then skip ts m >> some (if_directive m first) else (do
@@ -493,7 +496,7 @@ module _ (ts : List Token) where
           if is_for then skip ts m >> some (for_directive m first) else pure None)
 
       -- by the kind of the token that comes next
-      abbrev pub part_by : Bool → ℕ → Option Kind → Parser (Option Part)
+      abbrev pub part_by : Bool → ℕ → Option Kind → Step (Option Part)
       part_by m first (Some k.QuoteLit) = skip ts m >> pure (Some (part.Literal first))
       part_by m first (Some k.HereLit) = skip ts m >> pure (Some (part.Literal first))
       part_by m first (Some k.InterpOpen) = skip ts m >> some (interp first)
@@ -502,24 +505,25 @@ module _ (ts : List Token) where
       part_by m first None = pure None
 
       -- a part, if one comes next
-      unfoldable pub part_of : Bool → Parser (Option Part)
+      unfoldable pub part_of : Bool → Step (Option Part)
       part_of m = do
         first ← ahead ts m
         t ← peek ts m
         part_by m first t
 
-      abbrev pub parts_step : (List Part → Parser (List Part)) → List Part → Option Part → Parser (List Part)
+      abbrev pub parts_step : (List Part → Step (List Part)) → List Part → Option Part
+          → Step (List Part)
       parts_step more found None = pure found
       parts_step more found (Some x) = more (found ++ x ∷ [])
 
       -- Parts
-      unfoldable pub parts_from : Bool → ℕ → List Part → Parser (List Part)
+      unfoldable pub parts_from : Bool → ℕ → List Part → Step (List Part)
       parts_from m zero found = pure found
       parts_from m (suc n) found = do
         x ← part_of m
         parts_step (parts_from m n) found x
 
-      -- the parsers at this depth
+      -- the steps at this depth
       abbrev pub layer : Under
       layer = record { expr = goal; parts = λ m. parts_from m (length ts) [] }
 
@@ -549,5 +553,5 @@ module _ (ts : List Token) where
   expr depth = (under depth).expr
 
   -- parts of templates with at most so many
-  abbrev pub parts : ℕ → Bool → Parser (List Part)
+  abbrev pub parts : ℕ → Bool → Step (List Part)
   parts depth = (under depth).parts

@@ -1,6 +1,7 @@
--- For proofs: what an answer to a list of tokens has to be, and that an answer of the pure parser is such a one.
+-- For proofs: what an answer to a list of tokens has to be, and that an answer of the pure parser
+-- is such a one.
 use Rattle.std.specs.Prelude.{◌≡◌, ℕ, List, Option, Result, MatchResult, IfOk}
-use Rattle.hcl_grammar.specs.declared.error.TokenFault.{TokenFault}
+use Rattle.hcl_grammar.specs.declared.fault.TokenFault.{TokenFault}
 use Rattle.hcl_grammar.specs.declared.tree.Member.{Member}
 use Rattle.hcl_grammar.specs.declared.tree.Tree.{Tree}
 use Rattle.hcl_grammar.specs.Bodies.{IsFile}
@@ -16,12 +17,15 @@ pub record IsAnswer (ts : List Token) (b : ℕ) (answer : Result Tree TokenFault
   pub derived : IfOk answer (λ t. IsFile ts b t)
   -- a tree that is derived is answered, or memory failed
   pub only : (t : Tree) → IsFile ts b t → MatchResult answer (λ x. x ≡ t) IsMemory
-  -- a tree that is derived with whatever nesting is answered, or it nests too deep, or memory failed
+  -- a tree that is derived with whatever nesting is answered, or it nests too deep, or memory
+  -- failed
   pub deeper : (d : ℕ) (t : Tree) → IsFile ts d t → MatchResult answer (λ x. x ≡ t) IsMemoryOrDeep
 
 abbrev pub FileAnswers : Type 0
-FileAnswers = (ts : List Token) (b : ℕ) (answer : Result Tree TokenFault) (new : ℕ) → Reads (file ts b 0) answer new → IsAnswer ts b answer
+FileAnswers = (ts : List Token) (b : ℕ) (answer : Result Tree TokenFault) (new : ℕ)
+    → Reads (file ts b 0) answer new → IsAnswer ts b answer
 
 -- the same of one member
 abbrev pub MemberAnswers : Type 0
-MemberAnswers = (ts : List Token) (b i : ℕ) (answer : Result (Option Member) TokenFault) (new : ℕ) → Reads (member_of ts b (deeper_members ts b) i) answer new → IsMember ts b i answer new
+MemberAnswers = (ts : List Token) (b i : ℕ) (answer : Result (Option Member) TokenFault) (new : ℕ)
+    → Reads (member_of ts b (deeper_members ts b) i) answer new → IsMember ts b i answer new

@@ -1,4 +1,5 @@
--- What is found at the front of a text, as a kind and a number of bytes; identifiers, and the openings of template sequences.
+-- What is found at the front of a text, as a kind and a number of bytes; identifiers, and the
+-- openings of template sequences.
 use Rattle.std.specs.Prelude.{ℕ, ◌+◌, Bool, ◌&&◌, ◌||◌, if◌then◌else◌, ◌==◌, nat_le, List, [], ◌∷◌, slice_index, Option, Some, None}
 use Rattle.std.specs.Char.{is_ascii_alphabetic, len_utf8}
 use Rattle.std.specs.Str.{chars}
@@ -17,7 +18,8 @@ continue_length (c ∷ cs) = if continues c then len_utf8 c + continue_length cs
 
 abbrev pub identifier_of : List ℕ → Found
 identifier_of [] = None
-identifier_of (c ∷ cs) = if starts c then Some (Identifier, len_utf8 c + continue_length cs) else None
+identifier_of (c ∷ cs) =
+    if starts c then Some (Identifier, len_utf8 c + continue_length cs) else None
 
 abbrev pub identifier : List ℕ → Found
 identifier t = identifier_of (chars t)
@@ -32,4 +34,8 @@ begins_opening t = is_sigil (slice_index t 0) && slice_index t 1 == 123
 
 -- its kind, and its length with a `~`
 abbrev pub opening : List ℕ → Kind × ℕ
-opening t = (if slice_index t 0 == 36 then InterpOpen else DirectiveOpen, if slice_index t 2 == 126 then 3 else 2)
+opening t = (
+  if slice_index t 0 == 36 then InterpOpen else DirectiveOpen,
+  if slice_index t 2 == 126
+      then 3 else 2,
+)

@@ -7,7 +7,8 @@ use Rattle.hcl_scan.specs.Cut.{byte_order_mark}
 
 -- the byte order mark as an item, and its length
 abbrev pub front_items : List ℕ → List Item
-front_items text = if begins byte_order_mark text then record { gap_at = 0; start = 0; stop = 3; kind = Mark } ∷ [] else []
+front_items text = if begins byte_order_mark text
+    then record { gap_at = 0; start = 0; stop = 3; kind = Mark } ∷ [] else []
 
 abbrev pub front_length : List ℕ → ℕ
 front_length text = if begins byte_order_mark text then 3 else 0

@@ -1,5 +1,6 @@
--- What one step of the scanner finds at the front of a text, the kind and the length of the longest lexeme of the mode.
--- `Longest` of proofs/ shows that it is the longest lexeme, and that where it finds none there is none.
+-- What one step of the scanner finds at the front of a text, the kind and the length of the longest
+-- lexeme of the mode. `Longest` of proofs/ shows that it is the longest lexeme, and that where it
+-- finds none there is none.
 use Rattle.std.specs.Prelude.{ℕ, ◌+◌, Bool, false, ◌&&◌, ◌||◌, if◌then◌else◌, ◌==◌, nat_lt, List, length, drop, slice_index, Some, None}
 use Rattle.std.specs.Char.{is_ascii_digit}
 use Rattle.std.specs.List.{prefix_len}
@@ -32,7 +33,8 @@ single a =
 -- an operator of which another begins with the same byte, by its first three bytes
 abbrev pub compound : ℕ → ℕ → ℕ → Found
 compound a b c =
-    if a == 61 then (if b == 61 then Some (DoubleEqual, 2) else (if b == 62 then Some (FatArrow, 2) else Some (Equal, 1)))
+    if a == 61 then (if b == 61 then Some (DoubleEqual, 2)
+    else (if b == 62 then Some (FatArrow, 2) else Some (Equal, 1)))
     else (if a == 46 then (if b == 46 && c == 46 then Some (Ellipsis, 3) else Some (Dot, 1))
     else (if a == 58 then (if b == 58 then Some (DoubleColon, 2) else Some (Colon, 1))
     else (if a == 33 then (if b == 61 then Some (NotEqual, 2) else Some (Bang, 1))
@@ -43,7 +45,8 @@ compound a b c =
     else (if a == 47 then (if b == 42 || b == 47 then None else Some (Slash, 1)) else None))))))))
 
 abbrev pub is_compound : ℕ → Bool
-is_compound a = a == 61 || a == 46 || a == 58 || a == 33 || a == 60 || a == 62 || a == 38 || a == 124 || a == 47
+is_compound a =
+    a == 61 || a == 46 || a == 58 || a == 33 || a == 60 || a == 62 || a == 38 || a == 124 || a == 47
 
 abbrev pub operator : ℕ → ℕ → ℕ → Found
 operator a b c = if is_compound a then compound a b c else single a
@@ -55,7 +58,9 @@ decimal_length t = prefix_len is_ascii_digit t
 
 -- of `.` and digits, 0 where none stand
 abbrev pub fraction_length : List ℕ → ℕ
-fraction_length t = if slice_index t 0 == 46 && is_ascii_digit (slice_index t 1) then 1 + decimal_length (drop 1 t) else 0
+fraction_length t =
+    if slice_index t 0 == 46 && is_ascii_digit (slice_index t 1) then 1 + decimal_length (drop 1 t)
+    else 0
 
 abbrev pub is_sign : ℕ → Bool
 is_sign b = b == 43 || b == 45
@@ -68,7 +73,8 @@ abbrev pub exponent_length : List ℕ → ℕ
 exponent_length t =
     if is_exponent_letter (slice_index t 0)
     then (if is_ascii_digit (slice_index t 1) then 1 + decimal_length (drop 1 t)
-    else (if is_sign (slice_index t 1) && is_ascii_digit (slice_index t 2) then 2 + decimal_length (drop 2 t) else 0))
+    else (if is_sign (slice_index t 1) && is_ascii_digit (slice_index t 2)
+    then 2 + decimal_length (drop 2 t) else 0))
     else 0
 
 -- of a fraction and an exponent
@@ -82,7 +88,8 @@ number_length t = decimal_length t + tail_length (drop (decimal_length t) t)
 
 abbrev pub inline_comment : List ℕ → Found
 inline_comment body =
-    if nat_lt (run_length inline_unit false body) (length body) then Some (InlineComment, run_length inline_unit false body + 4) else None
+    if nat_lt (run_length inline_unit false body) (length body)
+    then Some (InlineComment, run_length inline_unit false body + 4) else None
 
 -- by the first byte
 abbrev pub punctuation : Bool → List ℕ → Found
@@ -93,7 +100,8 @@ punctuation closes t =
     else (if a == 13 then (if b == 10 then Some (LineEnd, 2) else None)
     else (if a == 34 then Some (QuoteOpen, 1)
     else (if a == 35 then Some (LineComment, 1 + run_length comment_unit false (drop 1 t))
-    else (if a == 47 && b == 47 then Some (LineComment, 2 + run_length comment_unit false (drop 2 t))
+    else (if a == 47 && b == 47
+    then Some (LineComment, 2 + run_length comment_unit false (drop 2 t))
     else (if a == 47 && b == 42 then inline_comment (drop 2 t)
     else (if a == 46 && is_ascii_digit b then Some (DotIndex, 1 + decimal_length (drop 1 t))
     else (if a == 125 then (if closes then Some (SeqClose, 1) else Some (CloseBrace, 1))
@@ -118,7 +126,8 @@ abbrev pub quoted_token : List ℕ → Found
 quoted_token t =
     if slice_index t 0 == 34 then Some (QuoteClose, 1)
     else (if begins_opening t then Some (opening t)
-    else (if run_length quote_unit false t == 0 then None else Some (QuoteLit, run_length quote_unit false t)))
+    else (if run_length quote_unit false t == 0 then None
+    else Some (QuoteLit, run_length quote_unit false t)))
 
 -- ---- in each mode
 

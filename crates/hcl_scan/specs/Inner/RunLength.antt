@@ -1,4 +1,5 @@
--- The number of bytes of the longest run at the front of a text. `RunLemmas` of proofs/ shows that it is that.
+-- The number of bytes of the longest run at the front of a text. `RunLemmas` of proofs/ shows that
+-- it is that.
 use Rattle.std.specs.Prelude.{ℕ, zero, suc, ◌-◌, ◌==◌, Bool, List, [], ◌∷◌, if◌then◌else◌}
 use Rattle.hcl_scan.specs.Runs.{UnitLength}
 

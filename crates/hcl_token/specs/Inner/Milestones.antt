@@ -18,11 +18,13 @@ first_place = record { line = 1; column = 1 }
 abbrev pub after_piece : Place → List ℕ → Place
 after_piece at piece = record {
   line = at.line + count_by is_lf piece;
-  column = if count_by is_lf piece == 0 then at.column + clusters piece else 1 + clusters (last_line piece);
+  column = if count_by is_lf piece == 0 then at.column + clusters piece
+      else 1 + clusters (last_line piece);
 }
 
 abbrev pub after_pair : Place → Pair → Place
-after_pair at p = if is_mark p.kind then after_piece at p.gap else after_piece (after_piece at p.gap) p.spelling
+after_pair at p =
+    if is_mark p.kind then after_piece at p.gap else after_piece (after_piece at p.gap) p.spelling
 
 abbrev pub after_pairs : Place → List Pair → Place
 after_pairs at [] = at
@@ -55,7 +57,9 @@ milestone_place milestone = record { line = milestone.line; column = milestone.c
 
 -- the k-th milestone is the place of the gap before the 64 * k-th token
 abbrev pub IsMilestone : List Pair → List Milestone → ℕ → Type 0
-IsMilestone pairs milestones k = (d : Milestone) → milestone_place (slice_index_or milestones k d) ≡ after_pairs first_place (take (64 * k) pairs)
+IsMilestone pairs milestones k = (d : Milestone)
+    → milestone_place (slice_index_or milestones k d)
+    ≡ after_pairs first_place (take (64 * k) pairs)
 
 -- a milestone stands before each 64th token, the first among them
 pub record AreMilestones (pairs : List Pair) (milestones : List Milestone) : Type 0 where
@@ -70,6 +74,7 @@ pub record IsOrdered (text : List ℕ) (items : List Item) (last_at : ℕ) : Typ
   pub utf8 : AreUtf8 (pairs_of text items)
 
 -- what is kept of a text with its tokens
-pub record IsKept (text : List ℕ) (items : List Item) (last_at : ℕ) (milestones : List Milestone) : Type 0 where
+pub record IsKept (text : List ℕ) (items : List Item) (last_at : ℕ)
+    (milestones : List Milestone) : Type 0 where
   pub ordered : IsOrdered text items last_at
   pub placed : AreMilestones (pairs_of text items) milestones

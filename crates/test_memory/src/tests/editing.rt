@@ -5,9 +5,7 @@ use super::inputs::{
     APART_JOURNAL, COMMENTED, FIRST, JOURNAL, LAST, LEFT_JOURNAL, Row, edits_of, journal_of,
 };
 use super::{Host, answered, begin, gave, given, wanted};
-use edit_record::{Change, Edits, Journal, Record, Refused, Word};
-use edit_squash::Unmet;
-use edit_swap::{SwapFault, TakeFault};
+use edit_record::{Change, Edits, Journal, Record, Refused, SwapFault, TakeOutFault, Unmet, Word};
 
 fn applied(rt: &impl Host, change: &impl Change, old: &[u8], new: &[u8]) {
     begin(rt);
@@ -59,7 +57,8 @@ fn undo_journal(rt: HostRuntime) {
     undone(&rt, &journal_of(&rt, JOURNAL), LAST, FIRST);
 }
 
-// Records that add one byte each, enough for a journal of them to grow more than once. The text before record N has N bytes.
+/// Records that add one byte each, enough for a journal of them to grow more than once. The text
+/// before record N has N bytes.
 fn records(rt: &impl Host) -> Vec<Record> {
     let mut records = Vec::new(rt.alloc());
     for n in 0..20 {
@@ -122,7 +121,7 @@ fn squash(rt: HostRuntime) {
     let second = edits_of(&rt, 22, &SQUASH_SECOND);
     let right = edits_of(&rt, 20, &SQUASHED);
     begin(&rt);
-    let answer = edit_squash::squash(rt.alloc(), &first, &second);
+    let answer = edit_record::squash(rt.alloc(), &first, &second);
     let edits = answered(&rt, answer, Unmet::Memory, true);
     assert!(rt; are_same_edits(&edits, &right));
 }
@@ -144,7 +143,7 @@ fn swap(rt: HostRuntime) {
     let second_before = edits_of(&rt, 9, &SWAP_SECOND_BEFORE);
     let first_behind = edits_of(&rt, 9, &SWAP_FIRST_BEHIND);
     begin(&rt);
-    let answer = edit_swap::swap(rt.alloc(), &first, &second);
+    let answer = edit_record::swap(rt.alloc(), &first, &second);
     let (before, behind) = answered(&rt, answer, SwapFault::Memory, true);
     assert!(rt; are_same_edits(&before, &second_before));
     assert!(rt; are_same_edits(&behind, &first_behind));
@@ -161,8 +160,8 @@ fn take_out(rt: HostRuntime) {
         .split_first()
         .expect(&rt, "there is no record");
     begin(&rt);
-    let answer = edit_swap::take_out(rt.alloc(), first.edits(), rest);
-    let (records, moved) = answered(&rt, answer, TakeFault::Memory, true);
+    let answer = edit_record::take_out(rt.alloc(), first.edits(), rest);
+    let (records, moved) = answered(&rt, answer, TakeOutFault::Memory, true);
     assert!(rt; are_same_records(&records, others.records()));
     let moved = moved.expect(&rt, "the edits are gone");
     assert!(rt; are_same_edits(&moved, &right));

@@ -1,11 +1,11 @@
 //! What the calls are made on.
 
 use super::{Host, given};
-use edit_record::{Edit, Edits, Journal};
-use edit_text::decode;
+use edit_record::{Edit, Edits, Journal, decode};
 use tf_session::{Command, Done, RuleSet, Session};
 
-/// A text with each construct of the grammar, lists that grow more than once, an issue of each rule, and gaps that a layout sets.
+/// A text with each construct of the grammar, lists that grow more than once, an issue of each
+/// rule, and gaps that a layout sets.
 pub const TEXT: &[u8] = b"\
 variable \"myVar\" {}
 output \"o\" {
@@ -54,7 +54,8 @@ resource \"aws_instance\" \"web\" {
 w = a.0
 ";
 
-/// Texts of which one begins with a mark and is too short to have room for it reserved, and one opens a heredoc first.
+/// Texts of which one begins with a mark and is too short to have room for it reserved, and one
+/// opens a heredoc first.
 pub const SHORT: [&[u8]; 2] = [b"\xef\xbb\xbfa=1", b"a = <<E\nb\nE\n"];
 
 /// One line with an issue, in a session and its journal.

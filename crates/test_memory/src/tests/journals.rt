@@ -3,7 +3,7 @@
 use super::alike::{are_same_records, are_same_sessions};
 use super::inputs::{JOURNAL, LAST, MIGRATED, OLD_JOURNAL, journal_of, roomy, session_of};
 use super::{Host, answered, begin, gave};
-use edit_text::RecordFault;
+use edit_record::RecordFault;
 use std::alloc::AllocError;
 use tf_session::{RunFault, Told};
 
@@ -11,15 +11,15 @@ use tf_session::{RunFault, Told};
 fn encode(rt: HostRuntime) {
     let journal = journal_of(&rt, JOURNAL);
     begin(&rt);
-    let answer = edit_text::encode(rt.alloc(), &journal);
+    let answer = edit_record::encode(rt.alloc(), &journal);
     gave(&rt, answer, AllocError, JOURNAL);
 }
 
-// Reads a journal that is written as `right`.
+/// Reads a journal that is written as `right`.
 fn decoded(rt: &impl Host, text: &[u8], right: &[u8]) {
     let right = journal_of(rt, right);
     begin(rt);
-    let answer = edit_text::decode(rt.alloc(), text);
+    let answer = edit_record::decode(rt.alloc(), text);
     let journal = answered(rt, answer, RecordFault::Memory, true);
     assert!(rt; are_same_records(journal.records(), right.records()));
 }
@@ -39,15 +39,15 @@ fn decode_version_1(rt: HostRuntime) {
 fn journal_text(rt: HostRuntime) {
     let session = session_of(&rt, LAST, JOURNAL);
     begin(&rt);
-    let answer = tf_journal::journal_text(rt.alloc(), &session);
+    let answer = tf_session::journal_text(rt.alloc(), &session);
     gave(&rt, answer, RunFault::Memory, JOURNAL);
 }
 
-// Loads a text, and a journal that is written as `right`.
+/// Loads a text, and a journal that is written as `right`.
 fn loaded(rt: &impl Host, journal: &[u8], right: &[u8]) {
     let right = session_of(rt, LAST, right);
     begin(rt);
-    let answer = tf_journal::load(rt.alloc(), &mut Told::new(LAST), &mut Told::new(journal));
+    let answer = tf_session::load(rt.alloc(), &mut Told::new(LAST), &mut Told::new(journal));
     let session = answered(rt, answer, RunFault::Memory, true);
     assert!(rt; are_same_sessions(&session, &right));
 }
@@ -69,7 +69,7 @@ fn save(rt: HostRuntime) {
     let mut journal = Told::new(roomy(&rt));
     let mut text = Told::new(roomy(&rt));
     begin(&rt);
-    let answer = tf_journal::save(rt.alloc(), &session, &mut journal, &mut text);
+    let answer = tf_session::save(rt.alloc(), &session, &mut journal, &mut text);
     let (journal, text) = (journal.into_inner(), text.into_inner());
     answered(
         &rt,

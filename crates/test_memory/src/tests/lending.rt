@@ -2,15 +2,15 @@
 
 use super::inputs::{FIRST, JOURNAL, LAST, LINE, TEXT, bytes_of, edits_of, journal_of, roomy};
 use super::{Host, begin, given};
-use edit_record::{Edit, Edits, Journal, MAX_TEXT, Record, Word};
-use hcl_scan::{Item, Kind, Place, ScanFault, Scanned, scan};
+use edit_record::{Edit, Edits, Journal, Record, Word};
+use hcl_scan::{Item, Kind, MAX_TEXT, Place, ScanFault, Scanned, scan};
 use std::io;
 use std::io::{Error, ErrorKind, Read, Write};
-use tf_journal::journal_text;
 use tf_lint::{Rule, RuleSet};
-use tf_session::{Command, Fault, RunFault, Session, Told, put_journal, put_text};
+use tf_session::{Command, Fault, RunFault, Session, Told, journal_text, put_journal, put_text};
 
-/// The calls of a text with its tokens: gaps and tokens make the text, and the comment is where it is.
+/// The calls of a text with its tokens: gaps and tokens make the text, and the comment is where it
+/// is.
 #[test]
 fn no_memory_scanned(rt: HostRuntime) {
     let scanned = given(&rt, scan(rt.alloc(), LINE));
@@ -21,7 +21,8 @@ fn no_memory_scanned(rt: HostRuntime) {
     assert!(rt; makes(&all, TEXT));
 }
 
-// The tokens of the line. The comment is at its places and has its width, and could not stand at the line end's place with no line end.
+/// The tokens of the line. The comment is at its places and has its width, and could not stand at
+/// the line end's place with no line end.
 fn is_the_line(scanned: &Scanned<'_>) -> bool {
     if scanned.len() != 5 {
         return false;
@@ -54,7 +55,7 @@ fn is_the_comment(item: Item) -> bool {
     item.gap_at == 5 && item.start == 6 && item.stop == 12
 }
 
-// Whether the gaps and tokens are this text, one behind the other.
+/// Whether the gaps and tokens are this text, one behind the other.
 fn makes(scanned: &Scanned<'_>, text: &[u8]) -> bool {
     let mut left = text;
     for i in 0..scanned.len() {

@@ -3,11 +3,11 @@
 use super::alike::are_same_edits;
 use super::inputs::{SHORT, TEXT, changed};
 use super::{answered, begin, given};
-use hcl_format::LayoutFault;
+use hcl_layout::LayoutFault;
 use hcl_scan::ScanFault;
 use hcl_tree::ParseFault;
 use std::alloc::AllocError;
-use tf_lint::{Change, FixFault, LintFault, Place, Rule, RuleSet, read_text};
+use tf_lint::{FixFault, LintFault, NewText, Place, Rule, RuleSet, read_text};
 use tf_session::Command;
 
 #[test]
@@ -37,10 +37,10 @@ fn layout(rt: HostRuntime) {
     let parsed = given(&rt, read_text(rt.alloc(), TEXT));
     let right = given(
         &rt,
-        hcl_format::layout(rt.alloc(), &parsed.scanned, &parsed.tree),
+        hcl_layout::layout(rt.alloc(), &parsed.scanned, &parsed.tree),
     );
     begin(&rt);
-    let answer = hcl_format::layout(rt.alloc(), &parsed.scanned, &parsed.tree);
+    let answer = hcl_layout::layout(rt.alloc(), &parsed.scanned, &parsed.tree);
     let edits = answered(&rt, answer, LayoutFault::Memory, true);
     assert!(rt; are_same_edits(&edits, &right));
 }
@@ -50,7 +50,7 @@ fn is_laid_out(rt: HostRuntime) {
     let (session, _) = changed(&rt, TEXT, b"", Command::Fmt);
     let parsed = given(&rt, read_text(rt.alloc(), session.text()));
     begin(&rt);
-    let answer = hcl_format::is_laid_out(rt.alloc(), &parsed.scanned, &parsed.tree);
+    let answer = hcl_layout::is_laid_out(rt.alloc(), &parsed.scanned, &parsed.tree);
     assert!(rt; answered(&rt, answer, LayoutFault::Memory, true));
 }
 
@@ -118,7 +118,7 @@ fn fix_text(rt: HostRuntime) {
     assert!(rt; made.left.len() == right.left.len());
 }
 
-fn are_same_changes(a: &Option<Change>, b: &Option<Change>) -> bool {
+fn are_same_changes(a: &Option<NewText>, b: &Option<NewText>) -> bool {
     match (a, b) {
         (Some(a), Some(b)) => are_same_edits(&a.edits, &b.edits),
         (None, None) => true,

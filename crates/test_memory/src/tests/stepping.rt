@@ -9,7 +9,8 @@ use super::{Host, answered, begin, given, wanted};
 use std::alloc::AllocError;
 use tf_session::{Command, Done, Fault, Reply, Session};
 
-// The session over this text and journal behind a command, and what that did. Where it wants memory it does nothing.
+/// The session over this text and journal behind a command, and what that did. Where it wants
+/// memory it does nothing.
 fn stepped(rt: &impl Host, text: &[u8], journal: &[u8], command: Command) -> (Session, Done) {
     let before = session_of(rt, text, journal);
     let mut session = session_of(rt, text, journal);
@@ -20,7 +21,7 @@ fn stepped(rt: &impl Host, text: &[u8], journal: &[u8], command: Command) -> (Se
     (session, done)
 }
 
-// A command answers and does what it did when nothing was refused.
+/// A command answers and does what it did when nothing was refused.
 fn step(rt: &impl Host, text: &[u8], journal: &[u8], command: Command) {
     let (right, right_done) = changed(rt, text, journal, command);
     let (session, done) = stepped(rt, text, journal, command);
@@ -57,14 +58,14 @@ fn commands() -> [Command; 4] {
     [fix_all(), Command::Revert, Command::Fmt, fix_all()]
 }
 
-// How many lists come of that by leaving commands out. The number of such a list has a binary digit for each command, the lowest for the
-// first: 1 where it is in.
+/// How many lists come of that by leaving commands out. The number of such a list has a binary
+/// digit for each command, the lowest for the first: 1 where it is in.
 const LISTS: usize = 16;
 
-// A session, and the replies to the commands that made it.
+/// A session, and the replies to the commands that made it.
 type Ran = (Session, Vec<Reply>);
 
-// What a run of one of those lists answers.
+/// What a run of one of those lists answers.
 fn ran(rt: &impl Host, list: usize) -> Ran {
     let mut chosen = Vec::new(rt.alloc());
     let mut left = list;
@@ -80,7 +81,7 @@ fn ran(rt: &impl Host, list: usize) -> Ran {
     )
 }
 
-// The number of the list of the commands that did not want memory.
+/// The number of the list of the commands that did not want memory.
 fn served(replies: &[Reply]) -> usize {
     let mut list = 0usize;
     for reply in replies.iter().rev() {
@@ -92,7 +93,7 @@ fn served(replies: &[Reply]) -> usize {
     list
 }
 
-// Whether the replies that are not of memory are these.
+/// Whether the replies that are not of memory are these.
 fn are_given(replies: &[Reply], right: &[Reply]) -> bool {
     replies
         .iter()
@@ -100,7 +101,8 @@ fn are_given(replies: &[Reply], right: &[Reply]) -> bool {
         .eq(right.iter())
 }
 
-/// A command that wants memory answers that, and text, journal and all other replies are as if it were not in the list.
+/// A command that wants memory answers that, and text, journal and all other replies are as if it
+/// were not in the list.
 #[test]
 fn run(rt: HostRuntime) {
     let mut lists = Vec::new(rt.alloc());

@@ -91,10 +91,10 @@ fn linted(rt: &impl Host, out: Vec<u8>) -> (Result<usize, RunFault>, Vec<u8>) {
     (answer, out.into_inner())
 }
 
-// A command between a text and its journal, and two writers.
+/// A command between a text and its journal, and two writers.
 fn through(rt: &impl Host, text: &[u8], journal: &[u8], command: Command) {
     let (right, right_done) = changed(rt, text, journal, command);
-    let right_journal = given(rt, tf_journal::journal_text(rt.alloc(), &right));
+    let right_journal = given(rt, tf_session::journal_text(rt.alloc(), &right));
     let mut journal_out = roomy(rt);
     let mut out = roomy(rt);
     begin(rt);
@@ -121,9 +121,9 @@ fn streamed(
     let mut out = Told::new(out);
     match command {
         Command::Fmt => {
-            tf_journal::fmt_stream(alloc, &mut text, &mut journal, &mut journal_out, &mut out)
+            tf_session::fmt_stream(alloc, &mut text, &mut journal, &mut journal_out, &mut out)
         }
-        Command::Fix(rules) => tf_journal::fix_stream(
+        Command::Fix(rules) => tf_session::fix_stream(
             alloc,
             &mut text,
             &mut journal,
@@ -132,7 +132,7 @@ fn streamed(
             rules,
         ),
         Command::Revert => {
-            tf_journal::revert_stream(alloc, &mut text, &mut journal, &mut journal_out, &mut out)
+            tf_session::revert_stream(alloc, &mut text, &mut journal, &mut journal_out, &mut out)
         }
         Command::Take(_) => panic!(rt; "no stream takes a record out"),
     }

@@ -6,8 +6,7 @@ use super::{Hashes, Narrow, given};
 use edit_record::{Edit, Edits, Record, Word};
 use std::alloc::Global;
 use std::process::Abort;
-use tf_journal::{load, save};
-use tf_session::{Journal, RunFault, Session, Told};
+use tf_session::{Journal, RunFault, Session, Told, load, save};
 
 #[test]
 fn a_journal_that_does_not_end_is_told(rt: HostRuntime) {

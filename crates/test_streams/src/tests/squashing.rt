@@ -1,8 +1,7 @@
 //! The records of a journal, squashed one after another.
 
 use super::given;
-use edit_record::{Change, Edits};
-use edit_squash::squash;
+use edit_record::{Change, Edits, squash};
 use tf_session::{Command, RuleSet, run};
 
 #[test]

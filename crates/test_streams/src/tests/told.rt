@@ -1,4 +1,5 @@
-//! Each call goes on once, with all it was handed, and its answer comes back: no clause can say so where the bytes are unknown.
+//! Each call goes on once, with all it was handed, and its answer comes back: no clause can say so
+//! where the bytes are unknown.
 
 use super::{Hashes, Narrow, given};
 use std::io::{Read, Write};

@@ -1,4 +1,5 @@
-//! Whole texts are taken and put in as many calls as it wants, and a call that failed is not tried again.
+//! Whole texts are taken and put in as many calls as it wants, and a call that failed is not tried
+//! again.
 
 ghost use Rattle.std.specs.Prelude.{Some};
 

@@ -7,7 +7,9 @@ use Rattle.tf_rule.specs.Findings.{sound}
 use Rattle.tf_rules.specs.NodeFindings.{node_findings}
 use Rattle.tf_rules.specs.Nodes.{Node, parts}
 
-pub data Collects (rules : RuleSet) (pairs : List Pair) : List Node → List Finding → List Finding → Type 0 where
+pub data Collects (rules : RuleSet) (pairs : List Pair) : List Node → List Finding → List Finding
+    → Type 0 where
   nothing : {xs : List Finding} → Collects rules pairs [] xs xs
-  one : {n : Node} {ns : List Node} {xs ys zs : List Finding} → Collects rules pairs (parts n) (xs ++ sound (length pairs) (node_findings rules pairs n)) ys
+  one : {n : Node} {ns : List Node} {xs ys zs : List Finding}
+      → Collects rules pairs (parts n) (xs ++ sound (length pairs) (node_findings rules pairs n)) ys
       → Collects rules pairs ns ys zs → Collects rules pairs (n ∷ ns) xs zs

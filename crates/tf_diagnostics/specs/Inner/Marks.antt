@@ -13,7 +13,10 @@ use Rattle.tf_diagnostics.specs.Silencing.{is_near}
 
 -- whether token i is a comment that silences what the rule finds on this line
 abbrev pub silences_at : List Pair → Rule → ℕ → ℕ → Bool
-silences_at pairs rule line i = unwrap_or (option_map (λ (p : Pair). silences p.kind p.spelling rule && is_near line (line_of pairs i)) (slice_get pairs i)) false
+silences_at pairs rule line i =
+    unwrap_or (option_map
+    (λ (p : Pair). silences p.kind p.spelling rule && is_near line (line_of pairs i))
+    (slice_get pairs i)) false
 
 -- whether the rule is in the set, if there is one
 abbrev pub option_has : Option RuleSet → Rule → Bool

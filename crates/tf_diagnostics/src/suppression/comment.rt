@@ -9,7 +9,7 @@ ghost use Rattle.tf_diagnostics.specs.Comments.{behind_blanks, are_blanks, ends_
 ghost use Rattle.tf_diagnostics.specs.Inner.Marks.{option_has};
 
 use crate::suppression::class::{Class, front, meets};
-use hcl_scan::Kind;
+use hcl_token::Kind;
 use tf_rule::RuleSet;
 
 fn behind_blanks(t: &[u8]) -> &[u8]
@@ -64,7 +64,9 @@ fn rules_in(part: &[u8]) -> RuleSet
 
 /// The rules that are named between commas; none where one part is no name.
 fn rules_listed(t: &[u8]) -> Option<RuleSet>
-    ensures { (rule : Rule) → option_has result rule ≡ (list_all is_named (parted t.now) && list_any (means rule) (parted t.now)) }
+    ensures { (rule : Rule)
+        → option_has result rule
+        ≡ (list_all is_named (parted t.now) && list_any (means rule) (parted t.now)) }
 {
     let mut rest = t;
     let mut rules = RuleSet::none();
@@ -139,9 +141,10 @@ fn held(kind: Kind, spelling: &[u8]) -> &[u8]
     }
 }
 
-// Whether a token of the kind can say anything.
+/// Whether a token of the kind can say anything.
 fn is_comment(kind: Kind) -> bool
-    ensures { (spelling : List ℕ) (rule : Rule) → result ≡ false → silences kind spelling rule ≡ false }
+    ensures { (spelling : List ℕ) (rule : Rule) → result ≡ false
+        → silences kind spelling rule ≡ false }
 {
     matches!(kind, Kind::LineComment | Kind::InlineComment)
 }

@@ -8,8 +8,9 @@ ghost use Rattle.tf_diagnostics.specs.Inner.Marks.{hits};
 
 use tf_rule::{Rule, RuleSet};
 
-/// A line on which silencing comments begin, counted from 1, and the rules that these silence on it and on the next.
-#[derive(Clone, Copy, Debug, PartialEq, Eq)]
+/// A line on which silencing comments begin, counted from 1, and the rules that these silence on it
+/// and on the next.
+#[derive(Clone, Copy)]
 pub struct Mark {
     pub line: usize,
     pub rules: RuleSet,
@@ -25,7 +26,8 @@ impl Mark {
     /// The mark of its line that silences these rules too.
     pub fn joined(self, rules: RuleSet) -> Mark
         ensures line { result.line ≡ self.line }
-        ensures rules { (rule : Rule) → has_rule result.rules rule ≡ (has_rule self.rules rule || has_rule rules rule) }
+        ensures rules { (rule : Rule)
+            → has_rule result.rules rule ≡ (has_rule self.rules rule || has_rule rules rule) }
     {
         Mark {
             line: self.line,

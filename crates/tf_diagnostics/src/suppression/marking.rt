@@ -12,12 +12,16 @@ use crate::suppression::mark::Mark;
 use hcl_scan::Scanned;
 use std::alloc::{AllocError, Global};
 
-/// Adds a mark behind those of earlier lines; on the line of the last, the two become one, so that each line has one at most.
+/// Adds a mark behind those of earlier lines; on the line of the last, the two become one, so that
+/// each line has one at most.
 fn add_mark(marks: &mut Vec<Mark>, mark: Mark) -> Result<(), AllocError>
     requires before { Ascend 0 marks.old.items mark.line }
     requires line { 0 < mark.line }
     ensures after { OnOk result (Ascend 0 marks.new.items mark.line) }
-    ensures hit { OnOk result ((rule : Rule) (line : ℕ) → is_hit rule line marks.new.items ≡ (is_hit rule line marks.old.items || hits rule line mark)) }
+    ensures hit { OnOk result
+        ((rule : Rule) (line : ℕ)
+        → is_hit rule line marks.new.items
+        ≡ (is_hit rule line marks.old.items || hits rule line mark)) }
 {
     match marks.pop() {
         None => push_mark(marks, mark),
@@ -43,7 +47,10 @@ fn mark_token(marks: &mut Vec<Mark>, scanned: &Scanned<'_>, i: usize) -> Result<
     requires within { i < length scanned.now.pairs }
     requires before { Ascend 0 marks.old.items (line_of scanned.now.pairs i) }
     ensures after { OnOk result (Ascend 0 marks.new.items (line_of scanned.now.pairs i)) }
-    ensures hit { OnOk result ((rule : Rule) (line : ℕ) → is_hit rule line marks.new.items ≡ (is_hit rule line marks.old.items || silences_at scanned.now.pairs rule line i)) }
+    ensures hit { OnOk result
+        ((rule : Rule) (line : ℕ)
+        → is_hit rule line marks.new.items
+        ≡ (is_hit rule line marks.old.items || silences_at scanned.now.pairs rule line i)) }
 {
     match rules_silenced(scanned.kind(i), scanned.spelling(i)) {
         None => Ok(()),
@@ -58,7 +65,9 @@ fn mark_token(marks: &mut Vec<Mark>, scanned: &Scanned<'_>, i: usize) -> Result<
 /// The marks of a text, by line.
 pub fn marks_of(alloc: Global, scanned: &Scanned<'_>) -> Result<Vec<Mark>, AllocError>
     ensures order { IfOk result (λ marks. (b : ℕ) × Ascend 0 marks.items b) }
-    ensures hit { IfOk result (λ marks. (rule : Rule) (line : ℕ) → is_hit rule line marks.items ≡ is_silenced_on scanned.now.pairs rule line) }
+    ensures hit { IfOk result
+        (λ marks. (rule : Rule) (line : ℕ)
+        → is_hit rule line marks.items ≡ is_silenced_on scanned.now.pairs rule line) }
 {
     let mut marks = Vec::new(alloc);
     for i in 0..scanned.len() {

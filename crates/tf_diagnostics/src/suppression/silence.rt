@@ -25,7 +25,8 @@ fn from_line(marks: &[Mark], line: usize) -> &[Mark]
     requires { (b : ℕ) × Ascend 0 marks.now b }
     ensures order { (b : ℕ) × Ascend 0 result.now b }
     ensures next { IsNext line result.now }
-    ensures same { (rule : Rule) (l : ℕ) → line ≤ l → is_hit rule l result.now ≡ is_hit rule l marks.now }
+    ensures same { (rule : Rule) (l : ℕ) → line ≤ l
+        → is_hit rule l result.now ≡ is_hit rule l marks.now }
 {
     let mut rest = marks;
     while let Some((mark, others)) = rest.split_first() {
@@ -41,10 +42,12 @@ fn from_line(marks: &[Mark], line: usize) -> &[Mark]
 fn left_at<'m>(marks: &'m [Mark], rest: &'m [Mark], reached: usize, line: usize) -> &'m [Mark]
     requires all { (b : ℕ) × Ascend 0 marks.now b }
     requires order { (b : ℕ) × Ascend 0 rest.now b }
-    requires same { (rule : Rule) (l : ℕ) → reached ≤ l → is_hit rule l rest.now ≡ is_hit rule l marks.now }
+    requires same { (rule : Rule) (l : ℕ) → reached ≤ l
+        → is_hit rule l rest.now ≡ is_hit rule l marks.now }
     ensures order { (b : ℕ) × Ascend 0 result.now b }
     ensures next { IsNext line result.now }
-    ensures same { (rule : Rule) (l : ℕ) → line ≤ l → is_hit rule l result.now ≡ is_hit rule l marks.now }
+    ensures same { (rule : Rule) (l : ℕ) → line ≤ l
+        → is_hit rule l result.now ≡ is_hit rule l marks.now }
 {
     if line < reached {
         // Never where findings stand by place: it keeps the answer right for others.
@@ -62,7 +65,8 @@ fn first_hits(marks: &[Mark], rule: Rule, line: usize) -> bool
     }
 }
 
-/// Whether one of the marks, of which the first two alone can, silences what the rule finds on this line.
+/// Whether one of the marks, of which the first two alone can, silences what the rule finds on this
+/// line.
 fn is_hit(marks: &[Mark], rule: Rule, line: usize) -> bool
     requires { IsNext line marks.now }
     ensures { result ≡ is_hit rule line marks.now }
@@ -74,7 +78,8 @@ fn is_hit(marks: &[Mark], rule: Rule, line: usize) -> bool
 }
 
 fn keep(kept: &mut Vec<Finding>, f: Finding, is_silenced: bool) -> Result<(), AllocError>
-    ensures { OnOk result (kept.new.items ≡ kept.old.items ++ (if is_silenced then [] else f ∷ [])) }
+    ensures { OnOk result
+        (kept.new.items ≡ kept.old.items ++ (if is_silenced then [] else f ∷ [])) }
 {
     if !is_silenced {
         kept.push(f)?;
@@ -82,7 +87,8 @@ fn keep(kept: &mut Vec<Finding>, f: Finding, is_silenced: bool) -> Result<(), Al
     Ok(())
 }
 
-/// The line of a token; where it is the token whose line was told last, that line, without a second look.
+/// The line of a token; where it is the token whose line was told last, that line, without a second
+/// look.
 fn line_at(scanned: &Scanned<'_>, told: Option<(usize, usize)>, i: usize) -> usize
     requires within { i < length scanned.now.pairs }
     requires told { IfSome told (λ t. t.1 ≡ line_of scanned.now.pairs t.0) }
@@ -96,7 +102,8 @@ fn line_at(scanned: &Scanned<'_>, told: Option<(usize, usize)>, i: usize) -> usi
 
 /// The findings that none of the marks silences.
 ///
-/// Many findings can begin at one token, which may stand behind a long one: its line is asked for once.
+/// Many findings can begin at one token, which may stand behind a long one: its line is asked for
+/// once.
 fn unmarked(
     alloc: Global,
     scanned: &Scanned<'_>,
@@ -105,7 +112,10 @@ fn unmarked(
 ) -> Result<Vec<Finding>, AllocError>
     requires sound { AreSound (length scanned.now.pairs) found.now }
     requires order { (b : ℕ) × Ascend 0 marks.now b }
-    ensures { IfOk result (λ kept. kept.items ≡ filter (λ f. not (is_hit f.rule (line_of scanned.now.pairs f.first) marks.now)) found.now) }
+    ensures { IfOk result
+        (λ kept. kept.items
+        ≡ filter (λ f. not
+        (is_hit f.rule (line_of scanned.now.pairs f.first) marks.now)) found.now) }
 {
     let mut kept = Vec::new(alloc);
     let mut rest = marks;
@@ -132,7 +142,8 @@ pub fn without_silenced(
     found: &[Finding],
 ) -> Result<Vec<Finding>, AllocError>
     requires { AreSound (length scanned.now.pairs) found.now }
-    ensures { IfOk result (λ kept. kept.items ≡ filter (λ f. not (is_silenced scanned.now.pairs f)) found.now) }
+    ensures { IfOk result
+        (λ kept. kept.items ≡ filter (λ f. not (is_silenced scanned.now.pairs f)) found.now) }
 {
     let marks = marks_of(alloc, scanned)?;
     unmarked(alloc, scanned, found, marks.as_slice())

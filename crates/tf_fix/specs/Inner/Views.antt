@@ -45,7 +45,12 @@ IsComing pairs (Index i) = (i < length pairs) × (1 ≤ length (spelling_at pair
 IsComing pairs coming = ⊤
 
 abbrev pub replacement : List Pair → Replacing → Replacement
-replacement pairs r = record { from = place_of r.from; to = place_of r.to; come = coming_parts pairs r.from r.to r.coming }
+replacement pairs r =
+    record {
+      from = place_of r.from;
+      to = place_of r.to;
+      come = coming_parts pairs r.from r.to r.coming;
+    }
 
 abbrev pub replacements : List Pair → List Replacing → List Replacement
 replacements pairs rs = map (replacement pairs) rs
@@ -63,4 +68,5 @@ AreComing pairs (r ∷ rs) = IsComing pairs r.coming × AreComing pairs rs
 abbrev pub AreKeptComing : List Pair → Insertion → List (Option Kept) → Type 0
 AreKeptComing pairs written [] = IsComing pairs written
 AreKeptComing pairs written (None ∷ kept) = AreKeptComing pairs written kept
-AreKeptComing pairs written (Some k ∷ kept) = IsComing pairs written × AreKeptComing pairs k.behind kept
+AreKeptComing pairs written (Some k ∷ kept) =
+    IsComing pairs written × AreKeptComing pairs k.behind kept

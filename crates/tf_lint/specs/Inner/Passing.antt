@@ -1,7 +1,7 @@
 -- For proofs: one step, and what is known from some steps on.
 use Rattle.std.specs.Prelude.{◌≡◌, ◌≤◌, ◌<◌, ◌+◌, ◌*◌, ◌⊎◌, ◌&&◌, ℕ, Bool, true, List, [], ◌∷◌, length, Option, Some, None, Result, Ok, Err, MatchBool}
 use Rattle.hcl_scan.specs.Cut.{MAX_TEXT}
-use Rattle.edit_record.specs.Pieces.{EditList, Turns}
+use Rattle.edit_list.specs.Pieces.{EditList, Turns}
 use Rattle.edit_squash.specs.Grouping.{SquashAll}
 use Rattle.tf_rule.specs.declared.finding.Finding.{Finding}
 use Rattle.tf_rule.specs.declared.rule.Rule.{Rule}
@@ -9,7 +9,7 @@ use Rattle.tf_rule.specs.declared.rule_set.RuleSet.{RuleSet}
 use Rattle.tf_lint.specs.declared.fault.FixFault.{FixFault}
 use Rattle.tf_lint.specs.declared.fault.FixFault.TheVariants.{FixBroken, Memory}
 use Rattle.tf_fix.specs.declared.parsed.Parsed.{Parsed}
-use Rattle.tf_lint.specs.declared.step.Change.{Change}
+use Rattle.tf_lint.specs.declared.step.NewText.{NewText}
 use Rattle.tf_lint.specs.declared.step.Step.{Step}
 use Rattle.tf_lint.specs.declared.steps.Ended.{Ended}
 use Rattle.tf_lint.specs.declared.steps.Passed.{Passed}
@@ -32,13 +32,16 @@ has_step rules rule = is_fixed rule && has_rule rules rule
 abbrev pub RunFixed : RuleSet → List Rule → Parsed → Result Steps FixFault → Type 0
 RunFixed rules [] p answer = answer ≡ Ok (no_steps p.scanned.text)
 RunFixed rules (rule ∷ others) p answer =
-    MatchBool (has_step rules rule) (StepThen rule p (RunFixed rules others) answer) (RunFixed rules others p answer)
+    MatchBool (has_step rules rule) (StepThen rule p (RunFixed rules others) answer)
+    (RunFixed rules others p answer)
 
 -- what the step of a rule that found this changes
-abbrev pub IsChange : Rule → Parsed → List Finding → Option Change → Type 0
+abbrev pub IsChange : Rule → Parsed → List Finding → Option NewText → Type 0
 IsChange rule p found None = fixed_text p found ≡ p.scanned.text
 IsChange rule p found (Some change) =
-    (differ p.scanned.text (fixed_text p found) ≡ true) × (change.text.items ≡ fixed_text p found) × (change.edits ≡ fix_edits rule p found) × Turns change.edits p.scanned.text change.text.items
+    (differ p.scanned.text (fixed_text p found) ≡ true) × (change.text.items ≡ fixed_text p found)
+    × (change.edits ≡ fix_edits rule p found)
+    × Turns change.edits p.scanned.text change.text.items
 
 pub record IsStep (rule : Rule) (p : Parsed) (step : Step) : Type 0 where
   pub found : List Finding
@@ -52,23 +55,33 @@ pub record IsStep (rule : Rule) (p : Parsed) (step : Step) : Type 0 where
 
 -- the most findings that steps of these rules can mend
 abbrev pub room : List Rule → ℕ
-room order = 16777216 * length order
+room order = MAX_TEXT * length order
 
 -- what is known of the steps from here on, where so many findings were mended before
 abbrev pub Passes : RuleSet → List Rule → Parsed → ℕ → Passed → Type 0
 Passes rules order p count (Same fixed left) =
-    (n : ℕ) × (fixed ≡ count + n) × Reports rules p left.items × RunFixed rules order p (Ok (record { text = p.scanned.text; lists = []; fixed = n }))
+    (n : ℕ) × (fixed ≡ count + n) × Reports rules p left.items
+    × RunFixed rules order p (Ok (record { text = p.scanned.text; lists = []; fixed = n }))
 Passes rules order p count (Changed fixed change by rest) =
-    (n : ℕ) × (fixed ≡ count + n) × (fixed + room rest.now ≤ 16777216 * 16) × (length rest.now < length order) × Turns change.edits p.scanned.text change.text.items
-    × ((next : Parsed) (more : Steps) → Reads change.text.items next → RunFixed rules rest.now next (Ok more)
-    → RunFixed rules order p (Ok (record { text = more.text; lists = change.edits ∷ more.lists; fixed = n + more.fixed })))
-    × ((next : Parsed) (fault : FixFault) → Reads change.text.items next → RunFixed rules rest.now next (Err fault) → RunFixed rules order p (Err fault))
+    (n : ℕ) × (fixed ≡ count + n) × (fixed + room rest.now ≤ MAX_TEXT * 16)
+    × (length rest.now < length order) × Turns change.edits p.scanned.text change.text.items
+    × ((next : Parsed) (more : Steps) → Reads change.text.items next
+    → RunFixed rules rest.now next (Ok more)
+    → RunFixed rules order p
+    (Ok (record {
+      text = more.text;
+      lists = change.edits ∷ more.lists;
+      fixed = n + more.fixed;
+    })))
+    × ((next : Parsed) (fault : FixFault) → Reads change.text.items next
+    → RunFixed rules rest.now next (Err fault) → RunFixed rules order p (Err fault))
     × (IsUnread change.text.items → RunFixed rules order p (Err (FixBroken by)))
 
 -- ---- from some steps on
 
 -- what steps make of a text that the edits so far lead to
-pub record FixesFrom (rules : RuleSet) (order : List Rule) (text : List ℕ) (done : EditList) (count : ℕ) (made : Made) : Type 0 where
+pub record FixesFrom (rules : RuleSet) (order : List Rule) (text : List ℕ) (done : EditList)
+    (count : ℕ) (made : Made) : Type 0 where
   pub parsed : Parsed
   pub reads : Reads text parsed
   pub steps : Steps
@@ -83,9 +96,15 @@ pub record FixesFrom (rules : RuleSet) (order : List Rule) (text : List ℕ) (do
 -- why they refuse a text that the step of this rule made
 abbrev pub RefusesFrom : RuleSet → List Rule → List ℕ → Rule → FixFault → Type 0
 RefusesFrom rules order text by fault =
-    (fault ≡ Memory) ⊎ (((fault ≡ FixBroken by) × IsUnread text) ⊎ ((p : Parsed) × Reads text p × RunFixed rules order p (Err fault)))
+    (fault ≡ Memory) ⊎ (((fault ≡ FixBroken by) × IsUnread text)
+    ⊎ ((p : Parsed) × Reads text p × RunFixed rules order p (Err fault)))
 
 -- ---- what the last of them answers
 
 abbrev pub made_by : Ended → Made
-made_by e = record { text = e.change.text.items; edits = e.change.edits; fixed = e.fixed; left = length e.left.items }
+made_by e = record {
+  text = e.change.text.items;
+  edits = e.change.edits;
+  fixed = e.fixed;
+  left = length e.left.items;
+}

@@ -13,11 +13,13 @@ use Rattle.tf_rule.specs.declared.rule_set.RuleSet.{RuleSet}
 use Rattle.tf_rules.specs.TopFindings.{top_findings}
 
 -- these members, with what is found in each, and in all
-pub record AreOf (rules : RuleSet) (pairs : List Pair) (ms : List Member) (xs : List SeenMember) : Type 0 where
+pub record AreOf (rules : RuleSet) (pairs : List Pair) (ms : List Member)
+    (xs : List SeenMember) : Type 0 where
   pub each : AreSeen rules pairs xs
   pub at_nodes : AreTreeFindings rules pairs (map member ms) (flat_map nodes_of xs)
   pub at_blocks : flat_map blocks_of xs ≡ sound (length pairs) (top_findings rules pairs ms)
 
 -- the parser reads members up to this place, and this is found in them
 abbrev pub AreRead : RuleSet → List Pair → Outcome (List Member) → ℕ → List SeenMember → Type 0
-AreRead rules pairs outcome new xs = (ms : List Member) × (outcome ≡ Ok (ms, new)) × AreOf rules pairs ms xs
+AreRead rules pairs outcome new xs =
+    (ms : List Member) × (outcome ≡ Ok (ms, new)) × AreOf rules pairs ms xs

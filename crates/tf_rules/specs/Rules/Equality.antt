@@ -1,4 +1,5 @@
--- Comparisons with an empty list. TFLint ruleset for the Terraform language, terraform_empty_list_equality.
+-- Comparisons with an empty list. TFLint ruleset for the Terraform language,
+-- terraform_empty_list_equality.
 use Rattle.std.specs.Prelude.{ℕ, ◌+◌, ◌-◌, not, ◌&&◌, ◌==◌, Bool, true, false, List, [], ◌∷◌, ◌++◌, if◌then◌else◌}
 use Rattle.hcl_grammar.specs.declared.tree.Expr.{Expr}
 use Rattle.hcl_grammar.specs.declared.tree.Form.{out-Form}
@@ -35,12 +36,14 @@ is_empty_form _ = false
 abbrev pub is_empty_list : Expr → Bool
 is_empty_list e = is_empty_form (out-Form e.form)
 
--- A comparison of the empty list with the operand that ends before token past, with the operator between tokens from and to. It can be
--- written as a length where the list's brackets have nothing between them, no comment or line end stands beside the operator,
--- and the operand does not end with a heredoc.
+-- A comparison of the empty list with the operand that ends before token past, with the operator
+-- between tokens from and to. It can be written as a length where the list's brackets have nothing
+-- between them, no comment or line end stands beside the operator, and the operand does not end
+-- with a heredoc.
 abbrev pub is_mendable : List Pair → Expr → ℕ → ℕ → ℕ → Bool
 is_mendable pairs empty past from to =
-    (empty.past == empty.first + 2) && (not (has_trivia (tokens pairs from to)) && not (is_here_close pairs (past - 1)))
+    (empty.past == empty.first + 2)
+    && (not (has_trivia (tokens pairs from to)) && not (is_here_close pairs (past - 1)))
 
 abbrev pub is_equal : Operator → Bool
 is_equal operator.Equal = true
@@ -50,17 +53,20 @@ is_equal _ = false
 abbrev pub measured : ℕ → ℕ → Bool → Fix
 measured from to zero = keeping Length (kept from to (if zero then IsZero else IsPositive))
 
--- The comparison at an operator with these expressions beside it, in a chain that begins at token first. What is compared on the left
--- is all of the chain before the operator; at the first operator that is the expression beside it.
+-- The comparison at an operator with these expressions beside it, in a chain that begins at token
+-- first. What is compared on the left is all of the chain before the operator; at the first
+-- operator that is the expression beside it.
 abbrev pub link_findings : List Pair → ℕ → Bool → Expr → Link → List Finding
 link_findings pairs first is_first left link =
     if is_equality link.operator
     then (if is_empty_list link.operand
     then finding_at EmptyListEquality first link.operand.past plain
-    (when (is_mendable pairs link.operand left.past left.past link.operand.first) (measured first left.past (is_equal link.operator)))
+    (when (is_mendable pairs link.operand left.past left.past link.operand.first)
+    (measured first left.past (is_equal link.operator)))
     else (if is_first && is_empty_list left
     then finding_at EmptyListEquality first link.operand.past plain
-    (when (is_mendable pairs left link.operand.past left.past link.operand.first) (measured link.operand.first link.operand.past (is_equal link.operator)))
+    (when (is_mendable pairs left link.operand.past left.past link.operand.first)
+    (measured link.operand.first link.operand.past (is_equal link.operator)))
     else []))
     else []
 
@@ -68,7 +74,8 @@ link_findings pairs first is_first left link =
 abbrev pub chain_findings : List Pair → ℕ → Bool → Expr → List Link → List Finding
 chain_findings pairs first is_first left [] = []
 chain_findings pairs first is_first left (link ∷ links) =
-    link_findings pairs first is_first left link ++ chain_findings pairs first false link.operand links
+    link_findings pairs first is_first left link
+    ++ chain_findings pairs first false link.operand links
 
 abbrev pub equality_findings : List Pair → ℕ → FormLayer → List Finding
 equality_findings pairs first (Form-F.Chain head links) = chain_findings pairs first true head links

@@ -9,7 +9,9 @@ use Rattle.tf_rule.specs.declared.rule.Rule.TheVariants.{DeprecatedIndex}
 use Rattle.tf_rule.specs.Findings.{plain, finding_at}
 use Rattle.tf_rules.specs.Layers.{TailLayer}
 
--- One at each legacy index. It can be written with brackets where one does not come to `.*` going back from it.
+-- One at each legacy index. It can be written with brackets where one does not come to `.*` going
+-- back from it.
 abbrev pub index_findings : List Pair → Bool → TailLayer → List Finding
-index_findings pairs splat (Tail-F.Legacy n) = finding_at DeprecatedIndex n (n + 1) plain (when (not splat) (writing (Index n)))
+index_findings pairs splat (Tail-F.Legacy n) =
+    finding_at DeprecatedIndex n (n + 1) plain (when (not splat) (writing (Index n)))
 index_findings pairs splat _ = []

@@ -1,4 +1,5 @@
--- Quoted text that is one interpolation. TFLint ruleset for the Terraform language, terraform_deprecated_interpolation.
+-- Quoted text that is one interpolation. TFLint ruleset for the Terraform language,
+-- terraform_deprecated_interpolation.
 use Rattle.std.specs.Prelude.{ℕ, ◌+◌, ◌-◌, not, ◌&&◌, ◌||◌, if◌then◌else◌, Bool, true, false, List, [], ◌∷◌, Option, Some, None}
 use Rattle.hcl_grammar.specs.declared.tree.Expr.{Expr}
 use Rattle.hcl_grammar.specs.declared.tree.Form.{out-Form}
@@ -48,15 +49,20 @@ abbrev pub is_elsewhere : Role → Bool
 is_elsewhere Elsewhere = true
 is_elsewhere _ = false
 
--- Quoted text from token first up to past that is an interpolation of this expression. What the interpolation holds, comments too,
--- begins two tokens behind the quote and ends two before the end. It can be written without quotes and braces where no line end
--- would then stand outside of brackets, and where it is a term with its tails, or is all that stands at its place.
+-- Quoted text from token first up to past that is an interpolation of this expression. What the
+-- interpolation holds, comments too, begins two tokens behind the quote and ends two before the
+-- end. It can be written without quotes and braces where no line end would then stand outside of
+-- brackets, and where it is a term with its tails, or is all that stands at its place.
 abbrev pub is_writable : List Pair → Role → ℕ → ℕ → Expr → Bool
-is_writable pairs role first past e = not (has_break false 0 (tokens pairs (first + 2) (past - 2))) && (is_post e || not (is_elsewhere role))
+is_writable pairs role first past e =
+    not (has_break false 0 (tokens pairs (first + 2) (past - 2)))
+    && (is_post e || not (is_elsewhere role))
 
 -- One at quoted text that is one interpolation, but for the key of an object.
 abbrev pub interpolation_findings : List Pair → Role → ℕ → ℕ → Option Expr → List Finding
 interpolation_findings pairs role first past None = []
 interpolation_findings pairs role first past (Some e) =
     if is_key role then []
-    else finding_at DeprecatedInterpolation first past plain (when (is_writable pairs role first past e) (keeping Nothing (kept (first + 2) (past - 2) Nothing)))
+    else finding_at DeprecatedInterpolation first past plain
+    (when (is_writable pairs role first past e)
+    (keeping Nothing (kept (first + 2) (past - 2) Nothing)))

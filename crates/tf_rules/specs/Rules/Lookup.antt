@@ -1,4 +1,5 @@
--- Calls of `lookup` with two arguments. TFLint ruleset for the Terraform language, terraform_deprecated_lookup.
+-- Calls of `lookup` with two arguments. TFLint ruleset for the Terraform language,
+-- terraform_deprecated_lookup.
 use Rattle.std.specs.Prelude.{ℕ, not, ◌&&◌, ◌||◌, Bool, true, false, List, [], ◌∷◌, Option, Some, None, if◌then◌else◌, codes}
 use Rattle.hcl_grammar.specs.declared.tree.Call.{out-Call}
 use Rattle.hcl_grammar.specs.declared.tree.Expr.{Expr}
@@ -44,20 +45,26 @@ abbrev pub is_lookup : List Pair → List ℕ → Bool
 is_lookup pairs (n ∷ []) = is_lookup_token (spelling_of pairs n)
 is_lookup pairs _ = false
 
--- No comment and no line end stands in the call outside of its arguments, and the first argument can have an index behind it.
+-- No comment and no line end stands in the call outside of its arguments, and the first argument
+-- can have an index behind it.
 abbrev pub is_movable : List Pair → ℕ → ℕ → Expr → Expr → Bool
 is_movable pairs first past a b =
     is_indexable_form (out-Form a.form) && (not (has_break true 0 (tokens pairs a.first a.past))
-    && (not (has_trivia (tokens pairs first a.first)) && (not (has_trivia (tokens pairs a.past b.first)) && not (has_trivia (tokens pairs b.past past)))))
+    && (not (has_trivia (tokens pairs first a.first))
+    && (not (has_trivia (tokens pairs a.past b.first))
+    && not (has_trivia (tokens pairs b.past past)))))
 
 abbrev pub pair_findings : List Pair → ℕ → ℕ → Option (Expr × Expr) → List Finding
 pair_findings pairs first past None = []
 pair_findings pairs first past (Some (a, b)) =
     finding_at DeprecatedLookup first past plain
-    (when (is_movable pairs first past a b) (keeping_two Nothing (kept a.first a.past OpenBracket) (kept b.first b.past CloseBracket)))
+    (when (is_movable pairs first past a b)
+    (keeping_two Nothing (kept a.first a.past OpenBracket) (kept b.first b.past CloseBracket)))
 
 abbrev pub call_findings : List Pair → ℕ → ℕ → CallLayer → List Finding
-call_findings pairs first past c = if c.spread || not (is_lookup pairs c.names) then [] else pair_findings pairs first past (two c.arguments)
+call_findings pairs first past c =
+    if c.spread || not (is_lookup pairs c.names) then []
+    else pair_findings pairs first past (two c.arguments)
 
 abbrev pub lookup_findings : List Pair → ℕ → ℕ → ShapeLayer → List Finding
 lookup_findings pairs first past (Shape-F.Call c) = call_findings pairs first past (out-Call c)

@@ -1,5 +1,6 @@
--- Variables without a type, variables and outputs without a description. TFLint ruleset for the Terraform language,
--- terraform_typed_variables, terraform_documented_variables, terraform_documented_outputs.
+-- Variables without a type, variables and outputs without a description. TFLint ruleset for the
+-- Terraform language, terraform_typed_variables, terraform_documented_variables,
+-- terraform_documented_outputs.
 use Rattle.std.specs.Prelude.{ℕ, ◌+◌, not, ◌&&◌, ◌||◌, Bool, true, false, List, [], ◌++◌, Option, Some, None, codes, if◌then◌else◌}
 use Rattle.std.specs.Str.{bytes_eq}
 use Rattle.hcl_grammar.specs.declared.tree.Attribute.{Attribute}
@@ -17,21 +18,28 @@ use Rattle.tf_rules.specs.Words.{word}
 
 -- no description, or one that is `""`
 abbrev pub is_undocumented : List Pair → List Attribute → Bool
-is_undocumented pairs all = not (has_attribute pairs (codes "description") false all) || has_attribute pairs (codes "description") true all
+is_undocumented pairs all =
+    not (has_attribute pairs (codes "description") false all)
+    || has_attribute pairs (codes "description") true all
 
 -- the finding at the word that the block begins with
 abbrev pub missing : Rule → Block → Option ℕ → List Finding
-missing rule b name = finding_at rule b.word (b.word + 1) (record { named = None; name = name }) None
+missing rule b name =
+    finding_at rule b.word (b.word + 1) (record { named = None; name = name }) None
 
 abbrev pub untyped_findings : RuleSet → List Pair → Block → Label → List Finding
 untyped_findings rules pairs b l =
-    if has_rule rules TypedVariables && (bytes_eq (word pairs b.word) (codes "variable") && not (has_attribute pairs (codes "type") false (attributes b)))
+    if has_rule rules TypedVariables
+    && (bytes_eq (word pairs b.word) (codes "variable")
+    && not (has_attribute pairs (codes "type") false (attributes b)))
     then missing TypedVariables b l.name else []
 
 -- of the rule on blocks that begin with this word
-abbrev pub undocumented_findings : RuleSet → List Pair → Rule → List ℕ → Block → Label → List Finding
+abbrev pub undocumented_findings : RuleSet → List Pair → Rule → List ℕ → Block → Label
+    → List Finding
 undocumented_findings rules pairs rule kind b l =
-    if has_rule rules rule && (bytes_eq (word pairs b.word) kind && is_undocumented pairs (attributes b))
+    if has_rule rules rule
+    && (bytes_eq (word pairs b.word) kind && is_undocumented pairs (attributes b))
     then missing rule b l.name else []
 
 -- those of a block whose first label is this; a block without labels has none

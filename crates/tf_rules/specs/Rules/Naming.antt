@@ -1,4 +1,5 @@
--- Names that are not in snake_case. TFLint ruleset for the Terraform language, terraform_naming_convention.
+-- Names that are not in snake_case. TFLint ruleset for the Terraform language,
+-- terraform_naming_convention.
 use Rattle.std.specs.Prelude.{ℕ, ◌+◌, List, [], ◌++◌, slice_get, Option, Some, None, codes, if◌then◌else◌}
 use Rattle.std.specs.List.{flat_map}
 use Rattle.std.specs.Str.{bytes_eq}
@@ -18,7 +19,9 @@ use Rattle.tf_rules.specs.Words.{word, name_at}
 -- the finding at these tokens, if the name is not in snake_case
 abbrev pub naming_finding : List Pair → Named → Option ℕ → ℕ → ℕ → List Finding
 naming_finding pairs named name first past =
-    if is_snake_case (name_at pairs name) then [] else finding_at NamingConvention first past (record { named = Some named; name = name }) None
+    if is_snake_case (name_at pairs name) then []
+    else finding_at NamingConvention first past
+    (record { named = Some named; name = name }) None
 
 -- what a block that begins with this word declares, and the number of the label that names it
 abbrev pub declaration : List ℕ → Option (Named × ℕ)
@@ -43,8 +46,11 @@ local_findings pairs a = naming_finding pairs Local (Some a.name) a.name (a.name
 
 -- in a block `locals` each attribute has a name
 abbrev pub locals_findings : List Pair → Block → List Finding
-locals_findings pairs b = if bytes_eq (word pairs b.word) (codes "locals") then flat_map (local_findings pairs) (attributes b) else []
+locals_findings pairs b =
+    if bytes_eq (word pairs b.word) (codes "locals")
+    then flat_map (local_findings pairs) (attributes b) else []
 
 -- at the label that names what the block declares, and at each name in `locals`
 abbrev pub naming_findings : List Pair → Block → List Finding
-naming_findings pairs b = declared_findings pairs b (declaration (word pairs b.word)) ++ locals_findings pairs b
+naming_findings pairs b =
+    declared_findings pairs b (declaration (word pairs b.word)) ++ locals_findings pairs b

@@ -5,7 +5,8 @@ ghost use Rattle.std.specs.Option.{option_map};
 ghost use Rattle.tf_rule.specs.Findings.{sound};
 ghost use Rattle.tf_rules.specs.Rules.CommentSyntax.{is_slash_comment, comment_finding, comments_from, comment_findings};
 
-use hcl_scan::{Kind, Scanned};
+use hcl_scan::Scanned;
+use hcl_token::Kind;
 use std::alloc::AllocError;
 use tf_rule::{Finding, Fix, Message, Rule, RuleSet, add_finding};
 
@@ -30,7 +31,9 @@ fn add_comment(
     found: &mut Vec<Finding>,
 ) -> Result<(), AllocError>
     requires { i < length scanned.now.pairs }
-    ensures { OnOk result (found.new.items ≡ found.old.items ++ sound (length scanned.now.pairs) (comment_finding i slashed)) }
+    ensures { OnOk result
+        (found.new.items ≡ found.old.items
+        ++ sound (length scanned.now.pairs) (comment_finding i slashed)) }
 {
     let count = scanned.len();
     if !slashed {
@@ -47,7 +50,9 @@ fn add_comment(
 }
 
 fn add_comments(scanned: &Scanned<'_>, found: &mut Vec<Finding>) -> Result<(), AllocError>
-    ensures { OnOk result (found.new.items ≡ found.old.items ++ sound (length scanned.now.pairs) (comments_from 0 scanned.now.pairs)) }
+    ensures { OnOk result
+        (found.new.items ≡ found.old.items
+        ++ sound (length scanned.now.pairs) (comments_from 0 scanned.now.pairs)) }
 {
     for i in 0..scanned.len() {
         let slashed = is_slash_comment(scanned, i);
@@ -62,7 +67,9 @@ pub fn add_comment_findings(
     rules: RuleSet,
     found: &mut Vec<Finding>,
 ) -> Result<(), AllocError>
-    ensures { OnOk result (found.new.items ≡ found.old.items ++ sound (length scanned.now.pairs) (comment_findings rules scanned.now.pairs)) }
+    ensures { OnOk result
+        (found.new.items ≡ found.old.items
+        ++ sound (length scanned.now.pairs) (comment_findings rules scanned.now.pairs)) }
 {
     if !rules.has(Rule::CommentSyntax) {
         return Ok(());

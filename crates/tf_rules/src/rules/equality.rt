@@ -80,7 +80,10 @@ fn find_at_link(
     link: &Link,
     found: &mut Vec<Finding>,
 ) -> Result<(), AllocError>
-    ensures { OnOk result (found.new.items ≡ found.old.items ++ sound (length finder.now.scanned.now.pairs) (link_findings finder.now.scanned.now.pairs first is_first left.now link.now)) }
+    ensures { OnOk result
+        (found.new.items ≡ found.old.items
+        ++ sound (length finder.now.scanned.now.pairs)
+        (link_findings finder.now.scanned.now.pairs first is_first left.now link.now)) }
 {
     if !is_equality(link.operator) {
         return Ok(());
@@ -110,7 +113,11 @@ fn add_comparison(
     zero: bool,
     found: &mut Vec<Finding>,
 ) -> Result<(), AllocError>
-    ensures { OnOk result (found.new.items ≡ found.old.items ++ sound (length finder.now.scanned.now.pairs) (finding_at EmptyListEquality first past plain (when fixable (measured operand.0 operand.1 zero)))) }
+    ensures { OnOk result
+        (found.new.items ≡ found.old.items
+        ++ sound (length finder.now.scanned.now.pairs)
+        (finding_at EmptyListEquality first past plain
+        (when fixable (measured operand.0 operand.1 zero)))) }
 {
     let (from, to) = operand;
     let finding = Finding {
@@ -130,7 +137,10 @@ fn find_in_chain(
     links: &[Link],
     found: &mut Vec<Finding>,
 ) -> Result<(), AllocError>
-    ensures { OnOk result (found.new.items ≡ found.old.items ++ sound (length finder.now.scanned.now.pairs) (chain_findings finder.now.scanned.now.pairs first true head.now links.now)) }
+    ensures { OnOk result
+        (found.new.items ≡ found.old.items
+        ++ sound (length finder.now.scanned.now.pairs)
+        (chain_findings finder.now.scanned.now.pairs first true head.now links.now)) }
 {
     let mut is_first = true;
     let mut left = head;
@@ -148,7 +158,10 @@ fn find_at_form(
     form: &Form,
     found: &mut Vec<Finding>,
 ) -> Result<(), AllocError>
-    ensures { OnOk result (found.new.items ≡ found.old.items ++ sound (length finder.now.scanned.now.pairs) (equality_findings finder.now.scanned.now.pairs first (out-Form form.now))) }
+    ensures { OnOk result
+        (found.new.items ≡ found.old.items
+        ++ sound (length finder.now.scanned.now.pairs)
+        (equality_findings finder.now.scanned.now.pairs first (out-Form form.now))) }
 {
     match form {
         Form::Conditional(_, _, _) => Ok(()),
@@ -167,7 +180,12 @@ fn find_at_form(
 
 /// At an expression, if the rule is chosen.
 pub fn find(finder: &Finder<'_, '_>, e: &Expr, found: &mut Vec<Finding>) -> Result<(), AllocError>
-    ensures { OnOk result (found.new.items ≡ found.old.items ++ sound (length finder.now.scanned.now.pairs) ((if has_rule finder.now.rules EmptyListEquality then equality_findings finder.now.scanned.now.pairs e.now.first (out-Form e.now.form) else []))) }
+    ensures { OnOk result
+        (found.new.items ≡ found.old.items
+        ++ sound (length finder.now.scanned.now.pairs)
+        ((if has_rule finder.now.rules EmptyListEquality
+        then equality_findings finder.now.scanned.now.pairs e.now.first (out-Form e.now.form)
+        else []))) }
 {
     if !finder.rules.has(Rule::EmptyListEquality) {
         return Ok(());

@@ -19,7 +19,10 @@ fn find_at_tail(
     t: &Tail,
     found: &mut Vec<Finding>,
 ) -> Result<(), AllocError>
-    ensures { OnOk result (found.new.items ≡ found.old.items ++ sound (length finder.now.scanned.now.pairs) (index_findings finder.now.scanned.now.pairs splat (out-Tail t.now))) }
+    ensures { OnOk result
+        (found.new.items ≡ found.old.items
+        ++ sound (length finder.now.scanned.now.pairs)
+        (index_findings finder.now.scanned.now.pairs splat (out-Tail t.now))) }
 {
     match t {
         Tail::Name(_) => Ok(()),
@@ -36,7 +39,10 @@ fn find_legacy(
     n: usize,
     found: &mut Vec<Finding>,
 ) -> Result<(), AllocError>
-    ensures { OnOk result (found.new.items ≡ found.old.items ++ sound (length finder.now.scanned.now.pairs) (index_findings finder.now.scanned.now.pairs splat (Tail-F.Legacy n))) }
+    ensures { OnOk result
+        (found.new.items ≡ found.old.items
+        ++ sound (length finder.now.scanned.now.pairs)
+        (index_findings finder.now.scanned.now.pairs splat (Tail-F.Legacy n))) }
 {
     if n >= finder.scanned.len() {
         return Ok(());
@@ -62,7 +68,11 @@ pub fn find(
     t: &Tail,
     found: &mut Vec<Finding>,
 ) -> Result<(), AllocError>
-    ensures { OnOk result (found.new.items ≡ found.old.items ++ sound (length finder.now.scanned.now.pairs) ((if has_rule finder.now.rules DeprecatedIndex then index_findings finder.now.scanned.now.pairs splat (out-Tail t.now) else []))) }
+    ensures { OnOk result
+        (found.new.items ≡ found.old.items
+        ++ sound (length finder.now.scanned.now.pairs)
+        ((if has_rule finder.now.rules DeprecatedIndex
+        then index_findings finder.now.scanned.now.pairs splat (out-Tail t.now) else []))) }
 {
     if !finder.rules.has(Rule::DeprecatedIndex) {
         return Ok(());

@@ -100,7 +100,11 @@ fn find_at_term(
     t: &Term,
     found: &mut Vec<Finding>,
 ) -> Result<(), AllocError>
-    ensures { OnOk result (found.new.items ≡ found.old.items ++ sound (length finder.now.scanned.now.pairs) (interpolation_findings finder.now.scanned.now.pairs role t.now.first t.now.past (sole_in (out-Shape t.now.shape)))) }
+    ensures { OnOk result
+        (found.new.items ≡ found.old.items
+        ++ sound (length finder.now.scanned.now.pairs)
+        (interpolation_findings finder.now.scanned.now.pairs role t.now.first t.now.past
+        (sole_in (out-Shape t.now.shape)))) }
 {
     match sole_in(&t.shape) {
         None => Ok(()),
@@ -116,7 +120,10 @@ fn find_sole(
     e: &Expr,
     found: &mut Vec<Finding>,
 ) -> Result<(), AllocError>
-    ensures { OnOk result (found.new.items ≡ found.old.items ++ sound (length finder.now.scanned.now.pairs) (interpolation_findings finder.now.scanned.now.pairs role first past (Some e.now))) }
+    ensures { OnOk result
+        (found.new.items ≡ found.old.items
+        ++ sound (length finder.now.scanned.now.pairs)
+        (interpolation_findings finder.now.scanned.now.pairs role first past (Some e.now))) }
 {
     if is_key(role) {
         return Ok(());
@@ -149,7 +156,8 @@ fn is_writable(finder: &Finder<'_, '_>, role: Role, first: usize, past: usize, e
 }
 
 fn has_break_inside(finder: &Finder<'_, '_>, first: usize, past: usize) -> bool
-    ensures { result ≡ has_break false 0 (tokens finder.now.scanned.now.pairs (first + 2) (past - 2)) }
+    ensures { result ≡ has_break false 0
+        (tokens finder.now.scanned.now.pairs (first + 2) (past - 2)) }
 {
     if past <= 2 || first >= past - 2 {
         return false;
@@ -167,7 +175,12 @@ pub fn find(
     t: &Term,
     found: &mut Vec<Finding>,
 ) -> Result<(), AllocError>
-    ensures { OnOk result (found.new.items ≡ found.old.items ++ sound (length finder.now.scanned.now.pairs) ((if has_rule finder.now.rules DeprecatedInterpolation then interpolation_findings finder.now.scanned.now.pairs role t.now.first t.now.past (sole_in (out-Shape t.now.shape)) else []))) }
+    ensures { OnOk result
+        (found.new.items ≡ found.old.items
+        ++ sound (length finder.now.scanned.now.pairs)
+        ((if has_rule finder.now.rules DeprecatedInterpolation
+        then interpolation_findings finder.now.scanned.now.pairs role t.now.first t.now.past
+        (sole_in (out-Shape t.now.shape)) else []))) }
 {
     if !finder.rules.has(Rule::DeprecatedInterpolation) {
         return Ok(());

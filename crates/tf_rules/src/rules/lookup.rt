@@ -87,7 +87,11 @@ fn find_at_term(
     t: &Term,
     found: &mut Vec<Finding>,
 ) -> Result<(), AllocError>
-    ensures { OnOk result (found.new.items ≡ found.old.items ++ sound (length finder.now.scanned.now.pairs) (lookup_findings finder.now.scanned.now.pairs t.now.first t.now.past (out-Shape t.now.shape))) }
+    ensures { OnOk result
+        (found.new.items ≡ found.old.items
+        ++ sound (length finder.now.scanned.now.pairs)
+        (lookup_findings finder.now.scanned.now.pairs t.now.first t.now.past
+        (out-Shape t.now.shape))) }
 {
     match &t.shape {
         Shape::Number => Ok(()),
@@ -110,7 +114,10 @@ fn find_call(
     c: &Call,
     found: &mut Vec<Finding>,
 ) -> Result<(), AllocError>
-    ensures { OnOk result (found.new.items ≡ found.old.items ++ sound (length finder.now.scanned.now.pairs) (call_findings finder.now.scanned.now.pairs first past (out-Call c.now))) }
+    ensures { OnOk result
+        (found.new.items ≡ found.old.items
+        ++ sound (length finder.now.scanned.now.pairs)
+        (call_findings finder.now.scanned.now.pairs first past (out-Call c.now))) }
 {
     if c.spread || !is_lookup(finder.scanned, c.names.as_slice()) {
         return Ok(());
@@ -129,7 +136,10 @@ fn find_pair(
     b: &Expr,
     found: &mut Vec<Finding>,
 ) -> Result<(), AllocError>
-    ensures { OnOk result (found.new.items ≡ found.old.items ++ sound (length finder.now.scanned.now.pairs) (pair_findings finder.now.scanned.now.pairs first past (Some (a.now, b.now)))) }
+    ensures { OnOk result
+        (found.new.items ≡ found.old.items
+        ++ sound (length finder.now.scanned.now.pairs)
+        (pair_findings finder.now.scanned.now.pairs first past (Some (a.now, b.now)))) }
 {
     let fixable = is_movable(finder.scanned, first, past, a, b);
     let kept = Kept {
@@ -158,7 +168,12 @@ fn find_pair(
 
 /// At a term, if the rule is chosen.
 pub fn find(finder: &Finder<'_, '_>, t: &Term, found: &mut Vec<Finding>) -> Result<(), AllocError>
-    ensures { OnOk result (found.new.items ≡ found.old.items ++ sound (length finder.now.scanned.now.pairs) ((if has_rule finder.now.rules DeprecatedLookup then lookup_findings finder.now.scanned.now.pairs t.now.first t.now.past (out-Shape t.now.shape) else []))) }
+    ensures { OnOk result
+        (found.new.items ≡ found.old.items
+        ++ sound (length finder.now.scanned.now.pairs)
+        ((if has_rule finder.now.rules DeprecatedLookup
+        then lookup_findings finder.now.scanned.now.pairs t.now.first t.now.past
+        (out-Shape t.now.shape) else []))) }
 {
     if !finder.rules.has(Rule::DeprecatedLookup) {
         return Ok(());

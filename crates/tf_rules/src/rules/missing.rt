@@ -27,7 +27,9 @@ fn add_missing(
     name: Option<usize>,
     found: &mut Vec<Finding>,
 ) -> Result<(), AllocError>
-    ensures { OnOk result (found.new.items ≡ found.old.items ++ sound (length finder.now.scanned.now.pairs) (missing rule b.now name)) }
+    ensures { OnOk result
+        (found.new.items ≡ found.old.items
+        ++ sound (length finder.now.scanned.now.pairs) (missing rule b.now name)) }
 {
     let word = b.word as usize;
     if word >= finder.scanned.len() {
@@ -49,7 +51,10 @@ fn find_untyped(
     l: &Label,
     found: &mut Vec<Finding>,
 ) -> Result<(), AllocError>
-    ensures { OnOk result (found.new.items ≡ found.old.items ++ sound (length finder.now.scanned.now.pairs) (untyped_findings finder.now.rules finder.now.scanned.now.pairs b.now l.now)) }
+    ensures { OnOk result
+        (found.new.items ≡ found.old.items
+        ++ sound (length finder.now.scanned.now.pairs)
+        (untyped_findings finder.now.rules finder.now.scanned.now.pairs b.now l.now)) }
 {
     if !finder.rules.has(Rule::TypedVariables) {
         return Ok(());
@@ -71,7 +76,11 @@ fn find_undocumented(
     l: &Label,
     found: &mut Vec<Finding>,
 ) -> Result<(), AllocError>
-    ensures { OnOk result (found.new.items ≡ found.old.items ++ sound (length finder.now.scanned.now.pairs) (undocumented_findings finder.now.rules finder.now.scanned.now.pairs rule kind.now b.now l.now)) }
+    ensures { OnOk result
+        (found.new.items ≡ found.old.items
+        ++ sound (length finder.now.scanned.now.pairs)
+        (undocumented_findings finder.now.rules finder.now.scanned.now.pairs rule kind.now b.now
+        l.now)) }
 {
     if !finder.rules.has(rule) {
         return Ok(());
@@ -91,7 +100,10 @@ fn find_labelled(
     l: &Label,
     found: &mut Vec<Finding>,
 ) -> Result<(), AllocError>
-    ensures { OnOk result (found.new.items ≡ found.old.items ++ sound (length finder.now.scanned.now.pairs) (missing_findings finder.now.rules finder.now.scanned.now.pairs b.now (Some l.now))) }
+    ensures { OnOk result
+        (found.new.items ≡ found.old.items
+        ++ sound (length finder.now.scanned.now.pairs)
+        (missing_findings finder.now.rules finder.now.scanned.now.pairs b.now (Some l.now))) }
 {
     find_untyped(finder, b, l, found)?;
     find_undocumented(finder, Rule::DocumentedVariables, b"variable", b, l, found)?;
@@ -101,7 +113,11 @@ fn find_labelled(
 
 /// At a block of a text's body, what the rules that are chosen find: a type, a description.
 pub fn find(finder: &Finder<'_, '_>, b: &Block, found: &mut Vec<Finding>) -> Result<(), AllocError>
-    ensures { OnOk result (found.new.items ≡ found.old.items ++ sound (length finder.now.scanned.now.pairs) (missing_findings finder.now.rules finder.now.scanned.now.pairs b.now (slice_get b.now.labels 0))) }
+    ensures { OnOk result
+        (found.new.items ≡ found.old.items
+        ++ sound (length finder.now.scanned.now.pairs)
+        (missing_findings finder.now.rules finder.now.scanned.now.pairs b.now
+        (slice_get b.now.labels 0))) }
 {
     match b.labels.as_slice().get(0) {
         None => Ok(()),

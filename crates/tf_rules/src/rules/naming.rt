@@ -47,7 +47,10 @@ fn add_name(
     past: usize,
     found: &mut Vec<Finding>,
 ) -> Result<(), AllocError>
-    ensures { OnOk result (found.new.items ≡ found.old.items ++ sound (length finder.now.scanned.now.pairs) (naming_finding finder.now.scanned.now.pairs named name first past)) }
+    ensures { OnOk result
+        (found.new.items ≡ found.old.items
+        ++ sound (length finder.now.scanned.now.pairs)
+        (naming_finding finder.now.scanned.now.pairs named name first past)) }
 {
     if is_snake_case(name_at(finder.scanned, name)) {
         return Ok(());
@@ -71,7 +74,10 @@ fn find_label(
     l: Option<&Label>,
     found: &mut Vec<Finding>,
 ) -> Result<(), AllocError>
-    ensures { OnOk result (found.new.items ≡ found.old.items ++ sound (length finder.now.scanned.now.pairs) (label_findings finder.now.scanned.now.pairs named (option_map (λ x. x.now) l.entry))) }
+    ensures { OnOk result
+        (found.new.items ≡ found.old.items
+        ++ sound (length finder.now.scanned.now.pairs)
+        (label_findings finder.now.scanned.now.pairs named (option_map (λ x. x.now) l.entry))) }
 {
     match l {
         None => Ok(()),
@@ -84,7 +90,11 @@ fn find_declared(
     b: &Block,
     found: &mut Vec<Finding>,
 ) -> Result<(), AllocError>
-    ensures { OnOk result (found.new.items ≡ found.old.items ++ sound (length finder.now.scanned.now.pairs) (declared_findings finder.now.scanned.now.pairs b.now (declaration (word finder.now.scanned.now.pairs b.now.word)))) }
+    ensures { OnOk result
+        (found.new.items ≡ found.old.items
+        ++ sound (length finder.now.scanned.now.pairs)
+        (declared_findings finder.now.scanned.now.pairs b.now
+        (declaration (word finder.now.scanned.now.pairs b.now.word)))) }
 {
     match declaration(word(finder.scanned, b.word as usize)) {
         None => Ok(()),
@@ -97,7 +107,10 @@ fn find_local(
     a: &Attribute,
     found: &mut Vec<Finding>,
 ) -> Result<(), AllocError>
-    ensures { OnOk result (found.new.items ≡ found.old.items ++ sound (length finder.now.scanned.now.pairs) (local_findings finder.now.scanned.now.pairs a.now)) }
+    ensures { OnOk result
+        (found.new.items ≡ found.old.items
+        ++ sound (length finder.now.scanned.now.pairs)
+        (local_findings finder.now.scanned.now.pairs a.now)) }
 {
     if a.name >= finder.scanned.len() {
         return Ok(());
@@ -117,7 +130,10 @@ fn local_if(
     a: &Option<Boxed<Attribute>>,
     found: &mut Vec<Finding>,
 ) -> Result<(), AllocError>
-    ensures { OnOk result (found.new.items ≡ found.old.items ++ sound (length finder.now.scanned.now.pairs) (flat_map (local_findings finder.now.scanned.now.pairs) (attribute_at a.now))) }
+    ensures { OnOk result
+        (found.new.items ≡ found.old.items
+        ++ sound (length finder.now.scanned.now.pairs)
+        (flat_map (local_findings finder.now.scanned.now.pairs) (attribute_at a.now))) }
 {
     match a {
         None => Ok(()),
@@ -130,7 +146,10 @@ fn local_member(
     m: &Member,
     found: &mut Vec<Finding>,
 ) -> Result<(), AllocError>
-    ensures { OnOk result (found.new.items ≡ found.old.items ++ sound (length finder.now.scanned.now.pairs) (flat_map (local_findings finder.now.scanned.now.pairs) (member_attributes m.now))) }
+    ensures { OnOk result
+        (found.new.items ≡ found.old.items
+        ++ sound (length finder.now.scanned.now.pairs)
+        (flat_map (local_findings finder.now.scanned.now.pairs) (member_attributes m.now))) }
 {
     match m {
         Member::Attribute(a) => find_local(finder, a, found),
@@ -143,7 +162,11 @@ fn local_members(
     members: &[Member],
     found: &mut Vec<Finding>,
 ) -> Result<(), AllocError>
-    ensures { OnOk result (found.new.items ≡ found.old.items ++ sound (length finder.now.scanned.now.pairs) (flat_map (local_findings finder.now.scanned.now.pairs) (flat_map member_attributes members.now))) }
+    ensures { OnOk result
+        (found.new.items ≡ found.old.items
+        ++ sound (length finder.now.scanned.now.pairs)
+        (flat_map (local_findings finder.now.scanned.now.pairs)
+        (flat_map member_attributes members.now))) }
 {
     for m in members {
         local_member(finder, m, found)?;
@@ -156,7 +179,10 @@ fn local_attributes(
     b: &Block,
     found: &mut Vec<Finding>,
 ) -> Result<(), AllocError>
-    ensures { OnOk result (found.new.items ≡ found.old.items ++ sound (length finder.now.scanned.now.pairs) (flat_map (local_findings finder.now.scanned.now.pairs) (attributes b.now))) }
+    ensures { OnOk result
+        (found.new.items ≡ found.old.items
+        ++ sound (length finder.now.scanned.now.pairs)
+        (flat_map (local_findings finder.now.scanned.now.pairs) (attributes b.now))) }
 {
     match &b.content {
         Content::Lines(body) => local_members(finder, body.get().members.as_slice(), found),
@@ -169,7 +195,10 @@ fn find_locals(
     b: &Block,
     found: &mut Vec<Finding>,
 ) -> Result<(), AllocError>
-    ensures { OnOk result (found.new.items ≡ found.old.items ++ sound (length finder.now.scanned.now.pairs) (locals_findings finder.now.scanned.now.pairs b.now)) }
+    ensures { OnOk result
+        (found.new.items ≡ found.old.items
+        ++ sound (length finder.now.scanned.now.pairs)
+        (locals_findings finder.now.scanned.now.pairs b.now)) }
 {
     if !is_word(word(finder.scanned, b.word as usize), b"locals") {
         return Ok(());
@@ -183,7 +212,10 @@ fn find_at_block(
     b: &Block,
     found: &mut Vec<Finding>,
 ) -> Result<(), AllocError>
-    ensures { OnOk result (found.new.items ≡ found.old.items ++ sound (length finder.now.scanned.now.pairs) (naming_findings finder.now.scanned.now.pairs b.now)) }
+    ensures { OnOk result
+        (found.new.items ≡ found.old.items
+        ++ sound (length finder.now.scanned.now.pairs)
+        (naming_findings finder.now.scanned.now.pairs b.now)) }
 {
     find_declared(finder, b, found)?;
     find_locals(finder, b, found)?;
@@ -192,7 +224,11 @@ fn find_at_block(
 
 /// At a block of a text's body, if the rule is chosen.
 pub fn find(finder: &Finder<'_, '_>, b: &Block, found: &mut Vec<Finding>) -> Result<(), AllocError>
-    ensures { OnOk result (found.new.items ≡ found.old.items ++ sound (length finder.now.scanned.now.pairs) ((if has_rule finder.now.rules NamingConvention then naming_findings finder.now.scanned.now.pairs b.now else []))) }
+    ensures { OnOk result
+        (found.new.items ≡ found.old.items
+        ++ sound (length finder.now.scanned.now.pairs)
+        ((if has_rule finder.now.rules NamingConvention
+        then naming_findings finder.now.scanned.now.pairs b.now else []))) }
 {
     if !finder.rules.has(Rule::NamingConvention) {
         return Ok(());

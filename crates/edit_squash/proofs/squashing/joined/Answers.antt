@@ -1,8 +1,8 @@
 use Rattle.std.proofs.Common.{◌≡◌, ℕ, ◌+◌, ◌<◌, List, [], length, sym, ◌∙◌, ap, subst, arith}
 use Rattle.std.proofs.lemmas.List.{nil_from_length}
 use Rattle.std.proofs.lemmas.Bool.{false≢true}
-use Rattle.edit_record.specs.Pieces.{Entry, EditList, as_list, entries}
-use Rattle.edit_record.specs.Made.{AreEdits, new_len}
+use Rattle.edit_list.specs.Pieces.{Entry, EditList, as_list, entries}
+use Rattle.edit_list.specs.Made.{AreEdits, new_len}
 use Rattle.edit_squash.specs.Squash.{IsSquash}
 use Rattle.edit_squash.specs.Inner.Merge.{start}
 use Rattle.edit_squash.proofs.Merged.{progress_start, ends_well}

@@ -1,9 +1,9 @@
 use Rattle.std.proofs.Common.{◌≡◌, ℕ, ◌+◌, ◌-◌, ◌<◌, List, Bool, length, take, arith, sym, ap, ◌∙◌, refl, subst}
 use Rattle.std.proofs.lemmas.List.{length-map, nil_from_length}
 use Rattle.std.proofs.lemmas.Bool.{false≢true}
-use Rattle.edit_record.specs.declared.edit.Edit.{Edit}
-use Rattle.edit_record.specs.Pieces.{Entry, EditList, entry, entries}
-use Rattle.edit_record.specs.Made.{AreEdits, new_len}
+use Rattle.edit_list.specs.declared.edit.Edit.{Edit}
+use Rattle.edit_list.specs.Pieces.{Entry, EditList, entry, entries}
+use Rattle.edit_list.specs.Made.{AreEdits, new_len}
 use Rattle.edit_squash.specs.Squash.{Contradiction}
 use Rattle.edit_squash.specs.Inner.MergeState.{state}
 use Rattle.edit_squash.specs.Inner.Merge.{State, meeting, readied, took}

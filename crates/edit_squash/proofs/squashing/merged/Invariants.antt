@@ -1,5 +1,5 @@
 use Rattle.std.proofs.Common.{◌+◌, length}
-use Rattle.edit_record.specs.Pieces.{entries}
+use Rattle.edit_list.specs.Pieces.{entries}
 use Rattle.edit_squash.specs.Inner.MergeState.{state}
 use Rattle.edit_squash.proofs.Merged.{Progress}
 use Rattle.edit_squash.proofs.squashing.merged.Given as goal

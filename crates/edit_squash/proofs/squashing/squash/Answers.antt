@@ -1,5 +1,5 @@
 use Rattle.std.proofs.Common.{◌≡◌, ℕ, List, Ok}
-use Rattle.edit_record.specs.Pieces.{Entry, EditList, as_list, entries}
+use Rattle.edit_list.specs.Pieces.{Entry, EditList, as_list, entries}
 use Rattle.edit_squash.specs.Squash.{IsSquash, Squashes}
 use Rattle.edit_squash.proofs.squashing.squash.Goals as goal
 

@@ -1,8 +1,8 @@
 use Rattle.std.proofs.Common.{◌+◌, ◌<◌, length, arith, ap, sym, ◌∙◌, refl}
 use Rattle.std.proofs.lemmas.Bool.{false≢true}
 use Rattle.std.proofs.lemmas.List.{length-map, nil_from_length}
-use Rattle.edit_record.specs.Pieces.{entries, removed_len, added_len}
-use Rattle.edit_record.specs.Made.{new_len}
+use Rattle.edit_list.specs.Pieces.{entries, removed_len, added_len}
+use Rattle.edit_list.specs.Made.{new_len}
 use Rattle.edit_swap.specs.Inner.ExchangePlace.{place}
 use Rattle.edit_swap.proofs.Exchanged.{goes_first, goes_second, any_fault, some_edit, second_must, under_start, under_end, made_as}
 use Rattle.edit_swap.proofs.swapping.exchanged.Goals as goal

@@ -1,8 +1,8 @@
 use Rattle.std.proofs.Common.{◌≡◌, ◌+◌, ◌<◌, ◌-◌, [], length, arith, ap, sym, ◌∙◌, refl}
 use Rattle.std.proofs.lemmas.Bool.{false≢true}
 use Rattle.std.proofs.lemmas.List.{length-map, nil_from_length}
-use Rattle.edit_record.specs.Pieces.{entry, entries, removed_len, added_len}
-use Rattle.edit_record.specs.Made.{new_len}
+use Rattle.edit_list.specs.Pieces.{entry, entries, removed_len, added_len}
+use Rattle.edit_list.specs.Made.{new_len}
 use Rattle.edit_swap.specs.Inner.Exchange.{with_done}
 use Rattle.edit_swap.specs.Inner.ExchangePlace.{place}
 use Rattle.edit_swap.proofs.Exchanged.{fair_place, first_goes_done, second_goes_done, pass_one, pass_other, under_start, under_meets, nothing_meets, made_as, meeting_at}

@@ -1,5 +1,5 @@
 use Rattle.std.proofs.Common.{◌+◌, length}
-use Rattle.edit_record.specs.Pieces.{entries, removed_len, added_len}
+use Rattle.edit_list.specs.Pieces.{entries, removed_len, added_len}
 use Rattle.edit_swap.specs.Inner.ExchangePlace.{place}
 use Rattle.edit_swap.proofs.Exchanged.{Passed}
 use Rattle.edit_swap.proofs.swapping.meeting.Given as goal

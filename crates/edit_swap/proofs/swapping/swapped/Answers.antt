@@ -1,5 +1,5 @@
 use Rattle.std.proofs.Common.{◌+◌, ◌-◌, arith, ap, ◌∙◌}
-use Rattle.edit_record.specs.Pieces.{entries}
+use Rattle.edit_list.specs.Pieces.{entries}
 use Rattle.edit_swap.specs.Inner.ExchangePlace.{place}
 use Rattle.edit_swap.proofs.Exchanged.{before_made, after_made, is_swap, fits}
 use Rattle.edit_swap.proofs.swapping.swapped.Goals as goal

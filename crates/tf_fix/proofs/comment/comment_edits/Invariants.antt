@@ -1,5 +1,5 @@
 use Rattle.std.proofs.Common.{◌≡◌, ◌++◌, length, drop, map}
-use Rattle.edit_record.specs.Pieces.{entries}
+use Rattle.edit_list.specs.Pieces.{entries}
 use Rattle.tf_fix.specs.Comments.{comment_edit}
 use Rattle.tf_rule.specs.Findings.{AreSound}
 use Rattle.tf_fix.specs.Taking.{taken_from, taken}

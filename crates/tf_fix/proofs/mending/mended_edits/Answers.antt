@@ -1,5 +1,5 @@
 use Rattle.std.proofs.Common.{sym, inr, refl, subst}
-use Rattle.edit_record.specs.Pieces.{EditList, Turns}
+use Rattle.edit_list.specs.Pieces.{EditList, Turns}
 use Rattle.tf_fix.specs.ByPairs.{mended_text}
 use Rattle.tf_fix.specs.Mended.{step_entries}
 use Rattle.tf_fix.proofs.FillLemmas.{cut_filled}

@@ -1,6 +1,6 @@
 use Rattle.std.proofs.Common.{◌≡◌, ◌-◌, ◌*◌, ◌∷◌, ◌++◌, [], List, length, take, drop, slice_index_or, subst, arith, refl, sym, ap, ◌∙◌}
 use Rattle.std.proofs.lemmas.List.{map_push}
-use Rattle.edit_record.specs.Pieces.{Entry, entry, entries, changes_from}
+use Rattle.edit_list.specs.Pieces.{Entry, entry, entries, changes_from}
 use Rattle.tf_fix.specs.Replacements.{replaced_pieces}
 use Rattle.tf_fix.specs.Settled.{Neighbour}
 use Rattle.tf_fix.specs.Parts.{parts}

@@ -1,5 +1,5 @@
 use Rattle.std.proofs.Common.{length}
-use Rattle.edit_record.specs.Pieces.{entries, changes_from}
+use Rattle.edit_list.specs.Pieces.{entries, changes_from}
 use Rattle.tf_fix.specs.Replacements.{replaced_pieces}
 use Rattle.tf_fix.specs.Parts.{parts}
 use Rattle.tf_fix.specs.Inner.Views.{place_of, near_view, replacements}

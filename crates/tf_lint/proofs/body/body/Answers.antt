@@ -4,8 +4,8 @@ use Rattle.std.proofs.lemmas.List.{length-map}
 use Rattle.hcl_token.specs.Tokens.{Pair}
 use Rattle.hcl_expr.proofs.Turns.{turn_left, none_left}
 use Rattle.hcl_grammar.specs.Pure.BodyParser.{members}
-use Rattle.hcl_grammar.specs.declared.error.TokenFault.{TokenFault}
-use Rattle.hcl_grammar.specs.declared.error.TokenFault.TheVariants.{Memory}
+use Rattle.hcl_grammar.specs.declared.fault.TokenFault.{TokenFault}
+use Rattle.hcl_grammar.specs.declared.fault.TokenFault.TheVariants.{Memory}
 use Rattle.hcl_grammar.specs.declared.bounds.TheConstants.{MAX_NESTING}
 use Rattle.hcl_scan.specs.Follows.{tokens_of}
 use Rattle.hcl_tree.proofs.Passing.{left, begins, at_line, at_member, at_none, at_fault, at_end}

@@ -1,6 +1,6 @@
 -- The parser's fault is the text's.
 use Rattle.std.proofs.Common.{List, ℕ, sym, subst}
-use Rattle.hcl_parses.specs.Parses.{Parses}
+use Rattle.hcl_text_laws.specs.Parses.{Parses}
 use Rattle.tf_lint.specs.declared.fault.FixFault.{FixFault}
 use Rattle.tf_lint.specs.Reading.{NotRead}
 use Rattle.tf_lint.proofs.Unread.{not_parsed}

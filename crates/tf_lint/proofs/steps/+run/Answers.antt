@@ -1,6 +1,6 @@
 use Rattle.std.proofs.Common.{◌<◌, ◌∙◌, ℕ, List, length, subst, rules}
 use Rattle.std.specs.Prelude.{IfOk, IfErr}
-use Rattle.edit_record.specs.Pieces.{Turns}
+use Rattle.edit_list.specs.Pieces.{Turns}
 use Rattle.tf_rule.specs.declared.rule_set.RuleSet.{RuleSet}
 use Rattle.tf_fix.specs.Reading.{Reads}
 use Rattle.tf_lint.specs.Steps.{IsReport}

@@ -1,5 +1,5 @@
 use Rattle.std.proofs.Common.{◌≡◌, ◌⊎◌, ℕ, List, Err, subst}
-use Rattle.edit_record.specs.Pieces.{Turns}
+use Rattle.edit_list.specs.Pieces.{Turns}
 use Rattle.tf_lint.specs.Steps.{IsReport, Refuses}
 use Rattle.tf_rule.specs.declared.rule_set.RuleSet.{RuleSet}
 use Rattle.tf_rule.specs.Rules.{all_rules}

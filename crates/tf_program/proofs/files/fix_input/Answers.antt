@@ -1,6 +1,6 @@
 -- The fix is refused; or its text and its lines went out, or not all of them.
 use Rattle.std.proofs.Common.{◌≡◌, ◌∙◌, Err, rules}
-use Rattle.tf_session.specs.Session.{text_of, records_of}
+use Rattle.tf_commands.specs.Session.{text_of, records_of}
 use Rattle.tf_program.proofs.Fixing.{not_fixed, fixes, not_put}
 use Rattle.tf_program.proofs.files.fix_input.Goals as goal
 

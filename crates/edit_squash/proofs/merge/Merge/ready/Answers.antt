@@ -1,5 +1,5 @@
 use Rattle.std.proofs.Common.{sym, ◌∙◌, ap, length, min}
-use Rattle.edit_record.specs.Pieces.{entries}
+use Rattle.edit_list.specs.Pieces.{entries}
 use Rattle.edit_squash.specs.Inner.Merge.{State}
 use Rattle.edit_squash.specs.Inner.MergeState.{state}
 use Rattle.edit_squash.proofs.Soundness.{apart_first, apart_second, sound_closed}

@@ -1,7 +1,7 @@
 use Rattle.std.proofs.Common.{arith, ap, drop}
-use Rattle.edit_record.specs.Pieces.{entry, entries}
+use Rattle.edit_list.specs.Pieces.{entry, entries}
 use Rattle.edit_swap.specs.Inner.ExchangePlace.{place}
-use Rattle.edit_record.proofs.Placed.{drop_item}
+use Rattle.edit_list.proofs.Placed.{drop_item}
 use Rattle.edit_swap.proofs.Exchanged.{fits_second}
 use Rattle.edit_swap.proofs.exchange.Exchange.pass_second.Goals as goal
 

@@ -1,0 +1,10 @@
+pub mod Placed
+pub mod Steps
+pub mod Undoing
+pub mod Parts
+pub mod Pairs
+pub mod Following
+pub mod Stopping
+pub mod JournalStops
+pub mod PieceLemmas
+pub mod ListLemmas

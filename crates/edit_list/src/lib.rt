@@ -1,0 +1,24 @@
+//! Lists of exact edits of a text, which can be applied and undone.
+//!
+//! A list of edits says of a text of a known length which bytes become which. It is applied only to
+//! a text in which each of its edits stands, and undone only in one that has what each edit put
+//! there; any other text is refused.
+//! All places and lengths count bytes from 0, and steps and edits are numbered from 0.
+#![tactic(auto)]
+
+mod change;
+mod direction;
+mod edit;
+mod edits;
+mod journal;
+pub mod laws;
+mod many;
+mod pass;
+mod record;
+
+pub use change::{Change, Refused};
+pub use edit::{BadEdits, Edit};
+pub use edits::{Edits, MAX_TEXT};
+pub use journal::Journal;
+pub use many::{apply_all, undo_all};
+pub use record::{Record, Word};

@@ -1,0 +1,77 @@
+//! One pass over a text and the edits, in either direction.
+ghost use Rattle.std.specs.Prelude.{◌≡◌, IfErr};
+ghost use Rattle.edit_list.specs.Pieces.{as_list, entry, entries};
+ghost use Rattle.edit_list.specs.Made.{AreEdits};
+ghost use Rattle.edit_list.specs.Refusals.{Gives, HasLen};
+ghost use Rattle.edit_list.specs.Inner.Walk.{read_bytes, written_bytes, answer};
+ghost use Rattle.edit_list.specs.declared.change.Refused.TheVariants.{Memory};
+
+use crate::direction::Direction;
+use crate::{Edit, Refused};
+use std::alloc::Global;
+
+/// The bytes of an edit on the side that is read.
+fn read_bytes(direction: Direction, edit: &Edit) -> &[u8]
+    ensures { result.now ≡ read_bytes direction (entry edit.now) }
+{
+    match direction {
+        Direction::Forward => &edit.removed,
+        Direction::Backward => &edit.added,
+    }
+}
+
+/// The bytes of an edit on the side that is written.
+fn written_bytes(direction: Direction, edit: &Edit) -> &[u8]
+    ensures { result.now ≡ written_bytes direction (entry edit.now) }
+{
+    match direction {
+        Direction::Forward => &edit.added,
+        Direction::Backward => &edit.removed,
+    }
+}
+
+/// The text on the other side of `text`: the new one of an old text, or, going back, the old one of
+/// a new text.
+///
+/// What lies between two edits is the same on both sides, so the rest of the text alone says where
+/// the next edit is, and no place is shifted.
+pub(crate) fn turned_text(
+    alloc: Global,
+    direction: Direction,
+    old_len: usize,
+    new_len: usize,
+    edits: &[Edit],
+    text: &[u8],
+) -> Result<Vec<u8>, Refused>
+    requires { AreEdits old_len new_len (entries edits.now) }
+    ensures gives { Gives result (answer direction (as_list old_len (entries edits.now)) text.now) }
+    ensures memory { IfErr result
+        (λ e. e ≡ Memory → HasLen direction (as_list old_len (entries edits.now)) text.now) }
+{
+    let (expected, len) = match direction {
+        Direction::Forward => (old_len, new_len),
+        Direction::Backward => (new_len, old_len),
+    };
+    if text.len() != expected {
+        return Err(Refused::Length {
+            expected,
+            found: text.len(),
+        });
+    }
+    let mut out = Vec::with_capacity(alloc, len)?;
+    let mut rest = text;
+    let mut old_end = 0;
+    for (i, edit) in edits.iter().enumerate() {
+        let (kept, after) = rest.split_at(edit.at - old_end);
+        let read = read_bytes(direction, edit);
+        if !after.starts_with(read) {
+            return Err(Refused::Differs { step: 0, edit: i });
+        }
+        out.extend_from_slice(kept)?;
+        out.extend_from_slice(written_bytes(direction, edit))?;
+        rest = &after[read.len()..];
+        old_end = edit.at + edit.removed.len();
+    }
+    out.extend_from_slice(rest)?;
+    Ok(out)
+}

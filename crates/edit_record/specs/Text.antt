@@ -1,0 +1,115 @@
+-- The record text: how this project writes a journal down. Version 2 is what is written. Version 1,
+-- in which a record was a row of steps, is still read. The format is this project's own, and is
+-- defined here.
+use Rattle.std.specs.Prelude.{◌≡◌, ℕ, ◌≤◌, ◌⊎◌, List, [], ◌∷◌, ◌++◌, length, codes, decimal}
+use Rattle.std.specs.List.{flat_map, AllByRecursion}
+use Rattle.edit_list.specs.declared.record.Word.{Word}
+use Rattle.edit_list.specs.declared.record.Word.TheVariants.{Fmt, Fix}
+use Rattle.edit_list.specs.Pieces.{Entry, EditList, Turns}
+use Rattle.edit_list.specs.Made.{AreEdits, new_len}
+use Rattle.edit_list.specs.Many.{TurnsAll}
+use Rattle.edit_list.specs.Journal.{Entered}
+use Rattle.edit_squash.specs.Grouping.{SquashAll}
+
+-- ---- what both versions have
+
+-- the byte behind a word, and behind a number that is not the last of its line
+abbrev pub space : ℕ
+space = 32
+
+-- the byte that ends each line
+abbrev pub newline : ℕ
+newline = 10
+
+-- a number in decimal, without leading zeros, and the byte behind it
+abbrev pub number_text : ℕ → ℕ → List ℕ
+number_text stop n = decimal n ++ stop ∷ []
+
+-- an edit: a line with its place, how many bytes it removes and how many it adds; then these bytes,
+-- and the end of the line
+abbrev pub edit_text : Entry → List ℕ
+edit_text e = number_text space e.at ++ number_text space (length e.removed)
+    ++ number_text newline (length e.added) ++ e.removed ++ e.added ++ newline ∷ []
+
+-- a list of edits: the length of the texts that they apply to, how many they are, and the edits one
+-- after another
+abbrev pub list_text : EditList → List ℕ
+list_text e = number_text space e.old_len ++ number_text newline (length e.entries)
+    ++ flat_map edit_text e.entries
+
+-- the command that made a record
+abbrev pub word_text : Word → List ℕ
+word_text Fmt = codes "fmt "
+word_text Fix = codes "fix "
+
+-- the edits are placed one behind another in texts of their length, and no text is too long:
+-- `Edits` can hold them
+abbrev pub IsMade : EditList → Type 0
+IsMade e = AreEdits e.old_len (new_len e) e.entries
+
+-- ---- version 2
+
+-- a record: its mark, its command, its edits, and its end
+abbrev pub record_text : Entered → List ℕ
+record_text r = codes "tfrec 2 " ++ word_text r.word ++ list_text r.edits ++ codes "end\n"
+
+-- a journal: its records one after another, the oldest first, and nothing else
+abbrev pub journal_text : List Entered → List ℕ
+journal_text = flat_map record_text
+
+-- this is the text, in version 2, of the journal with these records, all of which `Record` can hold
+pub record IsText (text : List ℕ) (rs : List Entered) : Type 0 where
+  pub made : AllByRecursion (λ r. IsMade r.edits) rs
+  pub is : text ≡ journal_text rs
+
+-- ---- version 1
+
+-- a record of version 1: the steps of one command, at least one, each a list of edits that goes on
+-- from the one before
+pub record OldRecord : Type 0 where
+  pub word : Word
+  pub first : EditList
+  pub others : List EditList
+
+abbrev pub steps : OldRecord → List EditList
+steps r = r.first ∷ r.others
+
+-- it turns texts by its steps one after another
+abbrev pub old_turns : OldRecord → List ℕ → List ℕ → Type 0
+old_turns old = TurnsAll Turns (steps old)
+
+abbrev pub step_text : EditList → List ℕ
+step_text e = codes "step " ++ list_text e
+
+-- a record: its mark, its command, how many steps it has, the steps one after another, and its end
+abbrev pub old_record_text : OldRecord → List ℕ
+old_record_text r =
+    codes "tfrec 1 " ++ word_text r.word ++ number_text newline (length (steps r))
+    ++ flat_map step_text (steps r) ++ codes "end\n"
+
+-- A record of version 1 becomes one of today: it has 64 steps at most, and squashed from the first
+-- on they are the one list of edits of that record, which has the same command.
+pub record Migrates (old : OldRecord) (r : Entered) : Type 0 where
+  pub made : AllByRecursion IsMade (steps old)
+  pub few : length (steps old) ≤ 64
+  pub word : old.word ≡ r.word
+  pub squashed : SquashAll old.first old.others r.edits
+
+-- each old record becomes the record at its place
+abbrev pub MigrateAll : List OldRecord → List Entered → Type 0
+MigrateAll [] [] = Unit {0}
+MigrateAll [] (r ∷ rs) = ⊥
+MigrateAll (old ∷ olds) [] = ⊥
+MigrateAll (old ∷ olds) (r ∷ rs) = Migrates old r × MigrateAll olds rs
+
+-- this is the text, in version 1, of records that become these
+pub record IsOldText (text : List ℕ) (rs : List Entered) : Type 0 where
+  pub olds : List OldRecord
+  pub migrated : MigrateAll olds rs
+  pub is : text ≡ flat_map old_record_text olds
+
+-- ---- either version
+
+-- This is the text of the journal with these records. All of them are of one version.
+abbrev pub IsJournal : List ℕ → List Entered → Type 0
+IsJournal text rs = IsText text rs ⊎ IsOldText text rs

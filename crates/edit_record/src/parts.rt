@@ -1,0 +1,165 @@
+//! Readers of the parts of a record. Each answers what stands at the front, and the rest of the
+//! text.
+ghost use Rattle.std.specs.Prelude.{◌≡◌, ◌<◌, ◌^◌, ◌*◌, ◌+◌, length, codes, option_map, IfOk, ◌≤◌, false, is_some};
+ghost use Rattle.edit_list.specs.Pieces.{entry, entries};
+ghost use Rattle.edit_record.specs.Inner.Finding.{Gives};
+ghost use Rattle.edit_record.specs.Inner.Growing.{edits_grow, list_grows};
+ghost use Rattle.edit_record.specs.Inner.Reading.{behind, number_at, bytes_at, edit_at, edits_at, list_at, word_of, word_at};
+
+use crate::fault::{Kind, Stop};
+use edit_list::{Edit, Edits, Word};
+use std::alloc::Global;
+
+/// The greatest number of a text: twice the most bytes of a text, since the edits of a list are no
+/// more than the bytes that they remove and add.
+const MAX_NUMBER: usize = 33_554_432;
+
+/// What stands behind these bytes, if they stand at the front.
+fn after<'t>(expected: &[u8], text: &'t [u8]) -> Option<&'t [u8]>
+    ensures { option_map (λ x. x.now) result ≡ behind expected.now text.now }
+{
+    text.strip_prefix(expected)
+}
+
+/// What stands behind these bytes, which are expected here.
+pub(crate) fn piece<'t>(expected: &[u8], kind: Kind, text: &'t [u8]) -> Result<&'t [u8], Stop>
+    ensures { Gives (λ x. x.now) false result (behind expected.now text.now) }
+{
+    match after(expected, text) {
+        Some(rest) => Ok(rest),
+        None => {
+            if expected.starts_with(text) {
+                Err(Stop::Bad(Kind::Cut, 0))
+            } else {
+                Err(Stop::Bad(kind, text.len()))
+            }
+        }
+    }
+}
+
+/// A number from `least` to `limit`, with this byte behind it.
+#[tactic(auto, unfolding(crate::specs::Inner::Reading::number_at))]
+pub(crate) fn number(
+    least: usize,
+    limit: usize,
+    stop: u8,
+    text: &[u8],
+) -> Result<(usize, &[u8]), Stop>
+    requires { limit < 2 ^ 32 }
+    ensures read { Gives (λ x. (x.0, x.1.now)) false result (number_at least limit stop text.now) }
+    ensures least { IfOk result (λ x. least ≤ x.0) }
+{
+    let mut some = false;
+    let mut value = 0usize;
+    let mut left = text;
+    while let [digit, rest @ ..] = left {
+        let digit = *digit;
+        if !digit.is_ascii_digit() {
+            if !some || value < least {
+                return Err(Stop::Bad(Kind::Number, text.len()));
+            }
+            if digit != stop {
+                return Err(Stop::Bad(Kind::Head, left.len()));
+            }
+            return Ok((value, rest));
+        }
+        if some && value == 0 {
+            return Err(Stop::Bad(Kind::Number, text.len()));
+        }
+        value = value * 10 + (digit - b'0') as usize;
+        if value > limit {
+            return Err(Stop::Bad(Kind::Number, text.len()));
+        }
+        some = true;
+        left = rest;
+    }
+    if some && value < least {
+        return Err(Stop::Bad(Kind::Number, text.len()));
+    }
+    Err(Stop::Bad(Kind::Cut, 0))
+}
+
+/// So many bytes, and those behind them.
+#[tactic(auto, unfolding(crate::specs::Inner::Reading::bytes_at))]
+fn bytes(count: usize, text: &[u8]) -> Result<(&[u8], &[u8]), Stop>
+    ensures { Gives (λ x. (x.0.now, x.1.now)) false result (bytes_at count text.now) }
+{
+    if text.len() < count {
+        return Err(Stop::Bad(Kind::Cut, 0));
+    }
+    Ok(text.split_at(count))
+}
+
+/// An edit. Its bytes are copied once they are all there, with the line end behind them.
+#[tactic(auto, unfolding(crate::specs::Inner::Reading::edit_at))]
+fn edit(alloc: Global, text: &[u8]) -> Result<(Edit, &[u8]), Stop>
+    ensures { Gives (λ x. (entry x.0, x.1.now)) (is_some (edit_at text.now)) result
+        (edit_at text.now) }
+{
+    let (at, rest) = number(0, MAX_NUMBER, b' ', text)?;
+    let (removed, rest) = number(0, MAX_NUMBER, b' ', rest)?;
+    let (added, rest) = number(0, MAX_NUMBER, b'\n', rest)?;
+    let (removed, rest) = bytes(removed, rest)?;
+    let (added, rest) = bytes(added, rest)?;
+    let rest = piece(b"\n", Kind::End, rest)?;
+    let removed = Vec::from_slice(alloc, removed)?;
+    let added = Vec::from_slice(alloc, added)?;
+    Ok((Edit { at, removed, added }, rest))
+}
+
+/// So many edits. No memory is taken before they are there.
+#[tactic(auto, unfolding(crate::specs::Inner::Reading::edits_at))]
+fn edits(alloc: Global, count: usize, text: &[u8]) -> Result<(Vec<Edit>, &[u8]), Stop>
+    ensures { Gives (λ x. (entries x.0.items, x.1.now)) (edits_grow count text.now) result
+        (edits_at count text.now) }
+{
+    let mut edits = Vec::new(alloc);
+    let mut rest = text;
+    for _ in 0..count {
+        let (next, after) = edit(alloc, rest)?;
+        edits.push(next)?;
+        rest = after;
+    }
+    Ok((edits, rest))
+}
+
+/// A list of edits. Where they are none, the fault has `left` bytes behind it.
+#[tactic(auto, unfolding(crate::specs::Inner::Reading::list_at, crate::specs::Inner::Growing::list_grows))]
+pub(crate) fn list(alloc: Global, left: usize, text: &[u8]) -> Result<(Edits, &[u8]), Stop>
+    ensures { Gives (λ x. (x.0, x.1.now)) (list_grows text.now) result (list_at text.now) }
+{
+    let (old_len, rest) = number(0, MAX_NUMBER, b' ', text)?;
+    let (count, rest) = number(0, MAX_NUMBER, b'\n', rest)?;
+    let (edits, rest) = edits(alloc, count, rest)?;
+    match Edits::make(old_len, edits) {
+        Ok(list) => Ok((list, rest)),
+        Err(_) => Err(Stop::Bad(Kind::Edits, left)),
+    }
+}
+
+/// A command's word, and the space behind it.
+#[tactic(auto, unfolding(crate::specs::Inner::Reading::word_at))]
+pub(crate) fn word(text: &[u8]) -> Result<(Word, &[u8]), Stop>
+    ensures { Gives (λ x. (x.0, x.1.now)) false result (word_at text.now) }
+{
+    let (word, rest) = bare_word(text)?;
+    let rest = piece(b" ", Kind::Head, rest)?;
+    Ok((word, rest))
+}
+
+/// A command's word.
+fn bare_word(text: &[u8]) -> Result<(Word, &[u8]), Stop>
+    ensures { Gives (λ x. (x.0, x.1.now)) false result
+        (word_of (behind (codes "fmt") text.now) (behind (codes "fix") text.now)) }
+{
+    if let Some(rest) = after(b"fmt", text) {
+        return Ok((Word::Fmt, rest));
+    }
+    if let Some(rest) = after(b"fix", text) {
+        return Ok((Word::Fix, rest));
+    }
+    if b"fmt".starts_with(text) || b"fix".starts_with(text) {
+        return Err(Stop::Bad(Kind::Cut, 0));
+    }
+    Err(Stop::Bad(Kind::Head, text.len()))
+}

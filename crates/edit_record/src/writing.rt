@@ -1,0 +1,127 @@
+//! Writing a journal.
+ghost use Rattle.std.specs.Prelude.{◌≡◌, ◌+◌, ◌-◌, ◌^◌, ◌≤◌, ◌++◌, List, length, min, decimal, codes, OnOk, IfOk, IfErr, ◌<◌};
+ghost use Rattle.edit_list.specs.Pieces.{entry, entries};
+ghost use Rattle.edit_record.specs.Text.{IsMade, word_text, number_text, edit_text, record_text, journal_text, IsText};
+
+use edit_list::{Edit, Journal, Record, Word};
+use itoa::Buffer;
+use std::alloc::{AllocError, Global};
+
+/// How many digits a number has.
+fn digits(number: usize) -> usize
+    ensures is { result ≡ length (decimal number) }
+    ensures short { result ≤ 40 }
+{
+    Buffer::new().format(number).len()
+}
+
+/// How many bytes the text of an edit has.
+fn edit_len(edit: &Edit) -> usize
+    ensures { result ≡ min (length (edit_text (entry edit.now))) (2 ^ 64 - 1) }
+{
+    let removed = edit.removed.len();
+    let added = edit.added.len();
+    let numbers = digits(edit.at) + digits(removed) + digits(added) + 4;
+    numbers.saturating_add(removed).saturating_add(added)
+}
+
+/// How many bytes the text of a record has.
+fn record_len(entered: &Record) -> usize
+    ensures { result ≡ min (length (record_text entered.now)) (2 ^ 64 - 1) }
+{
+    let list = entered.edits();
+    let edits = list.edits();
+    let mut len = 18 + digits(list.old_len()) + digits(edits.len());
+    for edit in edits {
+        len = len.saturating_add(edit_len(edit));
+    }
+    len
+}
+
+/// How many bytes the text of a journal has, up to the greatest number that there is. It takes no
+/// memory.
+pub fn encoded_len(journal: &Journal) -> usize
+    ensures { result ≡ min (length (journal_text journal.now)) (2 ^ 64 - 1) }
+{
+    let mut len = 0usize;
+    for entered in journal.records() {
+        len = len.saturating_add(record_len(entered));
+    }
+    len
+}
+
+fn put_number(out: &mut Vec<u8>, number: usize, stop: u8) -> Result<(), AllocError>
+    ensures { OnOk result (out.new.items ≡ out.old.items ++ number_text stop number) }
+{
+    out.extend_from_slice(Buffer::new().format(number).as_bytes())?;
+    out.push(stop)?;
+    Ok(())
+}
+
+fn put_numbers(out: &mut Vec<u8>, at: usize, removed: usize, added: usize) -> Result<(), AllocError>
+    ensures { OnOk result
+        (out.new.items ≡ out.old.items ++ number_text 32 at ++ number_text 32 removed
+        ++ number_text 10 added) }
+{
+    put_number(out, at, b' ')?;
+    put_number(out, removed, b' ')?;
+    put_number(out, added, b'\n')?;
+    Ok(())
+}
+
+fn put_edit(out: &mut Vec<u8>, edit: &Edit) -> Result<(), AllocError>
+    ensures { OnOk result (out.new.items ≡ out.old.items ++ edit_text (entry edit.now)) }
+{
+    let removed = edit.removed.as_slice();
+    let added = edit.added.as_slice();
+    put_numbers(out, edit.at, removed.len(), added.len())?;
+    out.extend_from_slice(removed)?;
+    out.extend_from_slice(added)?;
+    out.push(b'\n')?;
+    Ok(())
+}
+
+fn word_bytes(word: Word) -> &'static [u8]
+    ensures { result.now ≡ word_text word }
+{
+    match word {
+        Word::Fmt => b"fmt ",
+        Word::Fix => b"fix ",
+    }
+}
+
+fn put_record(out: &mut Vec<u8>, entered: &Record) -> Result<(), AllocError>
+    ensures text { OnOk result (out.new.items ≡ out.old.items ++ record_text entered.now) }
+    ensures made { OnOk result (IsMade entered.now.edits) }
+{
+    let list = entered.edits();
+    let edits = list.edits();
+    out.extend_from_slice(b"tfrec 2 ")?;
+    out.extend_from_slice(word_bytes(entered.word()))?;
+    put_number(out, list.old_len(), b' ')?;
+    put_number(out, edits.len(), b'\n')?;
+    for edit in edits {
+        put_edit(out, edit)?;
+    }
+    out.extend_from_slice(b"end\n")?;
+    Ok(())
+}
+
+/// The text of a journal, in version 2: its records one after another, the oldest first. A record
+/// is the line `tfrec 2 COMMAND LENGTH EDITS` (the command `fmt` or `fix`, the length of the texts
+/// that it applies to, and how many edits follow), the edits, and the line `end`. An edit is the
+/// line `PLACE REMOVED ADDED` (its place, and how many bytes it removes and adds), these bytes, and
+/// a line end. Numbers are decimal without leading zeros.
+///
+/// The room is reserved once, so only that can be refused. The text of an empty journal has no
+/// bytes.
+pub fn encode(alloc: Global, journal: &Journal) -> Result<Vec<u8>, AllocError>
+    ensures text { IfOk result (λ text. IsText text.items journal.now) }
+    ensures refused { IfErr result (λ _. 0 < length journal.now) }
+{
+    let mut out = Vec::with_capacity(alloc, encoded_len(journal))?;
+    for entered in journal.records() {
+        put_record(&mut out, entered)?;
+    }
+    Ok(out)
+}

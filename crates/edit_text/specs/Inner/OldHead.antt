@@ -1,6 +1,0 @@
--- The front of an old record in the code.
-use Rattle.edit_text.specs.Inner.Reading.{OldHead}
-use Rattle.edit_text.specs.declared.reading.OldHead.{OldHead as Head}
-
-abbrev pub head_view : Head → OldHead
-head_view h = record { word = h.word; first = h.first; others = h.others }

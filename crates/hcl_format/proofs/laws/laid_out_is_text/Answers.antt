@@ -1,5 +1,0 @@
-use Rattle.hcl_format.proofs.LaidCut.{laid_out_is_text}
-use Rattle.hcl_format.proofs.laws.laid_out_is_text.Goals as goal
-
-pub returns : goal.returns
-returns c = laid_out_is_text c.layout_is_cut.ensures c.one_cut.ensures

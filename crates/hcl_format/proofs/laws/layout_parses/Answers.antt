@@ -1,5 +1,0 @@
-use Rattle.hcl_format.proofs.LaidTexts.{layout_parses}
-use Rattle.hcl_format.proofs.laws.layout_parses.Goals as goal
-
-pub returns : goal.returns
-returns c = layout_parses c.layout_is_cut.ensures c.one_cut.ensures c.parsed_apart.ensures c.keeps_tokens.ensures

@@ -1,5 +1,0 @@
-use Rattle.hcl_format.proofs.LaidTexts.{one_layout}
-use Rattle.hcl_format.proofs.laws.one_layout.Goals as goal
-
-pub returns : goal.returns
-returns c = one_layout c.one_cut.ensures

@@ -1,2 +1,0 @@
-pub mod LayoutLaws
-pub mod Layouts

@@ -1,0 +1,16 @@
+pub mod GapLaw
+pub mod IndentLaw
+pub mod CellCode
+pub mod CellGaps
+pub mod CellLaw
+pub mod LineLemmas
+pub mod NearLemmas
+pub mod TokensKept
+pub mod WidthLemmas
+pub mod Narrow
+pub mod LayoutPieces
+pub mod Few
+pub mod ColumnLaw
+pub mod Compose
+pub mod EditLemmas
+pub mod BothColumns

@@ -1,0 +1,187 @@
+-- Going over the tokens of a text, and over its lines.
+use Rattle.std.proofs.Common.{◌≡◌, ℕ, zero, suc, ◌+◌, ◌-◌, ◌<◌, ◌≤◌, Bool, true, false, nat_lt, List, [], ◌∷◌, length, take, drop, get_or, slice_range, Some, if◌then◌else◌, refl, sym, ap, ap₂, ◌∙◌, arith, inl, inr}
+use Rattle.std.specs.Prelude.{slice_get}
+use Rattle.std.specs.Option.{option_map}
+use Rattle.std.proofs.lemmas.Option.{slice_get_cases}
+use Rattle.std.proofs.Common.{count_by, cond, reverse, set, take_all, ◌++◌}
+use Rattle.std.proofs.lemmas.List.Sums.{sum_by-cons}
+use Rattle.std.proofs.lemmas.List.{drop_more, drop_all, drop-drop, take_more, length-take-le, reverse-append}
+use Rattle.std.proofs.Math.Seq.{set-append_seam}
+use Rattle.hcl_token.specs.declared.kind.Kind.{Kind}
+use Rattle.hcl_token.specs.declared.kind.Kind.TheVariants.{LineEnd, HereOpen, HereClose}
+use Rattle.hcl_token.specs.Tokens.{Pair}
+use Rattle.hcl_token.specs.CutText.{kind_of, spelling_of, gap_of}
+use Rattle.hcl_gaps.specs.Kinds.{is_here_open}
+use Rattle.hcl_gaps.specs.Lines.{Line, heredocs_after, ends_line, in_front, lines_from}
+use Rattle.hcl_gaps.specs.Inner.Stages.{line_len, held_behind, held_of, SplitsLine, close}
+use Rattle.std.proofs.lemmas.Bool.Decides.{nat_tests}
+
+-- token i, which stands before token `to`
+pub record Turn (pairs : List Pair) (i to : ℕ) : Type 0 where
+  pub pair : Pair
+  pub at : slice_get pairs i ≡ Some pair
+  pub rest : drop i pairs ≡ pair ∷ drop (i + 1) pairs
+  pub range : slice_range pairs i to ≡ pair ∷ slice_range pairs (i + 1) to
+
+pub turn : (pairs : List Pair) (i to : ℕ) → i < to → to ≤ length pairs → Turn pairs i to
+turn pairs i to less within = elim (slice_get_cases pairs i).1 [
+  | inl (x, inside, found, same) ↦
+      let split : drop i pairs ≡ x ∷ drop (i + 1) pairs = rw (← same) (drop_more pairs i x inside) in
+      let count : to - i ≡ suc (to - (i + 1)) = omega arith in
+      record { pair = x; at = found; rest = split; range = ap₂ (λ n (ps : List Pair). take n ps) count split }
+  | inr (past, none) ↦ absurd (omega arith)
+]
+
+pub kind_is : (pairs : List Pair) (i to : ℕ) (k : Kind) (t : Turn pairs i to) → Some k ≡ kind_of pairs i → k ≡ t.pair.kind
+kind_is pairs i to k t h = let e = h ∙ ap (option_map (λ (p : Pair). p.kind)) t.at in cc
+
+pub spelling_is : (pairs : List Pair) (i to : ℕ) (s : List ℕ) (t : Turn pairs i to) → Some s ≡ spelling_of pairs i → s ≡ t.pair.spelling
+spelling_is pairs i to s t h = let e = h ∙ ap (option_map (λ (p : Pair). p.spelling)) t.at in cc
+
+pub gap_is : (pairs : List Pair) (i to : ℕ) (g : List ℕ) (t : Turn pairs i to) → Some g ≡ gap_of pairs i → g ≡ t.pair.gap
+gap_is pairs i to g t h = let e = h ∙ ap (option_map (λ (p : Pair). p.gap)) t.at in cc
+
+-- ---- the first line
+
+-- the first line and those behind it
+IsSplit : ℕ → List Pair → Type 0
+IsSplit held ps = lines_from held ps ≡ record { frozen = nat_lt 0 held; pairs = take (line_len held ps) ps } ∷ lines_from (held_behind held ps) (drop (line_len held ps) ps)
+
+split_if : (held : ℕ) (p : Pair) (ps : List Pair) (ends : Bool) → ends_line held p.kind ≡ ends
+    → ((q : Pair) (qs : List Pair) → ps ≡ q ∷ qs → IsSplit (heredocs_after held p.kind) ps) → IsSplit held (p ∷ ps)
+unfolding IsSplit
+split_if held p ps true is rest = rw is refl
+split_if held p [] false is rest = rw is refl
+split_if held p (q ∷ qs) false is rest = rw is (ap (in_front (nat_lt 0 held) p) (rest q qs refl))
+
+pub first_line : (held : ℕ) (p : Pair) (ps : List Pair) → lines_from held (p ∷ ps) ≡ record { frozen = nat_lt 0 held; pairs = take (line_len held (p ∷ ps)) (p ∷ ps) } ∷ lines_from (held_behind held (p ∷ ps)) (drop (line_len held (p ∷ ps)) (p ∷ ps))
+unfolding IsSplit
+first_line held p [] = split_if held p [] (ends_line held p.kind) refl (λ q qs e. absurd (cc))
+first_line held p (r ∷ ps) = split_if held p (r ∷ ps) (ends_line held p.kind) refl (λ q qs e. first_line (heredocs_after held p.kind) r ps)
+
+len_some : (held : ℕ) (p : Pair) (ps : List Pair) → 0 < line_len held (p ∷ ps)
+len_some held p ps = elim (ends_line held p.kind) as (λ b. 0 < (if b then 1 else suc (line_len (heredocs_after held p.kind) ps))) [ true ↦ omega arith | false ↦ omega arith ]
+
+begins_held : (frozen : Bool) → nat_lt 0 (held_of frozen) ≡ frozen
+begins_held true = refl
+begins_held false = refl
+
+-- the first line from token `at` on
+first_at : (pairs : List Pair) (at : ℕ) (frozen : Bool) → at < length pairs
+    → (0 < line_len (held_of frozen) (drop at pairs))
+    × (lines_from (held_of frozen) (drop at pairs) ≡ record { frozen = frozen; pairs = take (line_len (held_of frozen) (drop at pairs)) (drop at pairs) } ∷ lines_from (held_behind (held_of frozen) (drop at pairs)) (drop (line_len (held_of frozen) (drop at pairs)) (drop at pairs)))
+first_at pairs at frozen inside =
+    let t = turn pairs at (length pairs) inside (omega arith) in
+    rw t.rest (
+      len_some (held_of frozen) t.pair (drop (at + 1) pairs),
+      first_line (held_of frozen) t.pair (drop (at + 1) pairs)
+          ∙ ap (λ f. record { frozen = f; pairs = take (line_len (held_of frozen) (t.pair ∷ drop (at + 1) pairs)) (t.pair ∷ drop (at + 1) pairs) } ∷ lines_from (held_behind (held_of frozen) (t.pair ∷ drop (at + 1) pairs)) (drop (line_len (held_of frozen) (t.pair ∷ drop (at + 1) pairs)) (t.pair ∷ drop (at + 1) pairs))) (begins_held frozen),
+    )
+
+splits : (pairs : List Pair) (at : ℕ) (frozen : Bool) (past : ℕ) (next : Bool) → at < length pairs → past ≤ length pairs
+    → at + line_len (held_of frozen) (drop at pairs) ≡ past
+    → lines_from (held_behind (held_of frozen) (drop at pairs)) (drop past pairs) ≡ lines_from (held_of next) (drop past pairs)
+    → SplitsLine pairs at frozen past next
+splits pairs at frozen past next inside within len behind =
+    let first = first_at pairs at frozen inside in
+    let n : ℕ = line_len (held_of frozen) (drop at pairs) in
+    let count : n ≡ past - at = omega arith in
+    let rest : drop n (drop at pairs) ≡ drop past pairs = drop-drop n at pairs ∙ ap (λ k. drop k pairs) (omega arith) in
+    record {
+      more = omega (arith, first.0);
+      within = within;
+      line = first.1 ∙ ap₂ (λ (ps : List Pair) (ls : List Line). record { frozen = frozen; pairs = ps } ∷ ls) (ap (λ k. take k (drop at pairs)) count) (ap (λ ps. lines_from (held_behind (held_of frozen) (drop at pairs)) ps) rest ∙ behind);
+    }
+
+-- a line that began at token `at` goes on at token i
+pub record IsInLine (pairs : List Pair) (at : ℕ) (frozen : Bool) (i held : ℕ) : Type 0 where
+  pub len : at + line_len (held_of frozen) (drop at pairs) ≡ i + line_len held (drop i pairs)
+  pub behind : held_behind (held_of frozen) (drop at pairs) ≡ held_behind held (drop i pairs)
+  pub later : at ≤ i
+  pub small : held + at ≤ i + 1
+
+pub in_line_begins : (pairs : List Pair) (at : ℕ) (frozen : Bool) → IsInLine pairs at frozen at (held_of frozen)
+in_line_begins pairs at true = record { len = refl; behind = refl; later = omega arith; small = omega arith }
+in_line_begins pairs at false = record { len = refl; behind = refl; later = omega arith; small = omega arith }
+
+grows : (held : ℕ) (k : Kind) → heredocs_after held k ≤ held + 1
+grows held HereOpen = omega arith
+grows held HereClose = omega arith
+grows held k = omega arith
+
+pub in_line_goes : (pairs : List Pair) (at : ℕ) (frozen : Bool) (i held : ℕ) (k : Kind) → IsInLine pairs at frozen i held → i < length pairs → Some k ≡ kind_of pairs i → ends_line held k ≡ false
+    → IsInLine pairs at frozen (i + 1) (heredocs_after held k)
+in_line_goes pairs at frozen i held k l inside is goes =
+    let t = turn pairs i (length pairs) inside (omega arith) in
+    let same = kind_is pairs i (length pairs) k t is in
+    let goes_on : ends_line held t.pair.kind ≡ false = ap (ends_line held) (sym same) ∙ goes in
+    let len : line_len held (drop i pairs) ≡ suc (line_len (heredocs_after held k) (drop (i + 1) pairs)) = rw (t.rest, goes_on, same) refl in
+    let behind : held_behind held (drop i pairs) ≡ held_behind (heredocs_after held k) (drop (i + 1) pairs) = rw (t.rest, goes_on, same) refl in
+    record { len = omega (arith, l.len, len); behind = l.behind ∙ behind; later = omega (arith, l.later); small = omega (arith, l.small, grows held k) }
+
+next_held : (held : ℕ) (k : Kind) → ends_line held k ≡ true → heredocs_after held k ≡ held_of (is_here_open k)
+next_held zero LineEnd h = refl
+next_held zero HereOpen h = refl
+next_held zero k h = absurd (cc)
+next_held (suc held) k h = absurd (cc)
+
+pub line_ends : (pairs : List Pair) (at : ℕ) (frozen : Bool) (i held : ℕ) (k : Kind) → IsInLine pairs at frozen i held → at < length pairs → i < length pairs → Some k ≡ kind_of pairs i → ends_line held k ≡ true
+    → SplitsLine pairs at frozen (i + 1) (is_here_open k)
+line_ends pairs at frozen i held k l begins inside is ends =
+    let t = turn pairs i (length pairs) inside (omega arith) in
+    let same = kind_is pairs i (length pairs) k t is in
+    let ends_here : ends_line held t.pair.kind ≡ true = ap (ends_line held) (sym same) ∙ ends in
+    let len : line_len held (drop i pairs) ≡ 1 = rw (t.rest, ends_here) refl in
+    let behind : held_behind held (drop i pairs) ≡ held_of (is_here_open k) = rw (t.rest, ends_here) (ap (heredocs_after held) (sym same) ∙ next_held held k ends) in
+    splits pairs at frozen (i + 1) (is_here_open k) begins (omega arith) (l.len ∙ ap (λ n. i + n) len) (ap (λ h. lines_from h (drop (i + 1) pairs)) (l.behind ∙ behind))
+
+pub text_ends : (pairs : List Pair) (at : ℕ) (frozen : Bool) (i held : ℕ) → IsInLine pairs at frozen i held → at < length pairs → i ≡ length pairs → SplitsLine pairs at frozen (length pairs) false
+text_ends pairs at frozen i held l begins e =
+    let none : drop i pairs ≡ [] = drop_all i pairs (omega arith) in
+    let gone : drop (length pairs) pairs ≡ [] = drop_all (length pairs) pairs (omega arith) in
+    let len : line_len held (drop i pairs) ≡ 0 = rw none refl in
+    splits pairs at frozen (length pairs) false begins (omega arith) (omega (arith, l.len, len)) (rw gone refl)
+
+-- ---- counts, and the end of a stack
+
+-- a count of tokens, one token further
+pub counted : (f : Kind → Bool) (pairs : List Pair) (i to : ℕ) (k : Kind) → i < to → to ≤ length pairs → Some k ≡ kind_of pairs i
+    → count_by (λ (p : Pair). f p.kind) (slice_range pairs i to) ≡ (if f k then 1 else 0) + count_by (λ (p : Pair). f p.kind) (slice_range pairs (i + 1) to)
+counted f pairs i to k less within is =
+    let t = turn pairs i to less within in
+    let same : (if f t.pair.kind then 1 else 0) ≡ (if f k then 1 else 0) = ap (λ j. cond (f j) 1 0) (sym (kind_is pairs i to k t is)) in
+    ap (count_by (λ (p : Pair). f p.kind)) t.range
+    ∙ sum_by-cons (λ (p : Pair). cond (f p.kind) 1 0) t.pair (slice_range pairs (i + 1) to)
+    ∙ ap (λ n. n + count_by (λ (p : Pair). f p.kind) (slice_range pairs (i + 1) to)) same
+
+pub record IsEnd (xs : List ℕ) (n top : ℕ) : Type 0 where
+  pub last : reverse xs ≡ top ∷ reverse (take n xs)
+  pub changed : (v : ℕ) → reverse (set xs n v) ≡ v ∷ reverse (take n xs)
+
+pub end_of : (xs : List ℕ) (n top : ℕ) → n + 1 ≡ length xs → top ≡ get_or xs n top → IsEnd xs n top
+end_of xs n top len is =
+    let split : xs ≡ take n xs ++ top ∷ [] = sym (take_all (n + 1) xs (omega arith)) ∙ take_more xs n top (omega arith) ∙ ap (λ v. take n xs ++ v ∷ []) (sym is) in
+    let size : length (take n xs) ≡ n = length-take-le n xs (omega arith) in
+    record {
+      last = ap reverse split ∙ reverse-append (take n xs) (top ∷ []);
+      changed = λ v. ap (λ ys. reverse (set ys n v)) split ∙ ap (λ k. reverse (set (take n xs ++ top ∷ []) k v)) (sym size) ∙ ap reverse (set-append_seam (take n xs) top [] v) ∙ reverse-append (take n xs) (v ∷ []);
+    }
+
+-- one step of closing brackets on a stack that is kept with its top at the end
+pub close_ends : (xs : List ℕ) (n left top : ℕ) → n + 1 ≡ length xs → top ≡ get_or xs n top → left < top → close left (reverse xs) ≡ reverse (set xs n (top - left))
+close_ends xs n left top len is less =
+    let e = end_of xs n top len is in
+    let test : nat_lt left top ≡ true = grind (arith, nat_tests) in
+    let head : close left (top ∷ reverse (take n xs)) ≡ (top - left) ∷ reverse (take n xs) = rw test refl in
+    ap (close left) e.last ∙ head ∙ sym (e.changed (top - left))
+
+pub close_goes : (xs : List ℕ) (n left top : ℕ) → n + 1 ≡ length xs → top ≡ get_or xs n top → top ≤ left → close left (reverse xs) ≡ close (left - top) (reverse (take n xs))
+close_goes xs n left top len is less =
+    let e = end_of xs n top len is in
+    let test : nat_lt left top ≡ false = grind (arith, nat_tests) in
+    let head : close left (top ∷ reverse (take n xs)) ≡ close (left - top) (reverse (take n xs)) = rw test refl in
+    ap (close left) e.last ∙ head
+
+pub no_items : (xs : List ℕ) → length xs ≡ 0 → xs ≡ []
+no_items [] h = refl
+no_items (x ∷ xs) h = absurd (omega arith)

@@ -1,0 +1,48 @@
+-- What the code keeps of tokens and cells, as lists. For proofs: nothing here has to be believed.
+use Rattle.std.specs.Prelude.{ℕ, Bool, true, List, [], ◌∷◌, map, ◌<◌, Option, Some, None, ⊤}
+use Rattle.hcl_token.specs.declared.kind.Kind.{Kind}
+use Rattle.hcl_gaps.specs.Kinds.{is_equal, is_line_comment}
+use Rattle.hcl_gaps.specs.Lines.{Line}
+use Rattle.hcl_token.specs.Tokens.{Pair}
+use Rattle.hcl_gaps.specs.Cells.{is_balanced, assignment, closing_comment}
+use Rattle.hcl_gaps.specs.Inner.Stages.{near_of}
+use Rattle.hcl_gaps.specs.declared.space.Before.{Before}
+use Rattle.hcl_gaps.specs.declared.cells.Cell.{Cell}
+use Rattle.hcl_gaps.specs.declared.cells.Cell.TheVariants.{Assignment, ClosingComment}
+use Rattle.hcl_gaps.specs.declared.cells.CellStart.{CellStart}
+
+abbrev pub near : Before → List Kind
+near before = near_of before.nearest before.second
+
+abbrev pub cell_is : Cell → Kind → Bool
+cell_is Assignment kind = is_equal kind
+cell_is ClosingComment kind = is_line_comment kind
+
+abbrev pub cell_of : Cell → Line → Option ℕ
+cell_of Assignment line = assignment line
+cell_of ClosingComment line = closing_comment line
+
+-- whether a cell that begins with these tokens counts
+abbrev pub cell_counts : Cell → List Pair → Bool
+cell_counts Assignment ps = is_balanced ps
+cell_counts ClosingComment ps = true
+
+abbrev pub width_in : Option CellStart → Option ℕ
+width_in None = None
+width_in (Some p) = Some p.width
+
+abbrev pub token_in : Option CellStart → Option ℕ
+token_in None = None
+token_in (Some p) = Some p.token
+
+abbrev pub widths_of : List (Option CellStart) → List (Option ℕ)
+widths_of starts = map width_in starts
+
+abbrev pub tokens_in : List (Option CellStart) → List (Option ℕ)
+tokens_in starts = map token_in starts
+
+-- each cell begins at a token of so many
+abbrev pub AreInside : ℕ → List (Option CellStart) → Type 0
+AreInside count [] = ⊤
+AreInside count (None ∷ starts) = AreInside count starts
+AreInside count (Some p ∷ starts) = (p.token < count) × AreInside count starts

@@ -1,0 +1,141 @@
+//! The edits that give a text its new gaps.
+
+ghost use Rattle.std.specs.Prelude.{◌≡◌, ◌+◌, ◌*◌, ◌<◌, ◌≤◌, ◌++◌, [], ◌∷◌, Some, length, take, replicate, slice_get, slice_index, slice_index_or, nat_lt, IfOk, OnOk};
+ghost use Rattle.hcl_scan.specs.Cut.{MAX_TEXT};
+ghost use Rattle.std.specs.Str.{bytes_eq};
+ghost use Rattle.std.specs.Option.{option_map};
+ghost use Rattle.hcl_token.specs.Tokens.{Pair, whole_text};
+ghost use Rattle.edit_list.specs.Pieces.{entries, changes_from};
+ghost use Rattle.hcl_gaps.specs.Space.{spaces};
+ghost use Rattle.hcl_gaps.specs.Layout.{gap_piece, pieces};
+ghost use Rattle.hcl_gaps.specs.Inner.Stages.{unchanged, gap_meant, with_gaps};
+
+use crate::cells::gap_len;
+use crate::setting::KEPT;
+use edit_list::Edit;
+use hcl_scan::{MAX_TEXT, Scanned};
+use std::alloc::{AllocError, Global};
+
+/// Whether a gap is that many spaces.
+fn is_spaces(gap: &[u8], len: u32) -> bool
+    ensures { result ≡ bytes_eq gap.now (spaces len) }
+{
+    if gap.len() != len as usize {
+        return false;
+    }
+    for b in gap {
+        if *b != b' ' {
+            return false;
+        }
+    }
+    true
+}
+
+/// Whether a gap stays.
+fn stays(gap: &[u8], new: u32) -> bool
+    ensures { result ≡ bytes_eq gap.now (gap_meant new gap.now) }
+{
+    if new == KEPT {
+        return true;
+    }
+    is_spaces(gap, new)
+}
+
+/// Whether the text with its new gaps has more than 16,777,216 bytes.
+pub(crate) fn is_too_long(scanned: &Scanned<'_>, gaps: &[u32]) -> bool
+    requires { length gaps.now ≡ length scanned.now.pairs }
+    ensures { result ≡ nat_lt MAX_TEXT
+        (length (whole_text (with_gaps gaps.now scanned.now.pairs) [])) }
+{
+    let mut total = 0;
+    for i in 0..scanned.len() {
+        let token = gap_len(scanned, gaps, i).saturating_add(scanned.spelling(i).len());
+        if token > MAX_TEXT - total {
+            return true;
+        }
+        total += token;
+    }
+    false
+}
+
+fn spaces(alloc: Global, len: u32) -> Result<Vec<u8>, AllocError>
+    ensures { IfOk result (λ gap. gap.items ≡ spaces len) }
+{
+    let mut gap = Vec::with_capacity(alloc, len as usize)?;
+    for _ in 0..len {
+        gap.push(b' ')?;
+    }
+    Ok(gap)
+}
+
+/// A gap that becomes another, as an edit, unless it stays.
+fn push_gap(
+    alloc: Global,
+    edits: &mut Vec<Edit>,
+    at: usize,
+    gap: &[u8],
+    new: u32,
+) -> Result<(), AllocError>
+    ensures { OnOk result
+        (entries edits.new.items
+        ≡ entries edits.old.items
+        ++ changes_from at (gap_piece gap.now (gap_meant new gap.now) ∷ [])) }
+{
+    if stays(gap, new) {
+        return Ok(());
+    }
+    edits.push(Edit {
+        at,
+        removed: Vec::from_slice(alloc, gap)?,
+        added: spaces(alloc, new)?,
+    })?;
+    Ok(())
+}
+
+/// The gaps that differ, as edits.
+pub(crate) fn gap_edits(
+    alloc: Global,
+    scanned: &Scanned<'_>,
+    gaps: &[u32],
+) -> Result<Vec<Edit>, AllocError>
+    requires { length gaps.now ≡ length scanned.now.pairs }
+    ensures { IfOk result
+        (λ edits. entries edits.items
+        ≡ changes_from 0 (pieces scanned.now.pairs
+        (with_gaps gaps.now scanned.now.pairs) scanned.now.last)) }
+{
+    let mut edits = Vec::new(alloc);
+    for i in 0..scanned.len() {
+        let item = scanned.item(i);
+        push_gap(
+            alloc,
+            &mut edits,
+            item.gap_at as usize,
+            scanned.gap(i),
+            gaps[i],
+        )?;
+    }
+    let last = scanned.last_gap();
+    push_gap(
+        alloc,
+        &mut edits,
+        scanned.text().len() - last.len(),
+        last,
+        0,
+    )?;
+    Ok(edits)
+}
+
+/// Whether no gap differs.
+pub(crate) fn all_stay(scanned: &Scanned<'_>, gaps: &[u32]) -> bool
+    requires { length gaps.now ≡ length scanned.now.pairs }
+    ensures { result ≡ unchanged scanned.now.pairs
+        (with_gaps gaps.now scanned.now.pairs) scanned.now.last }
+{
+    for i in 0..scanned.len() {
+        if !stays(scanned.gap(i), gaps[i]) {
+            return false;
+        }
+    }
+    scanned.last_gap().is_empty()
+}

@@ -1,0 +1,162 @@
+//! Indents and spaces: the gaps of the lines before cells are moved.
+
+ghost use Rattle.std.specs.Prelude.{◌≡◌, ◌+◌, ◌*◌, ◌<◌, ◌≤◌, ◌++◌, [], take, drop, length, replicate, slice_range, if◌then◌else◌, OnOk, IfOk};
+ghost use Rattle.hcl_scan.specs.Cut.{MAX_TEXT};
+ghost use Rattle.hcl_gaps.specs.Kinds.{is_line_end};
+ghost use Rattle.hcl_gaps.specs.Lines.{lines_from};
+ghost use Rattle.hcl_gaps.specs.Inner.Near.{near};
+ghost use Rattle.hcl_gaps.specs.Space.{passed_all};
+ghost use Rattle.hcl_gaps.specs.Inner.Stages.{KEPT, line_lens, set_lens, all_lens};
+
+use crate::indent::{closings, open_at, open_behind, openings};
+use crate::kinds::is_line_end;
+use crate::lines::line_end;
+use crate::space::{Before, gap_len};
+use hcl_scan::Scanned;
+use hcl_token::Kind;
+use std::alloc::{AllocError, Global};
+
+/// The gap stays as it is; any other number is that of the spaces in a gap.
+pub(crate) const KEPT: u32 = u32::MAX;
+
+/// The gaps of a frozen line.
+fn keep_line(gaps: &mut Vec<u32>, count: usize) -> Result<(), AllocError>
+    ensures { OnOk result (gaps.new.items ≡ gaps.old.items ++ replicate count KEPT) }
+{
+    for _ in 0..count {
+        gaps.push(KEPT)?;
+    }
+    Ok(())
+}
+
+fn first_len(kind: Kind, level: u32) -> u32
+    requires { level ≤ MAX_TEXT }
+    ensures { result ≡ (if is_line_end kind then 0 else 2 * level) }
+{
+    if is_line_end(kind) { 0 } else { 2 * level }
+}
+
+/// The gaps of a line that is not frozen, from token `at` to token `past`.
+fn space_line(
+    scanned: &Scanned<'_>,
+    gaps: &mut Vec<u32>,
+    at: usize,
+    past: usize,
+    level: u32,
+    before: Before,
+) -> Result<(), AllocError>
+    requires ordered { at < past }
+    requires within { past ≤ length scanned.now.pairs }
+    requires level { level ≤ MAX_TEXT }
+    ensures { OnOk result
+        (gaps.new.items ≡ gaps.old.items
+        ++ line_lens level (near before) (slice_range scanned.now.pairs at past)) }
+{
+    gaps.push(first_len(scanned.kind(at), level))?;
+    let mut before = before;
+    for i in at + 1..past {
+        gaps.push(gap_len(scanned, before, i))?;
+        before = before.passed(scanned.kind(i - 1));
+    }
+    Ok(())
+}
+
+/// The gaps of a line from token `at` to token `past`.
+fn set_line(
+    scanned: &Scanned<'_>,
+    gaps: &mut Vec<u32>,
+    at: usize,
+    past: usize,
+    frozen: bool,
+    level: u32,
+    before: Before,
+) -> Result<(), AllocError>
+    requires ordered { at < past }
+    requires within { past ≤ length scanned.now.pairs }
+    requires level { level ≤ MAX_TEXT }
+    ensures { OnOk result
+        (gaps.new.items ≡ gaps.old.items
+        ++ set_lens level (near before)
+        (record { frozen = frozen; pairs = slice_range scanned.now.pairs at past })) }
+{
+    if frozen {
+        keep_line(gaps, past - at)
+    } else {
+        space_line(scanned, gaps, at, past, level, before)
+    }
+}
+
+/// What stands before a place behind some more tokens.
+fn passed_all(scanned: &Scanned<'_>, at: usize, past: usize, before: Before) -> Before
+    requires ordered { at ≤ past }
+    requires within { past ≤ length scanned.now.pairs }
+    ensures { near result
+        ≡ take 2 (passed_all (slice_range scanned.now.pairs at past) (near before)) }
+{
+    let mut before = before;
+    for i in at..past {
+        before = before.passed(scanned.kind(i));
+    }
+    before
+}
+
+/// The gaps of all lines, from token `at` on.
+fn set_lines(
+    alloc: Global,
+    scanned: &Scanned<'_>,
+    gaps: &mut Vec<u32>,
+    first: usize,
+) -> Result<(), AllocError>
+    requires few { length scanned.now.pairs ≤ MAX_TEXT }
+    requires within { first ≤ length scanned.now.pairs }
+    ensures { OnOk result
+        (gaps.new.items ≡ gaps.old.items
+        ++ all_lens [] [] (lines_from 0 (drop first scanned.now.pairs))) }
+{
+    let mut surplus: Vec<u32> = Vec::new(alloc);
+    let mut before = Before {
+        nearest: None,
+        second: None,
+    };
+    let mut frozen = false;
+    let mut at = first;
+    while at < scanned.len() {
+        let (past, next) = line_end(scanned, at, frozen);
+        let opened = openings(scanned, at, past);
+        let closed = closings(scanned, at, past);
+        open_at(&mut surplus, opened, closed);
+        set_line(
+            scanned,
+            gaps,
+            at,
+            past,
+            frozen,
+            surplus.len() as u32,
+            before,
+        )?;
+        open_behind(&mut surplus, opened, closed)?;
+        before = passed_all(scanned, at, past, before);
+        frozen = next;
+        at = past;
+    }
+    Ok(())
+}
+
+/// The gaps of a text, indented and spaced.
+pub(crate) fn set_gaps(
+    alloc: Global,
+    scanned: &Scanned<'_>,
+    first: usize,
+) -> Result<Vec<u32>, AllocError>
+    requires few { length scanned.now.pairs ≤ MAX_TEXT }
+    requires within { first ≤ length scanned.now.pairs }
+    ensures gaps { IfOk result
+        (λ gaps. gaps.items
+        ≡ replicate first KEPT
+        ++ all_lens [] [] (lines_from 0 (drop first scanned.now.pairs))) }
+{
+    let mut gaps = Vec::with_capacity(alloc, scanned.len())?;
+    keep_line(&mut gaps, first)?;
+    set_lines(alloc, scanned, &mut gaps, first)?;
+    Ok(gaps)
+}

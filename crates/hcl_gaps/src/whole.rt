@@ -1,0 +1,83 @@
+//! The layout of a text, as edits.
+
+ghost use Rattle.std.specs.Prelude.{◌≡◌, ◌<◌, ◌≤◌, ◌⊎◌, ◌↔◌, [], length, nat_lt, IsTrue, IfOk, IfErr, MatchBool};
+ghost use Rattle.edit_list.specs.Pieces.{Turns, entries};
+ghost use Rattle.hcl_token.specs.CutText.{AreUtf8};
+ghost use Rattle.hcl_scan.specs.Cut.{IsCut, MAX_TEXT};
+ghost use Rattle.hcl_gaps.specs.Layout.{laid_out, layout_text, layout_edits, IsLaidOut};
+ghost use Rattle.hcl_gaps.specs.Inner.Stages.{with_gaps};
+ghost use Rattle.hcl_gaps.specs.declared.fault.LayoutFault.TheVariants.{TooLong, Memory};
+
+use crate::edits::{all_stay, gap_edits, is_too_long};
+use crate::fault::LayoutFault;
+use crate::gaps::laid_gaps;
+use edit_list::{Edit, Edits};
+use hcl_scan::Scanned;
+use std::alloc::Global;
+
+/// The gaps of the layout, as numbers, unless it has more than 16,777,216 bytes.
+fn short_gaps(alloc: Global, scanned: &Scanned<'_>) -> Result<Vec<u32>, LayoutFault>
+    requires cut { IsCut scanned.now.text scanned.now.pairs scanned.now.last }
+    requires utf8 { AreUtf8 scanned.now.pairs }
+    ensures laid_out { IfOk result
+        (λ gaps. with_gaps gaps.items scanned.now.pairs ≡ laid_out scanned.now.pairs) }
+    ensures same { IfOk result (λ gaps. length gaps.items ≡ length scanned.now.pairs) }
+    ensures short { IfOk result (λ gaps. length (layout_text scanned.now) ≤ MAX_TEXT) }
+    ensures err { IfErr result
+        (λ e. (e ≡ Memory) ⊎ ((e ≡ TooLong) × (MAX_TEXT < length (layout_text scanned.now)))) }
+{
+    let gaps = laid_gaps(alloc, scanned)?;
+    if is_too_long(scanned, &gaps) {
+        return Err(LayoutFault::TooLong);
+    }
+    Ok(gaps)
+}
+
+/// The gaps that differ, as edits, unless the layout has more than 16,777,216 bytes.
+fn edits_of(alloc: Global, scanned: &Scanned<'_>) -> Result<Vec<Edit>, LayoutFault>
+    requires cut { IsCut scanned.now.text scanned.now.pairs scanned.now.last }
+    requires utf8 { AreUtf8 scanned.now.pairs }
+    ensures ok { IfOk result (λ edits. entries edits.items ≡ (layout_edits scanned.now).entries) }
+    ensures short { IfOk result (λ edits. length (layout_text scanned.now) ≤ MAX_TEXT) }
+    ensures err { IfErr result
+        (λ e. (e ≡ Memory) ⊎ ((e ≡ TooLong) × (MAX_TEXT < length (layout_text scanned.now)))) }
+{
+    let gaps = short_gaps(alloc, scanned)?;
+    Ok(gap_edits(alloc, scanned, &gaps)?)
+}
+
+/// The edits that lay out a text: exactly the gaps that differ, each from the whole old one to the
+/// whole new one. They change no token, and so no comment and no line end.
+///
+/// It is refused where the layout has more than 16,777,216 bytes, and else only for want of memory.
+///
+/// Terraform style conventions.
+pub fn layout(alloc: Global, scanned: &Scanned<'_>) -> Result<Edits, LayoutFault>
+    ensures edits { IfOk result (λ edits. edits ≡ layout_edits scanned.now) }
+    ensures turns { IfOk result (λ edits. Turns edits scanned.now.text (layout_text scanned.now)) }
+    ensures short { IfOk result (λ edits. length (layout_text scanned.now) ≤ MAX_TEXT) }
+    ensures err { IfErr result
+        (λ e. (e ≡ Memory) ⊎ ((e ≡ TooLong) × (MAX_TEXT < length (layout_text scanned.now)))) }
+{
+    let text = scanned.text();
+    let edits = edits_of(alloc, scanned)?;
+    edit_list::laws::pieces_make();
+    match Edits::make(text.len(), edits) {
+        Ok(edits) => Ok(edits),
+        Err(_) => unreachable!(),
+    }
+}
+
+/// Whether a text is laid out: whether each gap is that of its layout.
+///
+/// It is refused where `layout` is.
+pub fn is_laid_out(alloc: Global, scanned: &Scanned<'_>) -> Result<bool, LayoutFault>
+    ensures answer { IfOk result (λ yes. IsTrue yes ↔ IsLaidOut scanned.now) }
+    ensures short { IfOk result (λ yes. length (layout_text scanned.now) ≤ MAX_TEXT) }
+    ensures err { IfErr result
+        (λ e. (e ≡ Memory) ⊎ ((e ≡ TooLong) × (MAX_TEXT < length (layout_text scanned.now)))) }
+{
+    let _text = scanned.text();
+    let gaps = short_gaps(alloc, scanned)?;
+    Ok(all_stay(scanned, &gaps))
+}

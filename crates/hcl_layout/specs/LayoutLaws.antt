@@ -1,0 +1,58 @@
+-- What holds of the layouts of texts.
+use Rattle.std.specs.Prelude.{◌≡◌, ◌↔◌, ℕ, ◌≤◌, false, List, [], length}
+use Rattle.hcl_token.specs.CutText.{CutText}
+use Rattle.hcl_token.specs.Tokens.{Pair, whole_text}
+use Rattle.hcl_scan.specs.Cut.{MAX_TEXT, IsCut}
+use Rattle.hcl_scan.specs.Follows.{AreApart, AreGaps}
+use Rattle.hcl_gaps.specs.Layout.{laid_out, layout_text, IsLaidOut}
+use Rattle.hcl_grammar.specs.declared.tree.Tree.{Tree}
+use Rattle.hcl_text_laws.specs.Parses.{Parses}
+use Rattle.hcl_layout.specs.Layouts.{IsLayout, HaveSameTokens}
+
+-- ---- on tokens and gaps
+
+-- Where no empty gap stands between two tokens that join, the gaps of the layout can stand between
+-- the tokens, and none is empty between two that join.
+abbrev pub LayoutFits : Type 0
+LayoutFits =
+    (text : List ℕ) (pairs : List Pair) (last : List ℕ) → IsCut text pairs last → AreApart pairs
+    → AreGaps false (laid_out pairs) [] × AreApart (laid_out pairs)
+
+-- There the layout, if it is within the limit, is cut into the same tokens, with the gaps of the
+-- layout.
+abbrev pub LayoutIsCut : Type 0
+LayoutIsCut =
+    (text : List ℕ) (pairs : List Pair) (last : List ℕ) → IsCut text pairs last → AreApart pairs
+    → length (whole_text (laid_out pairs) []) ≤ MAX_TEXT
+    → IsCut (whole_text (laid_out pairs) []) (laid_out pairs) []
+
+-- There the gaps are those of the layout exactly where the layout is the text.
+abbrev pub LaidOutIsText : Type 0
+LaidOutIsText = (cut : CutText) → IsCut cut.text cut.pairs cut.last → AreApart cut.pairs
+    → IsLaidOut cut ↔ (layout_text cut ≡ cut.text)
+
+-- ---- on texts
+
+-- a text has one layout at most
+abbrev pub OneLayout : Type 0
+OneLayout = (text new other : List ℕ) → IsLayout text new → IsLayout text other → new ≡ other
+
+-- the layout of a text that parses, if it is within the limit, parses to the same tree
+abbrev pub LayoutParses : Type 0
+LayoutParses = (text new : List ℕ) (t : Tree) → Parses text t → IsLayout text new
+    → length new ≤ MAX_TEXT → Parses new t
+
+-- it has the same tokens
+abbrev pub LayoutKeepsTokens : Type 0
+LayoutKeepsTokens = (text new : List ℕ) (t : Tree) → Parses text t → IsLayout text new
+    → length new ≤ MAX_TEXT → HaveSameTokens text new
+
+-- it is its own layout
+abbrev pub LayoutIsLaidOut : Type 0
+LayoutIsLaidOut = (text new : List ℕ) (t : Tree) → Parses text t → IsLayout text new
+    → length new ≤ MAX_TEXT → IsLayout new new
+
+-- and to lay it out again changes nothing
+abbrev pub LayoutOfLayout : Type 0
+LayoutOfLayout = (text new other : List ℕ) (t : Tree) → Parses text t → IsLayout text new
+    → IsLayout new other → other ≡ new

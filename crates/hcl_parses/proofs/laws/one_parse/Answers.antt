@@ -1,5 +1,0 @@
-use Rattle.hcl_parses.proofs.OneParse.{one_parse}
-use Rattle.hcl_parses.proofs.laws.one_parse.Goals as goal
-
-pub returns : goal.returns
-returns c = one_parse c.one_cut.ensures c.one_tree.ensures

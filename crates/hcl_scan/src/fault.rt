@@ -1,0 +1,61 @@
+//! Why a text has no cut.
+
+ghost use Rattle.std.specs.Prelude.{◌≡◌};
+
+use std::alloc::{AllocError, AllocFailed};
+use thiserror::Error;
+
+/// Why a text has no cut, and where. All places count bytes from 0.
+///
+/// HCL native syntax specification, Lexical Elements; the order of the faults and their places are
+/// this project's own.
+#[derive(Clone, Copy, Debug, PartialEq, Eq, Error)]
+pub enum ScanFault {
+    /// The text has more than 16,777,216 bytes.
+    #[error("the text has more than 16777216 bytes")]
+    TooLong,
+    /// The first byte of the first ill-formed sequence.
+    #[error("byte {at}: not UTF-8")]
+    NotUtf8 { at: usize },
+    /// No token begins here.
+    #[error("byte {at}: unexpected character")]
+    BadCharacter { at: usize },
+    /// A `\` with no escape behind it.
+    #[error("byte {at}: unknown escape")]
+    BadEscape { at: usize },
+    /// The opening quote of a string that is not closed on its line.
+    #[error("byte {at}: string is not closed")]
+    OpenString { at: usize },
+    /// The opening of a template sequence that is not closed.
+    #[error("byte {at}: template sequence is not closed")]
+    OpenTemplate { at: usize },
+    /// The opening of a heredoc that is not closed.
+    #[error("byte {at}: heredoc is not closed")]
+    OpenHeredoc { at: usize },
+    /// The opening of an inline comment that is not closed.
+    #[error("byte {at}: comment is not closed")]
+    OpenComment { at: usize },
+    /// A growth was refused.
+    #[error("out of memory")]
+    Memory,
+}
+
+impl From<AllocError> for ScanFault {
+    ghost use Rattle.hcl_scan.specs.declared.fault.ScanFault.TheVariants.{Memory};
+
+    ghost from_gives = { λ _ e. e ≡ Memory };
+
+    fn from(_: AllocError) -> Self {
+        ScanFault::Memory
+    }
+}
+
+impl<T: Drop> From<AllocFailed<T>> for ScanFault {
+    ghost use Rattle.hcl_scan.specs.declared.fault.ScanFault.TheVariants.{Memory};
+
+    ghost from_gives = { λ _ e. e ≡ Memory };
+
+    fn from(_: AllocFailed<T>) -> Self {
+        ScanFault::Memory
+    }
+}

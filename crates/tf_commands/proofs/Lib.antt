@@ -1,0 +1,17 @@
+pub mod Lists
+pub mod Stacks
+pub mod OneRecord
+pub mod Histories
+pub mod LineLists
+pub mod RunLaws
+pub mod Refusing
+pub mod Laying
+pub mod FmtAgain
+pub mod Putting
+pub mod Answering
+pub mod JournalOne
+pub mod TakeLaws
+pub mod OneMachine
+pub mod TakingOnce
+pub mod LayersLaws
+pub mod ReadTexts

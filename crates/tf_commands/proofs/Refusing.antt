@@ -1,0 +1,25 @@
+-- What a stream answers where the whole text is refused.
+use Rattle.std.proofs.Common.{ℕ, List, [], refl, inl, inr}
+use Rattle.tf_rule.specs.declared.rule_set.RuleSet.{RuleSet}
+use Rattle.tf_stream.specs.Streams.{Source, Target, Untouched}
+use Rattle.tf_commands.specs.declared.command.Command.{Command}
+use Rattle.tf_commands.specs.declared.command.Command.TheVariants.{Fmt}
+use Rattle.tf_commands.specs.declared.command.Fault.{Fault}
+use Rattle.tf_commands.specs.Faults.{run_fault_of}
+use Rattle.tf_commands.specs.Streams.{TakesText}
+use Rattle.tf_commands.specs.Makes.{NotRead, RefusesText}
+use Rattle.tf_commands.specs.Records.{RefusesStep}
+use Rattle.tf_commands.specs.Lines.{LintsAtFault}
+use Rattle.tf_commands.specs.Streaming.{StepsAtFault, ChecksAtFault}
+
+pub not_linted : (name : List ℕ) (rules : RuleSet) (refusal : Fault) (source : Source) (target : Target) (text : List ℕ)
+    → TakesText source text → NotRead text refusal → Untouched target → LintsAtFault name rules (run_fault_of refusal) source target
+not_linted name rules refusal source target text taken why still = inr (inl ((text, taken, refusal, refl, why), still))
+
+pub not_stepped : (command : Command) (refusal : Fault) (source : Source) (target : Target) (text : List ℕ)
+    → TakesText source text → RefusesStep command text [] refusal → Untouched target → StepsAtFault command (run_fault_of refusal) source target
+not_stepped command refusal source target text taken why still = inr (inl ((text, taken, refusal, refl, why), still))
+
+pub not_checked : (refusal : Fault) (source : Source) (text : List ℕ)
+    → TakesText source text → RefusesText Fmt text refusal → ChecksAtFault (run_fault_of refusal) source
+not_checked refusal source text taken why = inr (text, taken, refusal, refl, why)

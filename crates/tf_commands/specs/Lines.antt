@@ -1,0 +1,46 @@
+-- The lines of the issues of a text, and what a call that lints a stream took, wrote and answers.
+use Rattle.std.specs.Prelude.{◌≡◌, ◌⊎◌, ℕ, List, [], ◌∷◌, ◌++◌, length}
+use Rattle.tf_rule.specs.declared.rule_set.RuleSet.{RuleSet}
+use Rattle.tf_lint.specs.Issues.{AreReports}
+use Rattle.tf_lint.specs.Reports.{Report, line_of}
+use Rattle.tf_stream.specs.Streams.{Source, Target, Puts, Untouched}
+use Rattle.tf_commands.specs.declared.fault.RunFault.{RunFault}
+use Rattle.tf_fix.specs.declared.parsed.Parsed.{Parsed}
+use Rattle.tf_fix.specs.Reading.{Reads}
+use Rattle.tf_commands.specs.Makes.{NotRead}
+use Rattle.tf_commands.specs.declared.fault.Part.{Part}
+use Rattle.tf_commands.specs.Streams.{TakesText, NotPut, FailsOver}
+
+-- the line of each issue in a file of this name, each followed by LF
+abbrev pub lines_of : List ℕ → List Report → List ℕ
+lines_of name [] = []
+lines_of name (r ∷ rs) = line_of name r ++ 10 ∷ lines_of name rs
+
+-- the text parses, and these are the issues of the rules in it
+abbrev pub HasIssues : RuleSet → List ℕ → List Report → Type 0
+HasIssues rules text found =
+    (p : Parsed) × Reads text p × AreReports rules p.scanned.pairs p.tree.body.members found
+
+-- these are the lines of the issues of a text, of which there are so many
+abbrev pub AreLines : List ℕ → RuleSet → List ℕ → List ℕ → ℕ → Type 0
+AreLines name rules text lines count =
+    (found : List Report) × HasIssues rules text found × (lines ≡ lines_of name found)
+    × (count ≡ length found)
+
+-- From the source came a whole text, and to the target went the lines of its issues, of which there
+-- are so many.
+abbrev pub Lints : List ℕ → RuleSet → ℕ → Source → Target → Type 0
+Lints name rules count source target =
+    (text : List ℕ) × (lines : List ℕ) × TakesText source text
+    × AreLines name rules text lines count × Puts target lines
+
+-- No text came, or it does not parse, or not all lines went out.
+abbrev pub LintsAtFault : List ℕ → RuleSet → RunFault → Source → Target → Type 0
+LintsAtFault name rules fault source target =
+    FailsOver NotRead (λ text lines. (count : ℕ)
+    × AreLines name rules text lines count) fault source target
+
+-- A growth was refused, and nothing was put; or not all of these lines went out.
+abbrev pub NotListed : List ℕ → RunFault → Target → Type 0
+NotListed lines fault target =
+    ((fault ≡ RunFault.Memory) × Untouched target) ⊎ NotPut Part.Text fault target lines

@@ -1,0 +1,32 @@
+//! Sessions over a Terraform text, and whole texts from readers and to writers.
+//!
+//! A `Session` is a text with the journal of the commands that changed it; `run` does several
+//! commands. The streams read a whole text, work on it, and write what comes of it. `laws` says
+//! what holds of whole runs.
+#![tactic(auto)]
+
+mod command;
+mod fault;
+mod fixing;
+mod formatting;
+pub mod laws;
+mod linting;
+mod reading;
+mod removing;
+mod running;
+mod session;
+mod streaming;
+mod texts;
+
+pub use command::{Command, Done, Fault, Reply};
+pub use edit_list::{Journal, Refused};
+pub use fault::{Part, RunFault};
+pub use hcl_scan::ScanFault;
+pub use hcl_tree::ParseFault;
+pub use linting::{lint_stream, put_issues};
+pub use running::run;
+pub use session::Session;
+pub use streaming::{check_stream, fix_through, step_stream};
+pub use texts::{put_journal, put_text, take_text};
+pub use tf_lint::{Issue, Rule, RuleSet};
+pub use tf_stream::Told;

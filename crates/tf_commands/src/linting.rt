@@ -1,0 +1,100 @@
+//! Whole texts linted from a reader to a writer.
+
+ghost use Rattle.std.specs.Prelude.{◌≡◌, ◌<◌, ◌↔◌, length, true, false, OnOk, IfOk, IfErr, IsErrOf, IsErrAnd};
+ghost use Rattle.tf_lint.specs.Issues.{reports};
+ghost use Rattle.tf_stream.specs.Told.{has_failed};
+ghost use Rattle.tf_stream.specs.Streams.{from, into, Puts};
+ghost use Rattle.tf_commands.specs.declared.fault.RunFault.TheVariants.{Memory};
+ghost use Rattle.tf_commands.specs.Lines.{lines_of, AreLines, Lints, LintsAtFault, NotListed};
+ghost use Rattle.tf_commands.specs.Makes.{NotRead};
+ghost use Rattle.tf_commands.specs.Streams.{is_write};
+
+use crate::command::Fault;
+use crate::fault::RunFault;
+use crate::reading::search_text;
+use crate::texts::{put_text, take_text};
+use std::alloc::{AllocError, Global};
+use std::io::{Read, Write};
+use tf_lint::{Issue, RuleSet, issues_of};
+use tf_stream::Told;
+
+/// Writes a line for each issue that the rules find in the text, each followed by LF, and answers
+/// their number.
+///
+/// All lines are made before the first is written, so nothing is written at any fault but `Write`.
+pub fn lint_stream<R: Read, W: Write>(
+    alloc: Global,
+    name: &str,
+    text: &mut Told<R>,
+    out: &mut Told<W>,
+    rules: RuleSet,
+) -> Result<usize, RunFault>
+    requires text_fresh { has_failed text.old ≡ false }
+    requires out_fresh { has_failed out.old ≡ false }
+    ensures lines { IfOk result
+        (λ count. Lints name.now rules count (from R.remaining text.old text.new)
+        (into W.contents out.old out.new)) }
+    ensures fault { IfErr result
+        (λ fault. LintsAtFault name.now rules fault (from R.remaining text.old text.new)
+        (into W.contents out.old out.new)) }
+    ensures read { IsErrOf result RunFault.Read ↔ has_failed text.new ≡ true }
+    ensures write { IsErrAnd result (λ fault. is_write fault ≡ true) ↔ has_failed out.new ≡ true }
+{
+    let bytes = take_text(alloc, text)?;
+    let (lines, count) = issue_lines(alloc, name, bytes.as_slice(), rules)?;
+    put_text(lines.as_slice(), out)?;
+    Ok(count)
+}
+
+/// Writes a line for each of these issues of a file with this name, each followed by LF.
+///
+/// All lines are made before the first is written, so nothing is written at any fault but `Write`.
+pub fn put_issues<W: Write>(
+    alloc: Global,
+    name: &str,
+    found: &[Issue],
+    out: &mut Told<W>,
+) -> Result<(), RunFault>
+    requires { has_failed out.old ≡ false }
+    ensures lines { OnOk result
+        (Puts (into W.contents out.old out.new) (lines_of name.now (reports found.now))) }
+    ensures fault { IfErr result
+        (λ fault. NotListed (lines_of name.now (reports found.now)) fault
+        (into W.contents out.old out.new)) }
+    ensures write { IsErrAnd result (λ fault. is_write fault ≡ true) ↔ has_failed out.new ≡ true }
+    ensures asked { IfErr result (λ fault. fault ≡ Memory → 0 < length found.now) }
+{
+    let lines = joined_lines(alloc, name, found)?;
+    put_text(lines.as_slice(), out)
+}
+
+/// The lines of the issues of a text, and their number.
+fn issue_lines(
+    alloc: Global,
+    name: &str,
+    text: &[u8],
+    rules: RuleSet,
+) -> Result<(Vec<u8>, usize), Fault>
+    ensures lines { IfOk result (λ made. AreLines name.now rules text.now made.0.items made.1) }
+    ensures fault { IfErr result (λ fault. NotRead text.now fault) }
+{
+    let searched = search_text(alloc, text, rules)?;
+    let found = issues_of(alloc, &searched.scanned, searched.found.as_slice())?;
+    match joined_lines(alloc, name, found.as_slice()) {
+        Ok(lines) => Ok((lines, found.len())),
+        Err(_) => Err(Fault::Memory),
+    }
+}
+
+fn joined_lines(alloc: Global, name: &str, found: &[Issue]) -> Result<Vec<u8>, AllocError>
+    ensures lines { IfOk result (λ lines. lines.items ≡ lines_of name.now (reports found.now)) }
+    ensures asked { IfErr result (λ _. 0 < length found.now) }
+{
+    let mut lines = Vec::new(alloc);
+    for issue in found {
+        let line = issue.line(alloc, name)?;
+        lines.extend_from_slice(line.as_bytes())?;
+        lines.push(b'\n')?;
+    }
+    Ok(lines)
+}

@@ -1,3 +1,0 @@
-pub mod Takes
-pub mod Refusing
-pub mod TakesSurely
