@@ -46,21 +46,39 @@ breaks_if : (p : Pair) (ps : List Pair) (c : Bool) → breaks_here p ≡ c → l
 breaks_if p ps true e = rw e refl
 breaks_if p ps false e = rw e refl
 
-breaks_turn : (pairs : List Pair) (i past : ℕ) (k : Kind) (s : List ℕ) (b : Bool) → i < past → past ≤ length pairs → Some k ≡ kind_of pairs i → Some s ≡ spelling_of pairs i
-    → (is_inline_comment k && list_any is_lf s) ≡ b → breaks_from pairs i past ≡ (if b then true else breaks_from pairs (i + 1) past)
+breaks_turn : (pairs : List Pair) (i past : ℕ) (b : Bool) → i < past → past ≤ length pairs
+    → Some b ≡ option_map (λ (p : Pair). is_inline_comment p.kind && list_any is_lf p.spelling) (slice_get pairs i) → breaks_from pairs i past ≡ (if b then true else breaks_from pairs (i + 1) past)
 unfolding breaks_from
-breaks_turn pairs i past k s b less within k_is s_is test =
+breaks_turn pairs i past b less within is =
     let t = turn pairs i past less within in
-    let same : breaks_here t.pair ≡ b = ap₂ (λ x y. is_inline_comment x && list_any is_lf y) (sym (kind_is pairs i past k t k_is)) (sym (spelling_is pairs i past s t s_is)) ∙ test in
+    let same : breaks_here t.pair ≡ b = let e = is ∙ ap (option_map breaks_here) t.at in cc in
     ap (list_any breaks_here) t.range ∙ breaks_if t.pair (slice_range pairs (i + 1) past) b same
 
-pub breaks_goes : (pairs : List Pair) (i past : ℕ) (k : Kind) (s : List ℕ) → i < past → past ≤ length pairs → Some k ≡ kind_of pairs i → Some s ≡ spelling_of pairs i
-    → (is_inline_comment k && list_any is_lf s) ≡ false → breaks_from pairs i past ≡ breaks_from pairs (i + 1) past
-breaks_goes pairs i past k s less within k_is s_is test = breaks_turn pairs i past k s false less within k_is s_is test
+pub breaks_goes : (pairs : List Pair) (i past : ℕ) (b : Bool) → i < past → past ≤ length pairs
+    → Some b ≡ option_map (λ (p : Pair). is_inline_comment p.kind && list_any is_lf p.spelling) (slice_get pairs i) → b ≡ false → breaks_from pairs i past ≡ breaks_from pairs (i + 1) past
+breaks_goes pairs i past b less within is test = breaks_turn pairs i past b less within is ∙ ap (λ c. if c then true else breaks_from pairs (i + 1) past) test
 
-pub breaks_found : (pairs : List Pair) (i past : ℕ) (k : Kind) (s : List ℕ) → i < past → past ≤ length pairs → Some k ≡ kind_of pairs i → Some s ≡ spelling_of pairs i
-    → (is_inline_comment k && list_any is_lf s) ≡ true → breaks_from pairs i past ≡ true
-breaks_found pairs i past k s less within k_is s_is test = breaks_turn pairs i past k s true less within k_is s_is test
+pub breaks_found : (pairs : List Pair) (i past : ℕ) (b : Bool) → i < past → past ≤ length pairs
+    → Some b ≡ option_map (λ (p : Pair). is_inline_comment p.kind && list_any is_lf p.spelling) (slice_get pairs i) → b ≡ true → breaks_from pairs i past ≡ true
+breaks_found pairs i past b less within is test = breaks_turn pairs i past b less within is ∙ ap (λ c. if c then true else breaks_from pairs (i + 1) past) test
+
+-- one token
+pub commented : (pairs : List Pair) (i : ℕ) (k : Kind) (s : List ℕ) (b : Bool) → i < length pairs → Some k ≡ kind_of pairs i → Some s ≡ spelling_of pairs i → is_inline_comment k ≡ true → b ≡ list_any is_lf s
+    → Some b ≡ option_map (λ (p : Pair). is_inline_comment p.kind && list_any is_lf p.spelling) (slice_get pairs i)
+commented pairs i k s b inside k_is s_is test b_is =
+    let t = turn pairs i (length pairs) inside (omega arith) in
+    let here : breaks_here t.pair ≡ b =
+    ap₂ (λ x y. is_inline_comment x && list_any is_lf y) (sym (kind_is pairs i (length pairs) k t k_is)) (sym (spelling_is pairs i (length pairs) s t s_is))
+    ∙ ap (λ c. c && list_any is_lf s) test ∙ sym b_is in
+    sym (ap (option_map breaks_here) t.at ∙ ap Some here)
+
+pub uncommented : (pairs : List Pair) (i : ℕ) (k : Kind) → i < length pairs → Some k ≡ kind_of pairs i → is_inline_comment k ≡ false
+    → Some false ≡ option_map (λ (p : Pair). is_inline_comment p.kind && list_any is_lf p.spelling) (slice_get pairs i)
+uncommented pairs i k inside k_is test =
+    let t = turn pairs i (length pairs) inside (omega arith) in
+    let here : breaks_here t.pair ≡ false =
+    ap (λ x. is_inline_comment x && list_any is_lf t.pair.spelling) (sym (kind_is pairs i (length pairs) k t k_is)) ∙ ap (λ c. c && list_any is_lf t.pair.spelling) test in
+    sym (ap (option_map breaks_here) t.at ∙ ap Some here)
 
 pub breaks_none : (pairs : List Pair) (i past : ℕ) → past ≤ i → breaks_from pairs i past ≡ false
 unfolding breaks_from
@@ -192,6 +210,18 @@ no_cell cell pairs at past frozen b e h found =
     at_none : (o : Option ℕ) → None ≡ option_map (λ n. at + n) o → None ≡ option_map (λ n. at + n) (if_counts cell (slice_range pairs at past) o)
     at_none None k = refl
     at_none (Some n) k = absurd (cc)
+
+-- the line is frozen, or a comment breaks it
+pub frozen_none : (cell : Cell) (pairs : List Pair) (at past : ℕ) (frozen : Bool) → frozen ≡ true
+    → None ≡ option_map (λ n. at + n) (cell_of cell (record { frozen = frozen; pairs = slice_range pairs at past }))
+frozen_none cell pairs at past frozen h =
+    let ps = slice_range pairs at past in
+    sym (ap (option_map (λ n. at + n)) (blocked cell frozen (broken ps) ps refl (ap (λ f. f || broken ps) h)))
+
+pub broken_none : (cell : Cell) (pairs : List Pair) (at past : ℕ) (frozen b : Bool) → b ≡ broken (slice_range pairs at past) → frozen ≡ false → b ≡ true
+    → None ≡ option_map (λ n. at + n) (cell_of cell (record { frozen = frozen; pairs = slice_range pairs at past }))
+broken_none cell pairs at past frozen b e f h =
+    sym (ap (option_map (λ n. at + n)) (blocked cell frozen b (slice_range pairs at past) e (ap₂ (λ x y. x || y) f h)))
 
 -- ---- where a cell begins
 

@@ -42,6 +42,18 @@ fn has_lf(bytes: &[u8]) -> bool
     bytes.iter().any(|b| *b == 10)
 }
 
+/// Whether token `i` is an inline comment with a line end. Only such a comment is searched.
+fn breaks_at(scanned: &Scanned<'_>, i: usize) -> bool
+    requires { i < length scanned.now.pairs }
+    ensures { Some result ≡ option_map (λ (p : Pair).
+        is_inline_comment p.kind && list_any is_lf p.spelling) (slice_get scanned.now.pairs i) }
+{
+    if is_inline_comment(scanned.kind(i)) {
+        return has_lf(scanned.spelling(i));
+    }
+    false
+}
+
 /// Whether an inline comment with a line end stands in a line.
 fn breaks(scanned: &Scanned<'_>, at: usize, past: usize) -> bool
     requires ordered { at ≤ past }
@@ -51,7 +63,7 @@ fn breaks(scanned: &Scanned<'_>, at: usize, past: usize) -> bool
         (slice_range scanned.now.pairs at past) }
 {
     for i in at..past {
-        if is_inline_comment(scanned.kind(i)) & has_lf(scanned.spelling(i)) {
+        if breaks_at(scanned, i) {
             return true;
         }
     }
@@ -116,10 +128,13 @@ fn cell_of(scanned: &Scanned<'_>, cell: Cell, at: usize, past: usize, frozen: bo
         (cell_of cell (record { frozen = frozen; pairs = slice_range scanned.now.pairs at past })) }
     ensures inside { IfSome result (λ i. (at < i) × (i < past)) }
 {
-    if frozen | breaks(scanned, at, past) {
+    if frozen {
         return None;
     }
     let i = first_later(scanned, cell, at, past)?;
+    if breaks(scanned, at, past) {
+        return None;
+    }
     if counts(scanned, cell, i, past) {
         return Some(i);
     }

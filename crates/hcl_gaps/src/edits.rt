@@ -10,10 +10,9 @@ ghost use Rattle.hcl_gaps.specs.Space.{spaces};
 ghost use Rattle.hcl_gaps.specs.Layout.{gap_piece, pieces};
 ghost use Rattle.hcl_gaps.specs.Inner.Stages.{unchanged, gap_meant, with_gaps};
 
-use crate::cells::gap_len;
 use crate::setting::KEPT;
 use edit_list::Edit;
-use hcl_scan::{MAX_TEXT, Scanned};
+use hcl_scan::Scanned;
 use std::alloc::{AllocError, Global};
 
 /// Whether a gap is that many spaces.
@@ -39,23 +38,6 @@ fn stays(gap: &[u8], new: u32) -> bool
         return true;
     }
     is_spaces(gap, new)
-}
-
-/// Whether the text with its new gaps has more than 16,777,216 bytes.
-pub(crate) fn is_too_long(scanned: &Scanned<'_>, gaps: &[u32]) -> bool
-    requires { length gaps.now ≡ length scanned.now.pairs }
-    ensures { result ≡ nat_lt MAX_TEXT
-        (length (whole_text (with_gaps gaps.now scanned.now.pairs) [])) }
-{
-    let mut total = 0;
-    for i in 0..scanned.len() {
-        let token = gap_len(scanned, gaps, i).saturating_add(scanned.spelling(i).len());
-        if token > MAX_TEXT - total {
-            return true;
-        }
-        total += token;
-    }
-    false
 }
 
 fn spaces(alloc: Global, len: u32) -> Result<Vec<u8>, AllocError>

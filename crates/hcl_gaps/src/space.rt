@@ -93,7 +93,7 @@ fn has_no_gap(kind: Kind) -> bool
 fn is_in(kind: Kind, spelling: &[u8]) -> bool
     ensures { result ≡ is_in (token kind spelling.now) }
 {
-    is_identifier(kind) & (spelling == b"in".as_slice())
+    is_identifier(kind) && (spelling == b"in".as_slice())
 }
 
 /// Whether a space stands between two neighbours on a line: the first row of the table that fits.
@@ -160,7 +160,10 @@ pub(crate) fn gap_len(scanned: &Scanned<'_>, before: Before, i: usize) -> u32
     if has_no_gap(b) {
         return 0;
     }
-    if is_spaced(before, a, scanned.spelling(i - 1), b) | scanned.joins(i - 1, i) {
+    if is_spaced(before, a, scanned.spelling(i - 1), b) {
+        return 1;
+    }
+    if scanned.joins(i - 1, i) {
         return 1;
     }
     0

@@ -8,9 +8,10 @@ ghost use Rattle.hcl_gaps.specs.Layout.{laid_out, layout_text, layout_edits, IsL
 ghost use Rattle.hcl_gaps.specs.Inner.Stages.{with_gaps};
 ghost use Rattle.hcl_gaps.specs.declared.fault.LayoutFault.TheVariants.{TooLong, Memory};
 
-use crate::edits::{all_stay, gap_edits, is_too_long};
+use crate::edits::{all_stay, gap_edits};
 use crate::fault::LayoutFault;
 use crate::gaps::laid_gaps;
+use crate::written::{short_len, text_with};
 use edit_list::{Edit, Edits};
 use hcl_scan::Scanned;
 use std::alloc::Global;
@@ -27,10 +28,10 @@ fn short_gaps(alloc: Global, scanned: &Scanned<'_>) -> Result<Vec<u32>, LayoutFa
         (λ e. (e ≡ Memory) ⊎ ((e ≡ TooLong) × (MAX_TEXT < length (layout_text scanned.now)))) }
 {
     let gaps = laid_gaps(alloc, scanned)?;
-    if is_too_long(scanned, &gaps) {
-        return Err(LayoutFault::TooLong);
+    match short_len(scanned, &gaps) {
+        Some(_) => Ok(gaps),
+        None => Err(LayoutFault::TooLong),
     }
-    Ok(gaps)
 }
 
 /// The gaps that differ, as edits, unless the layout has more than 16,777,216 bytes.
@@ -65,6 +66,25 @@ pub fn layout(alloc: Global, scanned: &Scanned<'_>) -> Result<Edits, LayoutFault
     match Edits::make(text.len(), edits) {
         Ok(edits) => Ok(edits),
         Err(_) => unreachable!(),
+    }
+}
+
+/// The text of a layout, as the edits of `layout` make it, with no edits made.
+///
+/// It is refused where `layout` is.
+pub fn text_laid_out(alloc: Global, scanned: &Scanned<'_>) -> Result<Vec<u8>, LayoutFault>
+    ensures text { IfOk result (λ text. text.items ≡ layout_text scanned.now) }
+    ensures turns { IfOk result (λ text.
+        Turns (layout_edits scanned.now) scanned.now.text text.items) }
+    ensures short { IfOk result (λ text. length (layout_text scanned.now) ≤ MAX_TEXT) }
+    ensures err { IfErr result (λ e. (e ≡ Memory)
+        ⊎ ((e ≡ TooLong) × (MAX_TEXT < length (layout_text scanned.now)))) }
+{
+    let _text = scanned.text();
+    let gaps = laid_gaps(alloc, scanned)?;
+    match short_len(scanned, &gaps) {
+        Some(len) => Ok(text_with(alloc, scanned, &gaps, len)?),
+        None => Err(LayoutFault::TooLong),
     }
 }
 

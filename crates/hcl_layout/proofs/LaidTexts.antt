@@ -118,3 +118,22 @@ lays_out parses keeps again cut t (Ok edits) c w turns short =
       parses = parses cut.text (layout_text cut) t p l short;
       again = again cut.text (layout_text cut) t p l short;
     }
+
+-- ---- the text of the layout
+
+pub text_is_layout : (cut : CutText) (text : List ℕ) → IsCut cut.text cut.pairs cut.last → text ≡ layout_text cut → IsLayout cut.text text
+text_is_layout cut text c is = subst (λ (x : List ℕ). IsLayout cut.text x) (sym is) (layout_of cut c)
+
+pub text_parses : LayoutParses → (cut : CutText) (text : List ℕ) (t : Tree) → IsCut cut.text cut.pairs cut.last → IsFile (tokens_of cut.pairs) MAX_NESTING t
+    → text ≡ layout_text cut → length (layout_text cut) ≤ MAX_TEXT → Parses text t
+text_parses parses cut text t c w is short =
+    let p : Parses cut.text t = record { pairs = cut.pairs; last = cut.last; cut = c; derived = w } in
+    subst (λ (x : List ℕ). Parses x t) (sym is) (parses cut.text (layout_text cut) t p (layout_of cut c) short)
+
+pub text_is_short : (cut : CutText) (text : List ℕ) → text ≡ layout_text cut → length (layout_text cut) ≤ MAX_TEXT → length text ≤ MAX_TEXT
+text_is_short cut text is short = subst (λ (x : List ℕ). length x ≤ MAX_TEXT) (sym is) short
+
+pub text_refused : (cut : CutText) (e : LayoutFault) → IsCut cut.text cut.pairs cut.last → (e ≡ Memory) ⊎ ((e ≡ TooLong) × (MAX_TEXT < length (layout_text cut)))
+    → (e ≡ Memory) ⊎ ((e ≡ TooLong) × IsTooLong cut.text)
+text_refused cut e c (inl m) = inl m
+text_refused cut e c (inr l) = inr (l.0, too_long cut c l.1)

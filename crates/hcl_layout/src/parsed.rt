@@ -2,7 +2,10 @@
 //!
 //! No tree is looked at: that there is one is what the laws ask for.
 
-ghost use Rattle.std.specs.Prelude.{◌≡◌, ◌⊎◌, ◌↔◌, IsTrue, IfOk, IfErr, OnOk};
+ghost use Rattle.std.specs.Prelude.{◌≡◌, ◌≤◌, ◌⊎◌, ◌↔◌, length, IsTrue, IfOk, IfErr, OnOk};
+ghost use Rattle.edit_list.specs.Pieces.{Turns};
+ghost use Rattle.hcl_scan.specs.Cut.{MAX_TEXT};
+ghost use Rattle.hcl_text_laws.specs.Parses.{Parses};
 ghost use Rattle.hcl_scan.specs.Follows.{tokens_of};
 ghost use Rattle.hcl_grammar.specs.Bodies.{IsFile};
 ghost use Rattle.hcl_grammar.specs.declared.tree.Tree as tree;
@@ -47,6 +50,29 @@ pub fn layout(alloc: Global, scanned: &Scanned<'_>, tree: &Tree) -> Result<Edits
     ensures err { IfErr result (λ e. (e ≡ Memory) ⊎ ((e ≡ TooLong) × IsTooLong scanned.now.text)) }
 {
     layout_of_parsed(alloc, scanned)
+}
+
+/// The layout of a text, over whose tokens a tree stands, written with no edits made: what
+/// `layout_of_parsed` makes of it.
+///
+/// It is refused where `layout_of_parsed` is.
+pub fn text_laid_out(alloc: Global, scanned: &Scanned<'_>) -> Result<Vec<u8>, LayoutFault>
+    requires { (t : tree.Tree) × IsFile (tokens_of scanned.now.pairs) MAX_NESTING t }
+    ensures layout { IfOk result (λ text. IsLayout scanned.now.text text.items) }
+    ensures turns { IfOk result (λ text.
+        Turns (layout_edits scanned.now) scanned.now.text text.items) }
+    ensures parses { (t : tree.Tree) → IsFile (tokens_of scanned.now.pairs) MAX_NESTING t
+        → IfOk result (λ text. Parses text.items t) }
+    ensures short { IfOk result (λ text. length text.items ≤ MAX_TEXT) }
+    ensures err { IfErr result (λ e. (e ≡ Memory)
+        ⊎ ((e ≡ TooLong) × IsTooLong scanned.now.text)) }
+{
+    laws::layout_parses();
+    let _text = scanned.text();
+    match hcl_gaps::text_laid_out(alloc, scanned) {
+        Ok(text) => Ok(text),
+        Err(fault) => Err(fault),
+    }
 }
 
 /// Whether a text, over whose tokens a tree stands, is its own layout.

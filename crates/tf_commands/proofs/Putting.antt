@@ -1,9 +1,15 @@
 -- What a fmt or a fix made is put on: a step of the session.
-use Rattle.std.proofs.Common.{◌≡◌, ℕ, List, Bool, true, false, not, Option, None, Some, IfSome, IfOk, Result, Ok, Err, refl, subst}
+use Rattle.std.proofs.Common.{◌≡◌, ◌≤◌, ℕ, List, [], ◌∷◌, length, Bool, true, false, not, Option, None, Some, IfSome, IfOk, Result, Ok, Err, refl, subst}
 use Rattle.std.proofs.lemmas.Slice.Eq.{bytes_eq-Decides}
 use Rattle.edit_list.specs.declared.record.Word.{Word}
 use Rattle.edit_list.specs.Journal.{Entered}
-use Rattle.edit_list.specs.Pieces.{Turns}
+use Rattle.edit_list.specs.Pieces.{EditList, Turns}
+use Rattle.hcl_scan.specs.Cut.{MAX_TEXT}
+use Rattle.hcl_gaps.specs.Layout.{layout_edits}
+use Rattle.hcl_layout.specs.Layouts.{IsLayout}
+use Rattle.tf_fix.specs.declared.parsed.Parsed.{Parsed}
+use Rattle.tf_fix.specs.Reading.{Reads}
+use Rattle.tf_commands.proofs.Laying.{changes}
 use Rattle.tf_rule.specs.declared.rule_set.RuleSet.{RuleSet}
 use Rattle.tf_commands.specs.declared.command.Command.{Command}
 use Rattle.tf_commands.specs.declared.command.Command.TheVariants.{Fmt, Fix}
@@ -14,7 +20,7 @@ use Rattle.tf_lint.specs.Steps.{Made, differ}
 use Rattle.tf_lint.specs.Fixed.{text_after, edits_after}
 use Rattle.tf_commands.specs.Makes.{Makes}
 use Rattle.tf_commands.specs.Machine.{done}
-use Rattle.tf_commands.specs.Records.{HasWord, AddsRecord, AddsRecordOf, PutsInPlace, DoesStep}
+use Rattle.tf_commands.specs.Records.{HasWord, AddsRecord, AddsRecordOf, PutsInPlace, DoesStep, Steps}
 
 -- the edits of a text that differs lead to it
 leads : (t : List ℕ) (change : Option NewText) → differ t (text_after t change) ≡ true → IfSome change (λ c. Turns c.edits t c.text.items)
@@ -80,3 +86,23 @@ pub put_fix : (rules : RuleSet) (lent t : List ℕ) (js : List Entered) (change 
     → IfOk reply (λ d. d ≡ done (differ t (text_after t change)) fixed left) → IfOk reply (λ d. u ≡ text_after t change)
     → IfOk reply (λ d. AddsRecord (differ t (text_after t change)) Word.Fix (edits_after t change) js ks) → IfOk reply (λ d. DoesStep (Fix rules) t js d u ks)
 put_fix rules lent t js change fixed left reply u ks same makes turns replied put added = put_lent (Fix rules) Word.Fix refl lent t js change fixed left reply u ks same makes turns replied put added
+
+-- ---- a text laid out, with no record before it
+
+abbrev record_of : Bool → EditList → List Entered
+record_of true edits = record { word = Word.Fmt; edits = edits } ∷ []
+record_of false edits = []
+
+adds_first : (b : Bool) (text : List ℕ) (made : Made) → Makes Fmt text (Ok made) → Turns made.edits text made.text
+    → AddsRecordOf b Fmt text made [] (record_of b made.edits)
+adds_first true text made makes turns =
+    (record { word = Word.Fmt; edits = made.edits }, refl, record { made = made; makes = makes; text = refl; edits = refl; word = refl; turns = turns }, refl)
+adds_first false text made makes turns = refl
+
+pub lays : (text new : List ℕ) (p : Parsed) → Reads text p → IsLayout p.scanned.text new → length new ≤ MAX_TEXT → Turns (layout_edits p.scanned) p.scanned.text new
+    → Steps Fmt text new
+lays text new p reads layout short turns =
+    let made : Made = record { text = new; edits = layout_edits p.scanned; fixed = 0; left = 0 } in
+    let makes = changes text new (layout_edits p.scanned) p reads layout short refl in
+    let here = subst (λ (x : List ℕ). Turns (layout_edits p.scanned) x new) reads.0 turns in
+    (done (differ text new) 0 0, record_of (differ text new) (layout_edits p.scanned), (made, makes, (refl, refl, adds_first (differ text new) text made makes here)))

@@ -78,6 +78,11 @@ DoesStep (Fix rules) t js d u ks =
 DoesStep Revert t js d u ks = TakesLast t js d u ks
 DoesStep (Take n) t js d u ks = TakesNth n t js d u ks
 
+-- what a command makes of a text that has no record before it, whatever it answers and records
+abbrev pub Steps : Command → List ℕ → List ℕ → Type 0
+Steps command text new =
+    (d : Done) × (records : List Entered) × DoesStep command text [] d new records
+
 -- this is the last record
 abbrev pub IsLast : List Entered → Entered → Type 0
 IsLast js r = (earlier : List Entered) × (js ≡ earlier ++ r ∷ [])

@@ -10,7 +10,7 @@ use Rattle.tf_commands.specs.declared.command.Done.{Done}
 use Rattle.tf_commands.specs.declared.fault.RunFault.{RunFault}
 use Rattle.tf_commands.specs.Reading.{DoesParse}
 use Rattle.tf_commands.specs.Makes.{RefusesText}
-use Rattle.tf_commands.specs.Records.{DoesStep, RefusesStep}
+use Rattle.tf_commands.specs.Records.{DoesStep, RefusesStep, Steps}
 use Rattle.tf_commands.specs.Streams.{TakesText, NotTaken, RefusesWhole, FailsOver}
 
 -- From the source came a whole text; the command made this new text of it, with these records, and
@@ -24,8 +24,13 @@ StepsThrough command d new records source target =
 abbrev pub StepsAtFault : Command → RunFault → Source → Target → Type 0
 StepsAtFault command fault source target =
     FailsOver (λ text refusal. RefusesStep command text [] refusal)
-    (λ text new. (d : Done) × (records : List Entered)
-    × DoesStep command text [] d new records) fault source target
+    (Steps command) fault source target
+
+-- From the source came a whole text, and what a fmt makes of it went to the target.
+abbrev pub FormatsThrough : Source → Target → Type 0
+FormatsThrough source target =
+    (d : Done) × (new : List ℕ) × (records : List Entered)
+    × StepsThrough Fmt d new records source target
 
 -- From the source came a text that parses, with a layout within the limit, and the answer is true
 -- exactly where it is its own layout.

@@ -11,6 +11,7 @@ ghost use Rattle.hcl_scan.specs.Cut.{MAX_TEXT};
 ghost use Rattle.hcl_scan.specs.Follows.{tokens_of};
 ghost use Rattle.tf_commands.specs.Reading.{DoesParse};
 ghost use Rattle.tf_commands.specs.Formatting.{formatted};
+ghost use Rattle.tf_commands.specs.Records.{Steps};
 ghost use Rattle.tf_commands.specs.Makes.{Makes, RefusesText};
 ghost use Rattle.tf_commands.specs.declared.command.Command.TheVariants.{Fmt};
 ghost use Rattle.tf_commands.specs.declared.command.Fault.TheVariants.{TooLong, Memory};
@@ -19,7 +20,7 @@ use crate::command::Fault;
 use crate::reading::read_text;
 use edit_list::Change as _;
 use edit_list::laws::{apply_is_exact, sides_fix_each_other};
-use hcl_layout::{is_parsed_laid_out, laws, layout_of_parsed};
+use hcl_layout::{is_parsed_laid_out, laws, layout_of_parsed, text_laid_out};
 use hcl_scan::Scanned;
 use hcl_text_laws::laws::parsed_apart;
 use std::alloc::Global;
@@ -60,6 +61,30 @@ fn layout_change(alloc: Global, scanned: &Scanned<'_>) -> Result<NewText, Fault>
         Ok(text) => Ok(NewText { text, edits }),
         Err(refused) => Err(Fault::from(refused)),
     }
+}
+
+/// The text laid out, with no edits made: what a session with no journal has behind a fmt.
+pub fn formatted_text(alloc: Global, text: &[u8]) -> Result<Vec<u8>, Fault>
+    ensures made { IfOk result (λ new. Steps Fmt text.now new.items) }
+    ensures fault { IfErr result (λ fault. RefusesText Fmt text.now fault) }
+{
+    let scanned = read_text(alloc, text)?;
+    let new = layout_of(alloc, &scanned)?;
+    Ok(new)
+}
+
+/// The layout of a text that parses, with no edits made.
+fn layout_of(alloc: Global, scanned: &Scanned<'_>) -> Result<Vec<u8>, Fault>
+    requires { (t : tree.Tree) × IsFile (tokens_of scanned.now.pairs) MAX_NESTING t }
+    ensures layout { IfOk result (λ new. IsLayout scanned.now.text new.items) }
+    ensures short { IfOk result (λ new. length new.items ≤ MAX_TEXT) }
+    ensures turns { IfOk result (λ new.
+        Turns (layout_edits scanned.now) scanned.now.text new.items) }
+    ensures fault { IfErr result (λ fault.
+        (fault ≡ Memory) ⊎ ((fault ≡ TooLong) × IsTooLong scanned.now.text)) }
+{
+    let new = text_laid_out(alloc, scanned)?;
+    Ok(new)
 }
 
 /// Whether the text is its own layout.

@@ -1,17 +1,17 @@
 //! One command over a whole text, from a reader to a writer, and whether a whole text is laid out.
 
-ghost use Rattle.std.specs.Prelude.{◌≡◌, ◌↔◌, true, false, IfOk, IfErr, IsErrOf, IsErrAnd};
+ghost use Rattle.std.specs.Prelude.{◌≡◌, ◌↔◌, true, false, OnOk, IfOk, IfErr, IsErrOf, IsErrAnd};
 ghost use Rattle.tf_stream.specs.Told.{has_failed};
 ghost use Rattle.tf_stream.specs.Streams.{from, into};
 ghost use Rattle.tf_commands.specs.Session.{text_of, records_of};
 ghost use Rattle.tf_commands.specs.Streams.{is_write};
-ghost use Rattle.tf_commands.specs.declared.command.Command.TheVariants.{Fix};
+ghost use Rattle.tf_commands.specs.declared.command.Command.TheVariants.{Fmt, Fix};
 ghost use Rattle.tf_lint.specs.Steps.{IsReport};
-ghost use Rattle.tf_commands.specs.Streaming.{StepsThrough, StepsAtFault, Checks, ChecksAtFault};
+ghost use Rattle.tf_commands.specs.Streaming.{StepsThrough, StepsAtFault, FormatsThrough, Checks, ChecksAtFault};
 
 use crate::command::{Command, Done};
 use crate::fault::RunFault;
-use crate::formatting::has_own_layout;
+use crate::formatting::{formatted_text, has_own_layout};
 use crate::session::Session;
 use crate::texts::{put_text, take_text};
 use edit_list::Journal;
@@ -79,6 +79,33 @@ pub fn fix_through<R: Read, W: Write>(
     let (done, left) = session.fix(alloc, rules)?;
     match put_text(session.text(), out) {
         Ok(()) => Ok((session, done, left)),
+        Err(fault) => Err(fault),
+    }
+}
+
+/// The whole text of a reader, laid out, goes to the writer: what `step_stream` puts for a fmt,
+/// with no session and no edits made.
+///
+/// It is refused where that is, and at each fault the same was taken and put.
+pub fn format_stream<R: Read, W: Write>(
+    alloc: Global,
+    text: &mut Told<R>,
+    out: &mut Told<W>,
+) -> Result<(), RunFault>
+    requires text_fresh { has_failed text.old ≡ false }
+    requires out_fresh { has_failed out.old ≡ false }
+    ensures done { OnOk result (FormatsThrough (from R.remaining text.old text.new)
+        (into W.contents out.old out.new)) }
+    ensures fault { IfErr result (λ fault.
+        StepsAtFault Fmt fault (from R.remaining text.old text.new)
+        (into W.contents out.old out.new)) }
+    ensures read { IsErrOf result RunFault.Read ↔ has_failed text.new ≡ true }
+    ensures write { IsErrAnd result (λ fault. is_write fault ≡ true) ↔ has_failed out.new ≡ true }
+{
+    let bytes = take_text(alloc, text)?;
+    let new = formatted_text(alloc, bytes.as_slice())?;
+    match put_text(new.as_slice(), out) {
+        Ok(()) => Ok(()),
         Err(fault) => Err(fault),
     }
 }

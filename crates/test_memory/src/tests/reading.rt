@@ -46,6 +46,16 @@ fn layout(rt: HostRuntime) {
 }
 
 #[test]
+fn text_laid_out(rt: HostRuntime) {
+    let (session, _) = changed(&rt, TEXT, b"", Command::Fmt);
+    let parsed = given(&rt, read_text(rt.alloc(), TEXT));
+    begin(&rt);
+    let answer = hcl_layout::text_laid_out(rt.alloc(), &parsed.scanned);
+    let text = answered(&rt, answer, LayoutFault::Memory, true);
+    assert!(rt; text.as_slice() == session.text());
+}
+
+#[test]
 fn is_laid_out(rt: HostRuntime) {
     let (session, _) = changed(&rt, TEXT, b"", Command::Fmt);
     let parsed = given(&rt, read_text(rt.alloc(), session.text()));

@@ -26,6 +26,17 @@ fn step_stream(rt: HostRuntime) {
 }
 
 #[test]
+fn format_stream(rt: HostRuntime) {
+    let (right, _) = changed(&rt, TEXT, b"", Command::Fmt);
+    let mut out = Told::new(roomy(&rt));
+    begin(&rt);
+    let answer = tf_session::format_stream(rt.alloc(), &mut Told::new(TEXT), &mut out);
+    let out = out.into_inner();
+    answered(&rt, answer, RunFault::Memory, out.is_empty());
+    assert!(rt; out.as_slice() == right.text());
+}
+
+#[test]
 fn fix_through(rt: HostRuntime) {
     let (right, done) = changed(&rt, TEXT, b"", fix_all());
     let mut out = Told::new(roomy(&rt));

@@ -1,7 +1,7 @@
 use Rattle.std.proofs.Common.{◌≡◌, ◌+◌, ◌≤◌, length, drop, []}
 use Rattle.hcl_token.specs.Tokens.{whole_text}
 use Rattle.hcl_gaps.specs.Inner.Stages.{with_gaps}
-use Rattle.hcl_gaps.proofs.edits.is_too_long.Given as goal
+use Rattle.hcl_gaps.proofs.written.short_len.Given as goal
 
 abbrev pub invariant-loop-i : goal.invariant-loop-i
 invariant-loop-i l = record {
