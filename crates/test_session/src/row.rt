@@ -1,8 +1,8 @@
-//! What comes of a row, and the bytes that a field stands for.
+//! What comes of a row, the bytes that a field stands for, and what is told of a command.
 
-use anyhow::Result;
 use std::alloc::Global;
 use test_row_text::Row;
+use tf_session::{Done, RunFault};
 
 /// What came of a row.
 #[derive(Drop)]
@@ -14,27 +14,83 @@ pub struct Came {
 
 impl Came {
     /// Whether it is what these fields say, as far as there are any.
-    pub fn is(&self, alloc: Global, want: &str) -> Result<bool> {
+    pub fn is(&self, reading: &mut Reading, want: &str) -> bool {
         let came = [
             self.reply.as_bytes(),
             self.text.as_slice(),
             self.journal.as_slice(),
         ];
+        let mut is = true;
         for (field, bytes) in want.split(" | ").zip(came) {
-            if decoded(alloc, field)?.as_slice() != bytes {
-                return Ok(false);
-            }
+            is = is && reading.decoded(field).as_slice() == bytes;
         }
-        Ok(true)
+        is
     }
 }
 
-/// The bytes of a field, which is written as the fields of `test_row_text` are; one of `-` has
-/// none.
-pub fn decoded(alloc: Global, field: &str) -> Result<Vec<u8>> {
-    if field == "-" {
-        return Ok(Vec::new(alloc));
+/// How the parts of rows are read. One that can't be read, or has no memory, is lost: something
+/// else stands in its place, and all goes on.
+#[derive(Drop)]
+pub struct Reading {
+    pub alloc: Global,
+    pub is_lost: bool,
+}
+
+impl Reading {
+    /// What was made, or what stands in its place.
+    pub fn kept<T: Drop, E: Drop>(&mut self, made: Result<T, E>, other: T) -> T {
+        match made {
+            Ok(value) => value,
+            Err(_) => {
+                self.is_lost = true;
+                other
+            }
+        }
     }
-    let row = Row::read(alloc, field)?;
-    Ok(Vec::from_slice(alloc, row.text(0)?)?)
+
+    pub fn number(&mut self, word: Option<&str>) -> usize {
+        let number = word.unwrap_or("").parse::<usize>();
+        self.kept(number, 0)
+    }
+
+    pub fn copied(&mut self, bytes: &[u8]) -> Vec<u8> {
+        let copy = Vec::from_slice(self.alloc, bytes);
+        self.kept(copy, Vec::new(self.alloc))
+    }
+
+    /// The bytes of a field, which is written as the fields of `test_row_text` are; one of `-` has
+    /// none.
+    pub fn decoded(&mut self, field: &str) -> Vec<u8> {
+        if field == "-" {
+            return Vec::new(self.alloc);
+        }
+        match Row::read(self.alloc, field) {
+            Ok(row) => self.first(&row),
+            Err(_) => {
+                self.is_lost = true;
+                Vec::new(self.alloc)
+            }
+        }
+    }
+
+    pub fn said(&mut self, answer: Result<Done, RunFault>) -> String {
+        match answer {
+            Ok(done) => {
+                let changed = if done.changed { "changed" } else { "unchanged" };
+                let said = format!(in self.alloc; "{changed} {} {}", done.fixed, done.left);
+                self.kept(said, String::new(self.alloc))
+            }
+            Err(fault) => self.told(fault),
+        }
+    }
+
+    pub fn told(&mut self, fault: RunFault) -> String {
+        let told = fault.to_string(self.alloc);
+        self.kept(told, String::new(self.alloc))
+    }
+
+    fn first(&mut self, row: &Row) -> Vec<u8> {
+        let bytes = self.kept(row.text(0), b"");
+        self.copied(bytes)
+    }
 }
