@@ -1,21 +1,20 @@
 //! The text of journals.
 
 use crate::answer::Answer;
-use crate::fields::{text, word};
 use crate::spelled::journal_of;
 use edit_record::laws::{old_records_turn_alike, text_begins_alike, text_is_one};
 use edit_record::{Journal, RecordFault, decode, encode, encoded_len};
 use std::alloc::Global;
 use std::fmt::Write;
-use test_row_text::Row;
+use crate::row::Row;
 
 pub fn answer(row: &Row, out: &mut Answer) {
-    match word(row, 0) {
-        "read" => read(text(row, 1), out),
-        "written" => written(&journal_of(word(row, 1), out), out),
-        "fronts" => fronts(text(row, 1), out),
-        "marks" => marks(text(row, 1), text(row, 2), out),
-        "bytes" => bytes(text(row, 1), out),
+    match row.word(0) {
+        "read" => read(row.text(1), out),
+        "written" => written(&journal_of(row.word(1), out), out),
+        "fronts" => fronts(row.text(1), out),
+        "marks" => marks(row.text(1), row.text(2), out),
+        "bytes" => bytes(row.text(1), out),
         _ => out.show(&RecordFault::Memory),
     }
 }

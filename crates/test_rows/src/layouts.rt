@@ -1,7 +1,6 @@
 //! Texts and their layouts.
 
 use crate::answer::Answer;
-use crate::fields::{text, word};
 use crate::records::turned;
 use edit_record::Edits;
 use hcl_gaps::laws::{cells_in_columns, keeps_tokens, lines_have_all_tokens, own_layout};
@@ -9,13 +8,13 @@ use hcl_gaps::{LayoutFault, is_laid_out, layout};
 use hcl_scan::scan;
 use std::alloc::Global;
 use std::fmt::Write;
-use test_row_text::Row;
+use crate::row::Row;
 
 pub fn answer(row: &Row, out: &mut Answer) {
-    match word(row, 0) {
+    match row.word(0) {
         "laws" => laws(out),
         "memory" => out.show(&LayoutFault::Memory),
-        call => match &laid_out(out.alloc, text(row, 1)) {
+        call => match &laid_out(out.alloc, row.text(1)) {
             Some((Ok(edits), Ok(is_laid_out))) => tell(call, row, edits, *is_laid_out, out),
             Some((Err(fault), Err(other))) => {
                 let _ = write!(out, "{fault}, {other}");
@@ -37,7 +36,7 @@ fn laid_out(alloc: Global, text: &[u8]) -> Option<LaidOut> {
 
 fn tell(call: &str, row: &Row, edits: &Edits, is_laid_out: bool, out: &mut Answer) {
     match call {
-        "layout" => tell_text(text(row, 1), edits, is_laid_out, out),
+        "layout" => tell_text(row.text(1), edits, is_laid_out, out),
         "edits" => tell_edits(edits, out),
         _ => {
             let len = edits.new_len();

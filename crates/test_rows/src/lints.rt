@@ -1,23 +1,22 @@
 //! Rules, what they find, issues and the steps of fixes.
 
 use crate::answer::Answer;
-use crate::fields::{number, text, word};
 use crate::parses::read;
 use crate::records::turned;
 use hcl_grammar::tree::Tree;
 use hcl_scan::Scanned;
 use std::fmt::Write;
-use test_row_text::Row;
+use crate::row::Row;
 use tf_diagnostics::findings;
 use tf_lint::{Fixed, Issue, LintFault, Place, Rule, RuleSet, fix_text, issues};
 use tf_rule::Finding;
 
 pub fn answer(row: &Row, out: &mut Answer) {
-    match word(row, 0) {
-        "rule" => rule(word(row, 1), out),
-        "set" => names(set_of(word(row, 1)), out),
+    match row.word(0) {
+        "rule" => rule(row.word(1), out),
+        "set" => names(set_of(row.word(1)), out),
         "line" => line(row, out),
-        "issues" | "findings" => read(row, text(row, 2), out),
+        "issues" | "findings" => read(row, row.text(2), out),
         "fix" | "step" => fix(row, out),
         _ => out.show(&LintFault::Memory),
     }
@@ -62,20 +61,20 @@ fn names(set: RuleSet, out: &mut Answer) {
 
 fn line(row: &Row, out: &mut Answer) {
     let mut text = String::new(out.alloc);
-    let is_put = text.push_str(word(row, 4)).is_ok();
+    let is_put = text.push_str(row.word(4)).is_ok();
     out.hold(is_put, "a text is too long");
     let issue = Issue {
-        rule: Rule::by_name(word(row, 1)).unwrap_or(Rule::CommentSyntax),
+        rule: Rule::by_name(row.word(1)).unwrap_or(Rule::CommentSyntax),
         first: 0,
         past: 1,
         place: Place {
-            line: number(row, 2),
-            column: number(row, 3),
+            line: row.number(2),
+            column: row.number(3),
         },
         text,
         fixable: false,
     };
-    tell_line(&issue, word(row, 5), out);
+    tell_line(&issue, row.word(5), out);
 }
 
 fn tell_line(issue: &Issue, file: &str, out: &mut Answer) {
@@ -87,8 +86,8 @@ fn tell_line(issue: &Issue, file: &str, out: &mut Answer) {
 
 /// The issues of a text, or what the rules find in it.
 pub fn searched(row: &Row, scanned: &Scanned<'_>, tree: &Tree, out: &mut Answer) {
-    let rules = set_of(word(row, 1));
-    if word(row, 0) == "issues" {
+    let rules = set_of(row.word(1));
+    if row.word(0) == "issues" {
         match issues(out.alloc, scanned, tree, rules) {
             Ok(issues) => tell_issues(&issues, out),
             Err(fault) => out.refuse(&fault),
@@ -139,10 +138,10 @@ fn tell_issues(issues: &[Issue], out: &mut Answer) {
 
 /// What the fix of one rule makes of a text.
 fn fix(row: &Row, out: &mut Answer) {
-    let Some(rule) = Rule::by_name(word(row, 1)) else {
+    let Some(rule) = Rule::by_name(row.word(1)) else {
         return out.put("no rule");
     };
-    match fix_text(out.alloc, text(row, 2), RuleSet::none().with(rule)) {
+    match fix_text(out.alloc, row.text(2), RuleSet::none().with(rule)) {
         Ok(fixed) => tell_fixed(row, &fixed, out),
         Err(fault) => out.refuse(&fault),
     }
@@ -152,8 +151,8 @@ fn fix(row: &Row, out: &mut Answer) {
 /// it makes.
 fn tell_fixed(row: &Row, fixed: &Fixed, out: &mut Answer) {
     match &fixed.change {
-        Some(change) if word(row, 0) == "fix" => {
-            turned(&change.edits, "both", text(row, 2), out);
+        Some(change) if row.word(0) == "fix" => {
+            turned(&change.edits, "both", row.text(2), out);
             out.hold(
                 out.text() == change.text.as_slice(),
                 "the edits make another text",
@@ -163,7 +162,7 @@ fn tell_fixed(row: &Row, fixed: &Fixed, out: &mut Answer) {
             let (mended, count) = (fixed.fixed, change.edits.edits().len());
             let _ = write!(out, "{mended} {count}");
         }
-        None if word(row, 0) == "fix" => out.put_bytes(text(row, 2)),
+        None if row.word(0) == "fix" => out.put_bytes(row.text(2)),
         None => {
             let mended = fixed.fixed;
             let _ = write!(out, "{mended} 0");

@@ -1,19 +1,18 @@
 //! Texts that parse or not, where they do not, and what is told of their trees.
 
 use crate::answer::Answer;
-use crate::fields::{text, word};
 use crate::lints::searched;
 use hcl_grammar::tree::Tree;
 use hcl_scan::{Scanned, scan};
 use hcl_tree::{ParseFault, parse};
 use std::fmt::Write;
-use test_row_text::Row;
+use crate::row::Row;
 
 pub fn answer(row: &Row, out: &mut Answer) {
-    if word(row, 0) == "memory" {
+    if row.word(0) == "memory" {
         return out.show(&ParseFault::Memory);
     }
-    read(row, text(row, 1), out);
+    read(row, row.text(1), out);
 }
 
 /// What is told of a text that parses, or where it does not.
@@ -30,7 +29,7 @@ pub fn read(row: &Row, text: &[u8], out: &mut Answer) {
 /// That there is a tree, or how many tokens it has, how many its body, and how many members that
 /// has, or what is found in it.
 fn tell(row: &Row, scanned: &Scanned<'_>, tree: &Tree, out: &mut Answer) {
-    match word(row, 0) {
+    match row.word(0) {
         "parse" => out.put("parses"),
         "body" => {
             let (all, past, members) = (tree.past, tree.body.past, tree.body.members.len());

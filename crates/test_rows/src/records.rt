@@ -1,7 +1,6 @@
 //! Edits, records and journals: what is made, applied and undone.
 
 use crate::answer::Answer;
-use crate::fields::{number, text, word};
 use crate::spelled::{edits_of, journal_of, list_of, name_of, word_of};
 use edit_list::laws::{
     apply_is_exact, edits_refuse_exactly, make_is_exact, pieces_make, pieces_turn,
@@ -9,29 +8,29 @@ use edit_list::laws::{
 };
 use edit_record::{Change, Edits, Record, Refused, Word, apply_all, undo_all};
 use std::fmt::Write;
-use test_row_text::Row;
+use crate::row::Row;
 
 pub fn answer(row: &Row, out: &mut Answer) {
-    match word(row, 0) {
+    match row.word(0) {
         "make" => made(row, out),
         "placed" => lengths(&Edits::of_placed(3, 3, Vec::new(out.alloc)), out),
-        "edits" => change(&list_of(word(row, 1), out), row, out),
+        "edits" => change(&list_of(row.word(1), out), row, out),
         "record" => record(row, out),
         "turns" => change(
-            &Record::make(Word::Fmt, list_of(word(row, 1), out)),
+            &Record::make(Word::Fmt, list_of(row.word(1), out)),
             row,
             out,
         ),
-        "journal" => change(&journal_of(word(row, 1), out), row, out),
+        "journal" => change(&journal_of(row.word(1), out), row, out),
         "all" => all(row, out),
         "popped" => popped(row, out),
-        "laws" => laws(&list_of(word(row, 1), out), out),
+        "laws" => laws(&list_of(row.word(1), out), out),
         _ => out.show(&Refused::Memory),
     }
 }
 
 fn made(row: &Row, out: &mut Answer) {
-    match Edits::make(number(row, 1), edits_of(word(row, 2), out)) {
+    match Edits::make(row.number(1), edits_of(row.word(2), out)) {
         Ok(edits) => lengths(&edits, out),
         Err(fault) => out.refuse(&fault),
     }
@@ -44,14 +43,14 @@ fn lengths(edits: &Edits, out: &mut Answer) {
 }
 
 fn record(row: &Row, out: &mut Answer) {
-    let record = Record::make(word_of(word(row, 1)), list_of(word(row, 2), out));
+    let record = Record::make(word_of(row.word(1)), list_of(row.word(2), out));
     out.put(name_of(record.word()));
     out.put(", ");
     lengths(record.edits(), out);
 }
 
 fn change<C: Change>(change: &C, row: &Row, out: &mut Answer) {
-    turned(change, word(row, 2), text(row, 3), out);
+    turned(change, row.word(2), row.text(3), out);
 }
 
 /// The text as the change makes it, or as it was before it (`undo`), or as it makes it where the
@@ -83,8 +82,8 @@ fn is_back(undone: Result<Vec<u8>, Refused>, text: &[u8], out: &mut Answer) {
 
 /// The records of a journal, one after the other and back.
 fn all(row: &Row, out: &mut Answer) {
-    let journal = journal_of(word(row, 1), out);
-    let text = text(row, 2);
+    let journal = journal_of(row.word(1), out);
+    let text = row.text(2);
     match apply_all(out.alloc, journal.records(), text) {
         Ok(new) => {
             out.put_bytes(&new);
@@ -97,7 +96,7 @@ fn all(row: &Row, out: &mut Answer) {
 /// The old lengths of the records as they are taken off, with what is left of the journal each
 /// time.
 fn popped(row: &Row, out: &mut Answer) {
-    let mut journal = journal_of(word(row, 1), out);
+    let mut journal = journal_of(row.word(1), out);
     for _ in 0..journal.records().len() {
         if let Some(last) = journal.pop() {
             let (old_len, left) = (last.edits().old_len(), journal.records().len());

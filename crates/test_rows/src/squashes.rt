@@ -1,15 +1,14 @@
 //! Two lists of edits as one.
 
 use crate::answer::Answer;
-use crate::fields::word;
 use crate::spelled::{journal_of, list_of, spell};
 use edit_record::{Edits, Journal, Unmet, squash};
 use edit_squash::laws::{squash_all_is_one, squash_associates, squash_is_one};
 use std::alloc::Global;
-use test_row_text::Row;
+use crate::row::Row;
 
 pub fn answer(row: &Row, out: &mut Answer) {
-    match word(row, 0) {
+    match row.word(0) {
         "squash" => squashed(row, out),
         "three" => three(row, out),
         "journal" => journal(row, out),
@@ -25,16 +24,16 @@ fn told(answer: Result<Edits, Unmet>, out: &mut Answer) {
 }
 
 fn squashed(row: &Row, out: &mut Answer) {
-    let first = list_of(word(row, 1), out);
-    let second = list_of(word(row, 2), out);
+    let first = list_of(row.word(1), out);
+    let second = list_of(row.word(2), out);
     told(squash(out.alloc, &first, &second), out);
 }
 
 /// Three lists in both groupings.
 fn three(row: &Row, out: &mut Answer) {
-    let a = list_of(word(row, 1), out);
-    let b = list_of(word(row, 2), out);
-    let c = list_of(word(row, 3), out);
+    let a = list_of(row.word(1), out);
+    let b = list_of(row.word(2), out);
+    let c = list_of(row.word(3), out);
     squash_is_one(&a, &b);
     squash_associates(&a, &b, &c);
     squash_all_is_one();
@@ -56,8 +55,8 @@ fn from_right(alloc: Global, a: &Edits, b: &Edits, c: &Edits) -> Result<Edits, U
 
 /// A list and those of the records behind it, as one.
 fn journal(row: &Row, out: &mut Answer) {
-    let first = list_of(word(row, 1), out);
-    let journal = journal_of(word(row, 2), out);
+    let first = list_of(row.word(1), out);
+    let journal = journal_of(row.word(2), out);
     told(all(out.alloc, first, &journal), out);
 }
 

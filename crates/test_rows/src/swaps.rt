@@ -1,15 +1,14 @@
 //! Lists that change places, and records that are taken out.
 
 use crate::answer::Answer;
-use crate::fields::word;
 use crate::spelled::{journal_of, list_of, name_of, spell};
 use edit_record::{Edits, Record, SwapFault, TakeOutFault, swap, take_out};
 use edit_swap::laws::{swap_is_one, taking_out_is_one};
 use std::fmt::Write;
-use test_row_text::Row;
+use crate::row::Row;
 
 pub fn answer(row: &Row, out: &mut Answer) {
-    match word(row, 0) {
+    match row.word(0) {
         "second" | "first" => swapped(row, out),
         "others" | "moved" => taken_out(row, out),
         _ => {
@@ -22,12 +21,12 @@ pub fn answer(row: &Row, out: &mut Answer) {
 
 /// The second list as it comes first, or the first as it comes second.
 fn swapped(row: &Row, out: &mut Answer) {
-    let first = list_of(word(row, 1), out);
-    let second = list_of(word(row, 2), out);
+    let first = list_of(row.word(1), out);
+    let second = list_of(row.word(2), out);
     swap_is_one();
     match swap(out.alloc, &first, &second) {
         Ok((second, first)) => {
-            let is_second = word(row, 0) == "second";
+            let is_second = row.word(0) == "second";
             spell(if is_second { &second } else { &first }, out);
         }
         Err(fault) => out.refuse(&fault),
@@ -36,12 +35,12 @@ fn swapped(row: &Row, out: &mut Answer) {
 
 /// The records without the edits before them, or what the edits are behind the records.
 fn taken_out(row: &Row, out: &mut Answer) {
-    let first = list_of(word(row, 1), out);
-    let journal = journal_of(word(row, 2), out);
+    let first = list_of(row.word(1), out);
+    let journal = journal_of(row.word(2), out);
     taking_out_is_one();
     match take_out(out.alloc, &first, journal.records()) {
         Ok((others, moved)) => {
-            if word(row, 0) == "others" {
+            if row.word(0) == "others" {
                 tell_others(&others, out);
             } else {
                 tell_moved(&moved, out);

@@ -1,7 +1,6 @@
 //! Tokens: the cuts of texts, places, and what joins.
 
 use crate::answer::Answer;
-use crate::fields::{number, text, word};
 use crate::journals::with_byte;
 use hcl_scan::laws::{
     cut_follows, gaps_of, no_cut_with_fault, one_cut, one_fault, other_gaps, writes_back,
@@ -9,20 +8,20 @@ use hcl_scan::laws::{
 use hcl_scan::{Kind, ScanFault, Scanned, scan};
 use hcl_token::{clusters, joins};
 use std::fmt::Write;
-use test_row_text::Row;
+use crate::row::Row;
 
 pub fn answer(row: &Row, out: &mut Answer) {
-    match word(row, 0) {
+    match row.word(0) {
         "joins" => {
-            let (first, second) = (kind_of(word(row, 1), out), kind_of(word(row, 3), out));
-            yes_or_no(joins(first, text(row, 2), second, text(row, 4)), out);
+            let (first, second) = (kind_of(row.word(1), out), kind_of(row.word(3), out));
+            yes_or_no(joins(first, row.text(2), second, row.text(4)), out);
         }
-        "clusters" => out.show(&clusters(word(row, 1).as_bytes())),
-        "fronts" => fronts(text(row, 1), out),
-        "others" => others(text(row, 1), text(row, 2), out),
+        "clusters" => out.show(&clusters(row.word(1).as_bytes())),
+        "fronts" => fronts(row.text(1), out),
+        "others" => others(row.text(1), row.text(2), out),
         "laws" => laws(out),
         "memory" => out.show(&ScanFault::Memory),
-        _ => match scan(out.alloc, text(row, 1)) {
+        _ => match scan(out.alloc, row.text(1)) {
             Ok(scanned) => tell(row, &scanned, out),
             Err(fault) => out.refuse(&fault),
         },
@@ -34,13 +33,13 @@ fn yes_or_no(yes: bool, out: &mut Answer) {
 }
 
 fn tell(row: &Row, scanned: &Scanned<'_>, out: &mut Answer) {
-    match word(row, 0) {
+    match row.word(0) {
         "cut" => cut(scanned, out),
         "gaps" => gaps(scanned, out),
         "places" => places(scanned, out),
-        "count" => count(scanned, text(row, 1), out),
-        "token" => token(scanned, number(row, 2), out),
-        _ => joined(scanned, number(row, 2), number(row, 3), out),
+        "count" => count(scanned, row.text(1), out),
+        "token" => token(scanned, row.number(2), out),
+        _ => joined(scanned, row.number(2), row.number(3), out),
     }
 }
 

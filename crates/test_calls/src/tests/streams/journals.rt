@@ -1,0 +1,54 @@
+//! Journals over the limit of their text.
+
+ghost use Rattle.std.specs.Prelude.{Some};
+
+use super::{Hashes, Narrow};
+use crate::tests::{Host, given};
+use edit_record::{Edit, Edits, Record, Word};
+use std::alloc::Global;
+
+use tf_session::{Journal, RunFault, Session, Told, load, save};
+
+#[test]
+fn a_journal_that_does_not_end_is_told(rt: HostRuntime) {
+    let mut journal = Told::new(Hashes::new(1 << 40, 65_536));
+    let answer = load(
+        rt.alloc(),
+        &mut Told::new(b"a = 1\n".as_slice()),
+        &mut journal,
+    );
+    assert!(rt; answer.err() == Some(RunFault::Endless));
+    assert_eq!(rt; journal.into_inner().left, (1 << 40) - 268_435_457);
+}
+
+/// A record that removes a text as long as a text may be.
+fn long_record(rt: &impl Host, alloc: Global) -> Record {
+    let len = 16_777_216;
+    let mut removed = given(rt, Vec::with_capacity(alloc, len));
+    for _ in 0..len {
+        given(rt, removed.push(b'#'));
+    }
+    let edit = Edit {
+        at: 0,
+        removed,
+        added: Vec::new(alloc),
+    };
+    let edits = given(rt, vec![in alloc; edit]);
+    Record::make(Word::Fix, given(rt, Edits::make(len, edits)))
+}
+
+#[test]
+fn a_journal_over_the_limit_is_not_saved(rt: HostRuntime) {
+    let alloc = rt.alloc();
+    let mut journal = Journal::empty(alloc);
+    for _ in 0..16 {
+        given(&rt, journal.push(long_record(&rt, alloc)));
+    }
+    let session = Session::start(Vec::new(alloc), journal);
+    let mut journal_out = Told::new(Narrow::new(Vec::new(alloc), 1000, 5));
+    let mut text_out = Told::new(Narrow::new(Vec::new(alloc), 1000, 5));
+    let answer = save(alloc, &session, &mut journal_out, &mut text_out);
+    assert!(rt; answer == Err(RunFault::Endless));
+    assert_eq!(rt; journal_out.into_inner().writes, 0);
+    assert_eq!(rt; text_out.into_inner().writes, 0);
+}

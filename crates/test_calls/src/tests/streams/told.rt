@@ -1,0 +1,58 @@
+//! Each call goes on once, with all it was handed, and its answer comes back: no clause can say so
+//! where the bytes are unknown.
+
+use super::{Hashes, Narrow};
+use crate::tests::given;
+use std::io::{Read, Write};
+use tf_stream::Told;
+
+#[test]
+fn reads_go_on_once(rt: HostRuntime) {
+    let mut reader = Hashes::new(20, 8);
+    reader.fails_at = 4;
+    let mut told = Told::new(reader);
+    let mut buf = [0u8; 8];
+    assert!(rt; given(&rt, told.read(&mut buf)) == 8);
+    assert_eq!(rt; buf, [b'#'; 8]);
+    assert!(rt; given(&rt, told.read(&mut buf[..7])) == 7);
+    assert!(rt; given(&rt, told.read(&mut buf[..0])) == 0);
+    assert!(rt; !told.failed());
+    assert!(rt; told.read(&mut buf).is_err());
+    assert!(rt; told.failed());
+    assert!(rt; given(&rt, told.read(&mut buf)) == 5);
+    assert!(rt; told.failed());
+    let reader = told.into_inner();
+    assert_eq!(rt; reader.reads, 5);
+    assert_eq!(rt; reader.left, 0);
+}
+
+#[test]
+fn writes_and_flushes_go_on_once(rt: HostRuntime) {
+    let mut writer = Narrow::new(Vec::new(rt.alloc()), 8, 8);
+    writer.write_fails_at = 4;
+    writer.flush_fails_at = 2;
+    let mut told = Told::new(writer);
+    assert!(rt; given(&rt, told.write(b"abcdefg")) == 7);
+    assert!(rt; given(&rt, told.write(b"")) == 0);
+    assert!(rt; given(&rt, told.write(b"hi")) == 1);
+    given(&rt, told.flush());
+    assert!(rt; !told.failed());
+    assert!(rt; told.write(b"i").is_err());
+    assert!(rt; told.failed());
+    assert!(rt; told.flush().is_err());
+    given(&rt, told.flush());
+    assert!(rt; told.failed());
+    let writer = told.into_inner();
+    assert_eq!(rt; writer.writes, 4);
+    assert_eq!(rt; writer.flushes, 3);
+    assert!(rt; writer.held.as_slice() == b"abcdefgh".as_slice());
+}
+
+#[test]
+fn a_write_that_takes_nothing_has_failed(rt: HostRuntime) {
+    let mut told = Told::new(Narrow::new(Vec::new(rt.alloc()), 0, 2));
+    assert!(rt; given(&rt, told.write(b"")) == 0);
+    assert!(rt; !told.failed());
+    assert!(rt; given(&rt, told.write(b"d")) == 0);
+    assert!(rt; told.failed());
+}

@@ -1,0 +1,38 @@
+//! Rows of texts and commands, with what comes of each.
+//!
+//! A row is a command and up to three fields behind ` | `: the reply, the text and the journal's
+//! text that there are then. A field that is left out is not compared. `desk` names the commands.
+//! Where a row can't be read, or memory is refused for what is compared, the last line says so.
+
+mod came;
+mod desk;
+mod ends;
+
+use anyhow::Result;
+use desk::Desk;
+
+/// Does the rows, prints those of which something else comes, and answers how many there are.
+pub fn try_rows(rt: &HostRuntime, text: &str) -> Result<u64> {
+    let mut desk = Desk::new(rt.alloc());
+    let mut count = 0u64;
+    for (number, line) in text.lines().enumerate() {
+        if !line.is_empty() && !line.starts_with('#') {
+            count = count.saturating_add(1);
+            try_row(rt, &mut desk, number.saturating_add(1), line)?;
+        }
+    }
+    if desk.row.is_lost {
+        println!(rt; "a row of sessions was not done")?;
+    }
+    Ok(count)
+}
+
+fn try_row(rt: &HostRuntime, desk: &mut Desk, number: usize, line: &str) -> Result<()> {
+    let (command, want) = line.split_once(" | ").unwrap_or((line, ""));
+    let came = desk.do_row(command);
+    if !came.is(&mut desk.row, want) {
+        let (reply, text, journal) = (&came.reply, &came.text, &came.journal);
+        println!(rt; "sessions.rows:{number}: {reply} | {text:?} | {journal:?}")?;
+    }
+    Ok(())
+}

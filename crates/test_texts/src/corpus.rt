@@ -1,0 +1,108 @@
+//! Texts of Terraform: what the rules find in each, and what comes of fixing it, laying it out and
+//! taking that back.
+//!
+//! The file `corpus/expected` has a line for each text: the name of its file, how many issues of
+//! each rule it has, and how many are left once nothing can be fixed any more. What is printed are
+//! the texts of which something else comes, what occurs in none of them, and their number.
+
+mod counts;
+mod course;
+mod forms;
+mod seen;
+mod sessions;
+mod takes;
+mod walk;
+
+use anyhow::Result;
+use counts::Tally;
+use hcl_scan::{Scanned, scan};
+use hcl_tree::parse;
+use seen::Seen;
+use std::fmt::Write;
+use std::fs;
+use crate::report::Report;
+use tf_lint::{RuleSet, issues};
+
+/// Tries all of them.
+pub fn run(rt: &HostRuntime) -> Result<()> {
+    let expected = fs::read_to_string(rt, "corpus/expected")?;
+    let mut seen = Seen::new();
+    let mut tally = Tally::new();
+    let mut count = 0u64;
+    for line in expected.lines() {
+        try_one(rt, line, &mut seen, &mut tally)?;
+        count = count.saturating_add(1);
+    }
+    seen.tell_missing(rt)?;
+    tally.tell_rare(rt)?;
+    println!(rt; "{count} texts")?;
+    Ok(())
+}
+
+fn try_one(rt: &HostRuntime, line: &str, seen: &mut Seen, tally: &mut Tally) -> Result<()> {
+    let (name, _) = line.split_once(' ').unwrap_or((line, ""));
+    let mut report = Report::new(rt.alloc());
+    let file = format!(in report.alloc; "corpus/{name}")?;
+    let text = fs::read(rt, file.as_str())?;
+    let found = line_of(name, &text, seen, tally, &mut report);
+    tell(rt, line, found.as_str(), &report)
+}
+
+/// Tells a text of which something else comes than its line says.
+fn tell(rt: &HostRuntime, line: &str, found: &str, report: &Report) -> Result<()> {
+    if found != line {
+        println!(rt; "{line}\n  found: {found}")?;
+    }
+    if let Some(wrong) = report.wrong() {
+        println!(rt; "{line}\n  {wrong}")?;
+    }
+    Ok(())
+}
+
+/// The line of a text.
+fn line_of(
+    name: &str,
+    text: &[u8],
+    seen: &mut Seen,
+    tally: &mut Tally,
+    report: &mut Report,
+) -> String {
+    let mut line = String::new(report.alloc);
+    let has_name = line.push_str(name).is_ok();
+    look(text, &mut line, seen, tally, report);
+    let left = course::run(text, seen, report);
+    let has_left = write!(line, " left={left}").is_ok();
+    report.hold(has_name && has_left, "memory is wanting");
+    line
+}
+
+/// Notes what occurs in a text, and writes how many issues of each rule it has behind its line.
+fn look(text: &[u8], line: &mut String, seen: &mut Seen, tally: &mut Tally, report: &mut Report) {
+    match scan(report.alloc, text) {
+        Ok(scanned) => look_at(&scanned, line, seen, tally, report),
+        Err(_) => report.hold(false, "it has no tokens"),
+    }
+}
+
+fn look_at(
+    scanned: &Scanned<'_>,
+    line: &mut String,
+    seen: &mut Seen,
+    tally: &mut Tally,
+    report: &mut Report,
+) {
+    match parse(report.alloc, scanned) {
+        Ok(tree) => {
+            forms::see(scanned, seen);
+            walk::see(scanned, &tree, seen, report);
+            match issues(report.alloc, scanned, &tree, RuleSet::all()) {
+                Ok(found) => {
+                    tally.add(&found);
+                    counts::tell(&found, line, report);
+                }
+                Err(_) => report.hold(false, "its issues are not found"),
+            }
+        }
+        Err(_) => report.hold(false, "it has no tree"),
+    }
+}

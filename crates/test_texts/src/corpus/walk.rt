@@ -1,0 +1,323 @@
+//! A walk over a tree, which notes each production that it comes by.
+
+use crate::corpus::seen::Seen;
+use hcl_grammar::tree::{
+    Attribute, Block, Call, Content, Elem, Expr, ForDirective, ForObject, ForTuple, Form,
+    IfDirective, Intro, Label, Link, Member, Operator, Part, Prefix, Shape, Tail, Template, Tree,
+};
+use hcl_scan::{Kind, Scanned};
+use plain_tree::{Boxed, Items};
+use crate::report::Report;
+
+/// More nodes than the tree of any of the texts has.
+const NODES: usize = 1_000_000;
+
+/// A node that is still to be looked at.
+#[derive(Clone, Copy)]
+enum Node<'t> {
+    Member(&'t Member),
+    Expr(&'t Expr),
+    Tail(&'t Tail),
+    Elem(&'t Elem),
+    Part(&'t Part),
+}
+
+/// The nodes that are still to be looked at, and whether there was memory for all of them.
+#[derive(Drop)]
+struct Left<'t> {
+    nodes: Vec<Node<'t>>,
+    is_whole: bool,
+}
+
+/// Notes the nodes of a text's tree.
+pub fn see(scanned: &Scanned<'_>, tree: &Tree, seen: &mut Seen, report: &mut Report) {
+    let mut left = Left {
+        nodes: Vec::new(report.alloc),
+        is_whole: true,
+    };
+    left.members(&tree.body.members);
+    for _ in 0..NODES {
+        match left.nodes.pop() {
+            Some(node) => see_node(scanned, node, &mut left, seen),
+            None => break,
+        }
+    }
+    let is_whole = left.is_whole && left.nodes.is_empty();
+    report.hold(is_whole, "it has too many nodes");
+}
+
+fn see_node<'t>(scanned: &Scanned<'_>, node: Node<'t>, left: &mut Left<'t>, seen: &mut Seen) {
+    match node {
+        Node::Member(Member::Attribute(attribute)) => left.attribute(attribute, seen),
+        Node::Member(Member::Block(block)) => left.block(block, seen),
+        Node::Expr(expr) => left.form(&expr.form, seen),
+        Node::Tail(tail) => left.tail(tail, seen),
+        Node::Elem(elem) => {
+            see_elem(scanned, elem, seen);
+            left.expr(&elem.key);
+            left.expr(&elem.value);
+        }
+        Node::Part(part) => left.part(part, seen),
+    }
+}
+
+impl<'t> Left<'t> {
+    fn put(&mut self, node: Node<'t>) {
+        let is_put = self.nodes.push(node).is_ok();
+        self.is_whole = self.is_whole && is_put;
+    }
+
+    fn expr(&mut self, expr: &'t Expr) {
+        self.put(Node::Expr(expr));
+    }
+
+    fn members(&mut self, members: &'t Items<Member>) {
+        for member in members.as_slice() {
+            self.put(Node::Member(member));
+        }
+    }
+
+    fn exprs(&mut self, exprs: &'t Items<Expr>) {
+        for expr in exprs.as_slice() {
+            self.expr(expr);
+        }
+    }
+
+    fn block(&mut self, block: &'t Block, seen: &mut Seen) {
+        see_labels(&block.labels, seen);
+        match &block.content {
+            Content::Lines(body) => {
+                seen.form("a block on lines");
+                self.members(&body.get().members);
+            }
+            Content::Line(Some(attribute)) => {
+                seen.form("a block on a line, with an attribute");
+                self.attribute(attribute.get(), seen);
+            }
+            Content::Line(None) => seen.form("a block on a line, empty"),
+        }
+    }
+
+    fn attribute(&mut self, attribute: &'t Attribute, seen: &mut Seen) {
+        seen.form("NAME = A");
+        self.expr(attribute.value.get());
+    }
+
+    fn form(&mut self, form: &'t Form, seen: &mut Seen) {
+        match form {
+            Form::Conditional(condition, met, unmet) => {
+                seen.form("A ? B : C");
+                self.expr(condition.get());
+                self.expr(met.get());
+                self.expr(unmet.get());
+            }
+            Form::Chain(head, links) => {
+                self.expr(head.get());
+                self.links(links, seen);
+            }
+            Form::Prefixed(prefix, operand) => {
+                seen.form(name_of_prefix(*prefix));
+                self.expr(operand.get());
+            }
+            Form::Tailed(term, tails) => {
+                self.shape(&term.get().shape, seen);
+                self.tails(tails);
+            }
+            Form::Plain(term) => self.shape(&term.shape, seen),
+        }
+    }
+
+    fn links(&mut self, links: &'t Items<Link>, seen: &mut Seen) {
+        for link in links.as_slice() {
+            seen.form(name_of(link.operator));
+            self.expr(&link.operand);
+        }
+    }
+
+    fn tails(&mut self, tails: &'t Items<Tail>) {
+        for tail in tails.as_slice() {
+            self.put(Node::Tail(tail));
+        }
+    }
+
+    fn tail(&mut self, tail: &'t Tail, seen: &mut Seen) {
+        match tail {
+            Tail::Name(_) => seen.form("A.NAME"),
+            Tail::Legacy(_) => seen.form("A.0"),
+            Tail::AttributeSplat => seen.form("A.*"),
+            Tail::FullSplat => seen.form("A[*]"),
+            Tail::Index(expr) => {
+                seen.form("A[B]");
+                self.expr(expr.get());
+            }
+        }
+    }
+
+    fn shape(&mut self, shape: &'t Shape, seen: &mut Seen) {
+        seen.form(name_of_shape(shape));
+        match shape {
+            Shape::Number | Shape::Identifier => {}
+            Shape::Call(call) => self.call(call.get(), seen),
+            Shape::Tuple(exprs) => self.exprs(exprs),
+            Shape::Object(elems) => self.elems(elems),
+            Shape::ForTuple(each) => self.for_tuple(each.get(), seen),
+            Shape::ForObject(each) => self.for_object(each.get(), seen),
+            Shape::Quoted(template) | Shape::Heredoc(template) => self.parts(template),
+            Shape::Parens(expr) => self.expr(expr.get()),
+        }
+    }
+
+    fn elems(&mut self, elems: &'t Items<Elem>) {
+        for elem in elems.as_slice() {
+            self.put(Node::Elem(elem));
+        }
+    }
+
+    fn call(&mut self, call: &'t Call, seen: &mut Seen) {
+        seen.form_if(call.arguments.is_empty(), "a call without arguments");
+        seen.form_if(call.spread, "a call with ...");
+        self.exprs(&call.arguments);
+    }
+
+    fn intro(&mut self, intro: &'t Intro, seen: &mut Seen) {
+        seen.form(match intro.second {
+            Some(_) => "for NAME, NAME in A",
+            None => "for NAME in A",
+        });
+        self.expr(&intro.source);
+    }
+
+    fn filter(&mut self, filter: &'t Option<Boxed<Expr>>) {
+        if let Some(expr) = filter {
+            self.expr(expr.get());
+        }
+    }
+
+    fn for_tuple(&mut self, each: &'t ForTuple, seen: &mut Seen) {
+        seen.form_if(each.filter.is_some(), "[for with if");
+        self.intro(&each.intro, seen);
+        self.expr(&each.value);
+        self.filter(&each.filter);
+    }
+
+    fn for_object(&mut self, each: &'t ForObject, seen: &mut Seen) {
+        seen.form_if(each.filter.is_some(), "{for with if");
+        seen.form_if(each.grouped, "{for with ...");
+        self.intro(&each.intro, seen);
+        self.expr(&each.key);
+        self.expr(&each.value);
+        self.filter(&each.filter);
+    }
+
+    fn parts(&mut self, template: &'t Template) {
+        for part in template.parts.as_slice() {
+            self.put(Node::Part(part));
+        }
+    }
+
+    fn part(&mut self, part: &'t Part, seen: &mut Seen) {
+        match part {
+            Part::Literal(_) => seen.form("literal text"),
+            Part::Interp(expr) => {
+                seen.form("an interpolation");
+                self.expr(expr.get());
+            }
+            Part::If(choice) => self.if_directive(choice.get(), seen),
+            Part::For(each) => self.for_directive(each.get(), seen),
+        }
+    }
+
+    fn if_directive(&mut self, choice: &'t IfDirective, seen: &mut Seen) {
+        self.expr(&choice.condition);
+        self.parts(&choice.met);
+        match &choice.unmet {
+            Some(unmet) => {
+                seen.form("%{if with else");
+                self.parts(unmet);
+            }
+            None => seen.form("%{if"),
+        }
+    }
+
+    fn for_directive(&mut self, each: &'t ForDirective, seen: &mut Seen) {
+        seen.form("%{for");
+        self.intro(&each.intro, seen);
+        self.parts(&each.body);
+    }
+}
+
+fn see_elem(scanned: &Scanned<'_>, elem: &Elem, seen: &mut Seen) {
+    let is_colon = stands(scanned, Kind::Colon, elem.key.past, elem.value.first);
+    seen.form(if is_colon { "KEY : A" } else { "KEY = A" });
+    let behind = elem.value.past.saturating_add(1);
+    let is_comma = stands(scanned, Kind::Comma, elem.value.past, behind);
+    seen.form_if(is_comma, "elements behind a comma");
+    let is_end = stands(scanned, Kind::LineEnd, elem.value.past, behind);
+    seen.form_if(is_end, "elements behind a line end");
+}
+
+/// Whether a token of this kind stands among these of the text.
+fn stands(scanned: &Scanned<'_>, kind: Kind, first: usize, past: usize) -> bool {
+    let mut stands = false;
+    for i in first..past {
+        stands = stands || (i < scanned.len() && scanned.kind(i) == kind);
+    }
+    stands
+}
+
+fn name_of_shape(shape: &Shape) -> &'static str {
+    match shape {
+        Shape::Number => "a number",
+        Shape::Identifier => "a name",
+        Shape::Call(call) if call.get().names.len() > 1 => "a call of a name with ::",
+        Shape::Call(_) => "a call",
+        Shape::Tuple(exprs) if exprs.is_empty() => "a tuple without elements",
+        Shape::Tuple(_) => "a tuple",
+        Shape::Object(elems) if elems.is_empty() => "an object without elements",
+        Shape::Object(_) => "an object",
+        Shape::ForTuple(_) => "[for",
+        Shape::ForObject(_) => "{for",
+        Shape::Quoted(template) if template.parts.is_empty() => "quotes alone",
+        Shape::Quoted(_) => "quoted text",
+        Shape::Heredoc(template) if template.parts.is_empty() => "a heredoc without a line",
+        Shape::Heredoc(_) => "a heredoc",
+        Shape::Parens(_) => "( )",
+    }
+}
+
+fn see_labels(labels: &Items<Label>, seen: &mut Seen) {
+    for label in labels.as_slice() {
+        seen.form(if label.name == Some(label.first) {
+            "a label that is a name"
+        } else if label.name.is_some() {
+            "a label in quotes"
+        } else {
+            "a label of quotes alone"
+        });
+    }
+}
+
+fn name_of_prefix(prefix: Prefix) -> &'static str {
+    match prefix {
+        Prefix::Minus => "-A",
+        Prefix::Not => "!A",
+    }
+}
+
+fn name_of(operator: Operator) -> &'static str {
+    match operator {
+        Operator::Or => "||",
+        Operator::And => "&&",
+        Operator::Equal => "==",
+        Operator::NotEqual => "!=",
+        Operator::Less => "<",
+        Operator::LessEqual => "<=",
+        Operator::Greater => ">",
+        Operator::GreaterEqual => ">=",
+        Operator::Plus => "+",
+        Operator::Minus => "-",
+        Operator::Times => "*",
+        Operator::Divide => "/",
+        Operator::Modulo => "%",
+    }
+}

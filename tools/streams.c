@@ -1,0 +1,61 @@
+/*
+ * Makes a program's standard streams fail, to see what it tells of that: a library to be preloaded (LD_PRELOAD).
+ *
+ * It reads the environment:
+ *
+ *   OUTPUT_TAKES=N   standard output takes N bytes, and a write behind them fails, with ENOSPC
+ *   ERRORS_TAKE=N    so does standard error
+ *   INPUT_FAILS=1    a read behind the end of standard input fails, with EIO
+ *
+ * It includes nothing, so that a compiler that comes without headers, as that of the toolchain, compiles it.
+ */
+
+typedef unsigned long size_t;
+
+char *getenv(const char *name);
+int *__errno_location(void);
+long syscall(long number, ...);
+
+enum { SYSCALL_READ = 0, SYSCALL_WRITE = 1, BAD_DISK = 5, NO_SPACE = 28 };
+
+/* How much standard output and standard error still take, where that has an end. */
+static size_t room[3];
+static int has_end[3], input_fails;
+
+static void read_room(int file, const char *name)
+{
+    const char *number = getenv(name);
+    has_end[file] = number != 0;
+    for (; number && *number >= '0' && *number <= '9'; number++)
+        room[file] = 10 * room[file] + (size_t)(*number - '0');
+}
+
+__attribute__((constructor)) static void begin(void)
+{
+    read_room(1, "OUTPUT_TAKES");
+    read_room(2, "ERRORS_TAKE");
+    input_fails = getenv("INPUT_FAILS") != 0;
+}
+
+static long failed(int error)
+{
+    *__errno_location() = error;
+    return -1;
+}
+
+long write(int file, const void *bytes, size_t count)
+{
+    if (file < 1 || file > 2 || !has_end[file])
+        return syscall(SYSCALL_WRITE, file, bytes, count);
+    if (count && !room[file])
+        return failed(NO_SPACE);
+    size_t taken = count < room[file] ? count : room[file];
+    room[file] -= taken;
+    return syscall(SYSCALL_WRITE, file, bytes, taken);
+}
+
+long read(int file, void *bytes, size_t count)
+{
+    long got = syscall(SYSCALL_READ, file, bytes, count);
+    return file == 0 && got == 0 && input_fails ? failed(BAD_DISK) : got;
+}
