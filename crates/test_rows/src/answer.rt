@@ -1,9 +1,9 @@
 //! What is answered to a row.
 
+use crate::row::Row;
 use std::alloc::Global;
 use std::fmt::{self, Display, Write};
 use std::str::from_utf8;
-use crate::row::Row;
 
 /// Text that grows, and whether it can be the answer to a row. No call here is refused: a call that
 /// wants memory, or finds that something does not hold, makes it a wrong answer, which is told with

@@ -1,12 +1,12 @@
 //! The text of journals.
 
 use crate::answer::Answer;
+use crate::row::Row;
 use crate::spelled::journal_of;
 use edit_record::laws::{old_records_turn_alike, text_begins_alike, text_is_one};
 use edit_record::{Journal, RecordFault, decode, encode, encoded_len};
 use std::alloc::Global;
 use std::fmt::Write;
-use crate::row::Row;
 
 pub fn answer(row: &Row, out: &mut Answer) {
     match row.word(0) {

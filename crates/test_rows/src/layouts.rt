@@ -2,13 +2,13 @@
 
 use crate::answer::Answer;
 use crate::records::turned;
+use crate::row::Row;
 use edit_record::Edits;
 use hcl_gaps::laws::{cells_in_columns, keeps_tokens, lines_have_all_tokens, own_layout};
 use hcl_gaps::{LayoutFault, is_laid_out, layout};
 use hcl_scan::scan;
 use std::alloc::Global;
 use std::fmt::Write;
-use crate::row::Row;
 
 pub fn answer(row: &Row, out: &mut Answer) {
     match row.word(0) {

@@ -3,10 +3,10 @@
 use crate::answer::Answer;
 use crate::parses::read;
 use crate::records::turned;
+use crate::row::Row;
 use hcl_grammar::tree::Tree;
 use hcl_scan::Scanned;
 use std::fmt::Write;
-use crate::row::Row;
 use tf_diagnostics::findings;
 use tf_lint::{Fixed, Issue, LintFault, Place, Rule, RuleSet, fix_text, issues};
 use tf_rule::Finding;

@@ -21,7 +21,6 @@ use answer::Answer;
 use anyhow::Result;
 use row::Row;
 use std::{env, fs};
-use crate::row::Row;
 
 fn main(rt: HostRuntime) -> Result<()> {
     let words: Vec<String> = env::args(&rt)?.collect(rt.alloc())?;

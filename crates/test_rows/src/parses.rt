@@ -2,11 +2,11 @@
 
 use crate::answer::Answer;
 use crate::lints::searched;
+use crate::row::Row;
 use hcl_grammar::tree::Tree;
 use hcl_scan::{Scanned, scan};
 use hcl_tree::{ParseFault, parse};
 use std::fmt::Write;
-use crate::row::Row;
 
 pub fn answer(row: &Row, out: &mut Answer) {
     if row.word(0) == "memory" {

@@ -1,6 +1,7 @@
 //! Edits, records and journals: what is made, applied and undone.
 
 use crate::answer::Answer;
+use crate::row::Row;
 use crate::spelled::{edits_of, journal_of, list_of, name_of, word_of};
 use edit_list::laws::{
     apply_is_exact, edits_refuse_exactly, make_is_exact, pieces_make, pieces_turn,
@@ -8,7 +9,6 @@ use edit_list::laws::{
 };
 use edit_record::{Change, Edits, Record, Refused, Word, apply_all, undo_all};
 use std::fmt::Write;
-use crate::row::Row;
 
 pub fn answer(row: &Row, out: &mut Answer) {
     match row.word(0) {

@@ -1,11 +1,11 @@
 //! Two lists of edits as one.
 
 use crate::answer::Answer;
+use crate::row::Row;
 use crate::spelled::{journal_of, list_of, spell};
 use edit_record::{Edits, Journal, Unmet, squash};
 use edit_squash::laws::{squash_all_is_one, squash_associates, squash_is_one};
 use std::alloc::Global;
-use crate::row::Row;
 
 pub fn answer(row: &Row, out: &mut Answer) {
     match row.word(0) {

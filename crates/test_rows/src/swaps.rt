@@ -1,11 +1,11 @@
 //! Lists that change places, and records that are taken out.
 
 use crate::answer::Answer;
+use crate::row::Row;
 use crate::spelled::{journal_of, list_of, name_of, spell};
 use edit_record::{Edits, Record, SwapFault, TakeOutFault, swap, take_out};
 use edit_swap::laws::{swap_is_one, taking_out_is_one};
 use std::fmt::Write;
-use crate::row::Row;
 
 pub fn answer(row: &Row, out: &mut Answer) {
     match row.word(0) {

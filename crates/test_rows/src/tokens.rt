@@ -2,13 +2,13 @@
 
 use crate::answer::Answer;
 use crate::journals::with_byte;
+use crate::row::Row;
 use hcl_scan::laws::{
     cut_follows, gaps_of, no_cut_with_fault, one_cut, one_fault, other_gaps, writes_back,
 };
 use hcl_scan::{Kind, ScanFault, Scanned, scan};
 use hcl_token::{clusters, joins};
 use std::fmt::Write;
-use crate::row::Row;
 
 pub fn answer(row: &Row, out: &mut Answer) {
     match row.word(0) {

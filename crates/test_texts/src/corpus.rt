@@ -13,6 +13,7 @@ mod sessions;
 mod takes;
 mod walk;
 
+use crate::report::Report;
 use anyhow::Result;
 use counts::Tally;
 use hcl_scan::{Scanned, scan};
@@ -20,7 +21,6 @@ use hcl_tree::parse;
 use seen::Seen;
 use std::fmt::Write;
 use std::fs;
-use crate::report::Report;
 use tf_lint::{RuleSet, issues};
 
 /// Tries all of them.

@@ -15,9 +15,9 @@ mod sessions;
 mod streams;
 mod texts;
 
+use crate::report::Report;
 use anyhow::Result;
 use std::fs;
-use crate::report::Report;
 
 /// Tries the texts of these names, each in the file `damage/NAME.tf`.
 pub fn run(rt: &HostRuntime, names: &[String]) -> Result<()> {

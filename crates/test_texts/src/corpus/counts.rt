@@ -1,8 +1,8 @@
 //! Issues, counted by their rules.
 
+use crate::report::Report;
 use anyhow::Result;
 use std::fmt::Write;
-use crate::report::Report;
 use tf_lint::{Issue, Rule};
 
 /// How many texts a rule is to have an issue in that can be fixed; one without a fix, an issue.

@@ -1,9 +1,9 @@
 //! One command with what always holds of it, and what holds of all that a session did.
 
-use edit_record::{Change, Edits, Record, Refused, Unmet, squash};
-use std::alloc::Global;
 use crate::report::Report;
 use crate::state::State;
+use edit_record::{Change, Edits, Record, Refused, Unmet, squash};
+use std::alloc::Global;
 use tf_session::{Command, Done, Fault, Session};
 
 /// Does a command, which adds a record where the text changes, and none where not.

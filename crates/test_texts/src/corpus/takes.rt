@@ -2,9 +2,9 @@
 
 use crate::corpus::seen::Seen;
 use crate::corpus::sessions::{goes_back, is_one_list};
-use edit_record::{Edit, Record};
 use crate::report::Report;
 use crate::state::State;
+use edit_record::{Edit, Record};
 use tf_session::{Command, Done, Fault, Session};
 
 /// Takes each command out, and two that are not there.

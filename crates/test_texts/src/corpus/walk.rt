@@ -1,13 +1,13 @@
 //! A walk over a tree, which notes each production that it comes by.
 
 use crate::corpus::seen::Seen;
+use crate::report::Report;
 use hcl_grammar::tree::{
     Attribute, Block, Call, Content, Elem, Expr, ForDirective, ForObject, ForTuple, Form,
     IfDirective, Intro, Label, Link, Member, Operator, Part, Prefix, Shape, Tail, Template, Tree,
 };
 use hcl_scan::{Kind, Scanned};
 use plain_tree::{Boxed, Items};
-use crate::report::Report;
 
 /// More nodes than the tree of any of the texts has.
 const NODES: usize = 1_000_000;

@@ -1,9 +1,9 @@
 //! Why a text is not read, and what stands at the place that is told.
 
+use crate::report::Report;
 use hcl_scan::{Scanned, scan};
 use hcl_tree::parse;
 use std::str::from_utf8;
-use crate::report::Report;
 use tf_session::{Fault, ParseFault, ScanFault};
 
 /// Why no command reads a text; none if it parses. What is told of the text is held against the

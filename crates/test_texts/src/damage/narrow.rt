@@ -3,9 +3,9 @@
 
 use crate::damage::outer::{Came, outside, stream};
 use crate::damage::streams::{Behind, Drops, Full, Room};
-use std::alloc::Global;
 use crate::report::Report;
 use crate::state::State;
+use std::alloc::Global;
 use tf_session::{Command, Part, RuleSet, RunFault, Told, lint_stream, put_journal, put_text};
 
 /// A writer that fails in some way behind so many bytes.

@@ -1,9 +1,9 @@
 //! One command from readers to writers.
 
 use crate::damage::streams::{Behind, Drops, Room};
-use std::alloc::Global;
 use crate::report::Report;
 use crate::state::State;
+use std::alloc::Global;
 use tf_session::{
     Command, Done, Fault, RuleSet, RunFault, Told, fix_stream, fmt_stream, revert_stream,
 };

@@ -1,7 +1,7 @@
 //! Calls that take no memory, and answer what is right where every growth is refused.
 
-use super::inputs::{FIRST, JOURNAL, LAST, LINE, TEXT, bytes_of, edits_of, journal_of, roomy};
 use super::begin;
+use super::inputs::{FIRST, JOURNAL, LAST, LINE, TEXT, bytes_of, edits_of, journal_of, roomy};
 use crate::tests::{Host, given};
 use edit_record::{Edit, Edits, Journal, Record, Word};
 use hcl_scan::{Item, Kind, MAX_TEXT, Place, ScanFault, Scanned, scan};

@@ -6,7 +6,6 @@ use super::{Hashes, Narrow};
 use crate::tests::{Host, given};
 use edit_record::{Edit, Edits, Record, Word};
 use std::alloc::Global;
-
 use tf_session::{Journal, RunFault, Session, Told, load, save};
 
 #[test]
