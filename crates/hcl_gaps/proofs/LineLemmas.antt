@@ -1,5 +1,5 @@
 -- Going over the tokens of a text, and over its lines.
-use Rattle.std.proofs.Common.{◌≡◌, ℕ, zero, suc, ◌+◌, ◌-◌, ◌<◌, ◌≤◌, Bool, true, false, nat_lt, List, [], ◌∷◌, length, take, drop, get_or, slice_range, Some, if◌then◌else◌, refl, sym, ap, ap₂, ◌∙◌, arith, inl, inr}
+use Rattle.std.proofs.Common.{◌≡◌, ℕ, zero, suc, ◌+◌, ◌-◌, ◌<◌, ◌≤◌, Bool, true, false, nat_lt, List, [], ◌∷◌, length, take, drop, get_or, slice_range, Some, if◌then◌else◌, refl, sym, ap, ap₂, subst, ◌∙◌, arith, inl, inr}
 use Rattle.std.specs.Prelude.{slice_get}
 use Rattle.std.specs.Option.{option_map}
 use Rattle.std.proofs.lemmas.Option.{slice_get_cases}
@@ -14,6 +14,8 @@ use Rattle.hcl_token.specs.CutText.{kind_of, spelling_of, gap_of}
 use Rattle.hcl_gaps.specs.Kinds.{is_here_open}
 use Rattle.hcl_gaps.specs.Lines.{Line, heredocs_after, ends_line, in_front, lines_from}
 use Rattle.hcl_gaps.specs.Inner.Stages.{line_len, held_behind, held_of, SplitsLine, close}
+use Rattle.hcl_gaps.specs.Inner.Near.{AreLines}
+use Rattle.hcl_gaps.specs.declared.lines.LineSpan.{LineSpan}
 use Rattle.std.proofs.lemmas.Bool.Decides.{nat_tests}
 
 -- token i, which stands before token `to`
@@ -185,3 +187,40 @@ close_goes xs n left top len is less =
 pub no_items : (xs : List ℕ) → length xs ≡ 0 → xs ≡ []
 no_items [] h = refl
 no_items (x ∷ xs) h = absurd (omega arith)
+
+-- ---- lines as spans
+
+-- lines from one token up to another
+abbrev pub LinesTo : List Pair → ℕ → Bool → List LineSpan → ℕ → Bool → Type 0
+LinesTo pairs at frozen [] to next = (at ≡ to) × (frozen ≡ next)
+LinesTo pairs at frozen (line ∷ lines) to next = SplitsLine pairs at frozen line.past line.next × LinesTo pairs line.past line.next lines to next
+
+-- one more
+pub lines_push : (pairs : List Pair) (at : ℕ) (frozen : Bool) (lines : List LineSpan) (to : ℕ) (next : Bool) (line : LineSpan)
+    → LinesTo pairs at frozen lines to next → SplitsLine pairs to next line.past line.next
+    → LinesTo pairs at frozen (lines ++ line ∷ []) line.past line.next
+lines_push pairs at frozen [] to next line (e, f) one =
+    (subst (λ a. SplitsLine pairs a frozen line.past line.next) (sym e) (subst (λ b. SplitsLine pairs to b line.past line.next) (sym f) one), (refl, refl))
+lines_push pairs at frozen (l ∷ lines) to next line (first, rest) one = (first, lines_push pairs l.past l.next lines to next line rest one)
+
+-- up to the end of the text
+pub lines_whole : (pairs : List Pair) (at : ℕ) (frozen : Bool) (lines : List LineSpan) (to : ℕ) (next : Bool)
+    → LinesTo pairs at frozen lines to next → to ≡ length pairs → AreLines pairs at frozen lines
+lines_whole pairs at frozen [] to next (e, f) end = e ∙ end
+lines_whole pairs at frozen (l ∷ lines) to next (first, rest) end = (first, lines_whole pairs l.past l.next lines to next rest end)
+
+-- what a list of spans answers past its end
+abbrev pub no_span : LineSpan
+no_span = record { past = 0; next = false }
+
+-- the line of number i, and those behind it
+pub line_at : (pairs : List Pair) (at : ℕ) (frozen : Bool) (lines : List LineSpan) (i : ℕ) → i < length lines
+    → AreLines pairs at frozen (drop i lines)
+    → SplitsLine pairs at frozen (get_or lines i no_span).past (get_or lines i no_span).next
+    × AreLines pairs (get_or lines i no_span).past (get_or lines i no_span).next (drop (i + 1) lines)
+line_at pairs at frozen lines i h are = subst (AreLines pairs at frozen) (drop_more lines i no_span h) are
+
+-- behind the last
+pub no_line : (pairs : List Pair) (at : ℕ) (frozen : Bool) (lines : List LineSpan) (i : ℕ) → length lines ≤ i
+    → AreLines pairs at frozen (drop i lines) → at ≡ length pairs
+no_line pairs at frozen lines i h are = subst (AreLines pairs at frozen) (drop_all i lines h) are

@@ -1,6 +1,6 @@
 //! Cells that stand in columns.
 
-ghost use Rattle.std.specs.Prelude.{take, [], ◌∷◌, Some, slice_get, ◌≡◌, ◌==◌, ◌&&◌, ◌+◌, ◌-◌, ◌*◌, ◌<◌, ◌≤◌, ◌^◌, length, drop, slice_range, option_map, OnOk, IfOk, IfSome};
+ghost use Rattle.std.specs.Prelude.{take, false, [], ◌∷◌, Some, slice_get, ◌≡◌, ◌==◌, ◌&&◌, ◌+◌, ◌-◌, ◌*◌, ◌<◌, ◌≤◌, ◌^◌, length, drop, slice_range, option_map, OnOk, IfOk, IfSome};
 ghost use Rattle.hcl_scan.specs.Cut.{MAX_TEXT};
 ghost use Rattle.std.specs.List.{list_any};
 ghost use Rattle.hcl_token.specs.Place.{is_lf};
@@ -10,11 +10,11 @@ ghost use Rattle.hcl_gaps.specs.Kinds.{is_inline_comment};
 ghost use Rattle.hcl_gaps.specs.Lines.{lines_from, pairs_in};
 ghost use Rattle.hcl_gaps.specs.Cells.{before_later, is_balanced, width, width_before, widths, greatest, aligned};
 ghost use Rattle.hcl_gaps.specs.Inner.Stages.{with_gaps, AreWithin, cell_tokens, set_cell_gaps, cell_gaps_below};
-ghost use Rattle.hcl_gaps.specs.Inner.Near.{cell_is, cell_of, cell_counts, widths_of, tokens_in, width_in, token_in, AreInside};
+ghost use Rattle.hcl_gaps.specs.Inner.Near.{cell_is, cell_of, cell_counts, widths_of, tokens_in, width_in, token_in, AreInside, AreLines};
 
-use crate::indent::{closings, openings};
+use crate::indent::brackets;
 use crate::kinds::{is_equal, is_inline_comment, is_line_comment};
-use crate::lines::line_end;
+use crate::lines::LineSpan;
 use crate::setting::KEPT;
 use hcl_scan::Scanned;
 use hcl_token::Kind;
@@ -102,7 +102,8 @@ fn is_balanced(scanned: &Scanned<'_>, at: usize, past: usize) -> bool
     requires few { length scanned.now.pairs ≤ MAX_TEXT }
     ensures { result ≡ is_balanced (slice_range scanned.now.pairs at past) }
 {
-    openings(scanned, at, past) == closings(scanned, at, past)
+    let (opened, closed) = brackets(scanned, at, past);
+    opened == closed
 }
 
 /// Whether a cell that begins at token `i` of a line counts.
@@ -213,17 +214,19 @@ fn cell_start(
     }
 }
 
-/// The cells of a text, one for each line from token `first` on.
+/// The cells of a text, one for each of these lines, the first of which begins at token `first`.
 fn cell_starts(
     alloc: Global,
     scanned: &Scanned<'_>,
     cell: Cell,
     gaps: &[u32],
+    lines: &[LineSpan],
     first: usize,
 ) -> Result<Vec<Option<CellStart>>, AllocError>
     requires same { length gaps.now ≡ length scanned.now.pairs }
     requires few { length scanned.now.pairs ≤ MAX_TEXT }
     requires within { first ≤ length scanned.now.pairs }
+    requires lines { AreLines scanned.now.pairs first false lines.now }
     requires narrow { AreWithin 1073741824
         (widths (cell_of cell) (lines_from 0 (drop first (with_gaps gaps.now scanned.now.pairs)))) }
     ensures widths { IfOk result
@@ -236,13 +239,13 @@ fn cell_starts(
         (lines_from 0 (drop first (with_gaps gaps.now scanned.now.pairs)))) }
     ensures inside { IfOk result (λ starts. AreInside (length scanned.now.pairs) starts.items) }
 {
-    let mut starts = Vec::new(alloc);
+    let mut starts = Vec::with_capacity(alloc, lines.len())?;
     let mut frozen = false;
     let mut at = first;
-    while at < scanned.len() {
-        let (past, next) = line_end(scanned, at, frozen);
+    for line in lines {
+        let past = line.past as usize;
         starts.push(cell_start(scanned, cell, gaps, at, past, frozen))?;
-        frozen = next;
+        frozen = line.next;
         at = past;
     }
     Ok(starts)
@@ -319,12 +322,14 @@ pub(crate) fn align(
     alloc: Global,
     scanned: &Scanned<'_>,
     cell: Cell,
+    lines: &[LineSpan],
     gaps: &mut Vec<u32>,
     first: usize,
 ) -> Result<(), AllocError>
     requires same { length gaps.old.items ≡ length scanned.now.pairs }
     requires few { length scanned.now.pairs ≤ MAX_TEXT }
     requires within { first ≤ length scanned.now.pairs }
+    requires lines { AreLines scanned.now.pairs first false lines.now }
     requires narrow { AreWithin 1073741824
         (widths (cell_of cell)
         (lines_from 0 (drop first (with_gaps gaps.old.items scanned.now.pairs)))) }
@@ -337,7 +342,7 @@ pub(crate) fn align(
         ≡ take first (with_gaps gaps.old.items scanned.now.pairs)) }
     ensures same { OnOk result (length gaps.new.items ≡ length scanned.now.pairs) }
 {
-    let starts = cell_starts(alloc, scanned, cell, gaps, first)?;
+    let starts = cell_starts(alloc, scanned, cell, gaps, lines, first)?;
     set_cell_gaps(gaps, &starts);
     Ok(())
 }

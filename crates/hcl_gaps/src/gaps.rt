@@ -7,6 +7,7 @@ ghost use Rattle.hcl_gaps.specs.Layout.{laid_out};
 ghost use Rattle.hcl_gaps.specs.Inner.Stages.{with_gaps, marks};
 
 use crate::cells::{Cell, align};
+use crate::lines::line_spans;
 use crate::setting::set_gaps;
 use hcl_scan::Scanned;
 use hcl_token::Kind;
@@ -35,8 +36,16 @@ pub(crate) fn laid_gaps(alloc: Global, scanned: &Scanned<'_>) -> Result<Vec<u32>
     ensures same { IfOk result (λ gaps. length gaps.items ≡ length scanned.now.pairs) }
 {
     let first = marks(scanned);
-    let mut gaps = set_gaps(alloc, scanned, first)?;
-    align(alloc, scanned, Cell::Assignment, &mut gaps, first)?;
-    align(alloc, scanned, Cell::ClosingComment, &mut gaps, first)?;
+    let lines = line_spans(alloc, scanned, first)?;
+    let mut gaps = set_gaps(alloc, scanned, &lines, first)?;
+    align(alloc, scanned, Cell::Assignment, &lines, &mut gaps, first)?;
+    align(
+        alloc,
+        scanned,
+        Cell::ClosingComment,
+        &lines,
+        &mut gaps,
+        first,
+    )?;
     Ok(gaps)
 }

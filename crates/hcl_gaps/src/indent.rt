@@ -31,38 +31,22 @@ fn is_closing(kind: Kind) -> bool
     )
 }
 
-/// How many brackets and sequences open among the tokens from one to another.
-pub(crate) fn openings(scanned: &Scanned<'_>, from: usize, to: usize) -> u32
+/// How many brackets and sequences open among the tokens from one to another, and how many close.
+pub(crate) fn brackets(scanned: &Scanned<'_>, from: usize, to: usize) -> (u32, u32)
     requires ordered { from ≤ to }
     requires within { to ≤ length scanned.now.pairs }
     requires few { length scanned.now.pairs ≤ MAX_TEXT }
-    ensures value { result ≡ openings (slice_range scanned.now.pairs from to) }
-    ensures small { result + from ≤ to }
+    ensures opened { result.0 ≡ openings (slice_range scanned.now.pairs from to) }
+    ensures closed { result.1 ≡ closings (slice_range scanned.now.pairs from to) }
 {
-    let mut count: u32 = 0;
+    let mut opened: u32 = 0;
+    let mut closed: u32 = 0;
     for i in from..to {
-        if is_opening(scanned.kind(i)) {
-            count += 1;
-        }
+        let kind = scanned.kind(i);
+        opened += u32::from(is_opening(kind));
+        closed += u32::from(is_closing(kind));
     }
-    count
-}
-
-/// How many close.
-pub(crate) fn closings(scanned: &Scanned<'_>, from: usize, to: usize) -> u32
-    requires ordered { from ≤ to }
-    requires within { to ≤ length scanned.now.pairs }
-    requires few { length scanned.now.pairs ≤ MAX_TEXT }
-    ensures value { result ≡ closings (slice_range scanned.now.pairs from to) }
-    ensures small { result + from ≤ to }
-{
-    let mut count: u32 = 0;
-    for i in from..to {
-        if is_closing(scanned.kind(i)) {
-            count += 1;
-        }
-    }
-    count
+    (opened, closed)
 }
 
 /// Brackets close: of each line that is still open, `surplus` has how many openings it has beyond

@@ -1,16 +1,16 @@
 //! Indents and spaces: the gaps of the lines before cells are moved.
 
-ghost use Rattle.std.specs.Prelude.{◌≡◌, ◌+◌, ◌*◌, ◌<◌, ◌≤◌, ◌++◌, [], take, drop, length, replicate, slice_range, if◌then◌else◌, OnOk, IfOk};
+ghost use Rattle.std.specs.Prelude.{◌≡◌, ◌+◌, ◌*◌, ◌<◌, ◌≤◌, ◌++◌, [], false, take, drop, length, replicate, slice_range, if◌then◌else◌, OnOk, IfOk};
 ghost use Rattle.hcl_scan.specs.Cut.{MAX_TEXT};
 ghost use Rattle.hcl_gaps.specs.Kinds.{is_line_end};
 ghost use Rattle.hcl_gaps.specs.Lines.{lines_from};
-ghost use Rattle.hcl_gaps.specs.Inner.Near.{near};
+ghost use Rattle.hcl_gaps.specs.Inner.Near.{near, AreLines};
 ghost use Rattle.hcl_gaps.specs.Space.{passed_all};
 ghost use Rattle.hcl_gaps.specs.Inner.Stages.{KEPT, line_lens, set_lens, all_lens};
 
-use crate::indent::{closings, open_at, open_behind, openings};
+use crate::indent::{brackets, open_at, open_behind};
 use crate::kinds::is_line_end;
-use crate::lines::line_end;
+use crate::lines::LineSpan;
 use crate::space::{Before, gap_len};
 use hcl_scan::Scanned;
 use hcl_token::Kind;
@@ -100,15 +100,17 @@ fn passed_all(scanned: &Scanned<'_>, at: usize, past: usize, before: Before) -> 
     before
 }
 
-/// The gaps of all lines, from token `at` on.
+/// The gaps of these lines, the first of which begins at token `first`.
 fn set_lines(
     alloc: Global,
     scanned: &Scanned<'_>,
+    lines: &[LineSpan],
     gaps: &mut Vec<u32>,
     first: usize,
 ) -> Result<(), AllocError>
     requires few { length scanned.now.pairs ≤ MAX_TEXT }
     requires within { first ≤ length scanned.now.pairs }
+    requires lines { AreLines scanned.now.pairs first false lines.now }
     ensures { OnOk result
         (gaps.new.items ≡ gaps.old.items
         ++ all_lens [] [] (lines_from 0 (drop first scanned.now.pairs))) }
@@ -120,10 +122,9 @@ fn set_lines(
     };
     let mut frozen = false;
     let mut at = first;
-    while at < scanned.len() {
-        let (past, next) = line_end(scanned, at, frozen);
-        let opened = openings(scanned, at, past);
-        let closed = closings(scanned, at, past);
+    for line in lines {
+        let past = line.past as usize;
+        let (opened, closed) = brackets(scanned, at, past);
         open_at(&mut surplus, opened, closed);
         set_line(
             scanned,
@@ -136,7 +137,7 @@ fn set_lines(
         )?;
         open_behind(&mut surplus, opened, closed)?;
         before = passed_all(scanned, at, past, before);
-        frozen = next;
+        frozen = line.next;
         at = past;
     }
     Ok(())
@@ -146,10 +147,12 @@ fn set_lines(
 pub(crate) fn set_gaps(
     alloc: Global,
     scanned: &Scanned<'_>,
+    lines: &[LineSpan],
     first: usize,
 ) -> Result<Vec<u32>, AllocError>
     requires few { length scanned.now.pairs ≤ MAX_TEXT }
     requires within { first ≤ length scanned.now.pairs }
+    requires lines { AreLines scanned.now.pairs first false lines.now }
     ensures gaps { IfOk result
         (λ gaps. gaps.items
         ≡ replicate first KEPT
@@ -157,6 +160,6 @@ pub(crate) fn set_gaps(
 {
     let mut gaps = Vec::with_capacity(alloc, scanned.len())?;
     keep_line(&mut gaps, first)?;
-    set_lines(alloc, scanned, &mut gaps, first)?;
+    set_lines(alloc, scanned, lines, &mut gaps, first)?;
     Ok(gaps)
 }

@@ -121,16 +121,16 @@ fn is_spaced(before: Before, a: Kind, a_spelling: &[u8], b: Kind) -> bool
     if is_comma(a) {
         return true;
     }
-    if is_in(a, a_spelling) & before.is_behind_identifier() {
+    if is_in(a, a_spelling) && before.is_behind_identifier() {
         return true;
     }
-    if is_open_bracket(b) & (takes_index(a) | before.is_splat(a)) {
+    if is_open_bracket(b) && (takes_index(a) | before.is_splat(a)) {
         return false;
     }
     if is_bang(a) {
         return false;
     }
-    if is_minus(a) & !before.is_behind_operand() {
+    if is_minus(a) && !before.is_behind_operand() {
         return false;
     }
     if is_open_brace(a) & is_close_brace(b) {

@@ -80,6 +80,10 @@ impl<'t> Unit for HereUnit<'t> {
             1
         }
     }
+
+    fn is_plain(&self, b: u8) -> bool {
+        !(is_sigil(b) | (b == b'\n'))
+    }
 }
 
 pub fn begins_opening(text: &[u8], at: usize) -> bool

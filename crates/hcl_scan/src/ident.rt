@@ -38,7 +38,7 @@ fn continues_ascii(b: u8) -> bool
     requires { b < 128 }
     ensures { result ≡ continues b }
 {
-    b.is_ascii_alphanumeric() | (b == b'_') | (b == b'-')
+    b.is_ascii_lowercase() || (b.is_ascii_alphanumeric() | (b == b'_') | (b == b'-'))
 }
 
 /// A letter, `_`, or the first byte of a character that is not ASCII.

@@ -1,6 +1,6 @@
 //! Runs of units.
 
-ghost use Rattle.std.specs.Prelude.{◌≡◌, ◌+◌, ◌<◌, ◌≤◌, length, drop, true, ◌&&◌, slice_index};
+ghost use Rattle.std.specs.Prelude.{◌≡◌, ◌==◌, ◌∷◌, ◌+◌, ◌<◌, ◌≤◌, ℕ, List, length, drop, true, false, ◌&&◌, slice_index};
 ghost use Rattle.std.specs.Char.{is_ascii_hexdigit};
 ghost use Rattle.hcl_scan.specs.Characters.{begins_line_end, is_sigil, sigil_length};
 ghost use Rattle.hcl_scan.specs.Lexeme.{comment_unit, inline_unit, quote_unit, is_simple_escape, has_four_hex, escape_length};
@@ -19,6 +19,27 @@ pub trait Unit {
         requires { at < length text.now }
         ensures value { result ≡ len self.now fresh (drop at text.now) }
         ensures within { at + result ≤ length text.now };
+
+    /// Whether the byte is a unit wherever no line begins, and ends no line. Another byte can be one
+    /// too: `len_at` decides.
+    fn is_plain(&self, b: u8) -> bool
+        ensures unit { result ≡ true → (t : List ℕ) → len self.now false (b ∷ t) ≡ 1 }
+        ensures line { result ≡ true → (b == 10) ≡ false };
+}
+
+/// The end of the plain bytes from a place on, at which no line begins.
+fn plain_end<U: Unit>(unit: &U, text: &[u8], from: usize) -> usize
+    requires { from ≤ length text.now }
+    ensures run { result + run_length (U.len unit.now) false (drop result text.now)
+        ≡ from + run_length (U.len unit.now) false (drop from text.now) }
+    ensures within { result ≤ length text.now }
+    ensures onward { from ≤ result }
+{
+    let mut at = from;
+    while at < text.len() && unit.is_plain(text[at]) {
+        at += 1;
+    }
+    at
 }
 
 /// The end of the longest run of units from a place on; `fresh` says whether a line begins there.
@@ -36,6 +57,9 @@ pub fn run_end<U: Unit>(unit: &U, text: &[u8], from: usize, fresh: bool) -> usiz
         }
         at += len;
         begins = text[at - 1] == b'\n';
+        if !begins {
+            at = plain_end(unit, text, at);
+        }
     }
     at
 }
@@ -48,6 +72,10 @@ impl Unit for CommentUnit {
 
     fn len_at(&self, text: &[u8], at: usize, _fresh: bool) -> usize {
         if begins_line_end(text, at) { 0 } else { 1 }
+    }
+
+    fn is_plain(&self, b: u8) -> bool {
+        !((b == b'\n') | (b == b'\r'))
     }
 }
 
@@ -63,6 +91,10 @@ impl Unit for InlineUnit {
         } else {
             1
         }
+    }
+
+    fn is_plain(&self, b: u8) -> bool {
+        !((b == b'*') | (b == b'\n'))
     }
 }
 
@@ -158,5 +190,9 @@ impl Unit for QuoteUnit {
         } else {
             1
         }
+    }
+
+    fn is_plain(&self, b: u8) -> bool {
+        !((b == b'"') | (b == b'$') | (b == b'%') | (b == b'\\') | (b == b'\n') | (b == b'\r'))
     }
 }

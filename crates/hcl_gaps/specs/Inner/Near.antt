@@ -1,11 +1,12 @@
 -- What the code keeps of tokens and cells, as lists. For proofs: nothing here has to be believed.
-use Rattle.std.specs.Prelude.{ℕ, Bool, true, List, [], ◌∷◌, map, ◌<◌, Option, Some, None, ⊤}
+use Rattle.std.specs.Prelude.{◌≡◌, ℕ, Bool, true, List, [], ◌∷◌, length, map, ◌<◌, Option, Some, None, ⊤}
 use Rattle.hcl_token.specs.declared.kind.Kind.{Kind}
 use Rattle.hcl_gaps.specs.Kinds.{is_equal, is_line_comment}
 use Rattle.hcl_gaps.specs.Lines.{Line}
 use Rattle.hcl_token.specs.Tokens.{Pair}
 use Rattle.hcl_gaps.specs.Cells.{is_balanced, assignment, closing_comment}
-use Rattle.hcl_gaps.specs.Inner.Stages.{near_of}
+use Rattle.hcl_gaps.specs.Inner.Stages.{near_of, SplitsLine}
+use Rattle.hcl_gaps.specs.declared.lines.LineSpan.{LineSpan}
 use Rattle.hcl_gaps.specs.declared.space.Before.{Before}
 use Rattle.hcl_gaps.specs.declared.cells.Cell.{Cell}
 use Rattle.hcl_gaps.specs.declared.cells.Cell.TheVariants.{Assignment, ClosingComment}
@@ -46,3 +47,9 @@ abbrev pub AreInside : ℕ → List (Option CellStart) → Type 0
 AreInside count [] = ⊤
 AreInside count (None ∷ starts) = AreInside count starts
 AreInside count (Some p ∷ starts) = (p.token < count) × AreInside count starts
+
+-- the lines of a text from a token on, where that begins in a heredoc or not
+abbrev pub AreLines : List Pair → ℕ → Bool → List LineSpan → Type 0
+AreLines pairs at frozen [] = at ≡ length pairs
+AreLines pairs at frozen (line ∷ lines) =
+    SplitsLine pairs at frozen line.past line.next × AreLines pairs line.past line.next lines

@@ -1,9 +1,10 @@
-use Rattle.std.proofs.Common.{◌-◌, length}
+use Rattle.std.proofs.Common.{drop}
+use Rattle.hcl_gaps.specs.Inner.Near.{AreLines}
 use Rattle.hcl_gaps.proofs.CellCode.{StartsSoFar}
 use Rattle.hcl_gaps.proofs.cells.cell_starts.Given as goal
 
-abbrev pub invariant-loop-at : goal.invariant-loop-at
-invariant-loop-at l = StartsSoFar l.cell l.gaps l.scanned.pairs l.first l.at l.frozen l.starts.items
-
-abbrev pub decreases-loop-at : goal.decreases-loop-at
-decreases-loop-at l = length l.scanned.pairs - l.at
+abbrev pub invariant-loop-line : goal.invariant-loop-line
+invariant-loop-line l = record {
+  starts : StartsSoFar l.cell l.gaps l.scanned.pairs l.first l.at l.frozen l.starts.items;
+  lines : AreLines l.scanned.pairs l.at l.frozen (drop l.line-index l.lines);
+}

@@ -4,6 +4,9 @@ use Rattle.hcl_gaps.proofs.gaps.laid_gaps.Goals as goal
 pub set_gaps-requires-clause-few : goal.set_gaps-requires-clause-few
 set_gaps-requires-clause-few c = (known c.args.scanned.now.text c.args.scanned.now.pairs c.args.scanned.now.last c.requires.cut c.requires.utf8).few
 
+pub line_spans-requires-clause-few : goal.line_spans-requires-clause-few
+line_spans-requires-clause-few c = (known c.args.scanned.now.text c.args.scanned.now.pairs c.args.scanned.now.last c.requires.cut c.requires.utf8).few
+
 pub align-requires-clause-few : goal.align-requires-clause-few
 align-requires-clause-few c = (known c.args.scanned.now.text c.args.scanned.now.pairs c.args.scanned.now.last c.requires.cut c.requires.utf8).few
 

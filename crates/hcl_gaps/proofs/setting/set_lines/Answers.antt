@@ -1,18 +1,24 @@
-use Rattle.std.proofs.Common.{reverse, ◌∙◌, arith}
+use Rattle.std.proofs.Common.{get_or, reverse, ◌∙◌, arith}
 use Rattle.std.proofs.lemmas.List.{length-reverse}
 use Rattle.hcl_gaps.specs.Inner.Near.{near}
+use Rattle.hcl_gaps.specs.declared.lines.LineSpan.{LineSpan}
+use Rattle.hcl_gaps.proofs.LineLemmas.{no_span, line_at}
 use Rattle.hcl_gaps.proofs.NearLemmas.{set_turn}
 use Rattle.hcl_gaps.proofs.setting.set_lines.Goals as goal
 
-pub loop-at-preserved : goal.loop-at-preserved
-loop-at-preserved c = record {
-  rest =
-      set_turn c.args.scanned.now.pairs c.loop-at.at c.loop-at.frozen c.line_end-past.result.0 c.line_end-past.result.1 c.openings-opened.result c.closings-closed.result c.len-in-loop-at.result
-      (reverse c.loop-at.surplus.items) (reverse c.open_at.new.surplus.items) (reverse c.open_behind.new.surplus.items) (near c.loop-at.before) (near c.passed_all-before.result)
-      c.loop-at.gaps.items c.set_line.new.gaps.items
-      c.line_end-past.ensures c.openings-opened.ensures.value c.closings-closed.ensures.value c.open_at.ensures.open
-      (omega (arith, c.len-in-loop-at.ensures, length-reverse c.open_at.new.surplus.items))
-      c.in_ok-set_line.ensures c.in_ok-open_behind.ensures.open c.passed_all-before.ensures
-      ∙ c.loop-at.invariant.rest;
-  small = omega (arith, c.in_ok-open_behind.ensures.longer, c.open_at.ensures.shorter, c.loop-at.invariant.small, c.line_end-past.ensures.more);
-}
+pub loop-line-preserved : goal.loop-line-preserved
+loop-line-preserved c =
+    let line : LineSpan = get_or c.args.lines.now c.loop-line.line-index no_span in
+    let (split, more) = line_at c.args.scanned.now.pairs c.loop-line.at c.loop-line.frozen c.args.lines.now c.loop-line.line-index c.loop-line-test.true c.loop-line.invariant.lines in
+    record {
+      rest =
+          set_turn c.args.scanned.now.pairs c.loop-line.at c.loop-line.frozen line.past line.next c.brackets-opened.result.0 c.brackets-opened.result.1 c.len.result
+          (reverse c.loop-line.surplus.items) (reverse c.open_at.new.surplus.items) (reverse c.open_behind.new.surplus.items) (near c.loop-line.before) (near c.passed_all-before.result)
+          c.loop-line.gaps.items c.set_line.new.gaps.items
+          split c.brackets-opened.ensures.opened c.brackets-opened.ensures.closed c.open_at.ensures.open
+          (omega (arith, c.len.ensures, length-reverse c.open_at.new.surplus.items))
+          c.in_ok-set_line.ensures c.in_ok-open_behind.ensures.open c.passed_all-before.ensures
+          ∙ c.loop-line.invariant.rest;
+      small = omega (arith, c.in_ok-open_behind.ensures.longer, c.open_at.ensures.shorter, c.loop-line.invariant.small, split.more);
+      lines = more;
+    }
