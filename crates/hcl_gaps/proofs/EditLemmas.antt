@@ -123,6 +123,15 @@ pub come_first : (ps qs : List Pair) (last : List ℕ) → to_come ps qs last 0 
 unfolding to_come
 come_first ps qs last = refl
 
+-- the tokens up to token i and with it
+pub taken_more : (ps : List Pair) (i : ℕ) (t : Turn ps i (length ps)) → i < length ps → take (i + 1) ps ≡ take i ps ++ t.pair ∷ []
+taken_more ps i t inside = take_more ps i t.pair inside ∙ ap (λ p. take i ps ++ p ∷ []) (read ps i t.pair t.at)
+  where
+    read : (xs : List Pair) (k : ℕ) (x : Pair) → slice_get xs k ≡ Some x → get_or xs k x ≡ x
+    read [] k x h = absurd (cc)
+    read (y ∷ xs) zero x h = cc
+    read (y ∷ xs) (suc k) x h = read xs k x h
+
 -- the edit of a gap, if it changes
 abbrev pub gap_edit : List Pair → List ℕ → ℕ → Pair → List Entry
 gap_edit ps ns i p = changes_from (length (whole_text (take i ps) [])) (gap_piece p.gap (gap_meant (get_or ns i 0) p.gap) ∷ [])
@@ -136,16 +145,11 @@ come_turn ps ns last i t size inside =
     let same : u.pair ≡ record t.pair { gap = gap_meant (get_or ns i 0) t.pair.gap } = let e = sym u.at ∙ gapped ns ps i t.pair size t.at in cc in
     let new : u.pair.gap ≡ gap_meant (get_or ns i 0) t.pair.gap = ap (λ (p : Pair). p.gap) same in
     let at : ℕ = length (whole_text (take i ps) []) in
-    let grown : take (i + 1) ps ≡ take i ps ++ t.pair ∷ [] = take_more ps i t.pair inside ∙ ap (λ p. take i ps ++ p ∷ []) (read ps i t.pair t.at) in
+    let grown : take (i + 1) ps ≡ take i ps ++ t.pair ∷ [] = taken_more ps i t inside in
     let next : at + length t.pair.gap + length t.pair.spelling ≡ length (whole_text (take (i + 1) ps) []) = sym (ap (λ qs. length (whole_text qs [])) grown ∙ joining_more (take i ps) t.pair) in
     ap₂ (λ (xs ys : List Pair). changes_from at (pieces xs ys last)) t.rest u.rest
     ∙ gap_first at t.pair.gap u.pair.gap (Kept t.pair.spelling ∷ pieces (drop (i + 1) ps) (drop (i + 1) (with_gaps ns ps)) last)
     ∙ ap₂ (λ (g : List ℕ) n. changes_from at (gap_piece t.pair.gap g ∷ []) ++ changes_from n (pieces (drop (i + 1) ps) (drop (i + 1) (with_gaps ns ps)) last)) new next
-  where
-    read : (xs : List Pair) (k : ℕ) (x : Pair) → slice_get xs k ≡ Some x → get_or xs k x ≡ x
-    read [] k x h = absurd (cc)
-    read (y ∷ xs) zero x h = cc
-    read (y ∷ xs) (suc k) x h = read xs k x h
 
 pub come_last : (ps : List Pair) (ns last : List ℕ) (i : ℕ) → length ns ≡ length ps → length ps ≤ i → to_come ps (with_gaps ns ps) last i ≡ changes_from (length (whole_text ps [])) (gap_piece last [] ∷ [])
 unfolding to_come

@@ -14,3 +14,4 @@ pub mod ColumnLaw
 pub mod Compose
 pub mod EditLemmas
 pub mod BothColumns
+pub mod Copied

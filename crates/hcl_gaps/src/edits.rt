@@ -31,7 +31,7 @@ fn is_spaces(gap: &[u8], len: u32) -> bool
 }
 
 /// Whether a gap stays.
-fn stays(gap: &[u8], new: u32) -> bool
+pub(crate) fn stays(gap: &[u8], new: u32) -> bool
     ensures { result ≡ bytes_eq gap.now (gap_meant new gap.now) }
 {
     if new == KEPT {

@@ -1,12 +1,13 @@
 //! The text of a layout, written from its gaps.
 
-ghost use Rattle.std.specs.Prelude.{◌≡◌, ◌≤◌, ◌<◌, ◌++◌, [], length, OnOk, IfOk, IfSome, IfNone};
+ghost use Rattle.std.specs.Prelude.{◌≡◌, ◌≤◌, ◌<◌, ◌++◌, [], length, slice_range, OnOk, IfOk, IfSome, IfNone};
 ghost use Rattle.hcl_scan.specs.Cut.{MAX_TEXT};
 ghost use Rattle.hcl_token.specs.Tokens.{whole_text};
 ghost use Rattle.hcl_gaps.specs.Space.{spaces};
 ghost use Rattle.hcl_gaps.specs.Inner.Stages.{gap_meant, with_gaps};
 
 use crate::cells::gap_len;
+use crate::edits::stays;
 use crate::setting::KEPT;
 use hcl_scan::{MAX_TEXT, Scanned};
 use std::alloc::{AllocError, Global};
@@ -51,7 +52,17 @@ fn push_gap(out: &mut Vec<u8>, gap: &[u8], new: u32) -> Result<(), AllocError>
     }
 }
 
-/// The text with its new gaps, of so many bytes.
+/// The bytes of a text from one place to another.
+fn part(text: &[u8], from: usize, to: usize) -> &[u8]
+    requires ordered { from ≤ to }
+    requires within { to ≤ length text.now }
+    ensures { result.now ≡ slice_range text.now from to }
+{
+    &text[from..to]
+}
+
+/// The text with its new gaps, of so many bytes. What stands between two gaps that change is copied
+/// at once.
 pub(crate) fn text_with(
     alloc: Global,
     scanned: &Scanned<'_>,
@@ -62,10 +73,19 @@ pub(crate) fn text_with(
     ensures { IfOk result (λ text.
         text.items ≡ whole_text (with_gaps gaps.now scanned.now.pairs) []) }
 {
+    let source = scanned.text();
     let mut text = Vec::with_capacity(alloc, len)?;
+    let mut from = 0;
     for i in 0..scanned.len() {
-        push_gap(&mut text, scanned.gap(i), gaps[i])?;
-        text.extend_from_slice(scanned.spelling(i))?;
+        let gap = scanned.gap(i);
+        if !stays(gap, gaps[i]) {
+            let item = scanned.item(i);
+            text.extend_from_slice(part(source, from, item.gap_at as usize))?;
+            push_gap(&mut text, gap, gaps[i])?;
+            from = item.start as usize;
+        }
     }
+    let end = source.len() - scanned.last_gap().len();
+    text.extend_from_slice(part(source, from, end))?;
     Ok(text)
 }
