@@ -1,14 +1,15 @@
 -- A character at a place, and what follows it.
-use Rattle.std.proofs.Common.{◌≡◌, true, Some, None, Bool, ℕ, ◌+◌, ◌-◌, ◌<◌, ◌≤◌, List, [], ◌∷◌, ◌++◌, slice_index, if◌then◌else◌, length, drop, IsUtf8, encode_utf8, sym, ap, ◌∙◌, arith, length-append, length-drop}
+use Rattle.std.proofs.Common.{◌≡◌, ◌==◌, ◌||◌, true, false, inl, inr, Some, None, Bool, ℕ, ◌+◌, ◌-◌, ◌<◌, ◌≤◌, List, [], ◌∷◌, ◌++◌, slice_index, if◌then◌else◌, length, drop, IsUtf8, encode_utf8, sym, ap, ◌∙◌, arith, length-append, length-drop}
 use Rattle.std.proofs.lemmas.Str.{chars_past_char, drop_past_char, IsUtf8-past_char, length-encode, encode_ascii, chars-nil, len_utf8_ascii}
 use Rattle.std.proofs.lemmas.List.{drop_more, drop_all}
 use Rattle.std.specs.Char.{len_utf8}
 use Rattle.std.specs.Str.{chars}
+use Rattle.std.proofs.lemmas.Bool.{cases_lt}
 use Rattle.std.proofs.lemmas.Bool.Decides.{nat_tests}
-use Rattle.unicode_ident.proofs.IdentLemmas.{is_xid_start-ascii}
+use Rattle.unicode_ident.proofs.IdentLemmas.{is_xid_start-ascii, is_xid_continue-ascii}
 use Rattle.hcl_token.specs.declared.kind.Kind.TheVariants.{Identifier}
 use Rattle.hcl_scan.specs.Characters.{starts, continues}
-use Rattle.hcl_scan.specs.Inner.Next.{continue_length, identifier_of, identifier, begins_word}
+use Rattle.hcl_scan.specs.Inner.Front.{continue_length, identifier_of, identifier, is_letter, goes_on, begins_word}
 
 module _ (text rest : List ℕ) (at c : ℕ) (bytes : drop at text ≡ encode_utf8 c ++ rest) where
   pub chars_at : IsUtf8 (drop at text) → chars (drop at text) ≡ c ∷ chars (drop (at + len_utf8 c) text)
@@ -43,6 +44,35 @@ continue_length_ascii text at u h ascii =
     let e = chars_ascii text at u h ascii in
     let rest = continue_length (chars (drop (at + 1) text)) in
     (ap continue_length e.0 ∙ ap (λ n. if continues (slice_index text at) then n + rest else 0) (len_utf8_ascii (slice_index text at) ascii), e.1)
+
+-- at ASCII characters
+continues_same : (b : ℕ) → b < 128 → continues b ≡ goes_on b
+continues_same b ascii = ap (λ x. x || (b == 45)) (is_xid_continue-ascii b ascii)
+
+goes_on_ascii : (b : ℕ) → goes_on b ≡ true → b < 128
+goes_on_ascii b on = grind (arith, nat_tests)
+
+-- the run goes on
+pub goes_on_at : (text : List ℕ) (at : ℕ) → IsUtf8 (drop at text) → at < length text → goes_on (slice_index text at) ≡ true
+    → (continue_length (chars (drop at text)) ≡ 1 + continue_length (chars (drop (at + 1) text))) × IsUtf8 (drop (at + 1) text)
+goes_on_at text at u h on =
+    let ascii : slice_index text at < 128 = goes_on_ascii (slice_index text at) on in
+    rw (continues_same (slice_index text at) ascii, on) at (continue_length_ascii text at u h ascii)
+
+-- the run ends
+pub continue_none : (text : List ℕ) (at : ℕ) → IsUtf8 (drop at text) → slice_index text at < 128 → goes_on (slice_index text at) ≡ false
+    → continue_length (chars (drop at text)) ≡ 0
+continue_none text at u ascii ends =
+    elim (cases_lt at (length text)) [
+      | inr past ↦ ap continue_length (chars_end text at past)
+      | inl h ↦ rw (continues_same (slice_index text at) ascii, ends) at (continue_length_ascii text at u h ascii).0
+    ]
+
+pub letter_ascii : (b : ℕ) → is_letter b ≡ true → (b < 128) × (begins_word b ≡ true)
+letter_ascii b letter = (grind (arith, nat_tests), grind (arith, nat_tests))
+
+pub word_letter : (b : ℕ) → b < 128 → begins_word b ≡ true → is_letter b ≡ true
+word_letter b ascii word = grind (arith, nat_tests)
 
 -- an ASCII letter or `_` starts an identifier
 word_starts : (b : ℕ) → b < 128 → begins_word b ≡ true → starts b ≡ true

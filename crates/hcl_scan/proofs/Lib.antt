@@ -32,6 +32,7 @@ pub mod Sound
 pub mod SoundOperators
 pub mod SoundWords
 pub mod Steps
+pub mod TableLemmas
 pub mod TextLemmas
 pub mod TokenLemmas
 pub mod Unique

@@ -1,12 +1,21 @@
 -- The token outside of literal text, by its first bytes.
-use Rattle.std.proofs.Common.{◌≡◌, ℕ, Bool, true, false, List, drop, slice_index, refl, ap, ◌∙◌, arith, get_or-drop, Some}
+use Rattle.std.proofs.Common.{◌≡◌, ℕ, ◌+◌, Bool, true, false, List, drop, slice_index, refl, ap, ◌∙◌, arith, get_or-drop, drop-drop, Some}
 use Rattle.std.specs.Char.{is_ascii_digit}
-use Rattle.hcl_token.specs.declared.kind.Kind.TheVariants.{Number}
+use Rattle.hcl_token.specs.declared.kind.Kind.TheVariants.{Number, DotIndex}
 use Rattle.hcl_scan.specs.Inner.HereNext.{begins_intro, here_open}
-use Rattle.hcl_scan.specs.Inner.Next.{begins_word, identifier, number_length, here_or_less, punctuation, expression_token}
+use Rattle.hcl_scan.specs.Inner.Next.{begins_word, identifier, decimal_length, number_length, here_or_less, dot_token, punctuation, expression_token}
 
 first_at : (text : List ℕ) (at : ℕ) → slice_index (drop at text) 0 ≡ slice_index text at
 first_at text at = get_or-drop at text 0 0 ∙ ap (slice_index text) (omega arith)
+
+second_at : (text : List ℕ) (at : ℕ) → slice_index (drop at text) 1 ≡ slice_index text (at + 1)
+second_at text at = get_or-drop at text 1 0
+
+-- the legacy index
+pub index_token : (text : List ℕ) (at n : ℕ) → is_ascii_digit (slice_index text (at + 1)) ≡ true → n ≡ 1 + decimal_length (drop (at + 1) text) → Some (DotIndex, n) ≡ dot_token (drop at text)
+index_token text at n digit size =
+    let rest : drop 1 (drop at text) ≡ drop (at + 1) text = drop-drop 1 at text in
+    rw (second_at text at, digit, rest) (ap (λ m. Some (DotIndex, m)) size)
 
 pub token_of_word : (text : List ℕ) (at : ℕ) (closes : Bool) → begins_word (slice_index text at) ≡ true → expression_token closes (drop at text) ≡ identifier (drop at text)
 token_of_word text at closes word = rw (first_at text at, word) refl

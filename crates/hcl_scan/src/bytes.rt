@@ -4,6 +4,49 @@ ghost use Rattle.std.specs.Prelude.{◌≡◌, ◌+◌, ◌<◌, ◌≤◌, leng
 ghost use Rattle.std.specs.List.{prefix_len};
 ghost use Rattle.std.specs.Char.{is_ascii_digit};
 ghost use Rattle.hcl_scan.specs.Characters.{is_blank, begins_line_end};
+ghost use Rattle.hcl_scan.specs.Inner.Front.{is_letter, goes_on};
+ghost use Rattle.hcl_scan.specs.Inner.RunLength.{is_plain_quoted};
+
+/// Flag of a byte that continues an identifier.
+const GOES_ON: u8 = 1;
+
+/// Flag of a byte that begins an identifier.
+const LETTER: u8 = 2;
+
+/// Flag of a byte that is a unit of quoted text whatever stands behind it.
+const PLAIN: u8 = 4;
+
+// For each byte a digit, whose low three bits are the flags above.
+static CLASS: [u8; 256] = *b"\
+    44444444440440444444444444444444\
+    44040044444445445555555555444444\
+    47777777777777777777777777740447\
+    47777777777777777777777777744444\
+    44444444444444444444444444444444\
+    44444444444444444444444444444444\
+    44444444444444444444444444444444\
+    44444444444444444444444444444444";
+
+/// An ASCII letter or `_`.
+pub fn is_letter(b: u8) -> bool
+    ensures { result ≡ is_letter b }
+{
+    CLASS[b as usize] & LETTER != 0
+}
+
+/// An ASCII letter or digit, `_` or `-`.
+pub fn goes_on(b: u8) -> bool
+    ensures { result ≡ goes_on b }
+{
+    CLASS[b as usize] & GOES_ON != 0
+}
+
+/// Neither `"`, `$`, `%`, `\`, LF nor CR.
+pub fn is_plain_quoted(b: u8) -> bool
+    ensures { result ≡ is_plain_quoted b }
+{
+    CLASS[b as usize] & PLAIN != 0
+}
 
 /// The byte at a place, 0 past the end.
 pub fn byte(text: &[u8], at: usize) -> u8

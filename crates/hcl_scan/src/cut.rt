@@ -13,7 +13,7 @@ ghost use Rattle.hcl_scan.specs.Inner.MarkItem.{front_items, front_length};
 
 use crate::bytes::{byte, part};
 use crate::fault::ScanFault;
-use crate::mode::{Mode, Opening, mode_of, opened_at, shift};
+use crate::mode::{Mode, Opening, mode_of, opened_at, opens_or_closes, shift};
 use crate::token::{gap_end, token};
 use hcl_token::{Item, Kind, MAX_TEXT};
 use std::alloc::{AllocError, Global};
@@ -119,14 +119,14 @@ fn cut(alloc: Global, room: Vec<Item>, text: &str) -> Result<(Vec<Item>, usize),
     items.reserve(text.len() / 8)?;
     let mut openings: Vec<Opening<'_>> = Vec::new(alloc);
     let mut at = push_mark(&mut items, bytes)?;
+    let mut mode = Mode::Expression;
     'tokens: loop {
-        let mode = mode_of(&openings);
         let start = gap_end(bytes, at, mode);
-        if is_done(&openings, start, bytes.len()) {
-            return Ok((items, at));
-        }
         match token_at(text, start, mode) {
             None => {
+                if is_done(&openings, start, bytes.len()) {
+                    return Ok((items, at));
+                }
                 let opened = opened_at(&openings);
                 return Err(fault_at(bytes, mode, opened, start));
             }
@@ -138,7 +138,10 @@ fn cut(alloc: Global, room: Vec<Item>, text: &str) -> Result<(Vec<Item>, usize),
                     stop: stop as u32,
                     kind,
                 })?;
-                shift(&mut openings, kind, part(bytes, start, stop), start)?;
+                if opens_or_closes(kind) {
+                    shift(&mut openings, kind, part(bytes, start, stop), start)?;
+                    mode = mode_of(&openings);
+                }
                 at = stop;
             }
         }

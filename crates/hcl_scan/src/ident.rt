@@ -1,11 +1,13 @@
 //! Identifiers.
 
-ghost use Rattle.std.specs.Prelude.{◌≡◌, ◌∷◌, ◌+◌, ◌<◌, ◌≤◌, length, drop, true, IsUtf8, slice_index};
+ghost use Rattle.std.specs.Prelude.{◌≡◌, ◌∷◌, ◌+◌, ◌<◌, ◌≤◌, length, drop, true, false, Some, IsUtf8, slice_index};
 ghost use Rattle.std.specs.Char.{len_utf8};
 ghost use Rattle.std.specs.Str.{chars};
+ghost use Rattle.hcl_token.specs.declared.kind.Kind.TheVariants.{Identifier};
 ghost use Rattle.hcl_scan.specs.Characters.{starts, continues};
-ghost use Rattle.hcl_scan.specs.Inner.Front.{begins_word, continue_length, identifier};
+ghost use Rattle.hcl_scan.specs.Inner.Front.{is_letter, goes_on, begins_word, continue_length, identifier};
 
+use crate::bytes::{byte, goes_on};
 use hcl_token::Kind;
 use unicode_ident::{is_xid_continue, is_xid_start};
 
@@ -34,18 +36,29 @@ fn continues(c: char) -> bool
     is_xid_continue(c) | (c == '-')
 }
 
-fn continues_ascii(b: u8) -> bool
-    requires { b < 128 }
-    ensures { result ≡ continues b }
-{
-    b.is_ascii_lowercase() || (b.is_ascii_alphanumeric() | (b == b'_') | (b == b'-'))
-}
-
 /// A letter, `_`, or the first byte of a character that is not ASCII.
 pub fn begins_word(b: u8) -> bool
     ensures { result ≡ begins_word b }
 {
     b.is_ascii_alphabetic() | (b == b'_') | (128 <= b)
+}
+
+/// The end of the ASCII characters from a place on that continue an identifier.
+fn ascii_end(text: &str, from: usize) -> usize
+    requires within { from ≤ length text.now }
+    requires utf8 { IsUtf8 (drop from text.now) }
+    ensures value { result + continue_length (chars (drop result text.now))
+        ≡ from + continue_length (chars (drop from text.now)) }
+    ensures within { result ≤ length text.now }
+    ensures rest { IsUtf8 (drop result text.now) }
+    ensures stops { goes_on (slice_index text.now result) ≡ false }
+{
+    let bytes = text.as_bytes();
+    let mut at = from;
+    while at < bytes.len() && goes_on(bytes[at]) {
+        at += 1;
+    }
+    at
 }
 
 /// The end of the characters from a place on that continue an identifier.
@@ -56,24 +69,41 @@ pub fn continue_end(text: &str, from: usize) -> usize
     ensures within { result ≤ length text.now }
     ensures rest { IsUtf8 (drop result text.now) }
 {
-    let bytes = text.as_bytes();
+    let end = ascii_end(text, from);
+    if byte(text.as_bytes(), end) < 128 {
+        end
+    } else {
+        characters_end(text, end)
+    }
+}
+
+/// The same, where not all characters are ASCII.
+fn characters_end(text: &str, from: usize) -> usize
+    requires within { from ≤ length text.now }
+    requires utf8 { IsUtf8 (drop from text.now) }
+    ensures value { result ≡ from + continue_length (chars (drop from text.now)) }
+    ensures within { result ≤ length text.now }
+    ensures rest { IsUtf8 (drop result text.now) }
+{
     let mut at = from;
-    while at < bytes.len() {
-        let b = bytes[at];
-        if b < 128 {
-            if !continues_ascii(b) {
-                return at;
-            }
-            at += 1;
-        } else {
-            let c = char_at(text, at);
-            if !continues(c) {
-                return at;
-            }
-            at += c.len_utf8();
+    while at < text.len() {
+        let c = char_at(text, at);
+        if !continues(c) {
+            return at;
         }
+        at += c.len_utf8();
     }
     at
+}
+
+/// How many bytes the identifier has that begins with a letter at the place.
+pub fn word_len(text: &str, at: usize) -> usize
+    requires within { at < length text.now }
+    requires utf8 { IsUtf8 (drop at text.now) }
+    requires letter { is_letter (slice_index text.now at) ≡ true }
+    ensures { Some (Identifier, result) ≡ identifier (drop at text.now) }
+{
+    continue_end(text, at + 1) - at
 }
 
 /// The identifier at a place where a word begins, as its kind and its length.
@@ -84,7 +114,7 @@ pub fn identifier(text: &str, at: usize) -> Option<(Kind, usize)>
     ensures { result ≡ identifier (drop at text.now) }
 {
     if text.as_bytes()[at] < 128 {
-        return Some((Kind::Identifier, continue_end(text, at + 1) - at));
+        return Some((Kind::Identifier, word_len(text, at)));
     }
     let c = char_at(text, at);
     if !starts(c) {

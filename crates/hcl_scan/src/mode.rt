@@ -163,7 +163,7 @@ fn read_on<'t>(openings: &mut Vec<Opening<'t>>, fresh: bool) -> Result<(), Alloc
 }
 
 /// Whether a token of the kind can do anything to the openings.
-fn opens_or_closes(kind: Kind) -> bool
+pub fn opens_or_closes(kind: Kind) -> bool
     ensures modes { (spelling : List ℕ) (modes : List spec.Mode) → result ≡ false
         → after kind spelling modes ≡ modes }
     ensures places { (at : ℕ) (modes : List spec.Mode) (places : List ℕ) → result ≡ false

@@ -7,7 +7,7 @@ ghost use Rattle.hcl_scan.specs.Lexeme.{comment_unit, inline_unit, quote_unit, i
 ghost use Rattle.hcl_scan.specs.Runs.{UnitLength};
 ghost use Rattle.hcl_scan.specs.Inner.RunLength.{run_length};
 
-use crate::bytes::{begins_line_end, byte};
+use crate::bytes::{begins_line_end, byte, is_plain_quoted};
 
 /// A unit, told by its length.
 pub trait Unit {
@@ -42,6 +42,21 @@ fn plain_end<U: Unit>(unit: &U, text: &[u8], from: usize) -> usize
     at
 }
 
+/// The same where a line begins or not; where one begins no byte is gone over.
+fn past_plain<U: Unit>(unit: &U, text: &[u8], from: usize, fresh: bool) -> usize
+    requires { from ≤ length text.now }
+    ensures run { result + run_length (U.len unit.now) fresh (drop result text.now)
+        ≡ from + run_length (U.len unit.now) fresh (drop from text.now) }
+    ensures within { result ≤ length text.now }
+    ensures onward { from ≤ result }
+{
+    if fresh {
+        from
+    } else {
+        plain_end(unit, text, from)
+    }
+}
+
 /// The end of the longest run of units from a place on; `fresh` says whether a line begins there.
 pub fn run_end<U: Unit>(unit: &U, text: &[u8], from: usize, fresh: bool) -> usize
     requires { from ≤ length text.now }
@@ -50,18 +65,18 @@ pub fn run_end<U: Unit>(unit: &U, text: &[u8], from: usize, fresh: bool) -> usiz
 {
     let mut at = from;
     let mut begins = fresh;
-    while at < text.len() {
-        let len = unit.len_at(text, at, begins);
+    'units: loop {
+        let on = past_plain(unit, text, at, begins);
+        if on == text.len() {
+            return on;
+        }
+        let len = unit.len_at(text, on, begins);
         if len == 0 {
-            return at;
+            return on;
         }
-        at += len;
+        at = on + len;
         begins = text[at - 1] == b'\n';
-        if !begins {
-            at = plain_end(unit, text, at);
-        }
     }
-    at
 }
 
 /// Text of a comment that ends with its line.
@@ -193,6 +208,6 @@ impl Unit for QuoteUnit {
     }
 
     fn is_plain(&self, b: u8) -> bool {
-        !((b == b'"') | (b == b'$') | (b == b'%') | (b == b'\\') | (b == b'\n') | (b == b'\r'))
+        is_plain_quoted(b)
     }
 }

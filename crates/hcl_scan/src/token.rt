@@ -1,13 +1,14 @@
 //! The token at a place.
 
-ghost use Rattle.std.specs.Prelude.{◌≡◌, ◌+◌, ◌<◌, ◌≤◌, length, drop, IsUtf8};
-ghost use Rattle.hcl_scan.specs.Inner.Next.{inline_comment, punctuation, here_or_less, expression_token, quoted_token, gap_length, token};
+ghost use Rattle.std.specs.Prelude.{◌≡◌, ◌+◌, ◌<◌, ◌≤◌, length, drop, IsUtf8, Some, if◌then◌else◌};
+ghost use Rattle.hcl_token.specs.declared.kind.Kind.TheVariants.{SeqClose, CloseBrace};
+ghost use Rattle.hcl_scan.specs.Inner.Next.{inline_comment, compound, dot_token, punctuation, here_or_less, expression_token, quoted_token, gap_length, token};
 ghost use Rattle.hcl_scan.specs.Inner.Openings.{mode_view};
 ghost use Rattle.hcl_scan.specs.Modes.{closes_sequence};
 
-use crate::bytes::{blanks_end, byte, digits_end};
+use crate::bytes::{blanks_end, byte, digits_end, is_letter};
 use crate::here::{begins_intro, begins_opening, here_open, here_token, opening};
-use crate::ident::{begins_word, identifier};
+use crate::ident::{begins_word, identifier, word_len};
 use crate::mode::Mode;
 use crate::number::number_len;
 use crate::operator::operator;
@@ -57,13 +58,7 @@ fn punctuation(text: &[u8], at: usize, closes: bool) -> Option<(Kind, usize)>
         }
         b'/' if second == b'*' => inline_comment(text, at + 2),
         b'.' if second.is_ascii_digit() => Some((Kind::DotIndex, digits_end(text, at + 1) - at)),
-        b'}' => {
-            if closes {
-                Some((Kind::SeqClose, 1))
-            } else {
-                Some((Kind::CloseBrace, 1))
-            }
-        }
+        b'}' => close_token(closes),
         b'~' => {
             if second == b'}' && closes {
                 Some((Kind::SeqClose, 2))
@@ -75,8 +70,75 @@ fn punctuation(text: &[u8], at: usize, closes: bool) -> Option<(Kind, usize)>
     }
 }
 
+/// An operator that begins with `=`.
+fn equal_token(second: u8) -> Option<(Kind, usize)>
+    ensures { result ≡ compound 61 second 0 }
+{
+    match second {
+        b'=' => Some((Kind::DoubleEqual, 2)),
+        b'>' => Some((Kind::FatArrow, 2)),
+        _ => Some((Kind::Equal, 1)),
+    }
+}
+
+/// The token that begins with a `.`.
+fn dot_token(text: &[u8], at: usize) -> Option<(Kind, usize)>
+    requires { at < length text.now }
+    ensures { result ≡ dot_token (drop at text.now) }
+{
+    let second = byte(text, at + 1);
+    if second.is_ascii_digit() {
+        return Some((Kind::DotIndex, digits_end(text, at + 1) - at));
+    }
+    if second == b'.' && byte(text, at + 2) == b'.' {
+        Some((Kind::Ellipsis, 3))
+    } else {
+        Some((Kind::Dot, 1))
+    }
+}
+
 /// The token outside of literal text. A `}` closes a template sequence where `closes` says so.
+///
+/// The tokens that most texts are made of are told by their first byte.
 fn expression_token(text: &str, at: usize, closes: bool) -> Option<(Kind, usize)>
+    requires within { at < length text.now }
+    requires utf8 { IsUtf8 (drop at text.now) }
+    ensures { result ≡ expression_token closes (drop at text.now) }
+{
+    let bytes = text.as_bytes();
+    let first = bytes[at];
+    if is_letter(first) {
+        return Some((Kind::Identifier, word_len(text, at)));
+    }
+    match first {
+        b'\n' => Some((Kind::LineEnd, 1)),
+        b'"' => Some((Kind::QuoteOpen, 1)),
+        b'=' => equal_token(byte(bytes, at + 1)),
+        b'.' => dot_token(bytes, at),
+        b',' => Some((Kind::Comma, 1)),
+        b'{' => Some((Kind::OpenBrace, 1)),
+        b'}' => close_token(closes),
+        b'[' => Some((Kind::OpenBracket, 1)),
+        b']' => Some((Kind::CloseBracket, 1)),
+        b'(' => Some((Kind::OpenParen, 1)),
+        b')' => Some((Kind::CloseParen, 1)),
+        _ => other_token(text, at, closes),
+    }
+}
+
+/// The token that begins with a `}`.
+fn close_token(closes: bool) -> Option<(Kind, usize)>
+    ensures { result ≡ (if closes then Some (SeqClose, 1) else Some (CloseBrace, 1)) }
+{
+    if closes {
+        Some((Kind::SeqClose, 1))
+    } else {
+        Some((Kind::CloseBrace, 1))
+    }
+}
+
+/// The token outside of literal text, whatever it begins with.
+fn other_token(text: &str, at: usize, closes: bool) -> Option<(Kind, usize)>
     requires within { at < length text.now }
     requires utf8 { IsUtf8 (drop at text.now) }
     ensures { result ≡ expression_token closes (drop at text.now) }

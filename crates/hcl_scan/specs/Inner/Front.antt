@@ -1,7 +1,7 @@
 -- What is found at the front of a text, as a kind and a number of bytes; identifiers, and the
 -- openings of template sequences.
 use Rattle.std.specs.Prelude.{ℕ, ◌+◌, Bool, ◌&&◌, ◌||◌, if◌then◌else◌, ◌==◌, nat_le, List, [], ◌∷◌, slice_index, Option, Some, None}
-use Rattle.std.specs.Char.{is_ascii_alphabetic, len_utf8}
+use Rattle.std.specs.Char.{is_ascii_alphabetic, is_ascii_alphanumeric, len_utf8}
 use Rattle.std.specs.Str.{chars}
 use Rattle.hcl_token.specs.declared.kind.Kind.{Kind}
 use Rattle.hcl_token.specs.declared.kind.Kind.TheVariants.{Identifier, InterpOpen, DirectiveOpen}
@@ -23,6 +23,14 @@ identifier_of (c ∷ cs) =
 
 abbrev pub identifier : List ℕ → Found
 identifier t = identifier_of (chars t)
+
+-- an ASCII letter or `_`
+abbrev pub is_letter : ℕ → Bool
+is_letter b = is_ascii_alphabetic b || b == 95
+
+-- an ASCII character that continues an identifier
+abbrev pub goes_on : ℕ → Bool
+goes_on b = is_ascii_alphanumeric b || b == 95 || b == 45
 
 -- a letter, `_`, or the first byte of a character that is not ASCII
 abbrev pub begins_word : ℕ → Bool

@@ -91,6 +91,12 @@ inline_comment body =
     if nat_lt (run_length inline_unit false body) (length body)
     then Some (InlineComment, run_length inline_unit false body + 4) else None
 
+-- behind a `.` that is the first byte
+abbrev pub dot_token : List ℕ → Found
+dot_token t =
+    if is_ascii_digit (slice_index t 1) then Some (DotIndex, 1 + decimal_length (drop 1 t))
+    else compound 46 (slice_index t 1) (slice_index t 2)
+
 -- by the first byte
 abbrev pub punctuation : Bool → List ℕ → Found
 punctuation closes t =

@@ -1,6 +1,6 @@
 -- The number of bytes of the longest run at the front of a text. `RunLemmas` of proofs/ shows that
 -- it is that.
-use Rattle.std.specs.Prelude.{ℕ, zero, suc, ◌-◌, ◌==◌, Bool, List, [], ◌∷◌, if◌then◌else◌}
+use Rattle.std.specs.Prelude.{ℕ, zero, suc, ◌-◌, ◌==◌, Bool, not, ◌||◌, List, [], ◌∷◌, if◌then◌else◌}
 use Rattle.hcl_scan.specs.Runs.{UnitLength}
 
 -- where the first `skip` bytes belong to a unit already
@@ -12,3 +12,7 @@ run_from unit fresh zero (b ∷ t) =
 
 abbrev pub run_length : UnitLength → Bool → List ℕ → ℕ
 run_length unit fresh t = run_from unit fresh 0 t
+
+-- a byte that is a unit of quoted text whatever stands behind it
+abbrev pub is_plain_quoted : ℕ → Bool
+is_plain_quoted b = not (b == 34 || b == 36 || b == 37 || b == 92 || b == 10 || b == 13)

@@ -1,4 +1,4 @@
-use Rattle.std.proofs.Common.{◌≡◌, ◌+◌, ℕ, List, [], ◌∷◌, ◌++◌, length, sym, ap, subst, subst₂, ◌∙◌, inr}
+use Rattle.std.proofs.Common.{◌≡◌, ◌+◌, ℕ, List, [], ◌∷◌, ◌++◌, length, slice_range, sym, ap, subst, subst₂, ◌∙◌, inr}
 use Rattle.std.proofs.lemmas.Bool.{iff_false}
 use Rattle.hcl_token.specs.declared.item.Item.{Item}
 use Rattle.hcl_scan.specs.declared.mode.Opening.{Opening}
@@ -20,33 +20,34 @@ tokens-init c =
     let items = c.in_ok-at.ensures.items ∙ ap (λ (x : List Item). x ++ front_items text) (c.in_ok-reserve.ensures.items ∙ c.clear.ensures.items) in
     let none = c.new-openings.ensures.items in
     let begun = subst₂ (λ (x : List Item) n. IsCutTo text x n [] []) (sym items) (sym c.in_ok-at.ensures.length) (started text c.as_bytes-bytes.ensures.utf8) in
-    subst (λ (o : List Opening). IsCutTo text c.push_mark.new.items.items c.in_ok-at.at (modes_of o) (places_of o)) (sym none) begun
+    record {
+      cut = subst (λ (o : List Opening). IsCutTo text c.push_mark.new.items.items c.in_ok-at.at (modes_of o) (places_of o)) (sym none) begun;
+      mode = sym (ap (λ (o : List Opening). mode_of (modes_of o)) none);
+    }
 
 pub returns-then-is_done-clause-cut : goal.returns-then-is_done-clause-cut
 returns-then-is_done-clause-cut c =
     let same = c.as_bytes-bytes.ensures.value in
     let done = c.is_done.ensures.0 c.if-is_done.true in
-    let none = sym c.deref-in-tokens.ensures.value ∙ done.1 in
+    let none = sym c.deref.ensures.value ∙ done.1 in
     let places = places_of c.tokens.openings.items in
-    let state = subst (λ (m : List Mode). IsCutTo c.args.text.now c.tokens.items.items c.tokens.at m places) (ap modes_of none) (rw same at c.tokens.invariant) in
-    let mode : mode_view c.mode_of-mode.result ≡ Expression =
-    c.mode_of-mode.ensures ∙ ap (λ x. mode_of (modes_of x)) c.deref.ensures.value ∙ ap (λ x. mode_of (modes_of x)) none in
+    let state = subst (λ (m : List Mode). IsCutTo c.args.text.now c.tokens.items.items c.tokens.at m places) (ap modes_of none) (rw same at c.tokens.invariant.cut) in
+    let mode : mode_view c.tokens.mode ≡ Expression = c.tokens.invariant.mode ∙ ap (λ x. mode_of (modes_of x)) none in
     let start = rw (same, mode) at c.gap_end-start.ensures.value in
     finished c.args.text.now c.tokens.items.items c.tokens.at c.gap_end-start.result places c.requires c.utf8.text state start (rw same at done.0)
 
 pub token_at-requires-clause-utf8 : goal.token_at-requires-clause-utf8
 token_at-requires-clause-utf8 c =
     let same = c.as_bytes-bytes.ensures.value in
-    let state = rw same at c.tokens.invariant in
+    let state = rw same at c.tokens.invariant.cut in
     let start = rw same at c.gap_end-start.ensures.value in
-    (gap_at c.args.text.now (mode_view c.mode_of-mode.result) c.tokens.at c.gap_end-start.result state.within state.utf8 start).utf8
+    (gap_at c.args.text.now (mode_view c.tokens.mode) c.tokens.at c.gap_end-start.result state.within state.utf8 start).utf8
 
 pub token_at-requires-clause-marker : goal.token_at-requires-clause-marker
 token_at-requires-clause-marker c =
     let modes = modes_of c.tokens.openings.items in
-    let mode = c.mode_of-mode.ensures ∙ ap (λ x. mode_of (modes_of x)) c.deref.ensures.value in
-    let marked = marker_cut c.as_bytes-bytes.result.now c.tokens.items.items c.tokens.at modes (places_of c.tokens.openings.items) c.tokens.invariant in
-    subst HasMarker (sym mode) marked
+    let marked = marker_cut c.as_bytes-bytes.result.now c.tokens.items.items c.tokens.at modes (places_of c.tokens.openings.items) c.tokens.invariant.cut in
+    subst HasMarker (sym c.tokens.invariant.mode) marked
 
 pub returns-in-None-clause-fault : goal.returns-in-None-clause-fault
 returns-in-None-clause-fault c =
@@ -56,16 +57,17 @@ returns-in-None-clause-fault c =
     let same = c.as_bytes-bytes.ensures.value in
     let modes = modes_of c.tokens.openings.items in
     let places = places_of c.tokens.openings.items in
-    let state = rw same at c.tokens.invariant in
-    let mode = c.mode_of-mode.ensures ∙ ap (λ x. mode_of (modes_of x)) c.deref.ensures.value in
+    let state = rw same at c.tokens.invariant.cut in
+    let mode = c.tokens.invariant.mode in
     let start_is = rw (same, mode) at c.gap_end-start.ensures.value in
     let none = rw mode at (sym c.in-None.ensures.value) in
     let opened = c.opened_at-opened.ensures ∙ ap (λ x. innermost (modes_of x) (places_of x)) c.deref-in-None.ensures.value in
     let fault = rw (same, mode, opened) at c.fault_at.ensures in
     let unfinished = λ (e : modes ≡ []) (z : start ≡ length text).
-    iff_false c.is_done.ensures c.if-is_done.false (z ∙ ap length (sym same), c.deref-in-tokens.ensures.value ∙ none_open c.tokens.openings.items e) in
+    iff_false c.is_done.ensures c.if-is_done.false (z ∙ ap length (sym same), c.deref.ensures.value ∙ none_open c.tokens.openings.items e) in
     inr (subst (Stops text) (sym fault) (stopped text c.tokens.items.items at start modes places state start_is none unfinished))
 
+-- the token leaves the openings
 pub tokens-preserved : goal.tokens-preserved
 tokens-preserved c =
     let text = c.args.text.now in
@@ -76,8 +78,34 @@ tokens-preserved c =
     let same = c.as_bytes-bytes.ensures.value in
     let modes = modes_of c.tokens.openings.items in
     let places = places_of c.tokens.openings.items in
-    let state = rw same at c.tokens.invariant in
-    let mode = c.mode_of-mode.ensures ∙ ap (λ x. mode_of (modes_of x)) c.deref.ensures.value in
+    let state = rw same at c.tokens.invariant.cut in
+    let mode = c.tokens.invariant.mode in
+    let start_is = rw (same, mode) at c.gap_end-start.ensures.value in
+    let found = rw mode at (sym c.in-Some.ensures.value) in
+    let more = one_more text c.tokens.items.items at modes places start kind c.in-Some.len state start_is found in
+    let pushed = c.in_ok-push-in-Some.ensures.items in
+    let shifted = c.opens_or_closes.ensures.modes (slice_range text start stop) modes c.if-opens_or_closes.false in
+    let placed = c.opens_or_closes.ensures.places start modes places c.if-opens_or_closes.false in
+    let item : Item = record { gap_at = at; start = start; stop = stop; kind = kind } in
+    let items = c.tokens.items.items ++ item ∷ [] in
+    let next = subst₂ (λ (m : List Mode) (o : List ℕ). IsCutTo text items stop m o) shifted placed more.1 in
+    record {
+      cut = subst₂ (λ (x : List ℕ) (xs : List Item). IsCutTo x xs stop modes places) (sym same) (sym pushed) next;
+      mode = mode;
+    }
+
+pub tokens-preserved-in_ok-shift-in-Some : goal.tokens-preserved-in_ok-shift-in-Some
+tokens-preserved-in_ok-shift-in-Some c =
+    let text = c.args.text.now in
+    let at = c.tokens.at in
+    let start = c.gap_end-start.result in
+    let kind = c.in-Some.kind in
+    let stop = start + c.in-Some.len in
+    let same = c.as_bytes-bytes.ensures.value in
+    let modes = modes_of c.tokens.openings.items in
+    let places = places_of c.tokens.openings.items in
+    let state = rw same at c.tokens.invariant.cut in
+    let mode = c.tokens.invariant.mode in
     let start_is = rw (same, mode) at c.gap_end-start.ensures.value in
     let found = rw mode at (sym c.in-Some.ensures.value) in
     let more = one_more text c.tokens.items.items at modes places start kind c.in-Some.len state start_is found in
@@ -88,4 +116,7 @@ tokens-preserved c =
     let item : Item = record { gap_at = at; start = start; stop = stop; kind = kind } in
     let items = c.tokens.items.items ++ item ∷ [] in
     let next = subst₂ (λ (m : List Mode) (o : List ℕ). IsCutTo text items stop m o) (sym shifted) (sym placed) more.1 in
-    subst₂ (λ (x : List ℕ) (xs : List Item). IsCutTo x xs stop (modes_of c.shift.new.openings.items) (places_of c.shift.new.openings.items)) (sym same) (sym pushed) next
+    record {
+      cut = subst₂ (λ (x : List ℕ) (xs : List Item). IsCutTo x xs stop (modes_of c.shift.new.openings.items) (places_of c.shift.new.openings.items)) (sym same) (sym pushed) next;
+      mode = c.mode_of-mode.ensures ∙ ap (λ x. mode_of (modes_of x)) c.deref-then-opens_or_closes.ensures.value;
+    }

@@ -2,10 +2,10 @@ use Rattle.std.proofs.Common.{length, ◌-◌, ◌≡◌, ◌+◌, ◌≤◌, dr
 use Rattle.hcl_scan.specs.Inner.RunLength.{run_length}
 use Rattle.hcl_scan.proofs.runs.run_end.Given as goal
 
-abbrev pub invariant-loop-at : goal.invariant-loop-at
-invariant-loop-at g l =
+abbrev pub invariant-units : goal.invariant-units
+invariant-units g l =
     let len = g.U.Unit.len l.unit in
     (l.at + run_length len l.begins (drop l.at l.text) ≡ l.from + run_length len l.fresh (drop l.from l.text)) × (l.at ≤ length l.text)
 
-abbrev pub decreases-loop-at : goal.decreases-loop-at
-decreases-loop-at g l = length l.text - l.at
+abbrev pub decreases-units : goal.decreases-units
+decreases-units g l = length l.text - l.at

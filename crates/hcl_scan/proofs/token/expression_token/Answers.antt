@@ -1,42 +1,10 @@
-use Rattle.std.proofs.Common.{sym, ap, ◌∙◌, Some}
-use Rattle.hcl_token.specs.declared.kind.Kind.TheVariants.{Number}
-use Rattle.hcl_scan.specs.Inner.Next.{here_or_less}
-use Rattle.hcl_scan.proofs.TokenLemmas.{token_of_word, token_of_number, token_of_opening, token_of_punctuation}
+use Rattle.std.proofs.Common.{slice_index, sym, ◌∙◌}
+use Rattle.hcl_scan.proofs.IdentLemmas.{letter_ascii}
+use Rattle.hcl_scan.proofs.TokenLemmas.{token_of_word}
 use Rattle.hcl_scan.proofs.token.expression_token.Goals as goal
 
-pub returns-then-begins_word : goal.returns-then-begins_word
-returns-then-begins_word c =
-    let same = c.as_bytes-bytes.ensures.value in
-    let word = rw same at (sym c.begins_word.ensures ∙ c.if-begins_word.true) in
-    c.identifier.ensures ∙ sym (token_of_word c.args.text.now c.args.at c.args.closes word)
-
-pub returns-then-is_ascii_digit : goal.returns-then-is_ascii_digit
-returns-then-is_ascii_digit c =
-    let text = c.args.text.now in
-    let at = c.args.at in
-    let same = c.as_bytes-bytes.ensures.value in
-    let no_word = rw same at (sym c.begins_word.ensures ∙ c.if-begins_word.false) in
-    let digit = rw same at (sym c.is_ascii_digit.ensures.value ∙ c.if-is_ascii_digit.true) in
-    let len = rw same at c.number_len.ensures.value in
-    ap (λ n. Some (Number, n)) len ∙ sym (token_of_number text at c.args.closes no_word digit)
-
-pub returns-then-begins_intro : goal.returns-then-begins_intro
-returns-then-begins_intro c =
-    let text = c.args.text.now in
-    let at = c.args.at in
-    let same = c.as_bytes-bytes.ensures.value in
-    let no_word = rw same at (sym c.begins_word.ensures ∙ c.if-begins_word.false) in
-    let no_digit = rw same at (sym c.is_ascii_digit.ensures.value ∙ c.if-is_ascii_digit.false) in
-    let begins = rw same at (sym c.begins_intro.ensures ∙ c.if-begins_intro.true) in
-    c.here_or_less.ensures ∙ ap here_or_less c.here_open.ensures ∙ sym (token_of_opening text at c.args.closes no_word no_digit begins)
-
-pub returns-else-begins_intro : goal.returns-else-begins_intro
-returns-else-begins_intro c =
-    let text = c.args.text.now in
-    let at = c.args.at in
-    let same = c.as_bytes-bytes.ensures.value in
-    let no_word = rw same at (sym c.begins_word.ensures ∙ c.if-begins_word.false) in
-    let no_digit = rw same at (sym c.is_ascii_digit.ensures.value ∙ c.if-is_ascii_digit.false) in
-    let other = rw same at (sym c.begins_intro.ensures ∙ c.if-begins_intro.false) in
-    let found = rw same at c.punctuation.ensures in
-    found ∙ sym (token_of_punctuation text at c.args.closes no_word no_digit other)
+pub returns-then-is_letter : goal.returns-then-is_letter
+returns-then-is_letter c =
+    let letter = rw c.as_bytes-bytes.ensures.value at (sym c.is_letter.ensures ∙ c.if-is_letter.true) in
+    let word = letter_ascii (slice_index c.args.text.now c.args.at) letter in
+    c.word_len.ensures ∙ sym (token_of_word c.args.text.now c.args.at c.args.closes word.1)

@@ -1,7 +1,7 @@
 use Rattle.std.proofs.Common.{length, ◌-◌, ◌≡◌, ◌+◌, ◌≤◌, drop, IsUtf8}
 use Rattle.std.specs.Str.{chars}
 use Rattle.hcl_scan.specs.Inner.Next.{continue_length}
-use Rattle.hcl_scan.proofs.ident.continue_end.Given as goal
+use Rattle.hcl_scan.proofs.ident.ascii_end.Given as goal
 
 abbrev pub invariant-loop-at : goal.invariant-loop-at
 invariant-loop-at l = record {
