@@ -10,11 +10,11 @@ use Rattle.hcl_token.specs.Tokens.{Pair, whole_text}
 use Rattle.hcl_token.specs.Items.{pair_at, pairs_of}
 use Rattle.hcl_scan.specs.Characters.{is_blank}
 use Rattle.hcl_scan.specs.Modes.{Mode, mode_of, is_literal, after}
-use Rattle.hcl_scan.specs.Modes.Mode.{Expression}
+use Rattle.hcl_scan.specs.Modes.Mode.{Expression, Sequence}
 use Rattle.hcl_scan.specs.Inner.Markers.{HasMarker}
 use Rattle.hcl_scan.proofs.OpenMarkers.{HaveMarkers}
 use Rattle.hcl_scan.specs.Lexeme.{IsLexeme, IsLongest}
-use Rattle.hcl_scan.specs.Inner.Next.{Found, token, gap_length}
+use Rattle.hcl_scan.specs.Inner.Next.{Found, expression_token, token, gap_length}
 use Rattle.hcl_scan.specs.Cut.{IsGap, CutsFrom, Cuts, IsCut, MAX_TEXT, front_of}
 use Rattle.hcl_scan.specs.Fault.{Stops, fault_at, innermost, places_after, places_behind}
 use Rattle.hcl_scan.proofs.CutTo.{IsCutTo}
@@ -128,19 +128,10 @@ token_within mode text at m within u (Some f) e =
     let size : length t ≡ f.1 + length is.rest = ap length is.text_is ∙ length-append is.spelling is.rest ∙ ap (λ n. n + length is.rest) is.len in
     (is.some, omega (arith, size, length-drop {A = ℕ} at text))
 
--- at the end there is none
-pub token_end : (mode : Mode) (text : List ℕ) (at : ℕ) → HasMarker mode → IsUtf8 (drop at text) → at ≡ length text → token mode (drop at text) ≡ None
-token_end mode text at m u end = by_found (token mode t) (sound mode t m u)
-  where
-    t : List ℕ
-    t = drop at text
-
-    size : length t ≡ 0
-    size = length-drop {A = ℕ} at text ∙ omega arith
-
-    by_found : (f : Found) → Sound mode t f → f ≡ None
-    by_found None is = refl
-    by_found (Some f) is = absurd (omega (arith, size, ap length is.text_is, length-append is.spelling is.rest, is.len, is.some))
+pub expression_within : (closes : Bool) (text : List ℕ) (at : ℕ) → at ≤ length text → IsUtf8 (drop at text) → (found : Found) → found ≡ expression_token closes (drop at text)
+    → IfSome found (λ f. (0 < f.1) × (at + f.1 ≤ length text))
+expression_within true text at within u found e = token_within Sequence text at tt within u found e
+expression_within false text at within u found e = token_within Expression text at tt within u found e
 
 -- a lexeme at the front is not passed over
 lexeme_found : (mode : Mode) (kind : Kind) (s rest : List ℕ) → HasMarker mode → IsLexeme mode kind s rest → (f : Kind × ℕ) × (token mode (s ++ rest) ≡ Some f)

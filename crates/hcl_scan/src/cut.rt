@@ -1,20 +1,18 @@
 //! Where the tokens of a whole text stand.
 
-ghost use Rattle.std.specs.Prelude.{◌≡◌, ◌+◌, ◌<◌, ◌≤◌, ◌++◌, length, drop, IsUtf8, IfOk, IfErr, IfSome, OnOk, IsTrue, ◌↔◌, [], ◌⊎◌};
+ghost use Rattle.std.specs.Prelude.{◌≡◌, ◌+◌, ◌<◌, ◌≤◌, ◌++◌, length, drop, IsUtf8, IfOk, IfErr, OnOk, IsTrue, ◌↔◌, [], ◌⊎◌};
 ghost use Rattle.hcl_token.specs.Items.{pairs_of, InOrder};
-ghost use Rattle.hcl_scan.specs.Inner.Markers.{HasMarker};
 ghost use Rattle.hcl_scan.specs.Characters.{begins};
 ghost use Rattle.hcl_scan.specs.Cut.{IsCut, MAX_TEXT, byte_order_mark};
 ghost use Rattle.hcl_scan.specs.declared.fault.ScanFault.TheVariants.{Memory};
 ghost use Rattle.hcl_scan.specs.Fault.{Stops, IsFault, token_fault, fault_at};
-ghost use Rattle.hcl_scan.specs.Inner.Next.{token};
 ghost use Rattle.hcl_scan.specs.Inner.Openings.{mode_view};
 ghost use Rattle.hcl_scan.specs.Inner.MarkItem.{front_items, front_length};
 
 use crate::bytes::{byte, part};
 use crate::fault::ScanFault;
 use crate::mode::{Mode, Opening, mode_of, opened_at, opens_or_closes, shift};
-use crate::token::{gap_end, token};
+use crate::token::step;
 use hcl_token::{Item, Kind, MAX_TEXT};
 use std::alloc::{AllocError, Global};
 
@@ -90,21 +88,6 @@ fn push_mark(items: &mut Vec<Item>, text: &[u8]) -> Result<usize, AllocError>
     Ok(3)
 }
 
-/// The token at a place; none at the end.
-fn token_at(text: &str, at: usize, mode: Mode<'_>) -> Option<(Kind, usize)>
-    requires within { at ≤ length text.now }
-    requires utf8 { IsUtf8 (drop at text.now) }
-    requires marker { HasMarker (mode_view mode) }
-    ensures value { result ≡ token (mode_view mode.entry) (drop at text.now) }
-    ensures within { IfSome result (λ found. (0 < found.1) × (at + found.1 ≤ length text.now)) }
-{
-    if at == text.len() {
-        None
-    } else {
-        token(text, at, mode)
-    }
-}
-
 /// The items of a text, in a list that has room, and where its last gap begins.
 fn cut(alloc: Global, room: Vec<Item>, text: &str) -> Result<(Vec<Item>, usize), ScanFault>
     requires { length text.now ≤ MAX_TEXT }
@@ -121,8 +104,9 @@ fn cut(alloc: Global, room: Vec<Item>, text: &str) -> Result<(Vec<Item>, usize),
     let mut at = push_mark(&mut items, bytes)?;
     let mut mode = Mode::Expression;
     'tokens: loop {
-        let start = gap_end(bytes, at, mode);
-        match token_at(text, start, mode) {
+        let next = step(text, at, mode);
+        let start = next.start;
+        match next.token {
             None => {
                 if is_done(&openings, start, bytes.len()) {
                     return Ok((items, at));

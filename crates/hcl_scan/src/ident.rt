@@ -62,6 +62,7 @@ fn ascii_end(text: &str, from: usize) -> usize
 }
 
 /// The end of the characters from a place on that continue an identifier.
+#[inline(always)]
 pub fn continue_end(text: &str, from: usize) -> usize
     requires within { from ≤ length text.now }
     requires utf8 { IsUtf8 (drop from text.now) }
@@ -78,6 +79,8 @@ pub fn continue_end(text: &str, from: usize) -> usize
 }
 
 /// The same, where not all characters are ASCII.
+#[cold]
+#[inline(never)]
 fn characters_end(text: &str, from: usize) -> usize
     requires within { from ≤ length text.now }
     requires utf8 { IsUtf8 (drop from text.now) }
@@ -97,6 +100,7 @@ fn characters_end(text: &str, from: usize) -> usize
 }
 
 /// How many bytes the identifier has that begins with a letter at the place.
+#[inline(always)]
 pub fn word_len(text: &str, at: usize) -> usize
     requires within { at < length text.now }
     requires utf8 { IsUtf8 (drop at text.now) }
@@ -107,6 +111,7 @@ pub fn word_len(text: &str, at: usize) -> usize
 }
 
 /// The identifier at a place where a word begins, as its kind and its length.
+#[inline(never)]
 pub fn identifier(text: &str, at: usize) -> Option<(Kind, usize)>
     requires within { at < length text.now }
     requires utf8 { IsUtf8 (drop at text.now) }

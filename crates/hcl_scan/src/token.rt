@@ -1,8 +1,9 @@
 //! The token at a place.
 
-ghost use Rattle.std.specs.Prelude.{◌≡◌, ◌+◌, ◌<◌, ◌≤◌, length, drop, IsUtf8, Some, if◌then◌else◌};
+ghost use Rattle.std.specs.Prelude.{◌≡◌, ◌+◌, ◌<◌, ◌≤◌, length, drop, IsUtf8, Some, IfSome, if◌then◌else◌};
 ghost use Rattle.hcl_token.specs.declared.kind.Kind.TheVariants.{SeqClose, CloseBrace};
 ghost use Rattle.hcl_scan.specs.Inner.Next.{inline_comment, compound, dot_token, punctuation, here_or_less, expression_token, quoted_token, gap_length, token};
+ghost use Rattle.hcl_scan.specs.Inner.Markers.{HasMarker};
 ghost use Rattle.hcl_scan.specs.Inner.Openings.{mode_view};
 ghost use Rattle.hcl_scan.specs.Modes.{closes_sequence};
 
@@ -168,10 +169,10 @@ fn here_or_less(found: Option<(Kind, usize)>) -> Option<(Kind, usize)>
 
 /// The token in quoted text.
 fn quoted_token(text: &[u8], at: usize) -> Option<(Kind, usize)>
-    requires { at < length text.now }
+    requires { at ≤ length text.now }
     ensures { result ≡ quoted_token (drop at text.now) }
 {
-    if text[at] == b'"' {
+    if byte(text, at) == b'"' {
         return Some((Kind::QuoteClose, 1));
     }
     if begins_opening(text, at) {
@@ -185,22 +186,6 @@ fn quoted_token(text: &[u8], at: usize) -> Option<(Kind, usize)>
     }
 }
 
-/// The end of the gap from a place on.
-pub fn gap_end(text: &[u8], at: usize, mode: Mode<'_>) -> usize
-    requires { at ≤ length text.now }
-    ensures value { result ≡ at + gap_length (mode_view mode.entry) (drop at text.now) }
-    ensures within { result ≤ length text.now }
-{
-    match mode {
-        Mode::Quoted => at,
-        Mode::Heredoc {
-            marker: _,
-            fresh: _,
-        } => at,
-        _ => blanks_end(text, at),
-    }
-}
-
 /// A `}` here closes a template sequence.
 fn closes_sequence(mode: Mode<'_>) -> bool
     ensures { result ≡ closes_sequence (mode_view mode.entry) }
@@ -208,15 +193,53 @@ fn closes_sequence(mode: Mode<'_>) -> bool
     matches!(mode, Mode::Sequence)
 }
 
-/// The token at a place, as its kind and its length.
-pub fn token(text: &str, at: usize, mode: Mode<'_>) -> Option<(Kind, usize)>
-    requires within { at < length text.now }
+/// The token outside of literal text; none at the end.
+fn expression_at(text: &str, at: usize, closes: bool) -> Option<(Kind, usize)>
+    requires within { at ≤ length text.now }
     requires utf8 { IsUtf8 (drop at text.now) }
-    ensures { result ≡ token (mode_view mode.entry) (drop at text.now) }
+    ensures { result ≡ expression_token closes (drop at text.now) }
 {
+    if at == text.len() {
+        None
+    } else {
+        expression_token(text, at, closes)
+    }
+}
+
+/// What stands behind a place: a gap, and a token or none.
+#[derive(Clone, Copy)]
+pub struct Next {
+    /// Where the gap ends.
+    pub start: usize,
+    /// The kind of the token and its length.
+    pub token: Option<(Kind, usize)>,
+}
+
+/// The gap from a place on and the token behind it; no token where none can be cut, and at the end.
+pub fn step(text: &str, at: usize, mode: Mode<'_>) -> Next
+    requires within { at ≤ length text.now }
+    requires utf8 { IsUtf8 (drop at text.now) }
+    requires marker { HasMarker (mode_view mode) }
+    ensures gap { result.start ≡ at + gap_length (mode_view mode.entry) (drop at text.now) }
+    ensures start { result.start ≤ length text.now }
+    ensures token { result.token ≡ token (mode_view mode.entry) (drop result.start text.now) }
+    ensures within { IfSome result.token
+        (λ found. (0 < found.1) × (result.start + found.1 ≤ length text.now)) }
+{
+    let bytes = text.as_bytes();
     match mode {
-        Mode::Quoted => quoted_token(text.as_bytes(), at),
-        Mode::Heredoc { marker, fresh } => here_token(text.as_bytes(), at, marker, fresh),
-        _ => expression_token(text, at, closes_sequence(mode)),
+        Mode::Quoted => Next {
+            start: at,
+            token: quoted_token(bytes, at),
+        },
+        Mode::Heredoc { marker, fresh } => Next {
+            start: at,
+            token: here_token(bytes, at, marker, fresh),
+        },
+        _ => {
+            let start = blanks_end(bytes, at);
+            let token = expression_at(text, start, closes_sequence(mode));
+            Next { start, token }
+        }
     }
 }

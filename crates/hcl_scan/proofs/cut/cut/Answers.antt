@@ -11,7 +11,7 @@ use Rattle.hcl_scan.specs.Inner.MarkItem.{front_items}
 use Rattle.hcl_scan.proofs.CutTo.{IsCutTo}
 use Rattle.hcl_scan.proofs.FrontLemmas.{started}
 use Rattle.hcl_scan.proofs.OpeningLemmas.{none_open}
-use Rattle.hcl_scan.proofs.Steps.{marker_cut, gap_at, one_more, finished, stopped}
+use Rattle.hcl_scan.proofs.Steps.{marker_cut, one_more, finished, stopped}
 use Rattle.hcl_scan.proofs.cut.cut.Goals as goal
 
 pub tokens-init : goal.tokens-init
@@ -33,18 +33,11 @@ returns-then-is_done-clause-cut c =
     let places = places_of c.tokens.openings.items in
     let state = subst (λ (m : List Mode). IsCutTo c.args.text.now c.tokens.items.items c.tokens.at m places) (ap modes_of none) (rw same at c.tokens.invariant.cut) in
     let mode : mode_view c.tokens.mode ≡ Expression = c.tokens.invariant.mode ∙ ap (λ x. mode_of (modes_of x)) none in
-    let start = rw (same, mode) at c.gap_end-start.ensures.value in
-    finished c.args.text.now c.tokens.items.items c.tokens.at c.gap_end-start.result places c.requires c.utf8.text state start (rw same at done.0)
+    let start = rw mode at c.step-next.ensures.gap in
+    finished c.args.text.now c.tokens.items.items c.tokens.at c.step-next.result.start places c.requires c.utf8.text state start (rw same at done.0)
 
-pub token_at-requires-clause-utf8 : goal.token_at-requires-clause-utf8
-token_at-requires-clause-utf8 c =
-    let same = c.as_bytes-bytes.ensures.value in
-    let state = rw same at c.tokens.invariant.cut in
-    let start = rw same at c.gap_end-start.ensures.value in
-    (gap_at c.args.text.now (mode_view c.tokens.mode) c.tokens.at c.gap_end-start.result state.within state.utf8 start).utf8
-
-pub token_at-requires-clause-marker : goal.token_at-requires-clause-marker
-token_at-requires-clause-marker c =
+pub step-next-requires-clause-marker : goal.step-next-requires-clause-marker
+step-next-requires-clause-marker c =
     let modes = modes_of c.tokens.openings.items in
     let marked = marker_cut c.as_bytes-bytes.result.now c.tokens.items.items c.tokens.at modes (places_of c.tokens.openings.items) c.tokens.invariant.cut in
     subst HasMarker (sym c.tokens.invariant.mode) marked
@@ -53,14 +46,14 @@ pub returns-in-None-clause-fault : goal.returns-in-None-clause-fault
 returns-in-None-clause-fault c =
     let text = c.args.text.now in
     let at = c.tokens.at in
-    let start = c.gap_end-start.result in
+    let start = c.step-next.result.start in
     let same = c.as_bytes-bytes.ensures.value in
     let modes = modes_of c.tokens.openings.items in
     let places = places_of c.tokens.openings.items in
     let state = rw same at c.tokens.invariant.cut in
     let mode = c.tokens.invariant.mode in
-    let start_is = rw (same, mode) at c.gap_end-start.ensures.value in
-    let none = rw mode at (sym c.in-None.ensures.value) in
+    let start_is = rw mode at c.step-next.ensures.gap in
+    let none = rw mode at (sym c.step-next.ensures.token ∙ c.in-None.is) in
     let opened = c.opened_at-opened.ensures ∙ ap (λ x. innermost (modes_of x) (places_of x)) c.deref-in-None.ensures.value in
     let fault = rw (same, mode, opened) at c.fault_at.ensures in
     let unfinished = λ (e : modes ≡ []) (z : start ≡ length text).
@@ -72,7 +65,7 @@ pub tokens-preserved : goal.tokens-preserved
 tokens-preserved c =
     let text = c.args.text.now in
     let at = c.tokens.at in
-    let start = c.gap_end-start.result in
+    let start = c.step-next.result.start in
     let kind = c.in-Some.kind in
     let stop = start + c.in-Some.len in
     let same = c.as_bytes-bytes.ensures.value in
@@ -80,8 +73,8 @@ tokens-preserved c =
     let places = places_of c.tokens.openings.items in
     let state = rw same at c.tokens.invariant.cut in
     let mode = c.tokens.invariant.mode in
-    let start_is = rw (same, mode) at c.gap_end-start.ensures.value in
-    let found = rw mode at (sym c.in-Some.ensures.value) in
+    let start_is = rw mode at c.step-next.ensures.gap in
+    let found = rw mode at (sym c.step-next.ensures.token ∙ c.in-Some.is) in
     let more = one_more text c.tokens.items.items at modes places start kind c.in-Some.len state start_is found in
     let pushed = c.in_ok-push-in-Some.ensures.items in
     let shifted = c.opens_or_closes.ensures.modes (slice_range text start stop) modes c.if-opens_or_closes.false in
@@ -98,7 +91,7 @@ pub tokens-preserved-in_ok-shift-in-Some : goal.tokens-preserved-in_ok-shift-in-
 tokens-preserved-in_ok-shift-in-Some c =
     let text = c.args.text.now in
     let at = c.tokens.at in
-    let start = c.gap_end-start.result in
+    let start = c.step-next.result.start in
     let kind = c.in-Some.kind in
     let stop = start + c.in-Some.len in
     let same = c.as_bytes-bytes.ensures.value in
@@ -106,8 +99,8 @@ tokens-preserved-in_ok-shift-in-Some c =
     let places = places_of c.tokens.openings.items in
     let state = rw same at c.tokens.invariant.cut in
     let mode = c.tokens.invariant.mode in
-    let start_is = rw (same, mode) at c.gap_end-start.ensures.value in
-    let found = rw mode at (sym c.in-Some.ensures.value) in
+    let start_is = rw mode at c.step-next.ensures.gap in
+    let found = rw mode at (sym c.step-next.ensures.token ∙ c.in-Some.is) in
     let more = one_more text c.tokens.items.items at modes places start kind c.in-Some.len state start_is found in
     let pushed = c.in_ok-push-in-Some.ensures.items in
     let spelling = rw same at c.part.ensures in
