@@ -3,7 +3,7 @@ use Rattle.std.proofs.Common.{◌≡◌, ℕ, Bool, true, false, List, [], ◌�
 use Rattle.std.proofs.lemmas.Str.{IsUtf8-past_char}
 use lib.Utf8.{encode}
 use Rattle.hcl_token.specs.declared.kind.Kind.TheVariants.{Mark}
-use Rattle.hcl_token.specs.declared.item.Item.{Item}
+use Rattle.hcl_token.specs.declared.token.Token.{Token}
 use Rattle.hcl_token.specs.Tokens.{Pair, whole_text}
 use Rattle.hcl_token.specs.Items.{pairs_of}
 use Rattle.hcl_scan.specs.Characters.{begins}
@@ -46,7 +46,7 @@ started text u =
     elim (begins byte_order_mark text) as (λ b. begins byte_order_mark text ≡ b → IsCutTo text (front_items text) (front_length text) [] []) [
       | true ↦ λ h.
           let whole : text ≡ 239 ∷ 187 ∷ 191 ∷ drop 3 text = front_bytes text h in
-          let items : List Item = record { gap_at = 0; start = 0; stop = 3; kind = Mark } ∷ [] in
+          let items : List Token = record { start = 0; stop = 3; kind = Mark } ∷ [] in
           let spelling : slice_range text 0 3 ≡ byte_order_mark = ap (λ (x : List ℕ). slice_range x 0 3) whole in
           let pairs : pairs_of text items ≡ mark ∷ [] = ap (λ (x : List ℕ). record { gap = []; kind = Mark; spelling = x } ∷ []) spelling in
           let utf8 : IsUtf8 (drop 3 text) = rw h at (front_utf8 text u) in
@@ -61,7 +61,7 @@ started text u =
               cuts = refl;
             };
             places = ap (places_behind 0 [] []) (sym pairs);
-            order = (refl, omega arith, omega arith, refl);
+            order = (omega arith, omega arith, refl);
           })
       | false ↦ λ h.
           let front : front_of text ≡ [] = rw h refl in

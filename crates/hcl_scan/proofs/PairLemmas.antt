@@ -2,9 +2,9 @@
 use Rattle.std.proofs.Common.{◌≡◌, ℕ, ◌+◌, ◌≤◌, Bool, true, false, List, [], ◌∷◌, ◌++◌, length, if◌then◌else◌, refl, sym, ap, subst, ◌∙◌, arith, length-append}
 use Rattle.hcl_token.specs.declared.kind.Kind.{Kind}
 use Rattle.hcl_token.specs.declared.kind.Kind.TheVariants.{Mark}
-use Rattle.hcl_token.specs.declared.item.Item.{Item}
+use Rattle.hcl_token.specs.declared.token.Token.{Token}
 use Rattle.hcl_token.specs.Tokens.{Pair, whole_text}
-use Rattle.hcl_token.specs.Items.{InOrder}
+use Rattle.hcl_token.specs.Items.{InOrder, pair_at, pairs_from}
 use Rattle.hcl_scan.specs.Characters.{begins}
 use Rattle.hcl_scan.specs.Modes.{Mode, mode_of, after}
 use Rattle.hcl_scan.proofs.OpenMarkers.{HaveMarkers}
@@ -89,6 +89,10 @@ places_push text pairs rest left start gap s kind c e =
 
 -- ---- items
 
-pub order-push : (items : List Item) (from at : ℕ) (item : Item) → InOrder from items at → item.gap_at ≡ at → at ≤ item.start → item.start ≤ item.stop → InOrder from (items ++ item ∷ []) item.stop
-order-push [] from at item o e h k = (e ∙ sym o, omega arith, k, refl)
-order-push (x ∷ items) from at item o e h k = (o.0, o.1, o.2, order-push items x.stop at item o.3 e h k)
+pub order-push : (items : List Token) (from at : ℕ) (item : Token) → InOrder from items at → at ≤ item.start → item.start ≤ item.stop → InOrder from (items ++ item ∷ []) item.stop
+order-push [] from at item o h k = (omega arith, k, refl)
+order-push (x ∷ items) from at item o h k = (o.0, o.1, order-push items x.stop at item o.2 h k)
+
+pub pairs-push : (text : List ℕ) (items : List Token) (from at : ℕ) (item : Token) → InOrder from items at → pairs_from text from (items ++ item ∷ []) ≡ pairs_from text from items ++ pair_at text at item ∷ []
+pairs-push text [] from at item o = ap (λ n. pair_at text n item ∷ []) o
+pairs-push text (x ∷ items) from at item o = ap (λ (ps : List Pair). pair_at text from x ∷ ps) (pairs-push text items x.stop at item o.2)

@@ -1,13 +1,13 @@
 -- The cut goes on by a token, ends with the text, or stops at a fault.
 use Rattle.std.proofs.Common.{◌≡◌, ◌≢◌, ℕ, suc, ◌+◌, ◌-◌, ◌<◌, ◌≤◌, Bool, true, false, List, [], ◌∷◌, ◌++◌, length, drop, take, slice_index, slice_range, IsUtf8, Some, None, IfSome, refl, sym, ap, subst, subst₂, ◌∙◌, arith, append-nil, append_assoc, length-append, length-drop, length-take-le, take-append-drop, drop-drop}
-use Rattle.std.proofs.lemmas.List.{map-append, drop_all}
+use Rattle.std.proofs.lemmas.List.{drop_all}
 use Rattle.std.proofs.lemmas.List.Sums.{prefix_len-le-length}
 use Rattle.std.proofs.lemmas.Bool.{false≢true}
 use Rattle.std.specs.List.{list_all, prefix_len}
 use Rattle.hcl_token.specs.declared.kind.Kind.{Kind}
-use Rattle.hcl_token.specs.declared.item.Item.{Item}
+use Rattle.hcl_token.specs.declared.token.Token.{Token}
 use Rattle.hcl_token.specs.Tokens.{Pair, whole_text}
-use Rattle.hcl_token.specs.Items.{pair_at, pairs_of}
+use Rattle.hcl_token.specs.Items.{pairs_of}
 use Rattle.hcl_scan.specs.Characters.{is_blank}
 use Rattle.hcl_scan.specs.Modes.{Mode, mode_of, is_literal, after}
 use Rattle.hcl_scan.specs.Modes.Mode.{Expression, Sequence}
@@ -25,13 +25,13 @@ use Rattle.hcl_scan.proofs.Sound.{sound}
 use Rattle.hcl_scan.proofs.Beats.{beats}
 use Rattle.hcl_scan.proofs.Longest.{found_longest, none_found, token_no_blank, gap_is}
 use Rattle.hcl_scan.proofs.Unique.{split_same, pair_of, utf8_past_blanks}
-use Rattle.hcl_scan.proofs.PairLemmas.{joining_more, joining_rest, cuts_more, markers_behind, places_push, order-push}
+use Rattle.hcl_scan.proofs.PairLemmas.{joining_more, joining_rest, cuts_more, markers_behind, places_push, order-push, pairs-push}
 
 -- the markers of the modes that are left
 markers_cut : (text : List ℕ) (pairs : List Pair) (rest : List ℕ) (left : List Mode) → Cuts text pairs rest left → HaveMarkers left
 markers_cut text pairs rest left c = markers_behind c.body [] left rest tt c.cuts
 
-pub marker_cut : (text : List ℕ) (items : List Item) (at : ℕ) (modes : List Mode) (places : List ℕ) → IsCutTo text items at modes places → HasMarker (mode_of modes)
+pub marker_cut : (text : List ℕ) (items : List Token) (at : ℕ) (modes : List Mode) (places : List ℕ) → IsCutTo text items at modes places → HasMarker (mode_of modes)
 marker_cut text items at modes places c = marker_of_mode modes (markers_cut text (pairs_of text items) (drop at text) modes c.cuts)
 
 gap_is_gap : (mode : Mode) (t : List ℕ) → (gap_length mode t ≤ length t) × IsGap mode (take (gap_length mode t) t)
@@ -66,17 +66,17 @@ gap_at text mode at start within u e =
     }
 
 -- the cut goes on by a token
-pub one_more : (text : List ℕ) (items : List Item) (at : ℕ) (modes : List Mode) (places : List ℕ) (start : ℕ) (kind : Kind) (len : ℕ)
+pub one_more : (text : List ℕ) (items : List Token) (at : ℕ) (modes : List Mode) (places : List ℕ) (start : ℕ) (kind : Kind) (len : ℕ)
     → IsCutTo text items at modes places
     → start ≡ at + gap_length (mode_of modes) (drop at text)
     → token (mode_of modes) (drop start text) ≡ Some (kind, len)
     → (0 < len)
-    × IsCutTo text (items ++ record { gap_at = at; start = start; stop = start + len; kind = kind } ∷ []) (start + len)
+    × IsCutTo text (items ++ record { start = start; stop = start + len; kind = kind } ∷ []) (start + len)
     (after kind (slice_range text start (start + len)) modes) (places_after kind start modes places)
 one_more text items at modes places start kind len c start_is found =
     let mode : Mode = mode_of modes in
     let stop : ℕ = start + len in
-    let item : Item = record { gap_at = at; start = start; stop = stop; kind = kind } in
+    let item : Token = record { start = start; stop = stop; kind = kind } in
     let m : HasMarker mode = marker_cut text items at modes places c in
     let g : GapAt text mode at start = gap_at text mode at start c.within c.utf8 start_is in
     let t : List ℕ = drop start text in
@@ -96,7 +96,7 @@ one_more text items at modes places start kind len c start_is found =
     let pairs : List Pair = pairs_of text items in
     let body : List Pair = c.cuts.body in
     let pair : Pair = pair_of gap kind s in
-    let pushed : pairs_of text (items ++ item ∷ []) ≡ pairs ++ pair ∷ [] = map-append (pair_at text) items (item ∷ []) in
+    let pushed : pairs_of text (items ++ item ∷ []) ≡ pairs ++ pair ∷ [] = pairs-push text items 0 at item c.order in
     let text_is : text ≡ whole_text pairs (gap ++ (s ++ more)) = c.cuts.text_is ∙ ap (whole_text pairs) both in
     let place : length (whole_text pairs gap) ≡ start =
     omega (arith, ap length text_is, joining_rest pairs (gap ++ (s ++ more)), joining_rest pairs gap, length-append gap (s ++ more), length-append s more, short, ap length split, length-drop {A = ℕ} start text, within) in
@@ -115,7 +115,7 @@ one_more text items at modes places start kind len c start_is found =
           cuts = cuts;
         };
         places = openings ∙ ap (places_behind 0 [] []) (sym pushed);
-        order = order-push items 0 at item c.order refl g.after_at (omega arith);
+        order = order-push items 0 at item c.order g.after_at (omega arith);
       },
     )
 
@@ -159,7 +159,7 @@ past_gap : (mode : Mode) (t : List ℕ) → is_literal mode ≡ false → is_bla
 past_gap mode t plain = rw plain (prefix_then_not is_blank t refl)
 
 -- the text is cut to its end
-pub finished : (text : List ℕ) (items : List Item) (at start : ℕ) (places : List ℕ) → length text ≤ MAX_TEXT → IsUtf8 text → IsCutTo text items at [] places
+pub finished : (text : List ℕ) (items : List Token) (at start : ℕ) (places : List ℕ) → length text ≤ MAX_TEXT → IsUtf8 text → IsCutTo text items at [] places
     → start ≡ at + gap_length Expression (drop at text) → start ≡ length text → IsCut text (pairs_of text items) (drop at text)
 finished text items at start places short u c start_is end =
     let g : GapAt text Expression at start = gap_at text Expression at start c.within c.utf8 start_is in
@@ -173,7 +173,7 @@ finished text items at start places short u c start_is end =
     }
 
 -- no token can be cut
-pub stopped : (text : List ℕ) (items : List Item) (at start : ℕ) (modes : List Mode) (places : List ℕ) → IsCutTo text items at modes places
+pub stopped : (text : List ℕ) (items : List Token) (at start : ℕ) (modes : List Mode) (places : List ℕ) → IsCutTo text items at modes places
     → start ≡ at + gap_length (mode_of modes) (drop at text) → token (mode_of modes) (drop start text) ≡ None → (modes ≡ [] → start ≢ length text)
     → Stops text (fault_at (mode_of modes) (innermost modes places) start (drop start text))
 stopped text items at start modes places c start_is none unfinished =

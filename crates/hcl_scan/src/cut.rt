@@ -13,7 +13,7 @@ use crate::bytes::{byte, part};
 use crate::fault::ScanFault;
 use crate::mode::{Mode, Opening, mode_of, opened_at, opens_or_closes, shift};
 use crate::token::step;
-use hcl_token::{Item, Kind, MAX_TEXT};
+use hcl_token::{Kind, MAX_TEXT, Token};
 use std::alloc::{AllocError, Global};
 
 /// The fault outside of literal text, at a place where no token can be cut.
@@ -72,15 +72,14 @@ fn begins_mark(text: &[u8]) -> bool
 
 /// The byte order mark at the front of a text, if one stands there, becomes the first item; the
 /// answer is its length.
-fn push_mark(items: &mut Vec<Item>, text: &[u8]) -> Result<usize, AllocError>
+fn push_mark(items: &mut Vec<Token>, text: &[u8]) -> Result<usize, AllocError>
     ensures items { OnOk result (items.new.items ≡ items.old.items ++ front_items text.now) }
     ensures length { IfOk result (λ at. at ≡ front_length text.now) }
 {
     if !begins_mark(text) {
         return Ok(0);
     }
-    items.push(Item {
-        gap_at: 0,
+    items.push(Token {
         start: 0,
         stop: 3,
         kind: Kind::Mark,
@@ -89,7 +88,7 @@ fn push_mark(items: &mut Vec<Item>, text: &[u8]) -> Result<usize, AllocError>
 }
 
 /// The items of a text, in a list that has room, and where its last gap begins.
-fn cut(alloc: Global, room: Vec<Item>, text: &str) -> Result<(Vec<Item>, usize), ScanFault>
+fn cut(alloc: Global, room: Vec<Token>, text: &str) -> Result<(Vec<Token>, usize), ScanFault>
     requires { length text.now ≤ MAX_TEXT }
     ensures cut { IfOk result
         (λ r. IsCut text.now (pairs_of text.now r.0.items) (drop r.1 text.now)) }
@@ -116,8 +115,7 @@ fn cut(alloc: Global, room: Vec<Item>, text: &str) -> Result<(Vec<Item>, usize),
             }
             Some((kind, len)) => {
                 let stop = start + len;
-                items.push(Item {
-                    gap_at: at as u32,
+                items.push(Token {
                     start: start as u32,
                     stop: stop as u32,
                     kind,
@@ -134,7 +132,11 @@ fn cut(alloc: Global, room: Vec<Item>, text: &str) -> Result<(Vec<Item>, usize),
 
 /// The items of a text, in a list that has room, and where its last gap begins; or its fault. A
 /// text that is too long or not UTF-8 takes no memory.
-pub fn cut_of(alloc: Global, room: Vec<Item>, text: &[u8]) -> Result<(Vec<Item>, usize), ScanFault>
+pub fn cut_of(
+    alloc: Global,
+    room: Vec<Token>,
+    text: &[u8],
+) -> Result<(Vec<Token>, usize), ScanFault>
     ensures cut { IfOk result
         (λ r. IsCut text.now (pairs_of text.now r.0.items) (drop r.1 text.now)) }
     ensures order { IfOk result (λ r. InOrder 0 r.0.items r.1 × (r.1 ≤ length text.now)) }

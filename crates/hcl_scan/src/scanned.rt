@@ -9,7 +9,7 @@ ghost use Rattle.hcl_scan.specs.declared.fault.ScanFault.TheVariants.{Memory};
 
 use crate::cut::cut_of;
 use crate::fault::ScanFault;
-use hcl_token::{Item, Kind, Place, Tokens};
+use hcl_token::{Item, Kind, Place, Token, Tokens};
 use std::alloc::Global;
 use std::marker::Model;
 
@@ -47,7 +47,11 @@ pub fn scan<'t>(alloc: Global, text: &'t [u8]) -> Result<Scanned<'t>, ScanFault>
 
 /// The same, with the tokens in a list that has room, as `Scanned::into_room` gives it back. What
 /// stands in the list is given up.
-pub fn scan_in<'t>(alloc: Global, room: Vec<Item>, text: &'t [u8]) -> Result<Scanned<'t>, ScanFault>
+pub fn scan_in<'t>(
+    alloc: Global,
+    room: Vec<Token>,
+    text: &'t [u8],
+) -> Result<Scanned<'t>, ScanFault>
     ensures text { IfOk result (λ s. s.text ≡ text.now) }
     ensures cut { IfOk result (λ s. IsCut text.now s.pairs s.last) }
     ensures fault { IfErr result
@@ -61,7 +65,7 @@ pub fn scan_in<'t>(alloc: Global, room: Vec<Item>, text: &'t [u8]) -> Result<Sca
 
 impl<'t> Scanned<'t> {
     /// The memory of the tokens, which are given up: an empty list with room for as many.
-    pub fn into_room(self) -> Vec<Item>
+    pub fn into_room(self) -> Vec<Token>
         ensures { result.items ≡ [] }
     {
         self.tokens.into_room()

@@ -1,6 +1,6 @@
 pub mod JoinLemmas
 pub mod ClusterLemmas
-pub mod ItemLemmas
+pub mod OrderLemmas
 pub mod LineLemmas
 pub mod MilestoneLemmas
 pub mod PlaceLemmas

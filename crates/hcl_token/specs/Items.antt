@@ -1,28 +1,34 @@
--- Which gaps and tokens the items of a text stand for.
-use Rattle.std.specs.Prelude.{◌≡◌, ℕ, ◌≤◌, List, [], ◌∷◌, map, drop, slice_range}
-use Rattle.hcl_token.specs.declared.item.Item.{Item}
+-- Which gaps and tokens are meant by a text and by where its tokens start and stop.
+use Rattle.std.specs.Prelude.{◌≡◌, ℕ, ◌≤◌, List, [], ◌∷◌, drop, slice_range}
+use Rattle.hcl_token.specs.declared.token.Token.{Token}
 use Rattle.hcl_token.specs.CutText.{CutText}
 use Rattle.hcl_token.specs.Tokens.{Pair}
 
--- the bytes from gap_at to start, and those from start to stop
-abbrev pub pair_at : List ℕ → Item → Pair
-pair_at text item =
+-- the bytes from a place to where the token starts, and those from there to where it stops
+abbrev pub pair_at : List ℕ → ℕ → Token → Pair
+pair_at text at token =
     record {
-      gap = slice_range text item.gap_at item.start;
-      kind = item.kind;
-      spelling = slice_range text item.start item.stop;
+      gap = slice_range text at token.start;
+      kind = token.kind;
+      spelling = slice_range text token.start token.stop;
     }
 
-abbrev pub pairs_of : List ℕ → List Item → List Pair
-pairs_of text items = map (pair_at text) items
+-- the gap before the first of the tokens begins at a place, each other one where the token before
+-- it stops
+abbrev pub pairs_from : List ℕ → ℕ → List Token → List Pair
+pairs_from text at [] = []
+pairs_from text at (token ∷ tokens) = pair_at text at token ∷ pairs_from text token.stop tokens
 
--- the text with the tokens that its items stand for, and with what is behind the last of them
-abbrev pub cut_text : List ℕ → List Item → ℕ → CutText
-cut_text text items last_at =
-    record { text = text; pairs = pairs_of text items; last = drop last_at text }
+abbrev pub pairs_of : List ℕ → List Token → List Pair
+pairs_of text tokens = pairs_from text 0 tokens
 
--- the items stand one behind the other, from this place to that
-abbrev pub InOrder : ℕ → List Item → ℕ → Type 0
+-- the text with its tokens, and with what is behind the last of them
+abbrev pub cut_text : List ℕ → List Token → ℕ → CutText
+cut_text text tokens last_at =
+    record { text = text; pairs = pairs_of text tokens; last = drop last_at text }
+
+-- the gaps and the tokens stand one behind the other, from this place to that
+abbrev pub InOrder : ℕ → List Token → ℕ → Type 0
 InOrder at [] last = at ≡ last
-InOrder at (item ∷ items) last =
-    (item.gap_at ≡ at) × (at ≤ item.start) × (item.start ≤ item.stop) × InOrder item.stop items last
+InOrder at (token ∷ tokens) last =
+    (at ≤ token.start) × (token.start ≤ token.stop) × InOrder token.stop tokens last

@@ -8,6 +8,7 @@ mod join_table;
 mod kind;
 mod milestone;
 mod place;
+mod token;
 mod tokens;
 
 pub use graphemes::clusters;
@@ -15,4 +16,5 @@ pub use item::Item;
 pub use join_table::joins;
 pub use kind::Kind;
 pub use place::Place;
+pub use token::Token;
 pub use tokens::{MAX_TEXT, Tokens};

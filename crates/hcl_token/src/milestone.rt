@@ -1,15 +1,15 @@
 //! Places kept along a text, so that the place of any token is found near one of them.
 
 ghost use Rattle.std.specs.Prelude.{◌≡◌, ℕ, true, ◌+◌, ◌^◌, ◌<◌, ◌≤◌, [], ◌∷◌, length, slice_range, count_by, IsUtf8, IfOk};
-ghost use Rattle.hcl_token.specs.Items.{pair_at, pairs_of};
-ghost use Rattle.hcl_token.specs.Inner.Milestones.{AreMilestones, IsKept, IsOrdered, IsReached, IsStretch, after_pair, after_piece, after_pairs, has_mark, milestone_place, offset};
+ghost use Rattle.hcl_token.specs.Items.{pair_at, pairs_from, pairs_of};
+ghost use Rattle.hcl_token.specs.Inner.Milestones.{AreMilestones, IsKept, IsOrdered, IsReached, IsStretch, after_pair, after_piece, after_pairs, gap_at, has_mark, milestone_place};
 ghost use Rattle.hcl_token.specs.Inner.Plain.{is_plain};
 ghost use Rattle.hcl_token.specs.Place.{is_lf, is_mark, last_line, place_of};
 
 use crate::graphemes::{clusters, is_plain};
-use crate::item::Item;
 use crate::kind::Kind;
 use crate::place::Place;
+use crate::token::Token;
 use memchr::memrchr;
 use std::alloc::{AllocError, Global};
 
@@ -43,12 +43,20 @@ pub(crate) fn part(text: &[u8], from: u32, to: u32) -> &[u8]
     &text[from as usize..to as usize]
 }
 
-fn stretch(items: &[Item], from: usize, to: usize) -> &[Item]
-    requires ordered { from ≤ to }
-    requires within { to ≤ length items.now }
-    ensures { result.now ≡ slice_range items.now from to }
+/// Where the gap before a token begins, or the gap behind the last token.
+pub(crate) fn gap_at(tokens: &[Token], i: usize) -> u32
+    requires { i ≤ length tokens.now }
+    ensures { result ≡ gap_at tokens.now i }
 {
-    &items[from..to]
+    if i == 0 { 0 } else { tokens[i - 1].stop }
+}
+
+fn stretch(tokens: &[Token], from: usize, to: usize) -> &[Token]
+    requires ordered { from ≤ to }
+    requires within { to ≤ length tokens.now }
+    ensures { result.now ≡ slice_range tokens.now from to }
+{
+    &tokens[from..to]
 }
 
 fn is_mark(kind: Kind) -> bool
@@ -57,10 +65,10 @@ fn is_mark(kind: Kind) -> bool
     matches!(kind, Kind::Mark)
 }
 
-fn has_mark(items: &[Item]) -> bool
-    ensures { result ≡ has_mark items.now }
+fn has_mark(tokens: &[Token]) -> bool
+    ensures { result ≡ has_mark tokens.now }
 {
-    items.iter().any(|item| is_mark(item.kind))
+    tokens.iter().any(|token| is_mark(token.kind))
 }
 
 /// Counted in 32 bits, of which the processor adds several at once.
@@ -106,28 +114,30 @@ fn after_piece(at: Place, piece: &[u8]) -> Place
     }
 }
 
-/// The place behind a gap and its token.
-fn after_item(text: &[u8], item: Item, at: Place) -> Place
-    requires { IsStretch text.now (item ∷ []) item.gap_at item.stop at }
-    ensures value { result ≡ after_pair at (pair_at text.now item) }
-    ensures reached { IsReached result item.stop }
+/// The place behind a token and the gap before it, which begins at `from`.
+fn after_token(text: &[u8], token: Token, from: u32, at: Place) -> Place
+    requires { IsStretch text.now (token ∷ []) from token.stop at }
+    ensures value { result ≡ after_pair at (pair_at text.now from token) }
+    ensures reached { IsReached result token.stop }
 {
-    let at_start = after_piece(at, part(text, item.gap_at, item.start));
-    if is_mark(item.kind) {
+    let at_start = after_piece(at, part(text, from, token.start));
+    if is_mark(token.kind) {
         at_start
     } else {
-        after_piece(at_start, part(text, item.start, item.stop))
+        after_piece(at_start, part(text, token.start, token.stop))
     }
 }
 
-/// The place behind items, one after the other.
-fn after_each(text: &[u8], items: &[Item], at: Place) -> Place
-    requires { (from to : ℕ) × IsStretch text.now items.now from to at }
-    ensures { result ≡ after_pairs at (pairs_of text.now items.now) }
+/// The place behind tokens, one after the other; the gap before the first begins at `from`.
+fn after_each(text: &[u8], tokens: &[Token], from: u32, at: Place) -> Place
+    requires { (to : ℕ) × IsStretch text.now tokens.now from to at }
+    ensures { result ≡ after_pairs at (pairs_from text.now from tokens.now) }
 {
+    let mut gap_at = from;
     let mut place = at;
-    for item in items {
-        place = after_item(text, *item, place);
+    for token in tokens {
+        place = after_token(text, *token, gap_at, place);
+        gap_at = token.stop;
     }
     place
 }
@@ -151,86 +161,58 @@ fn after_plain(at: Place, piece: &[u8]) -> Place
     }
 }
 
-/// The place behind items that take the bytes between two offsets. Where all of these are ASCII
+/// The place behind tokens that take the bytes between two offsets. Where all of these are ASCII
 /// without CR, they are one piece.
-fn after_items(text: &[u8], items: &[Item], from: u32, to: u32, at: Place) -> Place
-    requires { IsStretch text.now items.now from to at }
-    ensures value { result ≡ after_pairs at (pairs_of text.now items.now) }
+fn after_tokens(text: &[u8], tokens: &[Token], from: u32, to: u32, at: Place) -> Place
+    requires { IsStretch text.now tokens.now from to at }
+    ensures value { result ≡ after_pairs at (pairs_from text.now from tokens.now) }
     ensures reached { IsReached result to }
 {
     let bytes = part(text, from, to);
-    if is_plain(bytes) & !has_mark(items) {
+    if is_plain(bytes) & !has_mark(tokens) {
         after_plain(at, bytes)
     } else {
-        after_each(text, items, at)
+        after_each(text, tokens, from, at)
     }
 }
 
-/// Where the gap of an item begins, or the gap behind the last item.
-fn offset(items: &[Item], last_at: u32, i: usize) -> u32
-    ensures { result ≡ offset items.now last_at i }
-{
-    match items.get(i) {
-        Some(item) => item.gap_at,
-        None => last_at,
-    }
-}
-
-/// The milestones of a text with its items: one pass over the text.
+/// The milestones of a text with its tokens: one pass over the text.
 pub(crate) fn milestones(
     alloc: Global,
     text: &[u8],
-    items: &[Item],
-    last_at: u32,
+    tokens: &[Token],
 ) -> Result<Vec<Milestone>, AllocError>
-    requires { IsOrdered text.now items.now last_at }
+    requires { (last : ℕ) × IsOrdered text.now tokens.now last }
     ensures { IfOk result
-        (λ milestones. AreMilestones (pairs_of text.now items.now) milestones.items) }
+        (λ milestones. AreMilestones (pairs_of text.now tokens.now) milestones.items) }
 {
-    let mut milestones = Vec::with_capacity(alloc, items.len() / SPACING + 1)?;
+    let mut milestones = Vec::with_capacity(alloc, tokens.len() / SPACING + 1)?;
     let mut at = Place { line: 1, column: 1 };
     let mut from = 0;
-    while from < items.len() {
+    while from < tokens.len() {
         milestones.push(Milestone {
             line: at.line as u32,
             column: at.column as u32,
         })?;
-        let to = items.len().min(from + SPACING);
-        let stretch = stretch(items, from, to);
-        at = after_items(
-            text,
-            stretch,
-            offset(items, last_at, from),
-            offset(items, last_at, to),
-            at,
-        );
+        let to = tokens.len().min(from + SPACING);
+        let stretch = stretch(tokens, from, to);
+        at = after_tokens(text, stretch, gap_at(tokens, from), gap_at(tokens, to), at);
         from = to;
     }
     Ok(milestones)
 }
 
 /// The place of a token, from the milestone before it on.
-pub(crate) fn place_at(
-    text: &[u8],
-    items: &[Item],
-    last_at: u32,
-    milestones: &[Milestone],
-    i: usize,
-) -> Place
-    requires kept { IsKept text.now items.now last_at milestones.now }
-    requires within { i < length items.now }
-    ensures { result ≡ place_of (pairs_of text.now items.now) i }
+pub(crate) fn place_at(text: &[u8], tokens: &[Token], milestones: &[Milestone], i: usize) -> Place
+    requires kept { (last : ℕ) × IsKept text.now tokens.now last milestones.now }
+    requires within { i < length tokens.now }
+    ensures { result ≡ place_of (pairs_of text.now tokens.now) i }
 {
     let from = i / SPACING * SPACING;
-    let item = items[i];
-    let stretch = stretch(items, from, i);
+    let token = tokens[i];
+    let begins = gap_at(tokens, i);
+    let stretch = stretch(tokens, from, i);
     let place = milestones[i / SPACING].place();
-    let at = after_items(
-        text,
-        stretch,
-        offset(items, last_at, from),
-        item.gap_at,
-        place,
-    );
-    after_piece(at, part(text, item.gap_at, item.start))
+    let at = after_tokens(text, stretch, gap_at(tokens, from), begins, place);
+    after_piece(at, part(text, begins, token.start))
 }

@@ -12,8 +12,9 @@ use crate::graphemes::clusters;
 use crate::item::Item;
 use crate::join_table::joins;
 use crate::kind::Kind;
-use crate::milestone::{Milestone, milestones, part, place_at};
+use crate::milestone::{Milestone, gap_at, milestones, part, place_at};
 use crate::place::Place;
+use crate::token::Token;
 use std::alloc::{AllocError, Global};
 use std::marker::Model;
 
@@ -26,7 +27,7 @@ pub const MAX_TEXT: usize = 16_777_216;
 #[derive(Drop)]
 pub struct Tokens<'t> {
     text: &'t [u8],
-    items: Vec<Item>,
+    tokens: Vec<Token>,
     last_at: u32,
     milestones: Vec<Milestone>,
 }
@@ -34,9 +35,9 @@ pub struct Tokens<'t> {
 impl<'t> Model for Tokens<'t> {
     ghost Value = { CutText };
 
-    ghost view = { λ t. cut_text t.text.now t.items.items t.last_at };
+    ghost view = { λ t. cut_text t.text.now t.tokens.items t.last_at };
 
-    ghost invariant = { λ t. IsKept t.text.now t.items.items t.last_at t.milestones.items };
+    ghost invariant = { λ t. IsKept t.text.now t.tokens.items t.last_at t.milestones.items };
 }
 
 impl<'t> Tokens<'t> {
@@ -45,32 +46,32 @@ impl<'t> Tokens<'t> {
     pub fn new(
         alloc: Global,
         text: &'t [u8],
-        items: Vec<Item>,
+        tokens: Vec<Token>,
         last_at: usize,
     ) -> Result<Tokens<'t>, AllocError>
-        requires order { InOrder 0 items.items last_at }
+        requires order { InOrder 0 tokens.items last_at }
         requires within { last_at ≤ length text.now }
         requires short { length text.now ≤ MAX_TEXT }
-        requires utf8 { AreUtf8 (pairs_of text.now items.items) }
+        requires utf8 { AreUtf8 (pairs_of text.now tokens.items) }
         ensures text { IfOk result (λ t. t.text ≡ text.now) }
-        ensures pairs { IfOk result (λ t. t.pairs ≡ pairs_of text.now items.items) }
+        ensures pairs { IfOk result (λ t. t.pairs ≡ pairs_of text.now tokens.items) }
         ensures last { IfOk result (λ t. t.last ≡ drop last_at text.now) }
     {
         let last_at = last_at as u32;
-        let milestones = milestones(alloc, text, &items, last_at)?;
+        let milestones = milestones(alloc, text, &tokens)?;
         Ok(Tokens {
             text,
-            items,
+            tokens,
             last_at,
             milestones,
         })
     }
 
     /// The memory of the tokens, which are given up: an empty list with room for as many.
-    pub fn into_room(self) -> Vec<Item>
+    pub fn into_room(self) -> Vec<Token>
         ensures { result.items ≡ [] }
     {
-        let mut room = self.items;
+        let mut room = self.tokens;
         room.clear();
         room
     }
@@ -89,14 +90,14 @@ impl<'t> Tokens<'t> {
     pub fn len(&self) -> usize
         ensures { result ≡ length self.now.pairs }
     {
-        self.items.len()
+        self.tokens.len()
     }
 
     /// Whether there is no token.
     pub fn is_empty(&self) -> bool
         ensures { IsTrue result ↔ (self.now.pairs ≡ []) }
     {
-        self.items.is_empty()
+        self.tokens.is_empty()
     }
 
     /// Where token `i` and the gap before it stand, in bytes from 0, and the kind of the token.
@@ -104,7 +105,13 @@ impl<'t> Tokens<'t> {
         requires { i < length self.now.pairs }
         ensures { Some result ≡ item_of self.now.pairs i }
     {
-        self.items[i]
+        let token = self.tokens[i];
+        Item {
+            gap_at: gap_at(&self.tokens, i),
+            start: token.start,
+            stop: token.stop,
+            kind: token.kind,
+        }
     }
 
     /// The kind of token `i`.
@@ -112,8 +119,8 @@ impl<'t> Tokens<'t> {
         requires { i < length self.now.pairs }
         ensures { Some result ≡ kind_of self.now.pairs i }
     {
-        let item = self.items[i];
-        item.kind
+        let token = self.tokens[i];
+        token.kind
     }
 
     /// The text of token `i`.
@@ -122,8 +129,8 @@ impl<'t> Tokens<'t> {
         ensures value { Some result.now ≡ spelling_of self.now.pairs i }
         ensures utf8 { IsUtf8 result.now }
     {
-        let item = self.items[i];
-        part(self.text, item.start, item.stop)
+        let token = self.tokens[i];
+        part(self.text, token.start, token.stop)
     }
 
     /// The gap before token `i`.
@@ -132,8 +139,8 @@ impl<'t> Tokens<'t> {
         ensures value { Some result.now ≡ gap_of self.now.pairs i }
         ensures utf8 { IsUtf8 result.now }
     {
-        let item = self.items[i];
-        part(self.text, item.gap_at, item.start)
+        let token = self.tokens[i];
+        part(self.text, gap_at(&self.tokens, i), token.start)
     }
 
     /// The gap behind the last token.
@@ -172,6 +179,6 @@ impl<'t> Tokens<'t> {
         requires { i < length self.now.pairs }
         ensures { result ≡ place_of self.now.pairs i }
     {
-        place_at(self.text, &self.items, self.last_at, &self.milestones, i)
+        place_at(self.text, &self.tokens, &self.milestones, i)
     }
 }

@@ -11,7 +11,7 @@ use crate::fault::FixFault;
 use crate::searched::Searched;
 use crate::text::findings;
 use hcl_scan::laws::{no_cut_with_fault, one_cut};
-use hcl_scan::{Item, scan, scan_in};
+use hcl_scan::{Token, scan, scan_in};
 use std::alloc::Global;
 use tf_rule::{Rule, RuleSet};
 
@@ -45,7 +45,7 @@ fn search_again<'t>(
     alloc: Global,
     text: &'t [u8],
     before: &Searched<'_>,
-    room: Vec<Item>,
+    room: Vec<Token>,
 ) -> Result<Searched<'t>, FixFault>
     requires { (p : Parsed) × IsOf p before.now }
     ensures searched { IfOk result (λ searched. (p : Parsed) × Reads text.now p × IsOf p searched) }
@@ -81,7 +81,7 @@ pub fn search_made<'t>(
     alloc: Global,
     text: &'t [u8],
     before: &Searched<'_>,
-    room: Vec<Item>,
+    room: Vec<Token>,
     rule: Rule,
 ) -> Result<Searched<'t>, FixFault>
     requires { (p : Parsed) × IsOf p before.now }

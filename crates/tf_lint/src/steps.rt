@@ -21,7 +21,7 @@ use crate::step::{NewText, Step, one_step};
 use edit_list::Edits;
 use edit_list::laws::turned_texts_have_the_lengths;
 use edit_squash::{Unmet, squash};
-use hcl_scan::Item;
+use hcl_scan::Token;
 use std::alloc::Global;
 use tf_rule::{Rule, RuleSet};
 
@@ -140,7 +140,7 @@ fn pass<'t, 'o>(
     alloc: Global,
     text: &'t [u8],
     before: &Searched<'_>,
-    spare: Vec<Item>,
+    spare: Vec<Token>,
     order: &'o [Rule],
     by: Rule,
     count: usize,
@@ -176,7 +176,7 @@ struct Ended {
 fn run(
     alloc: Global,
     before: Searched<'_>,
-    spare: Vec<Item>,
+    spare: Vec<Token>,
     done: NewText,
     order: &[Rule],
     by: Rule,

@@ -1,12 +1,12 @@
 -- Places found by going forward over the tokens, and those that are kept along the way.
 use Rattle.std.specs.Prelude.{◌≡◌, ℕ, zero, suc, ◌+◌, ◌*◌, ◌<◌, ◌≤◌, ◌==◌, Bool, List, [], ◌∷◌, length, take, count_by, slice_index_or, if◌then◌else◌}
 use Rattle.std.specs.List.{list_any}
-use Rattle.hcl_token.specs.declared.item.Item.{Item}
 use Rattle.hcl_token.specs.declared.milestone.Milestone.{Milestone}
 use Rattle.hcl_token.specs.declared.place.Place.{Place}
+use Rattle.hcl_token.specs.declared.token.Token.{Token}
 use Rattle.hcl_token.specs.declared.tokens.TheConstants.{MAX_TEXT}
 use Rattle.hcl_token.specs.Tokens.{Pair}
-use Rattle.hcl_token.specs.Items.{pairs_of, InOrder}
+use Rattle.hcl_token.specs.Items.{pairs_from, pairs_of, InOrder}
 use Rattle.hcl_token.specs.CutText.{AreUtf8}
 use Rattle.hcl_token.specs.Place.{clusters, is_lf, is_mark, last_line}
 
@@ -30,27 +30,31 @@ abbrev pub after_pairs : Place → List Pair → Place
 after_pairs at [] = at
 after_pairs at (p ∷ ps) = after_pairs (after_pair at p) ps
 
-abbrev pub has_mark : List Item → Bool
-has_mark items = list_any (λ (item : Item). is_mark item.kind) items
+abbrev pub has_mark : List Token → Bool
+has_mark tokens = list_any (λ (token : Token). is_mark token.kind) tokens
 
 -- a place that can be reached behind so many bytes
 pub record IsReached (at : Place) (bytes : ℕ) : Type 0 where
   pub line : at.line ≤ 1 + bytes
   pub column : at.column ≤ 1 + bytes
 
--- items that stand in a text between two offsets, and the place of the first of these
-pub record IsStretch (text : List ℕ) (items : List Item) (from to : ℕ) (at : Place) : Type 0 where
-  pub order : InOrder from items to
+-- tokens that stand in a text between two places in bytes, and line and column of the first place
+pub record IsStretch (text : List ℕ) (tokens : List Token) (from to : ℕ) (at : Place) : Type 0 where
+  pub order : InOrder from tokens to
   pub within : to ≤ length text
   pub short : length text ≤ MAX_TEXT
-  pub utf8 : AreUtf8 (pairs_of text items)
+  pub utf8 : AreUtf8 (pairs_from text from tokens)
   pub reached : IsReached at from
 
--- where the gap of item i begins, or the gap behind the last item
-abbrev pub offset : List Item → ℕ → ℕ → ℕ
-offset [] last i = last
-offset (item ∷ items) last zero = item.gap_at
-offset (item ∷ items) last (suc i) = offset items last i
+-- where the gap before token i begins, or the gap behind the last token, if the first gap begins at
+-- a place
+abbrev pub gap_from : ℕ → List Token → ℕ → ℕ
+gap_from at [] i = at
+gap_from at (token ∷ tokens) zero = at
+gap_from at (token ∷ tokens) (suc i) = gap_from token.stop tokens i
+
+abbrev pub gap_at : List Token → ℕ → ℕ
+gap_at tokens i = gap_from 0 tokens i
 
 abbrev pub milestone_place : Milestone → Place
 milestone_place milestone = record { line = milestone.line; column = milestone.column }
@@ -66,15 +70,15 @@ pub record AreMilestones (pairs : List Pair) (milestones : List Milestone) : Typ
   pub right : (k : ℕ) → k < length milestones → IsMilestone pairs milestones k
   pub enough : length pairs ≤ 64 * length milestones
 
--- a text with items in order
-pub record IsOrdered (text : List ℕ) (items : List Item) (last_at : ℕ) : Type 0 where
-  pub order : InOrder 0 items last_at
+-- a text with tokens in order
+pub record IsOrdered (text : List ℕ) (tokens : List Token) (last_at : ℕ) : Type 0 where
+  pub order : InOrder 0 tokens last_at
   pub within : last_at ≤ length text
   pub short : length text ≤ MAX_TEXT
-  pub utf8 : AreUtf8 (pairs_of text items)
+  pub utf8 : AreUtf8 (pairs_of text tokens)
 
 -- what is kept of a text with its tokens
-pub record IsKept (text : List ℕ) (items : List Item) (last_at : ℕ)
+pub record IsKept (text : List ℕ) (tokens : List Token) (last_at : ℕ)
     (milestones : List Milestone) : Type 0 where
-  pub ordered : IsOrdered text items last_at
-  pub placed : AreMilestones (pairs_of text items) milestones
+  pub ordered : IsOrdered text tokens last_at
+  pub placed : AreMilestones (pairs_of text tokens) milestones

@@ -1,6 +1,6 @@
 use Rattle.std.proofs.Common.{◌≡◌, ◌+◌, ℕ, List, [], ◌∷◌, ◌++◌, length, slice_range, sym, ap, subst, subst₂, ◌∙◌, inr}
 use Rattle.std.proofs.lemmas.Bool.{iff_false}
-use Rattle.hcl_token.specs.declared.item.Item.{Item}
+use Rattle.hcl_token.specs.declared.token.Token.{Token}
 use Rattle.hcl_scan.specs.declared.mode.Opening.{Opening}
 use Rattle.hcl_scan.specs.Modes.{Mode, mode_of, after}
 use Rattle.hcl_scan.specs.Modes.Mode.{Expression}
@@ -17,9 +17,9 @@ use Rattle.hcl_scan.proofs.cut.cut.Goals as goal
 pub tokens-init : goal.tokens-init
 tokens-init c =
     let text = c.as_bytes-bytes.result.now in
-    let items = c.in_ok-at.ensures.items ∙ ap (λ (x : List Item). x ++ front_items text) (c.in_ok-reserve.ensures.items ∙ c.clear.ensures.items) in
+    let items = c.in_ok-at.ensures.items ∙ ap (λ (x : List Token). x ++ front_items text) (c.in_ok-reserve.ensures.items ∙ c.clear.ensures.items) in
     let none = c.new-openings.ensures.items in
-    let begun = subst₂ (λ (x : List Item) n. IsCutTo text x n [] []) (sym items) (sym c.in_ok-at.ensures.length) (started text c.as_bytes-bytes.ensures.utf8) in
+    let begun = subst₂ (λ (x : List Token) n. IsCutTo text x n [] []) (sym items) (sym c.in_ok-at.ensures.length) (started text c.as_bytes-bytes.ensures.utf8) in
     record {
       cut = subst (λ (o : List Opening). IsCutTo text c.push_mark.new.items.items c.in_ok-at.at (modes_of o) (places_of o)) (sym none) begun;
       mode = sym (ap (λ (o : List Opening). mode_of (modes_of o)) none);
@@ -79,11 +79,11 @@ tokens-preserved c =
     let pushed = c.in_ok-push-in-Some.ensures.items in
     let shifted = c.opens_or_closes.ensures.modes (slice_range text start stop) modes c.if-opens_or_closes.false in
     let placed = c.opens_or_closes.ensures.places start modes places c.if-opens_or_closes.false in
-    let item : Item = record { gap_at = at; start = start; stop = stop; kind = kind } in
+    let item : Token = record { start = start; stop = stop; kind = kind } in
     let items = c.tokens.items.items ++ item ∷ [] in
     let next = subst₂ (λ (m : List Mode) (o : List ℕ). IsCutTo text items stop m o) shifted placed more.1 in
     record {
-      cut = subst₂ (λ (x : List ℕ) (xs : List Item). IsCutTo x xs stop modes places) (sym same) (sym pushed) next;
+      cut = subst₂ (λ (x : List ℕ) (xs : List Token). IsCutTo x xs stop modes places) (sym same) (sym pushed) next;
       mode = mode;
     }
 
@@ -106,10 +106,10 @@ tokens-preserved-in_ok-shift-in-Some c =
     let spelling = rw same at c.part.ensures in
     let shifted = c.in_ok-shift-in-Some.ensures.modes ∙ ap (λ (s : List ℕ). after kind s modes) spelling in
     let placed = c.in_ok-shift-in-Some.ensures.places in
-    let item : Item = record { gap_at = at; start = start; stop = stop; kind = kind } in
+    let item : Token = record { start = start; stop = stop; kind = kind } in
     let items = c.tokens.items.items ++ item ∷ [] in
     let next = subst₂ (λ (m : List Mode) (o : List ℕ). IsCutTo text items stop m o) (sym shifted) (sym placed) more.1 in
     record {
-      cut = subst₂ (λ (x : List ℕ) (xs : List Item). IsCutTo x xs stop (modes_of c.shift.new.openings.items) (places_of c.shift.new.openings.items)) (sym same) (sym pushed) next;
+      cut = subst₂ (λ (x : List ℕ) (xs : List Token). IsCutTo x xs stop (modes_of c.shift.new.openings.items) (places_of c.shift.new.openings.items)) (sym same) (sym pushed) next;
       mode = c.mode_of-mode.ensures ∙ ap (λ x. mode_of (modes_of x)) c.deref-then-opens_or_closes.ensures.value;
     }

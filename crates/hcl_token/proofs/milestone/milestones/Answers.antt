@@ -1,35 +1,37 @@
 use Rattle.std.proofs.Common.{List, refl, ap, ◌∙◌, arith}
-use Rattle.hcl_token.specs.declared.item.Item.{Item}
-use Rattle.hcl_token.specs.Items.{pairs_of}
-use Rattle.hcl_token.specs.Inner.Milestones.{after_pairs}
+use Rattle.hcl_token.specs.declared.token.Token.{Token}
+use Rattle.hcl_token.specs.Items.{pairs_from}
+use Rattle.hcl_token.specs.Inner.Milestones.{after_pairs, gap_at}
 use Rattle.hcl_token.proofs.MilestoneLemmas.{reached_fits, stored_reached, stored_none, stored_step, stored_end, stretch_of}
 use Rattle.hcl_token.proofs.milestone.milestones.Goals as goal
 
 pub loop-from-init : goal.loop-from-init
-loop-from-init c = stored_none c.args.text.now c.args.items.now c.in_ok-milestones.milestones.items c.in_ok-milestones.ensures.items
+loop-from-init c = stored_none c.args.text.now c.args.tokens.now c.in_ok-milestones.milestones.items c.in_ok-milestones.ensures.items
 
 pub overflow_cast-at : goal.overflow_cast-at
 overflow_cast-at c =
-    let reached = stored_reached c.args.text.now c.args.items.now c.args.last_at _ _ _ c.requires c.loop-from.invariant in
-    omega (arith, (reached_fits c.loop-from.at c.args.items.now c.args.text.now c.args.last_at c.loop-from.from c.requires reached).0)
+    let reached = stored_reached c.args.text.now c.args.tokens.now c.requires.0 _ _ _ c.requires.1 c.loop-from.invariant in
+    omega (arith, (reached_fits c.loop-from.at c.args.tokens.now c.args.text.now c.requires.0 c.loop-from.from c.requires.1 reached).0)
 
 pub overflow_cast-at-in-loop-from : goal.overflow_cast-at-in-loop-from
 overflow_cast-at-in-loop-from c =
-    let reached = stored_reached c.args.text.now c.args.items.now c.args.last_at _ _ _ c.requires c.loop-from.invariant in
-    omega (arith, (reached_fits c.loop-from.at c.args.items.now c.args.text.now c.args.last_at c.loop-from.from c.requires reached).1)
+    let reached = stored_reached c.args.text.now c.args.tokens.now c.requires.0 _ _ _ c.requires.1 c.loop-from.invariant in
+    omega (arith, (reached_fits c.loop-from.at c.args.tokens.now c.args.text.now c.requires.0 c.loop-from.from c.requires.1 reached).1)
 
-pub after_items-at-requires : goal.after_items-at-requires
-after_items-at-requires c =
-    let reached = stored_reached c.args.text.now c.args.items.now c.args.last_at _ _ _ c.requires c.loop-from.invariant in
-    rw (c.stretch-stretch.ensures, c.offset.ensures, c.offset-in-loop-from.ensures)
-    (stretch_of c.args.text.now c.args.items.now c.args.last_at c.loop-from.from c.min-to.result c.loop-from.at c.requires (omega (arith, c.min-to.ensures, c.loop-from-test.true)) reached)
+pub after_tokens-at-requires : goal.after_tokens-at-requires
+after_tokens-at-requires c =
+    let reached = stored_reached c.args.text.now c.args.tokens.now c.requires.0 _ _ _ c.requires.1 c.loop-from.invariant in
+    rw (c.stretch-stretch.ensures, c.gap_at.ensures, c.gap_at-in-loop-from.ensures)
+    (stretch_of c.args.text.now c.args.tokens.now c.requires.0 c.loop-from.from c.min-to.result c.loop-from.at c.requires.1 (omega (arith, c.min-to.ensures, c.loop-from-test.true)) reached)
 
 pub loop-from-preserved : goal.loop-from-preserved
 loop-from-preserved c =
-    stored_step c.args.text.now c.args.items.now c.loop-from.milestones.items c.push.new.self.items c.loop-from.from c.min-to.result c.loop-from.at c.after_items-at.result
+    stored_step c.args.text.now c.args.tokens.now c.loop-from.milestones.items c.push.new.self.items c.loop-from.from c.min-to.result c.loop-from.at c.after_tokens-at.result
     (record { line = c.loop-from.at.line; column = c.loop-from.at.column })
     c.loop-from.invariant c.loop-from-test.true c.min-to.ensures c.in_ok-push.ensures.items refl
-    (c.after_items-at.ensures.value ∙ ap (λ (l : List Item). after_pairs c.loop-from.at (pairs_of c.args.text.now l)) c.stretch-stretch.ensures)
+    (c.after_tokens-at.ensures.value
+    ∙ ap (λ n. after_pairs c.loop-from.at (pairs_from c.args.text.now n c.stretch-stretch.result.now)) c.gap_at.ensures
+    ∙ ap (λ (l : List Token). after_pairs c.loop-from.at (pairs_from c.args.text.now (gap_at c.args.tokens.now c.loop-from.from) l)) c.stretch-stretch.ensures)
 
 pub returns : goal.returns
-returns c = stored_end c.args.text.now c.args.items.now c.loop-from.milestones.items c.loop-from.from c.loop-from.at c.loop-from.invariant c.loop-from-test.false
+returns c = stored_end c.args.text.now c.args.tokens.now c.loop-from.milestones.items c.loop-from.from c.loop-from.at c.loop-from.invariant c.loop-from-test.false

@@ -1,73 +1,78 @@
 use Rattle.std.proofs.Common.{◌≡◌, ◌+◌, ◌*◌, ◌/◌, ◌-◌, ℕ, List, length, refl, sym, ap, subst, ◌∙◌, arith, slice_range, IsUtf8, take, get_or}
 use Rattle.hcl_token.specs.declared.kind.Kind.TheVariants.{Mark}
-use Rattle.hcl_token.specs.declared.item.Item.{Item}
 use Rattle.hcl_token.specs.declared.place.Place.{Place}
-use Rattle.hcl_token.specs.Items.{pair_at, pairs_of}
-use Rattle.hcl_token.specs.Inner.Milestones.{IsReached, after_pairs, after_piece, first_place, offset}
-use Rattle.hcl_token.proofs.ItemLemmas.{item_at, length-range}
+use Rattle.hcl_token.specs.declared.token.Token.{Token}
+use Rattle.hcl_token.specs.Items.{pair_at, pairs_from, pairs_of}
+use Rattle.hcl_token.specs.Inner.Milestones.{IsReached, after_pairs, after_piece, first_place, gap_at}
+use Rattle.hcl_token.proofs.OrderLemmas.{token_at, length-range}
 use Rattle.hcl_token.proofs.PlaceLemmas.{place_found}
 use Rattle.hcl_token.proofs.StretchLemmas.{after_pairs-slice}
 use Rattle.hcl_token.proofs.MilestoneLemmas.{front_reached, milestone_at, stretch_of}
 use Rattle.hcl_token.proofs.milestone.place_at.Goals as goal
 
--- what a look-up names where there is no item
-abbrev none : Item
-none = record { gap_at = 0; start = 0; stop = 0; kind = Mark }
+-- what a look-up names where there is no token
+abbrev none : Token
+none = record { start = 0; stop = 0; kind = Mark }
 
-pub after_items-at-requires : goal.after_items-at-requires
-after_items-at-requires c =
+pub bounds-milestones-i : goal.bounds-milestones-i
+bounds-milestones-i c = (milestone_at c.args.text.now c.args.tokens.now c.args.milestones.now c.args.i (record { line = 0; column = 0 }) c.requires.kept.1.placed c.requires.within).0
+
+pub after_tokens-at-requires : goal.after_tokens-at-requires
+after_tokens-at-requires c =
     let text = c.args.text.now in
-    let items = c.args.items.now in
-    let o = c.requires.kept.ordered in
-    let known = item_at text items c.args.last_at c.args.i (get_or c.args.items.now c.args.i none) none o c.requires.within refl in
+    let tokens = c.args.tokens.now in
+    let o = c.requires.kept.1.ordered in
     let from : ℕ = c.args.i / 64 * 64 in
-    let milestone = c.place-place.ensures ∙ (milestone_at text items c.args.milestones.now c.args.i _ c.requires.kept.placed c.requires.within).1 in
-    let reached : IsReached c.place-place.result (offset items c.args.last_at from) = subst (λ (p : Place). IsReached p (offset items c.args.last_at from)) (sym milestone) (front_reached text items c.args.last_at from o) in
-    let s = stretch_of text items c.args.last_at from c.args.i c.place-place.result o (omega arith) reached in
-    rw (c.stretch-stretch.ensures, c.offset.ensures, known.begins) s
+    let milestone = c.place-place.ensures ∙ (milestone_at text tokens c.args.milestones.now c.args.i _ c.requires.kept.1.placed c.requires.within).1 in
+    let reached : IsReached c.place-place.result (gap_at tokens from) = subst (λ (p : Place). IsReached p (gap_at tokens from)) (sym milestone) (front_reached text tokens c.requires.kept.0 from o) in
+    let s = stretch_of text tokens c.requires.kept.0 from c.args.i c.place-place.result o (omega arith) reached in
+    rw (c.stretch-stretch.ensures, c.gap_at.ensures, c.gap_at-begins.ensures) s
 
 pub part-requires-clause-ordered : goal.part-requires-clause-ordered
 part-requires-clause-ordered c =
-    let known = item_at c.args.text.now c.args.items.now c.args.last_at c.args.i (get_or c.args.items.now c.args.i none) none c.requires.kept.ordered c.requires.within refl in
-    omega (arith, known.gap, known.spelling)
+    let known = token_at c.args.text.now c.args.tokens.now c.requires.kept.0 c.args.i (get_or c.args.tokens.now c.args.i none) none c.requires.kept.1.ordered c.requires.within refl in
+    omega (arith, known.gap, known.spelling, c.gap_at-begins.ensures)
 
 pub part-requires-clause-within : goal.part-requires-clause-within
 part-requires-clause-within c =
-    let known = item_at c.args.text.now c.args.items.now c.args.last_at c.args.i (get_or c.args.items.now c.args.i none) none c.requires.kept.ordered c.requires.within refl in
+    let known = token_at c.args.text.now c.args.tokens.now c.requires.kept.0 c.args.i (get_or c.args.tokens.now c.args.i none) none c.requires.kept.1.ordered c.requires.within refl in
     omega (arith, known.spelling, known.within)
 
 pub after_piece-requires-clause-utf8 : goal.after_piece-requires-clause-utf8
 after_piece-requires-clause-utf8 c =
-    let known = item_at c.args.text.now c.args.items.now c.args.last_at c.args.i (get_or c.args.items.now c.args.i none) none c.requires.kept.ordered c.requires.within refl in
-    subst IsUtf8 (sym c.part.ensures) known.gap_utf8
+    let known = token_at c.args.text.now c.args.tokens.now c.requires.kept.0 c.args.i (get_or c.args.tokens.now c.args.i none) none c.requires.kept.1.ordered c.requires.within refl in
+    subst IsUtf8 (sym (c.part.ensures ∙ ap (λ n. slice_range c.args.text.now n (get_or c.args.tokens.now c.args.i none).start) c.gap_at-begins.ensures)) known.gap_utf8
 
 pub after_piece-requires-clause-line : goal.after_piece-requires-clause-line
 after_piece-requires-clause-line c =
-    let known = item_at c.args.text.now c.args.items.now c.args.last_at c.args.i (get_or c.args.items.now c.args.i none) none c.requires.kept.ordered c.requires.within refl in
-    let width = length-range c.args.text.now _ _ known.gap (omega (arith, known.spelling, known.within)) in
-    omega (arith, ap length c.part.ensures, width, known.gap, known.spelling, known.within, c.requires.kept.ordered.short, c.after_items-at.ensures.reached.line)
+    let known = token_at c.args.text.now c.args.tokens.now c.requires.kept.0 c.args.i (get_or c.args.tokens.now c.args.i none) none c.requires.kept.1.ordered c.requires.within refl in
+    let width = length-range c.args.text.now c.gap_at-begins.result (get_or c.args.tokens.now c.args.i none).start (omega (arith, known.gap, c.gap_at-begins.ensures)) (omega (arith, known.spelling, known.within)) in
+    omega (arith, ap length c.part.ensures, width, known.gap, known.spelling, known.within, c.gap_at-begins.ensures, c.requires.kept.1.ordered.short, c.after_tokens-at.ensures.reached.line)
 
 pub after_piece-requires-clause-column : goal.after_piece-requires-clause-column
 after_piece-requires-clause-column c =
-    let known = item_at c.args.text.now c.args.items.now c.args.last_at c.args.i (get_or c.args.items.now c.args.i none) none c.requires.kept.ordered c.requires.within refl in
-    let width = length-range c.args.text.now _ _ known.gap (omega (arith, known.spelling, known.within)) in
-    omega (arith, ap length c.part.ensures, width, known.gap, known.spelling, known.within, c.requires.kept.ordered.short, c.after_items-at.ensures.reached.column)
+    let known = token_at c.args.text.now c.args.tokens.now c.requires.kept.0 c.args.i (get_or c.args.tokens.now c.args.i none) none c.requires.kept.1.ordered c.requires.within refl in
+    let width = length-range c.args.text.now c.gap_at-begins.result (get_or c.args.tokens.now c.args.i none).start (omega (arith, known.gap, c.gap_at-begins.ensures)) (omega (arith, known.spelling, known.within)) in
+    omega (arith, ap length c.part.ensures, width, known.gap, known.spelling, known.within, c.gap_at-begins.ensures, c.requires.kept.1.ordered.short, c.after_tokens-at.ensures.reached.column)
 
 pub returns : goal.returns
 returns c =
     let text = c.args.text.now in
-    let items = c.args.items.now in
-    let known = item_at text items c.args.last_at c.args.i (get_or c.args.items.now c.args.i none) none c.requires.kept.ordered c.requires.within refl in
+    let tokens = c.args.tokens.now in
+    let token : Token = get_or tokens c.args.i none in
+    let known = token_at text tokens c.requires.kept.0 c.args.i token none c.requires.kept.1.ordered c.requires.within refl in
     let from : ℕ = c.args.i / 64 * 64 in
-    let milestone = c.place-place.ensures ∙ (milestone_at text items c.args.milestones.now c.args.i _ c.requires.kept.placed c.requires.within).1 in
+    let milestone = c.place-place.ensures ∙ (milestone_at text tokens c.args.milestones.now c.args.i _ c.requires.kept.1.placed c.requires.within).1 in
     let end : from + (c.args.i - from) ≡ c.args.i = omega arith in
-    let before : c.after_items-at.result ≡ after_pairs first_place (take c.args.i (pairs_of text items)) =
-    c.after_items-at.ensures.value
-    ∙ ap (λ (l : List Item). after_pairs c.place-place.result (pairs_of text l)) c.stretch-stretch.ensures
-    ∙ ap (λ (p : Place). after_pairs p (pairs_of text (slice_range items from c.args.i))) milestone
-    ∙ after_pairs-slice text items first_place from (c.args.i - from)
-    ∙ ap (λ n. after_pairs first_place (take n (pairs_of text items))) end in
+    let before : c.after_tokens-at.result ≡ after_pairs first_place (take c.args.i (pairs_of text tokens)) =
+    c.after_tokens-at.ensures.value
+    ∙ ap (λ n. after_pairs c.place-place.result (pairs_from text n c.stretch-stretch.result.now)) c.gap_at.ensures
+    ∙ ap (λ (l : List Token). after_pairs c.place-place.result (pairs_from text (gap_at tokens from) l)) c.stretch-stretch.ensures
+    ∙ ap (λ (p : Place). after_pairs p (pairs_from text (gap_at tokens from) (slice_range tokens from c.args.i))) milestone
+    ∙ after_pairs-slice text tokens 0 first_place from (c.args.i - from)
+    ∙ ap (λ n. after_pairs first_place (take n (pairs_of text tokens))) end in
     c.after_piece.ensures.value
-    ∙ ap (after_piece c.after_items-at.result) c.part.ensures
-    ∙ ap (λ (p : Place). after_piece p (slice_range text (get_or items c.args.i none).gap_at (get_or items c.args.i none).start)) before
-    ∙ place_found (pairs_of text items) c.args.i (pair_at text (get_or items c.args.i none)) known.pair
+    ∙ ap (after_piece c.after_tokens-at.result) c.part.ensures
+    ∙ ap (λ n. after_piece c.after_tokens-at.result (slice_range text n token.start)) c.gap_at-begins.ensures
+    ∙ ap (λ (p : Place). after_piece p (slice_range text (gap_at tokens c.args.i) token.start)) before
+    ∙ place_found (pairs_of text tokens) c.args.i (pair_at text (gap_at tokens c.args.i) token) known.pair

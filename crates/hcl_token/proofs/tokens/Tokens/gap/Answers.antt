@@ -1,24 +1,36 @@
-use Rattle.std.proofs.Common.{Some, sym, ap, subst, ◌∙◌, arith, IsUtf8}
+use Rattle.std.proofs.Common.{List, Some, sym, ap, subst, ◌∙◌, arith, IsUtf8, slice_range}
 use Rattle.std.specs.Option.{option_map}
+use Rattle.hcl_token.specs.declared.token.Token.{Token}
 use Rattle.hcl_token.specs.Tokens.{Pair}
-use Rattle.hcl_token.proofs.TokensLemmas.{known_item, known_pair}
+use Rattle.hcl_token.specs.Inner.Milestones.{gap_at}
+use Rattle.hcl_token.proofs.TokensLemmas.{known_token, known_pair, number_is}
 use Rattle.hcl_token.proofs.tokens.Tokens.gap.Goals as goal
+
+pub index-token-requires : goal.index-token-requires
+index-token-requires c = omega (arith, c.requires, number_is _ _ _ _ _ (record { view = c.self.view_is; kept = c.self.invariant }))
+
+pub gap_at-requires : goal.gap_at-requires
+gap_at-requires c = omega (arith, c.requires, number_is _ _ _ _ _ (record { view = c.self.view_is; kept = c.self.invariant }))
 
 pub part-requires-clause-ordered : goal.part-requires-clause-ordered
 part-requires-clause-ordered c =
-    let known = known_item _ _ _ _ _ _ _ (record { view = c.self.view_is; kept = c.self.invariant }) c.requires c.index-item.ensures in
-    omega (arith, known.gap, known.spelling, known.within)
+    let known = known_token _ _ _ _ _ _ _ (record { view = c.self.view_is; kept = c.self.invariant }) c.requires c.index-token.ensures in
+    omega (arith, known.gap, c.gap_at.ensures ∙ ap (λ (l : List Token). gap_at l c.args.i) c.deref.ensures.value)
 
 pub part-requires-clause-within : goal.part-requires-clause-within
 part-requires-clause-within c =
-    let known = known_item _ _ _ _ _ _ _ (record { view = c.self.view_is; kept = c.self.invariant }) c.requires c.index-item.ensures in
-    omega (arith, known.gap, known.spelling, known.within)
+    let known = known_token _ _ _ _ _ _ _ (record { view = c.self.view_is; kept = c.self.invariant }) c.requires c.index-token.ensures in
+    omega (arith, known.spelling, known.within)
 
 pub returns-clause-value : goal.returns-clause-value
 returns-clause-value c =
-    let known = known_item _ _ _ _ _ _ _ (record { view = c.self.view_is; kept = c.self.invariant }) c.requires c.index-item.ensures in
-    ap (λ x. Some x) c.part.ensures ∙ sym (ap (option_map (λ (p : Pair). p.gap)) (known_pair _ _ _ _ _ _ _ (record { view = c.self.view_is; kept = c.self.invariant }) known))
+    let known = known_token _ _ _ _ _ _ _ (record { view = c.self.view_is; kept = c.self.invariant }) c.requires c.index-token.ensures in
+    let begins = c.gap_at.ensures ∙ ap (λ (l : List Token). gap_at l c.args.i) c.deref.ensures.value in
+    ap (λ x. Some x) (c.part.ensures ∙ ap (λ n. slice_range c.self.inside.text.now n c.index-token.result.now.start) begins)
+    ∙ sym (ap (option_map (λ (p : Pair). p.gap)) (known_pair _ _ _ _ _ _ _ (record { view = c.self.view_is; kept = c.self.invariant }) known))
 
 pub returns-clause-utf8 : goal.returns-clause-utf8
 returns-clause-utf8 c =
-    subst IsUtf8 (sym c.part.ensures) (known_item _ _ _ _ _ _ _ (record { view = c.self.view_is; kept = c.self.invariant }) c.requires c.index-item.ensures).gap_utf8
+    let known = known_token _ _ _ _ _ _ _ (record { view = c.self.view_is; kept = c.self.invariant }) c.requires c.index-token.ensures in
+    let begins = c.gap_at.ensures ∙ ap (λ (l : List Token). gap_at l c.args.i) c.deref.ensures.value in
+    subst IsUtf8 (sym (c.part.ensures ∙ ap (λ n. slice_range c.self.inside.text.now n c.index-token.result.now.start) begins)) known.gap_utf8

@@ -1,7 +1,16 @@
-use Rattle.hcl_token.proofs.TokensLemmas.{known_item, known_place}
+use Rattle.std.proofs.Common.{List, ap, ◌∙◌, arith}
+use Rattle.hcl_token.specs.declared.token.Token.{Token}
+use Rattle.hcl_token.specs.Inner.Milestones.{gap_at}
+use Rattle.hcl_token.proofs.TokensLemmas.{known_token, known_place, number_is}
 use Rattle.hcl_token.proofs.tokens.Tokens.item.Goals as goal
+
+pub index-token-requires : goal.index-token-requires
+index-token-requires c = omega (arith, c.requires, number_is _ _ _ _ _ (record { view = c.self.view_is; kept = c.self.invariant }))
+
+pub gap_at-requires : goal.gap_at-requires
+gap_at-requires c = omega (arith, c.requires, number_is _ _ _ _ _ (record { view = c.self.view_is; kept = c.self.invariant }))
 
 pub returns : goal.returns
 returns c =
-    let known = known_item _ _ _ _ _ _ _ (record { view = c.self.view_is; kept = c.self.invariant }) c.requires c.index.ensures in
-    known_place _ _ _ _ _ _ _ (record { view = c.self.view_is; kept = c.self.invariant }) known
+    let known = known_token _ _ _ _ _ _ _ (record { view = c.self.view_is; kept = c.self.invariant }) c.requires c.index-token.ensures in
+    known_place _ _ _ _ _ _ _ _ (record { view = c.self.view_is; kept = c.self.invariant }) (c.gap_at.ensures ∙ ap (λ (l : List Token). gap_at l c.args.i) c.deref.ensures.value) known

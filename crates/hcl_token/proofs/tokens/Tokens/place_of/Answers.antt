@@ -1,7 +1,6 @@
--- What the check tries anyway: with an answer here, a wrong body is refused without a second search.
-use Rattle.std.proofs.Common.{rules, arith}
-use Rattle.std.proofs.lemmas.Grind.{common_steps}
+use Rattle.std.proofs.Common.{arith}
+use Rattle.hcl_token.proofs.TokensLemmas.{number_is}
 use Rattle.hcl_token.proofs.tokens.Tokens.place_of.Goals as goal
 
-pub returns : goal.returns
-returns c = first_of (search rules, grind (arith, common_steps))
+pub place_at-requires-clause-within : goal.place_at-requires-clause-within
+place_at-requires-clause-within c = omega (arith, c.requires, number_is _ _ _ _ _ (record { view = c.self.view_is; kept = c.self.invariant }))

@@ -2,9 +2,9 @@ use Rattle.std.proofs.Common.{not, length, sym, ap, subst, ◌∙◌, arith}
 use Rattle.std.proofs.lemmas.Bool.{and_parts, not-true}
 use Rattle.hcl_token.specs.declared.place.Place.{Place}
 use Rattle.hcl_token.specs.Inner.Milestones.{IsReached}
-use Rattle.hcl_token.proofs.ItemLemmas.{order-le}
+use Rattle.hcl_token.proofs.OrderLemmas.{order-le}
 use Rattle.hcl_token.proofs.MilestoneLemmas.{plain_part, stretch_reached, stretch_length}
-use Rattle.hcl_token.proofs.milestone.after_items.Goals as goal
+use Rattle.hcl_token.proofs.milestone.after_tokens.Goals as goal
 
 pub part-bytes-requires-clause-ordered : goal.part-bytes-requires-clause-ordered
 part-bytes-requires-clause-ordered c = order-le _ _ _ c.requires.order

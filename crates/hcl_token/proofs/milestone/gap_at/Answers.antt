@@ -1,0 +1,12 @@
+use Rattle.std.proofs.Common.{◌≡◌, ◌-◌, suc, sym, ap, ◌∙◌, arith}
+use Rattle.hcl_token.specs.Inner.Milestones.{gap_at}
+use Rattle.hcl_token.proofs.OrderLemmas.{gap-first, gap-behind}
+use Rattle.hcl_token.proofs.milestone.gap_at.Goals as goal
+
+pub returns-then-i-eq0 : goal.returns-then-i-eq0
+returns-then-i-eq0 c = sym (ap (gap_at c.args.tokens.now) c.if-i-eq0.true ∙ gap-first c.args.tokens.now 0)
+
+pub returns-else-i-eq0 : goal.returns-else-i-eq0
+returns-else-i-eq0 c =
+    let before : suc (c.args.i - 1) ≡ c.args.i = omega arith in
+    sym (gap-behind c.args.tokens.now 0 (c.args.i - 1) _ (omega arith)) ∙ ap (gap_at c.args.tokens.now) before
