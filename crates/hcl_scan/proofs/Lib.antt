@@ -16,6 +16,7 @@ pub mod HereLemmas
 pub mod HerePlaces
 pub mod HereSound
 pub mod IdentLemmas
+pub mod LineLemmas
 pub mod Longest
 pub mod MarkerLemmas
 pub mod Neighbours

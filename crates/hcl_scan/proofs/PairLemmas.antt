@@ -46,7 +46,7 @@ markers_behind (p ∷ ps) modes left rest h c =
 
 -- ---- places
 
-abbrev modes_behind : List Mode → List Pair → List Mode
+abbrev pub modes_behind : List Mode → List Pair → List Mode
 modes_behind modes [] = modes
 modes_behind modes (p ∷ ps) = modes_behind (after p.kind p.spelling modes) ps
 

@@ -5,6 +5,7 @@
 //! `laws` says.
 #![tactic(auto)]
 
+mod again;
 mod bytes;
 mod cut;
 mod fault;
@@ -18,6 +19,7 @@ mod runs;
 mod scanned;
 mod token;
 
+pub use again::{Replaced, scan_again};
 pub use fault::ScanFault;
 pub use hcl_token::{Item, Kind, MAX_TEXT, Place, Token};
 pub use scanned::{Scanned, scan, scan_in};

@@ -18,7 +18,7 @@ use std::marker::Model;
 /// Tokens are numbered from 0. No call takes memory.
 #[derive(Drop)]
 pub struct Scanned<'t> {
-    tokens: Tokens<'t>,
+    pub(crate) tokens: Tokens<'t>,
 }
 
 impl<'t> Model for Scanned<'t> {
