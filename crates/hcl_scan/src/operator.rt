@@ -45,11 +45,7 @@ fn compound(first: u8, second: u8, third: u8) -> Option<(Kind, usize)>
     ensures { result ≡ compound first second third }
 {
     match first {
-        b'=' => match second {
-            b'=' => Some((Kind::DoubleEqual, 2)),
-            b'>' => Some((Kind::FatArrow, 2)),
-            _ => Some((Kind::Equal, 1)),
-        },
+        b'=' => equal(second),
         b'.' => {
             if second == b'.' && third == b'.' {
                 Some((Kind::Ellipsis, 3))
@@ -65,6 +61,17 @@ fn compound(first: u8, second: u8, third: u8) -> Option<(Kind, usize)>
         b'|' if second == b'|' => Some((Kind::Or, 2)),
         b'/' if second != b'*' && second != b'/' => Some((Kind::Slash, 1)),
         _ => None,
+    }
+}
+
+/// An operator that begins with `=`.
+pub fn equal(second: u8) -> Option<(Kind, usize)>
+    ensures { result ≡ compound 61 second 0 }
+{
+    match second {
+        b'=' => Some((Kind::DoubleEqual, 2)),
+        b'>' => Some((Kind::FatArrow, 2)),
+        _ => Some((Kind::Equal, 1)),
     }
 }
 

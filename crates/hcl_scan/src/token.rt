@@ -2,7 +2,7 @@
 
 ghost use Rattle.std.specs.Prelude.{◌≡◌, ◌+◌, ◌<◌, ◌≤◌, length, drop, IsUtf8, Some, IfSome, if◌then◌else◌};
 ghost use Rattle.hcl_token.specs.declared.kind.Kind.TheVariants.{SeqClose, CloseBrace};
-ghost use Rattle.hcl_scan.specs.Inner.Next.{inline_comment, compound, dot_token, punctuation, here_or_less, expression_token, quoted_token, gap_length, token};
+ghost use Rattle.hcl_scan.specs.Inner.Next.{inline_comment, dot_token, punctuation, here_or_less, expression_token, quoted_token, gap_length, token};
 ghost use Rattle.hcl_scan.specs.Inner.Markers.{HasMarker};
 ghost use Rattle.hcl_scan.specs.Inner.Openings.{mode_view};
 ghost use Rattle.hcl_scan.specs.Modes.{closes_sequence};
@@ -12,7 +12,7 @@ use crate::here::{begins_intro, begins_opening, here_open, here_token, opening};
 use crate::ident::{begins_word, identifier, word_len};
 use crate::mode::Mode;
 use crate::number::number_len;
-use crate::operator::operator;
+use crate::operator::{equal, operator};
 use crate::runs::{CommentUnit, InlineUnit, QuoteUnit, run_end};
 use hcl_token::Kind;
 
@@ -71,17 +71,6 @@ fn punctuation(text: &[u8], at: usize, closes: bool) -> Option<(Kind, usize)>
     }
 }
 
-/// An operator that begins with `=`.
-fn equal_token(second: u8) -> Option<(Kind, usize)>
-    ensures { result ≡ compound 61 second 0 }
-{
-    match second {
-        b'=' => Some((Kind::DoubleEqual, 2)),
-        b'>' => Some((Kind::FatArrow, 2)),
-        _ => Some((Kind::Equal, 1)),
-    }
-}
-
 /// The token that begins with a `.`.
 fn dot_token(text: &[u8], at: usize) -> Option<(Kind, usize)>
     requires { at < length text.now }
@@ -114,7 +103,7 @@ fn expression_token(text: &str, at: usize, closes: bool) -> Option<(Kind, usize)
     match first {
         b'\n' => Some((Kind::LineEnd, 1)),
         b'"' => Some((Kind::QuoteOpen, 1)),
-        b'=' => equal_token(byte(bytes, at + 1)),
+        b'=' => equal(byte(bytes, at + 1)),
         b'.' => dot_token(bytes, at),
         b',' => Some((Kind::Comma, 1)),
         b'{' => Some((Kind::OpenBrace, 1)),
