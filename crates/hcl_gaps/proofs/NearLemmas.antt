@@ -1,19 +1,19 @@
 -- The spacing looks at no more than the two nearest tokens before.
-use Rattle.std.proofs.Common.{◌≡◌, ℕ, nat_lt, replicate, ◌*◌, ◌+◌, ◌-◌, ◌<◌, ◌≤◌, Bool, true, false, not, ◌&&◌, ◌||◌, List, [], ◌∷◌, ◌++◌, length, take, drop, slice_range, Some, None, Option, if◌then◌else◌, refl, sym, ap, ap₂, ◌∙◌, arith, append_assoc}
+use Rattle.std.proofs.Common.{◌≡◌, ℕ, nat_lt, ◌*◌, ◌+◌, ◌-◌, ◌<◌, ◌≤◌, Bool, true, false, not, ◌&&◌, ◌||◌, List, [], ◌∷◌, ◌++◌, length, take, drop, slice_range, Some, if◌then◌else◌, refl, sym, ap, ap₂, ◌∙◌, arith, append_assoc}
 use Rattle.std.specs.Prelude.{slice_get, cond}
 use Rattle.std.proofs.lemmas.List.{append-nil}
 use Rattle.std.specs.Option.{option_map, option_and_then}
 use Rattle.hcl_token.specs.declared.kind.Kind.{Kind}
 use Rattle.hcl_token.specs.declared.kind.Kind.TheVariants.{Dot, Star}
 use Rattle.hcl_token.specs.Tokens.{Pair}
-use Rattle.hcl_token.specs.Joins.{joins_with}
 use Rattle.hcl_token.specs.CutText.{kind_of}
-use Rattle.hcl_scan.specs.Follows.{has_no_gap}
 use Rattle.hcl_gaps.specs.Kinds.{is_line_end, is_line_comment, is_identifier, is_open_paren, is_double_colon, is_dot, is_step, is_comma, is_separator, is_open_bracket, takes_index, ends_operand, is_bang, is_minus, is_open_brace, is_close_brace, opens_sequence, is_seq_close, opens_close, closes_close, is_passed_over}
 use Rattle.hcl_gaps.specs.Lines.{Line, lines_from}
 use Rattle.hcl_gaps.specs.Indent.{openings, closings}
 use Rattle.hcl_gaps.specs.Space.{passed, passed_all, behind_identifier, is_splat, behind_operand, is_in, is_spaced}
-use Rattle.hcl_gaps.specs.Inner.Stages.{SplitsLine, held_of, KEPT, near_of, token, space_len, space_len_at, space_lens, spaces_from, line_lens, set_lens, all_lens, open_at, open_behind}
+use Rattle.std.proofs.Common.{take-add, drop-drop, reverse}
+use Rattle.hcl_gaps.specs.Inner.Rows.{IsPastNearest}
+use Rattle.hcl_gaps.specs.Inner.Stages.{SplitsLine, held_of, space_len, space_len_at, space_lens, spaces_from, line_lens, set_lens, all_lens, open_at, open_behind}
 use Rattle.hcl_gaps.proofs.LineLemmas.{Turn, turn, kind_is}
 
 -- the two nearest are the same
@@ -69,48 +69,6 @@ spaced_two before a b =
 pub space_same : (b c : List Kind) (x y : Pair) → AreNear b c → is_spaced b x y ≡ is_spaced c x y
 space_same b c x y h = spaced_two b x y ∙ ap (λ n. is_spaced n x y) h ∙ sym (spaced_two c x y)
 
-pub len_same : (b c : List Kind) (x y : Pair) → AreNear b c → space_len b x y ≡ space_len c x y
-len_same b c x y h = ap (λ t. if has_no_gap y.kind then 0 else (if t || joins_with x.kind x.spelling y.kind y.spelling then 1 else 0)) (space_same b c x y h)
-
-take_one : (b c : List Kind) → AreNear b c → take 1 b ≡ take 1 c
-take_one b c h = one b ∙ ap (take 1) h ∙ sym (one c)
-  where
-    one : (x : List Kind) → take 1 x ≡ take 1 (take 2 x)
-    one [] = refl
-    one (y ∷ ys) = refl
-
-pub passed_same : (p : Pair) (b c : List Kind) → AreNear b c → AreNear (passed p b) (passed p c)
-passed_same p b c h = elim (is_passed_over p.kind) as (λ v. take 2 (if v then b else p.kind ∷ b) ≡ take 2 (if v then c else p.kind ∷ c)) [
-  | true ↦ h
-  | false ↦ ap (λ ks. p.kind ∷ ks) (take_one b c h)
-]
-
-pub all_same : (ps : List Pair) (b c : List Kind) → AreNear b c → AreNear (passed_all ps b) (passed_all ps c)
-all_same [] b c h = h
-all_same (p ∷ ps) b c h = all_same ps (passed p b) (passed p c) (passed_same p b c h)
-
-pub lens_same : (b c : List Kind) (a : Pair) (ps : List Pair) → AreNear b c → space_lens b a ps ≡ space_lens c a ps
-lens_same b c a [] h = refl
-lens_same b c a (p ∷ ps) h = ap₂ (λ n (ns : List ℕ). n ∷ ns) (len_same b c a p h) (lens_same (passed a b) (passed a c) p ps (passed_same a b c h))
-
-line_same : (deep : ℕ) (b c : List Kind) (line : Line) → AreNear b c → set_lens deep b line ≡ set_lens deep c line
-line_same deep b c line h = ap (λ (ns : List ℕ). if line.frozen then replicate (length line.pairs) KEPT else ns) (same line.pairs)
-  where
-    same : (ps : List Pair) → line_lens deep b ps ≡ line_lens deep c ps
-    same [] = refl
-    same (p ∷ ps) = ap (λ (ns : List ℕ). (if is_line_end p.kind then 0 else 2 * deep) ∷ ns) (lens_same b c p ps h)
-
-pub near_all : (surplus : List ℕ) (b c : List Kind) (lines : List Line) → AreNear b c → all_lens surplus b lines ≡ all_lens surplus c lines
-near_all surplus b c [] h = refl
-near_all surplus b c (line ∷ lines) h =
-    ap₂ (λ (ms ns : List ℕ). ms ++ ns) (line_same (length (open_at (openings line.pairs) (closings line.pairs) surplus)) b c line h)
-    (near_all (open_behind (openings line.pairs) (closings line.pairs) surplus) (passed_all line.pairs b) (passed_all line.pairs c) lines (all_same line.pairs b c h))
-
-pub near_short : (p q : Option Kind) → take 2 (near_of p q) ≡ near_of p q
-near_short None q = refl
-near_short (Some p) None = refl
-near_short (Some p) (Some q) = refl
-
 take_twice : (b : List Kind) → take 2 (take 2 b) ≡ take 2 b
 take_twice [] = refl
 take_twice (x ∷ []) = refl
@@ -120,25 +78,85 @@ take_twice (x ∷ y ∷ zs) = refl
 pub kept_near : (b c : List Kind) → b ≡ take 2 c → AreNear b c
 kept_near b c h = ap (take 2) h ∙ take_twice c
 
+-- ---- tokens before a place
+
+passed_append : (ps qs : List Pair) (before : List Kind) → passed_all (ps ++ qs) before ≡ passed_all qs (passed_all ps before)
+passed_append [] qs before = refl
+passed_append (p ∷ ps) qs before = passed_append ps qs (passed p before)
+
+range_split : (ps : List Pair) (a b c : ℕ) → a ≤ b → b ≤ c → slice_range ps a c ≡ slice_range ps a b ++ slice_range ps b c
+range_split ps a b c h g =
+    let count : c - a ≡ (b - a) + (c - b) = omega arith in
+    let rest : drop (b - a) (drop a ps) ≡ drop b ps = drop-drop (b - a) a ps ∙ ap (λ n. drop n ps) (omega arith) in
+    ap (λ n. take n (drop a ps)) count ∙ take-add (b - a) (c - b) (drop a ps) ∙ ap (λ (xs : List Pair). slice_range ps a b ++ take (c - b) xs) rest
+
+pub passed_on : (ps : List Pair) (a b c : ℕ) (before : List Kind) → a ≤ b → b ≤ c → passed_all (slice_range ps a c) before ≡ passed_all (slice_range ps b c) (passed_all (slice_range ps a b) before)
+passed_on ps a b c before h g = ap (λ (qs : List Pair). passed_all qs before) (range_split ps a b c h g) ∙ passed_append (slice_range ps a b) (slice_range ps b c) before
+
+none_there : (ps : List Pair) (a : ℕ) → slice_range ps a a ≡ []
+none_there ps a = let none : a - a ≡ 0 = omega arith in ap (λ n. take n (drop a ps)) none
+
+-- one more
+pub passed_one : (ps : List Pair) (first i j : ℕ) (t : Turn ps i j) → first ≤ i → j ≡ i + 1 → passed_all (slice_range ps first j) [] ≡ passed t.pair (passed_all (slice_range ps first i) [])
+passed_one ps first i j t h e =
+    let one : slice_range ps i j ≡ t.pair ∷ [] = t.range ∙ ap (λ n. t.pair ∷ slice_range ps n j) (sym e) ∙ ap (λ (qs : List Pair). t.pair ∷ qs) (none_there ps j) in
+    passed_on ps first i j [] h (omega arith) ∙ ap (λ (qs : List Pair). passed_all qs (passed_all (slice_range ps first i) [])) one
+
+-- the last token of some is passed over, or not
+passed_last : (ps : List Pair) (first past : ℕ) (k : Kind) → first < past → past ≤ length ps → Some k ≡ kind_of ps (past - 1)
+    → passed_all (slice_range ps first past) [] ≡ (if is_passed_over k then passed_all (slice_range ps first (past - 1)) [] else k ∷ passed_all (slice_range ps first (past - 1)) [])
+passed_last ps first past k some within is =
+    let t = turn ps (past - 1) past (omega arith) within in
+    passed_one ps first (past - 1) past t (omega arith) (omega arith)
+    ∙ ap (λ j. if is_passed_over j then passed_all (slice_range ps first (past - 1)) [] else j ∷ passed_all (slice_range ps first (past - 1)) []) (sym (kind_is ps (past - 1) past k t is))
+
+pub is_over : (ps : List Pair) (first past : ℕ) (k : Kind) → first < past → past ≤ length ps → Some k ≡ kind_of ps (past - 1) → is_passed_over k ≡ true
+    → passed_all (slice_range ps first past) [] ≡ passed_all (slice_range ps first (past - 1)) []
+is_over ps first past k some within is h = passed_last ps first past k some within is ∙ rw h refl
+
+pub nearest_there : (ps : List Pair) (first to past : ℕ) (k : Kind) → first < past → past ≤ to → to ≤ length ps → Some k ≡ kind_of ps (past - 1) → is_passed_over k ≡ false
+    → passed_all (slice_range ps first past) [] ≡ passed_all (slice_range ps first to) [] → IsPastNearest ps first to past
+nearest_there ps first to past k some less within is h same = record {
+  behind = omega arith;
+  before = less;
+  none = λ e. absurd (omega arith);
+  some = λ g j j_is.
+      let e : j ≡ k = let f = j_is ∙ sym is in cc in
+      sym same ∙ passed_last ps first past k some (omega arith) is ∙ rw (h, e) refl;
+}
+
+pub nearest_none : (ps : List Pair) (first to past : ℕ) → first ≤ past → past ≤ to → past ≤ first → passed_all (slice_range ps first past) [] ≡ passed_all (slice_range ps first to) [] → IsPastNearest ps first to past
+nearest_none ps first to past h g f same = record {
+  behind = h;
+  before = g;
+  none = λ e. sym same ∙ ap (λ (qs : List Pair). passed_all qs []) (ap (slice_range ps first) e ∙ none_there ps first);
+  some = λ some j j_is. absurd (omega arith);
+}
+
+pub no_token : (ps : List Pair) (first to past : ℕ) → IsPastNearest ps first to past → past ≡ first → [] ≡ take 2 (passed_all (slice_range ps first to) [])
+no_token ps first to past n e = ap (take 2) (sym (n.none e))
+
+pub one_token : (ps : List Pair) (first to past second : ℕ) (k : Kind) → IsPastNearest ps first to past → first < past → Some k ≡ kind_of ps (past - 1) → IsPastNearest ps first (past - 1) second → second ≡ first
+    → k ∷ [] ≡ take 2 (passed_all (slice_range ps first to) [])
+one_token ps first to past second k n some is m e = sym (ap (take 2) (n.some some k is ∙ ap (λ (ks : List Kind). k ∷ ks) (m.none e)))
+
+pub two_tokens : (ps : List Pair) (first to past second : ℕ) (k j : Kind) → IsPastNearest ps first to past → first < past → Some k ≡ kind_of ps (past - 1) → IsPastNearest ps first (past - 1) second → first < second → Some j ≡ kind_of ps (second - 1)
+    → k ∷ j ∷ [] ≡ take 2 (passed_all (slice_range ps first to) [])
+two_tokens ps first to past second k j n some is m more j_is =
+    sym (ap (take 2) (n.some some k is ∙ ap (λ (ks : List Kind). k ∷ ks) (m.some more j j_is)))
+
 -- ---- the turns of loops
 
-pub pass_turn : (pairs : List Pair) (i past : ℕ) (k : Kind) (b more : List Kind) → i < past → past ≤ length pairs → Some k ≡ kind_of pairs i → more ≡ take 2 (passed (token k []) b)
-    → take 2 (passed_all (slice_range pairs (i + 1) past) more) ≡ take 2 (passed_all (slice_range pairs i past) b)
-pass_turn pairs i past k b more less within is next =
-    let t = turn pairs i past less within in
-    let same = kind_is pairs i past k t is in
-    let near : AreNear more (passed t.pair b) = kept_near more (passed t.pair b) (next ∙ ap (λ j. take 2 (passed (token j []) b)) same) in
-    all_same (slice_range pairs (i + 1) past) more (passed t.pair b) near ∙ ap (λ ps. take 2 (passed_all ps b)) (sym t.range)
-
-pub begin_line : (pairs : List Pair) (at past m : ℕ) (k : Kind) (n deep : ℕ) (b : List Kind) (old new : List ℕ) → at < past → past ≤ length pairs → m ≡ at → Some k ≡ kind_of pairs at
+pub begin_line : (pairs : List Pair) (first at past m : ℕ) (k : Kind) (n deep : ℕ) (old new : List ℕ) → at < past → past ≤ length pairs → m ≡ at → Some k ≡ kind_of pairs at
     → n ≡ (if is_line_end k then 0 else 2 * deep) → new ≡ old ++ n ∷ []
-    → new ++ spaces_from b (slice_range pairs m past) ≡ old ++ line_lens deep b (slice_range pairs at past)
-begin_line pairs at past m k n deep b old new less within m_is is n_is new_is =
+    → new ++ spaces_from (passed_all (slice_range pairs first m) []) (slice_range pairs m past) ≡ old ++ line_lens deep (passed_all (slice_range pairs first at) []) (slice_range pairs at past)
+begin_line pairs first at past m k n deep old new less within m_is is n_is new_is =
+    let b : List Kind = passed_all (slice_range pairs first at) [] in
     let t = turn pairs at past less within in
     let same = kind_is pairs at past k t is in
-    let first : n ≡ (if is_line_end t.pair.kind then 0 else 2 * deep) = n_is ∙ ap (λ j. cond (is_line_end j) 0 (2 * deep)) same in
-    let whole : line_lens deep b (slice_range pairs at past) ≡ n ∷ spaces_from b (slice_range pairs at past) = rw (t.range, first) refl in
-    ap₂ (λ (g : List ℕ) j. g ++ spaces_from b (slice_range pairs j past)) new_is m_is
+    let front : n ≡ (if is_line_end t.pair.kind then 0 else 2 * deep) = n_is ∙ ap (λ j. cond (is_line_end j) 0 (2 * deep)) same in
+    let whole : line_lens deep b (slice_range pairs at past) ≡ n ∷ spaces_from b (slice_range pairs at past) = rw (t.range, front) refl in
+    ap₂ (λ (g : List ℕ) j. g ++ spaces_from (passed_all (slice_range pairs first j) []) (slice_range pairs j past)) new_is m_is
     ∙ append_assoc old (n ∷ []) _ ∙ ap (λ ns. old ++ ns) (sym whole)
 
 space_is : (pairs : List Pair) (b : List Kind) (i j to : ℕ) (n : ℕ) (s : Turn pairs j to) (t : Turn pairs i to) → j ≡ i - 1 → Some n ≡ space_len_at b pairs i → n ≡ space_len b s.pair t.pair
@@ -147,23 +165,26 @@ space_is pairs b i j to n s t e h =
     let whole = h ∙ ap (option_and_then (λ (x : Pair). option_map (λ (y : Pair). space_len b x y) (slice_get pairs i))) first ∙ ap (option_map (λ (y : Pair). space_len b s.pair y)) t.at in
     cc
 
-pub next_space : (pairs : List Pair) (i past m : ℕ) (k : Kind) (n : ℕ) (b more : List Kind) (old new : List ℕ) → 0 < i → i < past → past ≤ length pairs → m ≡ i → Some n ≡ space_len_at b pairs i
-    → Some k ≡ kind_of pairs (i - 1) → more ≡ take 2 (passed (token k []) b) → new ≡ old ++ n ∷ []
-    → new ++ spaces_from more (slice_range pairs m past) ≡ old ++ spaces_from b (slice_range pairs (i - 1) past)
-next_space pairs i past m k n b more old new some less within m_is n_is is next new_is =
+pub next_space : (pairs : List Pair) (first i past m : ℕ) (n : ℕ) (old new : List ℕ) → first < i → i < past → past ≤ length pairs → m ≡ i → Some n ≡ space_len_at (passed_all (slice_range pairs first (i - 1)) []) pairs i
+    → new ≡ old ++ n ∷ []
+    → new ++ spaces_from (passed_all (slice_range pairs first m) []) (slice_range pairs m past) ≡ old ++ spaces_from (passed_all (slice_range pairs first (i - 1)) []) (slice_range pairs (i - 1) past)
+next_space pairs first i past m n old new some less within m_is n_is new_is =
     let j : ℕ = i - 1 in
+    let b : List Kind = passed_all (slice_range pairs first j) [] in
+    let more : List Kind = passed_all (slice_range pairs first i) [] in
     let s = turn pairs j past (omega arith) within in
+    let u = turn pairs j i (omega arith) (omega arith) in
     let t = turn pairs i past less within in
-    let same = kind_is pairs j past k s is in
     let step : j + 1 ≡ i = omega arith in
-    let near : AreNear more (passed s.pair b) = kept_near more (passed s.pair b) (next ∙ ap (λ x. take 2 (passed (token x []) b)) same) in
+    let same : u.pair ≡ s.pair = let f = sym u.at ∙ s.at in cc in
+    let further : more ≡ passed s.pair b = passed_one pairs first j i u (omega arith) (sym step) ∙ ap (λ p. passed p b) same in
     let len = space_is pairs b i j past n s t refl n_is in
     let before : slice_range pairs j past ≡ s.pair ∷ t.pair ∷ slice_range pairs (i + 1) past = s.range ∙ ap (λ x. s.pair ∷ slice_range pairs x past) step ∙ ap (λ (ps : List Pair). s.pair ∷ ps) t.range in
-    let behind : slice_range pairs m past ≡ t.pair ∷ slice_range pairs (i + 1) past = ap (λ x. slice_range pairs x past) m_is ∙ t.range in
-    ap₂ (λ (g : List ℕ) (ps : List Pair). g ++ spaces_from more ps) new_is behind
+    let whole : spaces_from b (slice_range pairs j past) ≡ n ∷ spaces_from more (slice_range pairs i past) =
+    ap (spaces_from b) before ∙ ap₂ (λ x (ks : List Kind). x ∷ space_lens ks t.pair (slice_range pairs (i + 1) past)) (sym len) (sym further) ∙ ap (λ (ps : List Pair). n ∷ spaces_from more ps) (sym t.range) in
+    ap₂ (λ (g : List ℕ) x. g ++ spaces_from (passed_all (slice_range pairs first x) []) (slice_range pairs x past)) new_is m_is
     ∙ append_assoc old (n ∷ []) _
-    ∙ ap₂ (λ x (ns : List ℕ). old ++ x ∷ ns) len (lens_same more (passed s.pair b) t.pair (slice_range pairs (i + 1) past) near)
-    ∙ ap (λ (ps : List Pair). old ++ spaces_from b ps) (sym before)
+    ∙ ap (λ (ns : List ℕ). old ++ ns) (sym whole)
 
 pub last_space : (pairs : List Pair) (i past : ℕ) (b : List Kind) (old : List ℕ) → 0 < i → i ≡ past → past ≤ length pairs → old ++ spaces_from b (slice_range pairs (i - 1) past) ≡ old
 last_space pairs i past b old some e within =
@@ -173,22 +194,30 @@ last_space pairs i past b old some e within =
     let all : slice_range pairs j past ≡ s.pair ∷ [] = s.range ∙ ap (λ n. s.pair ∷ take n (drop (j + 1) pairs)) none in
     ap (λ (ps : List Pair). old ++ spaces_from b ps) all ∙ append-nil old
 
+-- before the first line
+pub set_begins : (pairs : List Pair) (first : ℕ) (g s : List ℕ) → s ≡ []
+    → g ++ all_lens (reverse s) (passed_all (slice_range pairs first first) []) (lines_from 0 (drop first pairs)) ≡ g ++ all_lens [] [] (lines_from 0 (drop first pairs))
+set_begins pairs first g s none =
+    ap₂ (λ (t : List ℕ) (ps : List Pair). g ++ all_lens (reverse t) (passed_all ps []) (lines_from 0 (drop first pairs))) none (none_there pairs first)
+
 -- one line of all
-pub set_turn : (pairs : List Pair) (at : ℕ) (frozen : Bool) (past : ℕ) (next : Bool) (o c deep : ℕ) (s s1 s2 : List ℕ) (b more : List Kind) (g g1 : List ℕ)
-    → SplitsLine pairs at frozen past next → o ≡ openings (slice_range pairs at past) → c ≡ closings (slice_range pairs at past)
-    → s1 ≡ open_at o c s → deep ≡ length s1 → g1 ≡ g ++ set_lens deep b (record { frozen = frozen; pairs = slice_range pairs at past })
-    → s2 ≡ (if nat_lt c o then (o - c) ∷ s1 else s1) → more ≡ take 2 (passed_all (slice_range pairs at past) b)
-    → g1 ++ all_lens s2 more (lines_from (held_of next) (drop past pairs)) ≡ g ++ all_lens s b (lines_from (held_of frozen) (drop at pairs))
-set_turn pairs at frozen past next o c deep s s1 s2 b more g g1 split o_is c_is s1_is deep_is g1_is s2_is more_is =
+pub set_turn : (pairs : List Pair) (first at : ℕ) (frozen : Bool) (past : ℕ) (next : Bool) (o c deep : ℕ) (s s1 s2 : List ℕ) (g g1 : List ℕ)
+    → first ≤ at → SplitsLine pairs at frozen past next → o ≡ openings (slice_range pairs at past) → c ≡ closings (slice_range pairs at past)
+    → s1 ≡ open_at o c s → deep ≡ length s1 → g1 ≡ g ++ set_lens deep (passed_all (slice_range pairs first at) []) (record { frozen = frozen; pairs = slice_range pairs at past })
+    → s2 ≡ (if nat_lt c o then (o - c) ∷ s1 else s1)
+    → g1 ++ all_lens s2 (passed_all (slice_range pairs first past) []) (lines_from (held_of next) (drop past pairs))
+    ≡ g ++ all_lens s (passed_all (slice_range pairs first at) []) (lines_from (held_of frozen) (drop at pairs))
+set_turn pairs first at frozen past next o c deep s s1 s2 g g1 begun split o_is c_is s1_is deep_is g1_is s2_is =
     let ps : List Pair = slice_range pairs at past in
+    let b : List Kind = passed_all (slice_range pairs first at) [] in
     let line : Line = record { frozen = frozen; pairs = ps } in
     let rest : List Line = lines_from (held_of next) (drop past pairs) in
     let depth : deep ≡ length (open_at (openings ps) (closings ps) s) = deep_is ∙ ap length s1_is ∙ ap₂ (λ x y. length (open_at x y s)) o_is c_is in
     let behind : s2 ≡ open_behind (openings ps) (closings ps) s =
     s2_is ∙ ap (λ (t : List ℕ). if nat_lt c o then (o - c) ∷ t else t) s1_is ∙ ap₂ (λ x y. open_behind x y s) o_is c_is in
-    let near = kept_near more (passed_all ps b) more_is in
-    let whole : all_lens s b (lines_from (held_of frozen) (drop at pairs)) ≡ set_lens deep b line ++ all_lens s2 more rest =
+    let more : passed_all (slice_range pairs first past) [] ≡ passed_all ps b = passed_on pairs first at past [] begun (omega (arith, split.more)) in
+    let whole : all_lens s b (lines_from (held_of frozen) (drop at pairs)) ≡ set_lens deep b line ++ all_lens s2 (passed_all (slice_range pairs first past) []) rest =
     ap (all_lens s b) split.line
     ∙ ap₂ (λ d (t : List ℕ). set_lens d b line ++ all_lens t (passed_all ps b) rest) (sym depth) (sym behind)
-    ∙ ap (λ (ns : List ℕ). set_lens deep b line ++ ns) (sym (near_all s2 more (passed_all ps b) rest near)) in
-    ap (λ (ns : List ℕ). ns ++ all_lens s2 more rest) g1_is ∙ append_assoc g (set_lens deep b line) _ ∙ ap (λ (ns : List ℕ). g ++ ns) (sym whole)
+    ∙ ap (λ ks. set_lens deep b line ++ all_lens s2 ks rest) (sym more) in
+    ap (λ (ns : List ℕ). ns ++ all_lens s2 (passed_all (slice_range pairs first past) []) rest) g1_is ∙ append_assoc g (set_lens deep b line) _ ∙ ap (λ (ns : List ℕ). g ++ ns) (sym whole)

@@ -1,3 +1,4 @@
 -- Definitions for proofs.
 pub mod Near
+pub mod Rows
 pub mod Stages

@@ -4,14 +4,14 @@ ghost use Rattle.std.specs.Prelude.{◌≡◌, ◌+◌, ◌*◌, ◌<◌, ◌≤
 ghost use Rattle.hcl_scan.specs.Cut.{MAX_TEXT};
 ghost use Rattle.hcl_gaps.specs.Kinds.{is_line_end};
 ghost use Rattle.hcl_gaps.specs.Lines.{lines_from};
-ghost use Rattle.hcl_gaps.specs.Inner.Near.{near, AreLines};
+ghost use Rattle.hcl_gaps.specs.Inner.Near.{AreLines};
 ghost use Rattle.hcl_gaps.specs.Space.{passed_all};
 ghost use Rattle.hcl_gaps.specs.Inner.Stages.{KEPT, line_lens, set_lens, all_lens};
 
 use crate::indent::{brackets, open_at, open_behind};
 use crate::kinds::is_line_end;
 use crate::lines::LineSpan;
-use crate::space::{Before, gap_len};
+use crate::space::gap_len;
 use hcl_scan::Scanned;
 use hcl_token::Kind;
 use std::alloc::{AllocError, Global};
@@ -40,64 +40,55 @@ fn first_len(kind: Kind, level: u32) -> u32
 fn space_line(
     scanned: &Scanned<'_>,
     gaps: &mut Vec<u32>,
+    first: usize,
     at: usize,
     past: usize,
     level: u32,
-    before: Before,
 ) -> Result<(), AllocError>
+    requires begun { first ≤ at }
     requires ordered { at < past }
     requires within { past ≤ length scanned.now.pairs }
     requires level { level ≤ MAX_TEXT }
     ensures { OnOk result
         (gaps.new.items ≡ gaps.old.items
-        ++ line_lens level (near before) (slice_range scanned.now.pairs at past)) }
+        ++ line_lens level (passed_all (slice_range scanned.now.pairs first at) [])
+        (slice_range scanned.now.pairs at past)) }
 {
-    gaps.push(first_len(scanned.kind(at), level))?;
-    let mut before = before;
+    let mut a = scanned.kind(at);
+    gaps.push(first_len(a, level))?;
     for i in at + 1..past {
-        gaps.push(gap_len(scanned, before, i))?;
-        before = before.passed(scanned.kind(i - 1));
+        let b = scanned.kind(i);
+        gaps.push(gap_len(scanned, first, a, b, i))?;
+        a = b;
     }
     Ok(())
 }
 
-/// The gaps of a line from token `at` to token `past`.
+/// The gaps of a line from token `at` to token `past`, in a text whose lines begin at token
+/// `first`.
 fn set_line(
     scanned: &Scanned<'_>,
     gaps: &mut Vec<u32>,
+    first: usize,
     at: usize,
     past: usize,
     frozen: bool,
     level: u32,
-    before: Before,
 ) -> Result<(), AllocError>
+    requires begun { first ≤ at }
     requires ordered { at < past }
     requires within { past ≤ length scanned.now.pairs }
     requires level { level ≤ MAX_TEXT }
     ensures { OnOk result
         (gaps.new.items ≡ gaps.old.items
-        ++ set_lens level (near before)
+        ++ set_lens level (passed_all (slice_range scanned.now.pairs first at) [])
         (record { frozen = frozen; pairs = slice_range scanned.now.pairs at past })) }
 {
     if frozen {
         keep_line(gaps, past - at)
     } else {
-        space_line(scanned, gaps, at, past, level, before)
+        space_line(scanned, gaps, first, at, past, level)
     }
-}
-
-/// What stands before a place behind some more tokens.
-fn passed_all(scanned: &Scanned<'_>, at: usize, past: usize, before: Before) -> Before
-    requires ordered { at ≤ past }
-    requires within { past ≤ length scanned.now.pairs }
-    ensures { near result
-        ≡ take 2 (passed_all (slice_range scanned.now.pairs at past) (near before)) }
-{
-    let mut before = before;
-    for i in at..past {
-        before = before.passed(scanned.kind(i));
-    }
-    before
 }
 
 /// The gaps of these lines, the first of which begins at token `first`.
@@ -116,27 +107,15 @@ fn set_lines(
         ++ all_lens [] [] (lines_from 0 (drop first scanned.now.pairs))) }
 {
     let mut surplus: Vec<u32> = Vec::new(alloc);
-    let mut before = Before {
-        nearest: None,
-        second: None,
-    };
     let mut frozen = false;
     let mut at = first;
     for line in lines {
         let past = line.past as usize;
         let (opened, closed) = brackets(scanned, at, past);
         open_at(&mut surplus, opened, closed);
-        set_line(
-            scanned,
-            gaps,
-            at,
-            past,
-            frozen,
-            surplus.len() as u32,
-            before,
-        )?;
+        let level = surplus.len() as u32;
+        set_line(scanned, gaps, first, at, past, frozen, level)?;
         open_behind(&mut surplus, opened, closed)?;
-        before = passed_all(scanned, at, past, before);
         frozen = line.next;
         at = past;
     }

@@ -1,10 +1,12 @@
 //! The gaps inside a line.
 
-ghost use Rattle.std.specs.Prelude.{◌≡◌, None, Bool, ◌<◌, ◌≤◌, [], take, length, Some};
+ghost use Rattle.std.specs.Prelude.{◌≡◌, None, Bool, ◌<◌, ◌≤◌, ◌-◌, [], take, length, slice_range, Some};
+ghost use Rattle.hcl_token.specs.CutText.{kind_of};
 ghost use Rattle.hcl_scan.specs.Follows.{has_no_gap};
-ghost use Rattle.hcl_gaps.specs.Space.{is_splat, behind_identifier, behind_operand, is_in, is_spaced, passed};
+ghost use Rattle.hcl_gaps.specs.Space.{is_splat, behind_identifier, behind_operand, is_in, is_spaced, passed_all};
 ghost use Rattle.hcl_gaps.specs.Inner.Stages.{near_of, token, space_len_at};
 ghost use Rattle.hcl_gaps.specs.Inner.Near.{near};
+ghost use Rattle.hcl_gaps.specs.Inner.Rows.{leaves_room, takes_room, may_join, may_go_on, asks_before, spaced_at, IsPastNearest};
 
 use crate::kinds::{
     closes_close, ends_operand, is_bang, is_close_brace, is_comma, is_dot, is_double_colon,
@@ -22,21 +24,13 @@ pub(crate) struct Before {
     pub second: Option<Kind>,
 }
 
-impl Before {
-    /// One more token.
-    pub(crate) fn passed(self, kind: Kind) -> Before
-        ensures { near result ≡ take 2 (passed (token kind []) (near self)) }
-    {
-        if is_passed_over(kind) {
-            self
-        } else {
-            Before {
-                nearest: Some(kind),
-                second: self.nearest,
-            }
-        }
-    }
+/// Nothing stands before.
+const NOTHING: Before = Before {
+    nearest: None,
+    second: None,
+};
 
+impl Before {
     fn is_behind_identifier(self) -> bool
         ensures { result ≡ behind_identifier (near self) }
     {
@@ -148,23 +142,151 @@ fn is_spaced(before: Before, a: Kind, a_spelling: &[u8], b: Kind) -> bool
     true
 }
 
-/// How long the gap is between token `i`, which is not the first, and the one before it, on a line.
-pub(crate) fn gap_len(scanned: &Scanned<'_>, before: Before, i: usize) -> u32
-    requires first { 0 < i }
+/// Whether no row that says "no space" fits by the kind of the token before.
+fn leaves_room(kind: Kind) -> bool
+    ensures { result ≡ leaves_room kind }
+{
+    match kind {
+        Kind::DoubleColon
+        | Kind::Dot
+        | Kind::Bang
+        | Kind::Minus
+        | Kind::OpenParen
+        | Kind::OpenBracket
+        | Kind::InterpOpen
+        | Kind::DirectiveOpen => false,
+        _ => true,
+    }
+}
+
+/// Nor by the kind of the token behind, where none does by that of the one before.
+fn takes_room(kind: Kind) -> bool
+    ensures { result ≡ takes_room kind }
+{
+    match kind {
+        Kind::LineEnd
+        | Kind::DotIndex
+        | Kind::DoubleColon
+        | Kind::OpenBracket
+        | Kind::CloseBracket
+        | Kind::OpenParen
+        | Kind::CloseParen
+        | Kind::CloseBrace
+        | Kind::Comma
+        | Kind::Dot
+        | Kind::Ellipsis
+        | Kind::SeqClose => false,
+        _ => true,
+    }
+}
+
+/// Whether some tokens of these kinds join.
+fn may_join(a: Kind, b: Kind) -> bool
+    ensures { result ≡ may_join a b }
+{
+    match a {
+        Kind::Identifier => matches!(b, Kind::Identifier | Kind::Number | Kind::Minus),
+        Kind::Number => matches!(b, Kind::Number | Kind::Identifier | Kind::DotIndex),
+        Kind::DotIndex => matches!(b, Kind::Number),
+        Kind::Dot => matches!(
+            b,
+            Kind::Number | Kind::Dot | Kind::Ellipsis | Kind::DotIndex
+        ),
+        Kind::InterpOpen | Kind::DirectiveOpen => is_seq_close(b),
+        Kind::Less | Kind::Greater | Kind::Equal | Kind::Bang | Kind::Colon | Kind::Slash => true,
+        _ => false,
+    }
+}
+
+/// Whether what stands before a token is asked for at all.
+fn asks_before(kind: Kind, spelling: &[u8]) -> bool
+    ensures { result ≡ asks_before (token kind spelling.now) }
+{
+    is_minus(kind) || is_star(kind) || is_in(kind, spelling)
+}
+
+/// The number past the nearest token before token `to`, from token `first` on, that is not passed
+/// over, or `first`.
+fn past_nearest(scanned: &Scanned<'_>, first: usize, to: usize) -> usize
+    requires ordered { first ≤ to }
+    requires within { to ≤ length scanned.now.pairs }
+    ensures { IsPastNearest scanned.now.pairs first to result }
+{
+    let mut past = to;
+    while past > first {
+        if !is_passed_over(scanned.kind(past - 1)) {
+            return past;
+        }
+        past -= 1;
+    }
+    past
+}
+
+/// The two nearest tokens before token `to`, from token `first` on. Few tokens ask for them, so
+/// that they are looked for where one does.
+fn before_at(scanned: &Scanned<'_>, first: usize, to: usize) -> Before
+    requires ordered { first ≤ to }
+    requires within { to ≤ length scanned.now.pairs }
+    ensures { near result
+        ≡ take 2 (passed_all (slice_range scanned.now.pairs first to) []) }
+{
+    let nearest = past_nearest(scanned, first, to);
+    if nearest == first {
+        return NOTHING;
+    }
+    let second = past_nearest(scanned, first, nearest - 1);
+    if second == first {
+        return Before {
+            nearest: Some(scanned.kind(nearest - 1)),
+            second: None,
+        };
+    }
+    Before {
+        nearest: Some(scanned.kind(nearest - 1)),
+        second: Some(scanned.kind(second - 1)),
+    }
+}
+
+/// Whether a space stands between token `i`, which is not the first, and the one before it.
+fn is_spaced_at(scanned: &Scanned<'_>, first: usize, a: Kind, b: Kind, i: usize) -> bool
+    requires behind { first < i }
     requires within { i < length scanned.now.pairs }
-    ensures value { Some result ≡ space_len_at (near before) scanned.now.pairs i }
+    requires a { Some a ≡ kind_of scanned.now.pairs (i - 1) }
+    ensures { Some result ≡ spaced_at (passed_all (slice_range scanned.now.pairs first (i - 1)) [])
+        scanned.now.pairs i b }
+{
+    if is_line_end(b) {
+        return false;
+    }
+    let spelling = scanned.spelling(i - 1);
+    if asks_before(a, spelling) {
+        return is_spaced(before_at(scanned, first, i - 1), a, spelling, b);
+    }
+    is_spaced(NOTHING, a, spelling, b)
+}
+
+/// How long the gap is between token `i`, of kind `b`, and the one before it, of kind `a`, on a
+/// line, in a text whose lines begin at token `first`.
+pub(crate) fn gap_len(scanned: &Scanned<'_>, first: usize, a: Kind, b: Kind, i: usize) -> u32
+    requires behind { first < i }
+    requires within { i < length scanned.now.pairs }
+    requires a { Some a ≡ kind_of scanned.now.pairs (i - 1) }
+    requires b { Some b ≡ kind_of scanned.now.pairs i }
+    ensures value { Some result ≡ space_len_at
+        (passed_all (slice_range scanned.now.pairs first (i - 1)) []) scanned.now.pairs i }
     ensures small { result ≤ 1 }
 {
-    let a = scanned.kind(i - 1);
-    let b = scanned.kind(i);
     if has_no_gap(b) {
         return 0;
     }
-    if is_spaced(before, a, scanned.spelling(i - 1), b) {
+    if leaves_room(a) && takes_room(b) {
         return 1;
     }
-    if scanned.joins(i - 1, i) {
+    if is_spaced_at(scanned, first, a, b, i) {
         return 1;
     }
-    0
+    if !may_join(a, b) {
+        return 0;
+    }
+    u32::from(scanned.joins(i - 1, i))
 }

@@ -1,9 +1,12 @@
-use Rattle.std.proofs.Common.{◌≡◌, ◌-◌, ◌++◌, slice_range}
-use Rattle.hcl_gaps.specs.Inner.Near.{near}
+use Rattle.std.proofs.Common.{◌≡◌, ◌-◌, ◌++◌, [], Some, slice_range}
+use Rattle.hcl_token.specs.CutText.{kind_of}
+use Rattle.hcl_gaps.specs.Space.{passed_all}
 use Rattle.hcl_gaps.specs.Inner.Stages.{spaces_from, line_lens}
 use Rattle.hcl_gaps.proofs.setting.space_line.Given as goal
 
 abbrev pub invariant-loop-i : goal.invariant-loop-i
-invariant-loop-i l =
-    l.gaps.items ++ spaces_from (near l.before) (slice_range l.scanned.pairs (l.i - 1) l.past)
-    ≡ l.fn.gaps.items ++ line_lens l.level (near l.fn.before) (slice_range l.scanned.pairs l.at l.past)
+invariant-loop-i l = record {
+  rest : l.gaps.items ++ spaces_from (passed_all (slice_range l.scanned.pairs l.first (l.i - 1)) []) (slice_range l.scanned.pairs (l.i - 1) l.past)
+      ≡ l.fn.gaps.items ++ line_lens l.level (passed_all (slice_range l.scanned.pairs l.first l.at) []) (slice_range l.scanned.pairs l.at l.past);
+  a : Some l.a ≡ kind_of l.scanned.pairs (l.i - 1);
+}
