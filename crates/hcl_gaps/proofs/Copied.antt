@@ -1,12 +1,13 @@
 -- What is copied of a text at once: gaps that stay, each with the token behind it.
-use Rattle.std.proofs.Common.{◌≡◌, ℕ, ◌+◌, ◌-◌, ◌<◌, ◌≤◌, true, List, [], ◌∷◌, ◌++◌, length, take, drop, get_or, slice_range, Some, refl, sym, ap, ap₂, ◌∙◌, arith, append_assoc, length-append, length-drop, take-append-drop, take_at}
+use Rattle.std.proofs.Common.{◌≡◌, ℕ, ◌+◌, ◌-◌, ◌<◌, ◌≤◌, ◌==◌, Bool, true, false, if◌then◌else◌, List, [], ◌∷◌, ◌++◌, length, take, drop, get_or, slice_range, Some, refl, sym, ap, ap₂, ◌∙◌, arith, append_assoc, length-append, length-drop, take-append-drop, take_at}
 use Rattle.std.specs.Str.{bytes_eq}
 use Rattle.std.specs.Option.{option_map}
 use Rattle.std.proofs.lemmas.List.{drop_all, take_all, append-nil, drop-append-le}
 use Rattle.hcl_token.specs.declared.item.Item.{Item}
 use Rattle.hcl_token.specs.Tokens.{Pair, whole_text}
 use Rattle.hcl_token.specs.CutText.{spelling_of, gap_of, item_of, item_behind}
-use Rattle.hcl_gaps.specs.Inner.Stages.{gap_meant, with_gaps}
+use Rattle.hcl_gaps.specs.Inner.Stages.{KEPT, gap_meant, len_meant, with_gaps}
+use Rattle.hcl_gaps.proofs.GapLaw.{length_replicate}
 use Rattle.hcl_gaps.proofs.CellGaps.{gaps_length}
 use Rattle.hcl_gaps.proofs.LayoutPieces.{same_is}
 use Rattle.hcl_gaps.proofs.LineLemmas.{turn, spelling_is, gap_is}
@@ -155,3 +156,41 @@ all_copied ns ps last source i a out whole size h source_is so_far =
       all ∙ sym (last_at ps last source source_is),
       ap (λ (x : List ℕ). out ++ x) (sym (append-nil before) ∙ ap (λ (x : List ℕ). before ++ x) (sym none)) ∙ so_far,
     )
+
+-- ---- lengths
+
+-- a token by its places
+item_there : (ps : List Pair) (i : ℕ) (item : Item) → i < length ps → Some item ≡ item_of ps i → (p : Pair) × (Some p.gap ≡ gap_of ps i) × (Some p.spelling ≡ spelling_of ps i) × (item.start ≡ item.gap_at + length p.gap) × (item.stop ≡ item.start + length p.spelling)
+item_there ps i item inside item_is =
+    let t = turn ps i (length ps) inside (omega arith) in
+    let e = item_is ∙ ap (option_map (λ (p : Pair). item_behind (take i ps) p)) t.at in
+    let f : item ≡ item_behind (take i ps) t.pair = cc in
+    let none = bytes_joining (take i ps) [] in
+    let gap = bytes_joining (take i ps) t.pair.gap in
+    let both = bytes_joining (take i ps) (t.pair.gap ++ t.pair.spelling) in (
+      t.pair,
+      sym (ap (option_map (λ (p : Pair). p.gap)) t.at),
+      sym (ap (option_map (λ (p : Pair). p.spelling)) t.at),
+      omega (arith, ap (λ (x : Item). x.start) f, ap (λ (x : Item). x.gap_at) f, none, gap),
+      omega (arith, ap (λ (x : Item). x.stop) f, ap (λ (x : Item). x.start) f, gap, both, length-append t.pair.gap t.pair.spelling),
+    )
+
+pub item_order : (ps : List Pair) (i : ℕ) (item : Item) → i < length ps → Some item ≡ item_of ps i → (item.gap_at ≤ item.start) × (item.start ≤ item.stop)
+item_order ps i item inside item_is =
+    let (p, g, s, start, stop) = item_there ps i item inside item_is in
+    (omega (arith, start), omega (arith, stop))
+
+meant_len : (m a b c : ℕ) (g s : List ℕ) (test : Bool) → (m == KEPT) ≡ test → b ≡ a + length g → c ≡ b + length s → length (gap_meant m g) + length s ≡ (if m == KEPT then c - a else m + (c - b))
+meant_len m a b c g s true h p q = rw h (omega (arith, p, q))
+meant_len m a b c g s false h p q = rw h (omega (arith, p, q, length_replicate m 32))
+
+-- one token more
+pub item_turn : (ns : List ℕ) (ps : List Pair) (i : ℕ) (item : Item) (n : ℕ) → length ns ≡ length ps → i < length ps → Some item ≡ item_of ps i → n ≡ len_meant (get_or ns i 0) item
+    → length (whole_text (drop i (with_gaps ns ps)) []) ≡ n + length (whole_text (drop (i + 1) (with_gaps ns ps)) [])
+item_turn ns ps i item n size inside item_is n_is =
+    let (p, g, s, start, stop) = item_there ps i item inside item_is in
+    let m : ℕ = get_or ns i 0 in
+    let rest : List ℕ = whole_text (drop (i + 1) (with_gaps ns ps)) [] in
+    let whole = ap length (text_turn ns ps i p.gap p.spelling size inside g s) in
+    let len = meant_len m item.gap_at item.start item.stop p.gap p.spelling (m == KEPT) refl start stop in
+    omega (arith, whole, len, n_is, length-append (gap_meant m p.gap) (p.spelling ++ rest), length-append p.spelling rest)

@@ -143,7 +143,7 @@ fn cell_of(scanned: &Scanned<'_>, cell: Cell, at: usize, past: usize, frozen: bo
 }
 
 /// How long the gap before token `i` is.
-pub(crate) fn gap_len(scanned: &Scanned<'_>, gaps: &[u32], i: usize) -> usize
+fn gap_len(scanned: &Scanned<'_>, gaps: &[u32], i: usize) -> usize
     requires same { length gaps.now ≡ length scanned.now.pairs }
     requires within { i < length scanned.now.pairs }
     ensures { Some result

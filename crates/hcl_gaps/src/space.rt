@@ -6,7 +6,7 @@ ghost use Rattle.hcl_scan.specs.Follows.{has_no_gap};
 ghost use Rattle.hcl_gaps.specs.Space.{is_splat, behind_identifier, behind_operand, is_in, is_spaced, passed_all};
 ghost use Rattle.hcl_gaps.specs.Inner.Stages.{near_of, token, space_len_at};
 ghost use Rattle.hcl_gaps.specs.Inner.Near.{near};
-ghost use Rattle.hcl_gaps.specs.Inner.Rows.{leaves_room, takes_room, may_join, may_go_on, asks_before, spaced_at, IsPastNearest};
+ghost use Rattle.hcl_gaps.specs.Inner.Rows.{leaves_room, takes_room, stands_close, may_join, may_go_on, asks_before, spaced_at, IsPastNearest};
 
 use crate::kinds::{
     closes_close, ends_operand, is_bang, is_close_brace, is_comma, is_dot, is_double_colon,
@@ -180,6 +180,21 @@ fn takes_room(kind: Kind) -> bool
     }
 }
 
+/// Whether no space stands before a token of this kind, whatever stands before it.
+fn stands_close(kind: Kind) -> bool
+    ensures { result ≡ stands_close kind }
+{
+    matches!(
+        kind,
+        Kind::LineEnd
+            | Kind::DotIndex
+            | Kind::DoubleColon
+            | Kind::Comma
+            | Kind::Dot
+            | Kind::Ellipsis
+    )
+}
+
 /// Whether some tokens of these kinds join.
 fn may_join(a: Kind, b: Kind) -> bool
     ensures { result ≡ may_join a b }
@@ -255,7 +270,10 @@ fn is_spaced_at(scanned: &Scanned<'_>, first: usize, a: Kind, b: Kind, i: usize)
     ensures { Some result ≡ spaced_at (passed_all (slice_range scanned.now.pairs first (i - 1)) [])
         scanned.now.pairs i b }
 {
-    if is_line_end(b) {
+    if stands_close(b) {
+        return false;
+    }
+    if is_dot(a) & is_identifier(b) {
         return false;
     }
     let spelling = scanned.spelling(i - 1);

@@ -4,13 +4,26 @@ ghost use Rattle.std.specs.Prelude.{◌≡◌, ◌≤◌, ◌<◌, ◌++◌, [],
 ghost use Rattle.hcl_scan.specs.Cut.{MAX_TEXT};
 ghost use Rattle.hcl_token.specs.Tokens.{whole_text};
 ghost use Rattle.hcl_gaps.specs.Space.{spaces};
-ghost use Rattle.hcl_gaps.specs.Inner.Stages.{gap_meant, with_gaps};
+ghost use Rattle.hcl_gaps.specs.Inner.Stages.{gap_meant, len_meant, with_gaps};
 
-use crate::cells::gap_len;
 use crate::edits::stays;
 use crate::setting::KEPT;
 use hcl_scan::{MAX_TEXT, Scanned};
+use hcl_token::Item;
 use std::alloc::{AllocError, Global};
+
+/// How long a token is with the gap before it that a number stands for.
+fn token_len(item: Item, new: u32) -> usize
+    requires gap { item.gap_at ≤ item.start }
+    requires token { item.start ≤ item.stop }
+    ensures value { result ≡ len_meant new item }
+    ensures small { result ≤ 8589934592 }
+{
+    if new == KEPT {
+        return (item.stop - item.gap_at) as usize;
+    }
+    new as usize + (item.stop - item.start) as usize
+}
 
 /// The number of bytes of the text with its new gaps, unless it is more than 16,777,216.
 pub(crate) fn short_len(scanned: &Scanned<'_>, gaps: &[u32]) -> Option<usize>
@@ -23,11 +36,10 @@ pub(crate) fn short_len(scanned: &Scanned<'_>, gaps: &[u32]) -> Option<usize>
 {
     let mut total = 0;
     for i in 0..scanned.len() {
-        let token = gap_len(scanned, gaps, i).saturating_add(scanned.spelling(i).len());
-        if token > MAX_TEXT - total {
-            return None;
-        }
-        total += token;
+        total += token_len(scanned.item(i), gaps[i]);
+    }
+    if total > MAX_TEXT {
+        return None;
     }
     Some(total)
 }

@@ -38,6 +38,16 @@ takes_room Ellipsis = false
 takes_room SeqClose = false
 takes_room kind = true
 
+-- no space stands before a token of this kind, whatever stands before it
+abbrev pub stands_close : Kind → Bool
+stands_close LineEnd = true
+stands_close DotIndex = true
+stands_close DoubleColon = true
+stands_close Comma = true
+stands_close Dot = true
+stands_close Ellipsis = true
+stands_close kind = false
+
 -- what a number may join with
 abbrev pub may_go_on : Kind → Bool
 may_go_on Number = true

@@ -2,6 +2,7 @@
 use Rattle.std.specs.Prelude.{◌≡◌, ◌<◌, ◌≤◌, drop, slice_range, ℕ, suc, ◌+◌, ◌-◌, ◌*◌, ◌==◌, Bool, ◌&&◌, nat_lt, List, [], ◌∷◌, length, replicate, slice_get, slice_set, ◌||◌, ◌++◌, Option, Some, None, option_map, option_and_then, if◌then◌else◌, ⊤}
 use Rattle.std.specs.Str.{bytes_eq}
 use Rattle.hcl_token.specs.declared.kind.Kind.{Kind}
+use Rattle.hcl_token.specs.declared.item.Item.{Item}
 use Rattle.hcl_token.specs.Tokens.{Pair}
 use Rattle.hcl_token.specs.Place.{is_mark}
 use Rattle.hcl_gaps.specs.Lines.{Line, heredocs_after, ends_line, lines_from}
@@ -157,6 +158,10 @@ all_lens surplus before (line ∷ lines) =
 -- the gap that a number stands for: that many spaces, or the one that stands there
 abbrev pub gap_meant : ℕ → List ℕ → List ℕ
 gap_meant n old = if n == KEPT then old else spaces n
+
+-- how long a token is with that gap
+abbrev pub len_meant : ℕ → Item → ℕ
+len_meant n item = if n == KEPT then item.stop - item.gap_at else n + (item.stop - item.start)
 
 -- tokens with the gaps that these numbers stand for
 abbrev pub with_gaps : List ℕ → List Pair → List Pair
