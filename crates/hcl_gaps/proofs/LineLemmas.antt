@@ -14,7 +14,14 @@ use Rattle.hcl_token.specs.CutText.{kind_of, spelling_of, gap_of}
 use Rattle.hcl_gaps.specs.Kinds.{is_here_open}
 use Rattle.hcl_gaps.specs.Lines.{Line, heredocs_after, ends_line, in_front, lines_from}
 use Rattle.hcl_gaps.specs.Inner.Stages.{line_len, held_behind, held_of, SplitsLine, close}
-use Rattle.hcl_gaps.specs.Inner.Near.{AreLines}
+use Rattle.hcl_gaps.specs.Inner.Near.{makes_busy, are_busy, IsLine, AreLines}
+use Rattle.std.proofs.Common.{take-add, ◌||◌, ◌&&◌, None}
+use Rattle.std.specs.List.{list_any}
+use Rattle.hcl_token.specs.Place.{is_lf}
+use Rattle.hcl_token.specs.declared.kind.Kind.TheVariants.{LineComment, InlineComment, OpenBrace, CloseBrace, OpenBracket, CloseBracket, OpenParen, CloseParen, SeqClose, InterpOpen, DirectiveOpen}
+use Rattle.hcl_gaps.specs.Kinds.{is_line_comment, is_inline_comment}
+use Rattle.hcl_gaps.specs.Indent.{is_opening, is_closing, openings, closings}
+use Rattle.hcl_gaps.specs.Cells.{before_first, before_later}
 use Rattle.hcl_gaps.specs.declared.lines.LineSpan.{LineSpan}
 use Rattle.std.proofs.lemmas.Bool.Decides.{nat_tests}
 
@@ -188,19 +195,128 @@ pub no_items : (xs : List ℕ) → length xs ≡ 0 → xs ≡ []
 no_items [] h = refl
 no_items (x ∷ xs) h = absurd (omega arith)
 
+-- ---- tokens that make a line busy
+
+pub range_split : (ps : List Pair) (a b c : ℕ) → a ≤ b → b ≤ c → slice_range ps a c ≡ slice_range ps a b ++ slice_range ps b c
+range_split ps a b c h g =
+    let count : c - a ≡ (b - a) + (c - b) = omega arith in
+    let rest : drop (b - a) (drop a ps) ≡ drop b ps = drop-drop (b - a) a ps ∙ ap (λ n. drop n ps) (omega arith) in
+    ap (λ n. take n (drop a ps)) count ∙ take-add (b - a) (c - b) (drop a ps) ∙ ap (λ (xs : List Pair). slice_range ps a b ++ take (c - b) xs) rest
+
+pub none_there : (ps : List Pair) (a : ℕ) → slice_range ps a a ≡ []
+none_there ps a = let none : a - a ≡ 0 = omega arith in ap (λ n. take n (drop a ps)) none
+
+busy_if : (p : Pair) (ps : List Pair) (b : Bool) → makes_busy p.kind ≡ b → are_busy (p ∷ ps) ≡ (b || are_busy ps)
+busy_if p ps true h = rw h refl
+busy_if p ps false h = rw h refl
+
+or_group : (a b c : Bool) → (a || (b || c)) ≡ ((a || b) || c)
+or_group true b c = refl
+or_group false b c = refl
+
+or_false : (a : Bool) → (a || false) ≡ a
+or_false true = refl
+or_false false = refl
+
+busy_append : (ps qs : List Pair) → are_busy (ps ++ qs) ≡ (are_busy ps || are_busy qs)
+busy_append [] qs = refl
+busy_append (p ∷ ps) qs =
+    busy_if p (ps ++ qs) (makes_busy p.kind) refl
+    ∙ ap (λ b. makes_busy p.kind || b) (busy_append ps qs)
+    ∙ or_group (makes_busy p.kind) (are_busy ps) (are_busy qs)
+    ∙ ap (λ b. b || are_busy qs) (sym (busy_if p ps (makes_busy p.kind) refl))
+
+-- one more token
+pub busy_more : (pairs : List Pair) (at i : ℕ) (k : Kind) (b : Bool) → at ≤ i → i < length pairs → Some k ≡ kind_of pairs i → b ≡ are_busy (slice_range pairs at i)
+    → (b || makes_busy k) ≡ are_busy (slice_range pairs at (i + 1))
+busy_more pairs at i k b later inside is b_is =
+    let t = turn pairs i (i + 1) (omega arith) (omega arith) in
+    let one : slice_range pairs i (i + 1) ≡ t.pair ∷ [] = t.range ∙ ap (λ (qs : List Pair). t.pair ∷ qs) (none_there pairs (i + 1)) in
+    let last : are_busy (slice_range pairs i (i + 1)) ≡ makes_busy k =
+    ap are_busy one ∙ busy_if t.pair [] (makes_busy t.pair.kind) refl ∙ or_false (makes_busy t.pair.kind) ∙ ap makes_busy (sym (kind_is pairs i (i + 1) k t is)) in
+    sym (ap are_busy (range_split pairs at i (i + 1) later (omega arith)) ∙ busy_append (slice_range pairs at i) (slice_range pairs i (i + 1)) ∙ ap₂ (λ x y. x || y) (sym b_is) last)
+
+or_none : (a b : Bool) → (a || b) ≡ false → b ≡ false
+or_none true b h = absurd (cc)
+or_none false b h = h
+
+-- from a later token on
+pub quiet_later : (pairs : List Pair) (at i past : ℕ) → at ≤ i → i ≤ past → are_busy (slice_range pairs at past) ≡ false → are_busy (slice_range pairs i past) ≡ false
+quiet_later pairs at i past later less h =
+    or_none (are_busy (slice_range pairs at i)) (are_busy (slice_range pairs i past))
+    (sym (ap are_busy (range_split pairs at i past later less) ∙ busy_append (slice_range pairs at i) (slice_range pairs i past)) ∙ h)
+
+-- what is not among tokens where none makes a line busy
+record IsQuiet (k : Kind) : Type 0 where
+  opening : is_opening k ≡ false
+  closing : is_closing k ≡ false
+  inline : is_inline_comment k ≡ false
+  comment : is_line_comment k ≡ false
+
+quiet : (k : Kind) → makes_busy k ≡ false → IsQuiet k
+quiet LineComment h = absurd (cc)
+quiet InlineComment h = absurd (cc)
+quiet OpenBrace h = absurd (cc)
+quiet CloseBrace h = absurd (cc)
+quiet OpenBracket h = absurd (cc)
+quiet CloseBracket h = absurd (cc)
+quiet OpenParen h = absurd (cc)
+quiet CloseParen h = absurd (cc)
+quiet SeqClose h = absurd (cc)
+quiet InterpOpen h = absurd (cc)
+quiet DirectiveOpen h = absurd (cc)
+quiet k h = record { opening = refl; closing = refl; inline = refl; comment = refl }
+
+or_first : (a b : Bool) → (a || b) ≡ false → (a ≡ false) × (b ≡ false)
+or_first true b h = absurd (cc)
+or_first false b h = (refl, h)
+
+quiet_two : (p : Pair) (ps : List Pair) → are_busy (p ∷ ps) ≡ false → IsQuiet p.kind × (are_busy ps ≡ false)
+quiet_two p ps h =
+    let both = or_first (makes_busy p.kind) (are_busy ps) (sym (busy_if p ps (makes_busy p.kind) refl) ∙ h) in
+    (quiet p.kind both.0, both.1)
+
+pub quiet_openings : (ps : List Pair) → are_busy ps ≡ false → 0 ≡ openings ps
+quiet_openings [] h = refl
+quiet_openings (p ∷ ps) h =
+    let (q, rest) = quiet_two p ps h in
+    let head : cond {A = ℕ} (is_opening p.kind) 1 0 ≡ 0 = ap {B = ℕ} (λ b. cond b 1 0) q.opening in
+    let more : openings (p ∷ ps) ≡ cond (is_opening p.kind) 1 0 + openings ps = sum_by-cons (λ (r : Pair). cond (is_opening r.kind) 1 0) p ps in
+    omega (arith, head, more, quiet_openings ps rest)
+
+pub quiet_closings : (ps : List Pair) → are_busy ps ≡ false → 0 ≡ closings ps
+quiet_closings [] h = refl
+quiet_closings (p ∷ ps) h =
+    let (q, rest) = quiet_two p ps h in
+    let head : cond {A = ℕ} (is_closing p.kind) 1 0 ≡ 0 = ap {B = ℕ} (λ b. cond b 1 0) q.closing in
+    let more : closings (p ∷ ps) ≡ cond (is_closing p.kind) 1 0 + closings ps = sum_by-cons (λ (r : Pair). cond (is_closing r.kind) 1 0) p ps in
+    omega (arith, head, more, quiet_closings ps rest)
+
+pub quiet_breaks : (ps : List Pair) → are_busy ps ≡ false → false ≡ list_any (λ (p : Pair). is_inline_comment p.kind && list_any is_lf p.spelling) ps
+quiet_breaks [] h = refl
+quiet_breaks (p ∷ ps) h = let (q, rest) = quiet_two p ps h in rw q.inline (quiet_breaks ps rest)
+
+quiet_first : (ps : List Pair) → are_busy ps ≡ false → before_first (λ (p : Pair). is_line_comment p.kind) ps ≡ None
+quiet_first [] h = refl
+quiet_first (p ∷ ps) h = let (q, rest) = quiet_two p ps h in rw (q.comment, quiet_first ps rest) refl
+
+pub quiet_comments : (at : ℕ) (ps : List Pair) → are_busy ps ≡ false → None ≡ option_map (λ n. at + n) (before_later (λ (p : Pair). is_line_comment p.kind) ps)
+quiet_comments at [] h = refl
+quiet_comments at (p ∷ ps) h = let (q, rest) = quiet_two p ps h in rw (quiet_first ps rest) refl
+
 -- ---- lines as spans
 
 -- lines from one token up to another
 abbrev pub LinesTo : List Pair → ℕ → Bool → List LineSpan → ℕ → Bool → Type 0
 LinesTo pairs at frozen [] to next = (at ≡ to) × (frozen ≡ next)
-LinesTo pairs at frozen (line ∷ lines) to next = SplitsLine pairs at frozen line.past line.next × LinesTo pairs line.past line.next lines to next
+LinesTo pairs at frozen (line ∷ lines) to next = IsLine pairs at frozen line × LinesTo pairs line.past line.next lines to next
 
 -- one more
 pub lines_push : (pairs : List Pair) (at : ℕ) (frozen : Bool) (lines : List LineSpan) (to : ℕ) (next : Bool) (line : LineSpan)
-    → LinesTo pairs at frozen lines to next → SplitsLine pairs to next line.past line.next
+    → LinesTo pairs at frozen lines to next → IsLine pairs to next line
     → LinesTo pairs at frozen (lines ++ line ∷ []) line.past line.next
 lines_push pairs at frozen [] to next line (e, f) one =
-    (subst (λ a. SplitsLine pairs a frozen line.past line.next) (sym e) (subst (λ b. SplitsLine pairs to b line.past line.next) (sym f) one), (refl, refl))
+    (subst (λ a. IsLine pairs a frozen line) (sym e) (subst (λ b. IsLine pairs to b line) (sym f) one), (refl, refl))
 lines_push pairs at frozen (l ∷ lines) to next line (first, rest) one = (first, lines_push pairs l.past l.next lines to next line rest one)
 
 -- up to the end of the text
@@ -211,12 +327,12 @@ lines_whole pairs at frozen (l ∷ lines) to next (first, rest) end = (first, li
 
 -- what a list of spans answers past its end
 abbrev pub no_span : LineSpan
-no_span = record { past = 0; next = false }
+no_span = record { past = 0; next = false; busy = false }
 
 -- the line of number i, and those behind it
 pub line_at : (pairs : List Pair) (at : ℕ) (frozen : Bool) (lines : List LineSpan) (i : ℕ) → i < length lines
     → AreLines pairs at frozen (drop i lines)
-    → SplitsLine pairs at frozen (get_or lines i no_span).past (get_or lines i no_span).next
+    → IsLine pairs at frozen (get_or lines i no_span)
     × AreLines pairs (get_or lines i no_span).past (get_or lines i no_span).next (drop (i + 1) lines)
 line_at pairs at frozen lines i h are = subst (AreLines pairs at frozen) (drop_more lines i no_span h) are
 

@@ -14,7 +14,7 @@ use Rattle.hcl_gaps.specs.Space.{passed, passed_all, behind_identifier, is_splat
 use Rattle.std.proofs.Common.{take-add, drop-drop, reverse}
 use Rattle.hcl_gaps.specs.Inner.Rows.{IsPastNearest}
 use Rattle.hcl_gaps.specs.Inner.Stages.{SplitsLine, held_of, space_len, space_len_at, space_lens, spaces_from, line_lens, set_lens, all_lens, open_at, open_behind}
-use Rattle.hcl_gaps.proofs.LineLemmas.{Turn, turn, kind_is}
+use Rattle.hcl_gaps.proofs.LineLemmas.{Turn, turn, kind_is, range_split, none_there}
 
 -- the two nearest are the same
 abbrev pub AreNear : List Kind → List Kind → Type 0
@@ -84,17 +84,8 @@ passed_append : (ps qs : List Pair) (before : List Kind) → passed_all (ps ++ q
 passed_append [] qs before = refl
 passed_append (p ∷ ps) qs before = passed_append ps qs (passed p before)
 
-range_split : (ps : List Pair) (a b c : ℕ) → a ≤ b → b ≤ c → slice_range ps a c ≡ slice_range ps a b ++ slice_range ps b c
-range_split ps a b c h g =
-    let count : c - a ≡ (b - a) + (c - b) = omega arith in
-    let rest : drop (b - a) (drop a ps) ≡ drop b ps = drop-drop (b - a) a ps ∙ ap (λ n. drop n ps) (omega arith) in
-    ap (λ n. take n (drop a ps)) count ∙ take-add (b - a) (c - b) (drop a ps) ∙ ap (λ (xs : List Pair). slice_range ps a b ++ take (c - b) xs) rest
-
 pub passed_on : (ps : List Pair) (a b c : ℕ) (before : List Kind) → a ≤ b → b ≤ c → passed_all (slice_range ps a c) before ≡ passed_all (slice_range ps b c) (passed_all (slice_range ps a b) before)
 passed_on ps a b c before h g = ap (λ (qs : List Pair). passed_all qs before) (range_split ps a b c h g) ∙ passed_append (slice_range ps a b) (slice_range ps b c) before
-
-none_there : (ps : List Pair) (a : ℕ) → slice_range ps a a ≡ []
-none_there ps a = let none : a - a ≡ 0 = omega arith in ap (λ n. take n (drop a ps)) none
 
 -- one more
 pub passed_one : (ps : List Pair) (first i j : ℕ) (t : Turn ps i j) → first ≤ i → j ≡ i + 1 → passed_all (slice_range ps first j) [] ≡ passed t.pair (passed_all (slice_range ps first i) [])

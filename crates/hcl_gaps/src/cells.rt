@@ -10,7 +10,7 @@ ghost use Rattle.hcl_gaps.specs.Kinds.{is_inline_comment};
 ghost use Rattle.hcl_gaps.specs.Lines.{lines_from, pairs_in};
 ghost use Rattle.hcl_gaps.specs.Cells.{before_later, is_balanced, width, width_before, widths, greatest, aligned};
 ghost use Rattle.hcl_gaps.specs.Inner.Stages.{with_gaps, AreWithin, cell_tokens, set_cell_gaps, cell_gaps_below};
-ghost use Rattle.hcl_gaps.specs.Inner.Near.{cell_is, cell_of, cell_counts, widths_of, tokens_in, width_in, token_in, AreInside, AreLines};
+ghost use Rattle.hcl_gaps.specs.Inner.Near.{cell_is, cell_of, cell_counts, widths_of, tokens_in, width_in, token_in, AreInside, AreLines, are_busy};
 
 use crate::indent::brackets;
 use crate::kinds::{is_equal, is_inline_comment, is_line_comment};
@@ -55,13 +55,17 @@ fn breaks_at(scanned: &Scanned<'_>, i: usize) -> bool
 }
 
 /// Whether an inline comment with a line end stands in a line.
-fn breaks(scanned: &Scanned<'_>, at: usize, past: usize) -> bool
+fn breaks(scanned: &Scanned<'_>, at: usize, past: usize, busy: bool) -> bool
     requires ordered { at ≤ past }
     requires within { past ≤ length scanned.now.pairs }
+    requires busy { busy ≡ false → are_busy (slice_range scanned.now.pairs at past) ≡ false }
     ensures { result ≡ list_any
         (λ (p : Pair). is_inline_comment p.kind && list_any is_lf p.spelling)
         (slice_range scanned.now.pairs at past) }
 {
+    if !busy {
+        return false;
+    }
     for i in at..past {
         if breaks_at(scanned, i) {
             return true;
@@ -80,14 +84,24 @@ fn cell_is(cell: Cell, kind: Kind) -> bool
 }
 
 /// The first token behind token `at` that begins such a cell.
-fn first_later(scanned: &Scanned<'_>, cell: Cell, at: usize, past: usize) -> Option<usize>
+fn first_later(
+    scanned: &Scanned<'_>,
+    cell: Cell,
+    at: usize,
+    past: usize,
+    busy: bool,
+) -> Option<usize>
     requires ordered { at < past }
     requires within { past ≤ length scanned.now.pairs }
+    requires busy { busy ≡ false → are_busy (slice_range scanned.now.pairs at past) ≡ false }
     ensures found { result
         ≡ option_map (λ n. at + n)
         (before_later (λ (p : Pair). cell_is cell p.kind) (slice_range scanned.now.pairs at past)) }
     ensures inside { IfSome result (λ i. (at < i) × (i < past)) }
 {
+    if !busy && matches!(cell, Cell::ClosingComment) {
+        return None;
+    }
     for i in at + 1..past {
         if cell_is(cell, scanned.kind(i)) {
             return Some(i);
@@ -96,33 +110,43 @@ fn first_later(scanned: &Scanned<'_>, cell: Cell, at: usize, past: usize) -> Opt
     None
 }
 
-fn is_balanced(scanned: &Scanned<'_>, at: usize, past: usize) -> bool
+fn is_balanced(scanned: &Scanned<'_>, at: usize, past: usize, busy: bool) -> bool
     requires ordered { at ≤ past }
     requires within { past ≤ length scanned.now.pairs }
+    requires busy { busy ≡ false → are_busy (slice_range scanned.now.pairs at past) ≡ false }
     requires few { length scanned.now.pairs ≤ MAX_TEXT }
     ensures { result ≡ is_balanced (slice_range scanned.now.pairs at past) }
 {
-    let (opened, closed) = brackets(scanned, at, past);
+    let (opened, closed) = brackets(scanned, at, past, busy);
     opened == closed
 }
 
 /// Whether a cell that begins at token `i` of a line counts.
-fn counts(scanned: &Scanned<'_>, cell: Cell, i: usize, past: usize) -> bool
+fn counts(scanned: &Scanned<'_>, cell: Cell, i: usize, past: usize, busy: bool) -> bool
     requires ordered { i ≤ past }
     requires within { past ≤ length scanned.now.pairs }
+    requires busy { busy ≡ false → are_busy (slice_range scanned.now.pairs i past) ≡ false }
     requires few { length scanned.now.pairs ≤ MAX_TEXT }
     ensures { result ≡ cell_counts cell (slice_range scanned.now.pairs i past) }
 {
     match cell {
-        Cell::Assignment => is_balanced(scanned, i, past),
+        Cell::Assignment => is_balanced(scanned, i, past, busy),
         Cell::ClosingComment => true,
     }
 }
 
 /// The first token of the line's cell, if it has one.
-fn cell_of(scanned: &Scanned<'_>, cell: Cell, at: usize, past: usize, frozen: bool) -> Option<usize>
+fn cell_of(
+    scanned: &Scanned<'_>,
+    cell: Cell,
+    at: usize,
+    past: usize,
+    frozen: bool,
+    busy: bool,
+) -> Option<usize>
     requires ordered { at < past }
     requires within { past ≤ length scanned.now.pairs }
+    requires busy { busy ≡ false → are_busy (slice_range scanned.now.pairs at past) ≡ false }
     requires few { length scanned.now.pairs ≤ MAX_TEXT }
     ensures cell { result
         ≡ option_map (λ n. at + n)
@@ -132,11 +156,11 @@ fn cell_of(scanned: &Scanned<'_>, cell: Cell, at: usize, past: usize, frozen: bo
     if frozen {
         return None;
     }
-    let i = first_later(scanned, cell, at, past)?;
-    if breaks(scanned, at, past) {
+    let i = first_later(scanned, cell, at, past, busy)?;
+    if breaks(scanned, at, past, busy) {
         return None;
     }
-    if counts(scanned, cell, i, past) {
+    if counts(scanned, cell, i, past, busy) {
         return Some(i);
     }
     None
@@ -180,10 +204,12 @@ fn cell_start(
     at: usize,
     past: usize,
     frozen: bool,
+    busy: bool,
 ) -> Option<CellStart>
     requires same { length gaps.now ≡ length scanned.now.pairs }
     requires ordered { at < past }
     requires within { past ≤ length scanned.now.pairs }
+    requires busy { busy ≡ false → are_busy (slice_range scanned.now.pairs at past) ≡ false }
     requires few { length scanned.now.pairs ≤ MAX_TEXT }
     requires narrow { AreWithin 1073741824
         (width_before (cell_of cell)
@@ -205,7 +231,7 @@ fn cell_start(
         })) }
     ensures inside { IfSome result (λ p. p.token < length scanned.now.pairs) }
 {
-    match cell_of(scanned, cell, at, past, frozen) {
+    match cell_of(scanned, cell, at, past, frozen, busy) {
         None => None,
         Some(i) => Some(CellStart {
             token: i as u32,
@@ -244,7 +270,8 @@ fn cell_starts(
     let mut at = first;
     for line in lines {
         let past = line.past as usize;
-        starts.push(cell_start(scanned, cell, gaps, at, past, frozen))?;
+        let start = cell_start(scanned, cell, gaps, at, past, frozen, line.busy);
+        starts.push(start)?;
         frozen = line.next;
         at = past;
     }

@@ -1,8 +1,9 @@
 //! How far lines are indented.
 
-ghost use Rattle.std.specs.Prelude.{◌≡◌, ◌∷◌, ◌+◌, ◌-◌, nat_lt, if◌then◌else◌, OnOk, ◌<◌, ◌≤◌, length, reverse, slice_range};
+ghost use Rattle.std.specs.Prelude.{◌≡◌, false, ◌∷◌, ◌+◌, ◌-◌, nat_lt, if◌then◌else◌, OnOk, ◌<◌, ◌≤◌, length, reverse, slice_range};
 ghost use Rattle.hcl_scan.specs.Cut.{MAX_TEXT};
 ghost use Rattle.hcl_gaps.specs.Indent.{is_opening, is_closing, openings, closings};
+ghost use Rattle.hcl_gaps.specs.Inner.Near.{are_busy};
 ghost use Rattle.hcl_gaps.specs.Inner.Stages.{close, open_at};
 
 use hcl_scan::Scanned;
@@ -32,13 +33,18 @@ fn is_closing(kind: Kind) -> bool
 }
 
 /// How many brackets and sequences open among the tokens from one to another, and how many close.
-pub(crate) fn brackets(scanned: &Scanned<'_>, from: usize, to: usize) -> (u32, u32)
+/// They are not looked at where the line is not busy.
+pub(crate) fn brackets(scanned: &Scanned<'_>, from: usize, to: usize, busy: bool) -> (u32, u32)
     requires ordered { from ≤ to }
     requires within { to ≤ length scanned.now.pairs }
     requires few { length scanned.now.pairs ≤ MAX_TEXT }
+    requires busy { busy ≡ false → are_busy (slice_range scanned.now.pairs from to) ≡ false }
     ensures opened { result.0 ≡ openings (slice_range scanned.now.pairs from to) }
     ensures closed { result.1 ≡ closings (slice_range scanned.now.pairs from to) }
 {
+    if !busy {
+        return (0, 0);
+    }
     let mut opened: u32 = 0;
     let mut closed: u32 = 0;
     for i in from..to {

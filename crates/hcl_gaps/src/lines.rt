@@ -3,8 +3,7 @@
 ghost use Rattle.std.specs.Prelude.{◌≡◌, ◌+◌, ◌<◌, ◌≤◌, false, length, IfOk};
 ghost use Rattle.hcl_scan.specs.Cut.{MAX_TEXT};
 ghost use Rattle.hcl_gaps.specs.Lines.{heredocs_after, ends_line};
-ghost use Rattle.hcl_gaps.specs.Inner.Near.{AreLines};
-ghost use Rattle.hcl_gaps.specs.Inner.Stages.{SplitsLine};
+ghost use Rattle.hcl_gaps.specs.Inner.Near.{makes_busy, IsLine, AreLines};
 
 use crate::kinds::is_here_open;
 use hcl_scan::Scanned;
@@ -18,6 +17,27 @@ pub(crate) struct LineSpan {
     pub past: u32,
     /// Whether the next line begins in a heredoc.
     pub next: bool,
+    /// Whether a bracket, a template sequence or a comment stands in it.
+    pub busy: bool,
+}
+
+fn makes_busy(kind: Kind) -> bool
+    ensures { result ≡ makes_busy kind }
+{
+    matches!(
+        kind,
+        Kind::LineComment
+            | Kind::InlineComment
+            | Kind::OpenBrace
+            | Kind::CloseBrace
+            | Kind::OpenBracket
+            | Kind::CloseBracket
+            | Kind::OpenParen
+            | Kind::CloseParen
+            | Kind::SeqClose
+            | Kind::InterpOpen
+            | Kind::DirectiveOpen
+    )
 }
 
 fn heredocs_after(held: usize, kind: Kind) -> usize
@@ -41,22 +61,31 @@ fn ends_line(held: usize, kind: Kind) -> bool
     }
 }
 
-/// Where the line ends that begins at token `at`, in a heredoc or not: the number past its last
-/// token, and whether the next line begins in a heredoc.
-fn line_end(scanned: &Scanned<'_>, at: usize, frozen: bool) -> (usize, bool)
+/// The line that begins at token `at`, in a heredoc or not.
+fn line_from(scanned: &Scanned<'_>, at: usize, frozen: bool) -> LineSpan
     requires within { at < length scanned.now.pairs }
     requires few { length scanned.now.pairs ≤ MAX_TEXT }
-    ensures { SplitsLine scanned.now.pairs at frozen result.0 result.1 }
+    ensures { IsLine scanned.now.pairs at frozen result }
 {
     let mut held = usize::from(frozen);
+    let mut busy = false;
     for i in at..scanned.len() {
         let kind = scanned.kind(i);
+        busy = busy | makes_busy(kind);
         if ends_line(held, kind) {
-            return (i + 1, is_here_open(kind));
+            return LineSpan {
+                past: (i + 1) as u32,
+                next: is_here_open(kind),
+                busy,
+            };
         }
         held = heredocs_after(held, kind);
     }
-    (scanned.len(), false)
+    LineSpan {
+        past: scanned.len() as u32,
+        next: false,
+        busy,
+    }
 }
 
 /// The lines from token `first` on, one behind the other.
@@ -73,13 +102,10 @@ pub(crate) fn line_spans(
     let mut frozen = false;
     let mut at = first;
     while at < scanned.len() {
-        let (past, next) = line_end(scanned, at, frozen);
-        lines.push(LineSpan {
-            past: past as u32,
-            next,
-        })?;
-        frozen = next;
-        at = past;
+        let line = line_from(scanned, at, frozen);
+        lines.push(line)?;
+        frozen = line.next;
+        at = line.past as usize;
     }
     Ok(lines)
 }

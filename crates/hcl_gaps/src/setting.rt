@@ -111,7 +111,7 @@ fn set_lines(
     let mut at = first;
     for line in lines {
         let past = line.past as usize;
-        let (opened, closed) = brackets(scanned, at, past);
+        let (opened, closed) = brackets(scanned, at, past, line.busy);
         open_at(&mut surplus, opened, closed);
         let level = surplus.len() as u32;
         set_line(scanned, gaps, first, at, past, frozen, level)?;

@@ -1,6 +1,8 @@
 -- What the code keeps of tokens and cells, as lists. For proofs: nothing here has to be believed.
-use Rattle.std.specs.Prelude.{◌≡◌, ℕ, Bool, true, List, [], ◌∷◌, length, map, ◌<◌, Option, Some, None, ⊤}
+use Rattle.std.specs.Prelude.{◌≡◌, ℕ, Bool, true, false, slice_range, List, [], ◌∷◌, length, map, ◌<◌, Option, Some, None, ⊤}
+use Rattle.std.specs.List.{list_any}
 use Rattle.hcl_token.specs.declared.kind.Kind.{Kind}
+use Rattle.hcl_token.specs.declared.kind.Kind.TheVariants.{LineComment, InlineComment, OpenBrace, CloseBrace, OpenBracket, CloseBracket, OpenParen, CloseParen, SeqClose, InterpOpen, DirectiveOpen}
 use Rattle.hcl_gaps.specs.Kinds.{is_equal, is_line_comment}
 use Rattle.hcl_gaps.specs.Lines.{Line}
 use Rattle.hcl_token.specs.Tokens.{Pair}
@@ -48,8 +50,32 @@ AreInside count [] = ⊤
 AreInside count (None ∷ starts) = AreInside count starts
 AreInside count (Some p ∷ starts) = (p.token < count) × AreInside count starts
 
+-- brackets, template sequences and comments
+abbrev pub makes_busy : Kind → Bool
+makes_busy LineComment = true
+makes_busy InlineComment = true
+makes_busy OpenBrace = true
+makes_busy CloseBrace = true
+makes_busy OpenBracket = true
+makes_busy CloseBracket = true
+makes_busy OpenParen = true
+makes_busy CloseParen = true
+makes_busy SeqClose = true
+makes_busy InterpOpen = true
+makes_busy DirectiveOpen = true
+makes_busy kind = false
+
+-- one of them is among these tokens
+abbrev pub are_busy : List Pair → Bool
+are_busy pairs = list_any (λ (p : Pair). makes_busy p.kind) pairs
+
+-- a line that begins at a token, in a heredoc or not
+pub record IsLine (pairs : List Pair) (at : ℕ) (frozen : Bool) (line : LineSpan) : Type 0 where
+  pub split : SplitsLine pairs at frozen line.past line.next
+  pub busy : line.busy ≡ are_busy (slice_range pairs at line.past)
+
 -- the lines of a text from a token on, where that begins in a heredoc or not
 abbrev pub AreLines : List Pair → ℕ → Bool → List LineSpan → Type 0
 AreLines pairs at frozen [] = at ≡ length pairs
 AreLines pairs at frozen (line ∷ lines) =
-    SplitsLine pairs at frozen line.past line.next × AreLines pairs line.past line.next lines
+    IsLine pairs at frozen line × AreLines pairs line.past line.next lines

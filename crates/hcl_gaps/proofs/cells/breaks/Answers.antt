@@ -1,5 +1,6 @@
-use Rattle.std.proofs.Common.{sym, ◌∙◌}
+use Rattle.std.proofs.Common.{slice_range, sym, ◌∙◌}
 use Rattle.hcl_gaps.proofs.CellCode.{breaks_goes, breaks_found, breaks_none, breaks_is}
+use Rattle.hcl_gaps.proofs.LineLemmas.{quiet_breaks}
 use Rattle.hcl_gaps.proofs.cells.breaks.Goals as goal
 
 pub returns-then-breaks_at : goal.returns-then-breaks_at
@@ -16,3 +17,6 @@ pub returns : goal.returns
 returns c =
     sym (breaks_none c.args.scanned.now.pairs c.loop-i.i c.args.past c.loop-i-test.false)
     ∙ (c.loop-i.invariant ∙ breaks_is c.args.scanned.now.pairs c.args.at c.args.past)
+
+pub returns-then-not-busy : goal.returns-then-not-busy
+returns-then-not-busy c = quiet_breaks (slice_range c.args.scanned.now.pairs c.args.at c.args.past) (c.requires.busy c.if-not-busy.true)

@@ -1,24 +1,26 @@
-use Rattle.std.proofs.Common.{get_or, arith}
+use Rattle.std.proofs.Common.{sym, ◌∙◌, get_or, arith}
 use Rattle.hcl_gaps.specs.declared.lines.LineSpan.{LineSpan}
 use Rattle.hcl_gaps.proofs.LineLemmas.{no_span, line_at, no_line}
 use Rattle.hcl_gaps.proofs.CellCode.{starts_narrow, starts_turn, starts_end}
 use Rattle.hcl_gaps.proofs.cells.cell_starts.Goals as goal
 
-pub cell_start-requires-clause-narrow : goal.cell_start-requires-clause-narrow
-cell_start-requires-clause-narrow c =
+pub cell_start-start-requires-clause-narrow : goal.cell_start-start-requires-clause-narrow
+cell_start-start-requires-clause-narrow c =
     let line : LineSpan = get_or c.args.lines.now c.loop-line.line-index no_span in
-    let (split, more) = line_at c.args.scanned.now.pairs c.loop-line.at c.loop-line.frozen c.args.lines.now c.loop-line.line-index c.loop-line-test.true c.loop-line.invariant.lines in
+    let (this, more) = line_at c.args.scanned.now.pairs c.loop-line.at c.loop-line.frozen c.args.lines.now c.loop-line.line-index c.loop-line-test.true c.loop-line.invariant.lines in
+    let split = this.split in
     starts_narrow c.args.cell c.args.gaps.now c.args.scanned.now.pairs c.args.first c.loop-line.at c.loop-line.frozen c.loop-line.starts.items line.past line.next
     c.requires.same split c.loop-line.invariant.starts
 
 pub loop-line-preserved : goal.loop-line-preserved
 loop-line-preserved c =
     let line : LineSpan = get_or c.args.lines.now c.loop-line.line-index no_span in
-    let (split, more) = line_at c.args.scanned.now.pairs c.loop-line.at c.loop-line.frozen c.args.lines.now c.loop-line.line-index c.loop-line-test.true c.loop-line.invariant.lines in
+    let (this, more) = line_at c.args.scanned.now.pairs c.loop-line.at c.loop-line.frozen c.args.lines.now c.loop-line.line-index c.loop-line-test.true c.loop-line.invariant.lines in
+    let split = this.split in
     record {
       starts =
-          starts_turn c.args.cell c.args.gaps.now c.args.scanned.now.pairs c.args.first c.loop-line.at c.loop-line.frozen c.loop-line.starts.items c.push.new.self.items line.past line.next c.cell_start.result
-          c.requires.same split c.loop-line.invariant.starts c.in_ok-push.ensures.items c.cell_start.ensures.width c.cell_start.ensures.token c.cell_start.ensures.inside;
+          starts_turn c.args.cell c.args.gaps.now c.args.scanned.now.pairs c.args.first c.loop-line.at c.loop-line.frozen c.loop-line.starts.items c.push.new.self.items line.past line.next c.cell_start-start.result
+          c.requires.same split c.loop-line.invariant.starts c.in_ok-push.ensures.items c.cell_start-start.ensures.width c.cell_start-start.ensures.token c.cell_start-start.ensures.inside;
       lines = more;
     }
 
@@ -31,3 +33,8 @@ pub returns-clause-tokens : goal.returns-clause-tokens
 returns-clause-tokens c =
     let end = no_line c.args.scanned.now.pairs c.loop-line.at c.loop-line.frozen c.args.lines.now c.loop-line.line-index c.loop-line-test.false c.loop-line.invariant.lines in
     (starts_end c.args.cell c.args.gaps.now c.args.scanned.now.pairs c.args.first c.loop-line.at c.loop-line.frozen c.loop-line.starts.items c.requires.same (omega (arith, end)) c.loop-line.invariant.starts).1
+
+pub cell_start-start-requires-clause-busy : goal.cell_start-start-requires-clause-busy
+cell_start-start-requires-clause-busy c = λ h.
+    let (this, more) = line_at c.args.scanned.now.pairs c.loop-line.at c.loop-line.frozen c.args.lines.now c.loop-line.line-index c.loop-line-test.true c.loop-line.invariant.lines in
+    sym this.busy ∙ h

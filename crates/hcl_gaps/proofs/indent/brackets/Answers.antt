@@ -1,7 +1,7 @@
-use Rattle.std.proofs.Common.{◌≡◌, ◌≤◌, ℕ, Bool, true, false, cond, refl, ap, ◌∙◌, arith}
+use Rattle.std.proofs.Common.{slice_range, ◌≡◌, ◌≤◌, ℕ, Bool, true, false, cond, refl, ap, ◌∙◌, arith}
 use mir.Val.{bool_byte}
 use Rattle.hcl_gaps.specs.Indent.{is_opening, is_closing}
-use Rattle.hcl_gaps.proofs.LineLemmas.{counted}
+use Rattle.hcl_gaps.proofs.LineLemmas.{counted, quiet_openings, quiet_closings}
 use Rattle.hcl_gaps.proofs.indent.brackets.Goals as goal
 
 one_if : (b : Bool) → bool_byte b ≡ cond b 1 0
@@ -26,3 +26,9 @@ loop-i-preserved c =
       few_opened = omega (arith, opening, one_at_most (is_opening kind), old.few_opened);
       few_closed = omega (arith, closing, one_at_most (is_closing kind), old.few_closed);
     }
+
+pub returns-then-not-busy-clause-opened : goal.returns-then-not-busy-clause-opened
+returns-then-not-busy-clause-opened c = quiet_openings (slice_range c.args.scanned.now.pairs c.args.from c.args.to) (c.requires.busy c.if-not-busy.true)
+
+pub returns-then-not-busy-clause-closed : goal.returns-then-not-busy-clause-closed
+returns-then-not-busy-clause-closed c = quiet_closings (slice_range c.args.scanned.now.pairs c.args.from c.args.to) (c.requires.busy c.if-not-busy.true)

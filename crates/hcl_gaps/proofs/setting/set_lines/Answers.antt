@@ -1,4 +1,4 @@
-use Rattle.std.proofs.Common.{get_or, length, ap, reverse, ◌∙◌, arith}
+use Rattle.std.proofs.Common.{sym, get_or, length, ap, reverse, ◌∙◌, arith}
 use Rattle.std.proofs.lemmas.List.{length-reverse}
 use Rattle.hcl_gaps.specs.declared.lines.LineSpan.{LineSpan}
 use Rattle.hcl_gaps.proofs.LineLemmas.{no_span, line_at}
@@ -16,7 +16,8 @@ loop-line-init c = record {
 pub loop-line-preserved : goal.loop-line-preserved
 loop-line-preserved c =
     let line : LineSpan = get_or c.args.lines.now c.loop-line.line-index no_span in
-    let (split, more) = line_at c.args.scanned.now.pairs c.loop-line.at c.loop-line.frozen c.args.lines.now c.loop-line.line-index c.loop-line-test.true c.loop-line.invariant.lines in
+    let (this, more) = line_at c.args.scanned.now.pairs c.loop-line.at c.loop-line.frozen c.args.lines.now c.loop-line.line-index c.loop-line-test.true c.loop-line.invariant.lines in
+    let split = this.split in
     record {
       rest =
           set_turn c.args.scanned.now.pairs c.args.first c.loop-line.at c.loop-line.frozen line.past line.next c.brackets-opened.result.0 c.brackets-opened.result.1 c.len-level.result
@@ -30,3 +31,8 @@ loop-line-preserved c =
       small = omega (arith, c.in_ok-open_behind.ensures.longer, c.open_at.ensures.shorter, c.loop-line.invariant.small, split.more);
       lines = more;
     }
+
+pub brackets-opened-requires-clause-busy : goal.brackets-opened-requires-clause-busy
+brackets-opened-requires-clause-busy c = λ h.
+    let (this, more) = line_at c.args.scanned.now.pairs c.loop-line.at c.loop-line.frozen c.args.lines.now c.loop-line.line-index c.loop-line-test.true c.loop-line.invariant.lines in
+    sym this.busy ∙ h

@@ -1,0 +1,10 @@
+use Rattle.std.proofs.Common.{◌≡◌, slice_range}
+use Rattle.hcl_gaps.specs.Inner.Near.{are_busy}
+use Rattle.hcl_gaps.proofs.LineLemmas.{IsInLine}
+use Rattle.hcl_gaps.proofs.lines.line_from.Given as goal
+
+abbrev pub invariant-loop-i : goal.invariant-loop-i
+invariant-loop-i l = record {
+  line : IsInLine l.scanned.pairs l.at l.frozen l.i l.held;
+  busy : l.busy ≡ are_busy (slice_range l.scanned.pairs l.at l.i);
+}
