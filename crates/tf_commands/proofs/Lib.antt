@@ -2,7 +2,6 @@ pub mod Lists
 pub mod Stacks
 pub mod OneRecord
 pub mod Histories
-pub mod LineLists
 pub mod RunLaws
 pub mod Refusing
 pub mod Laying

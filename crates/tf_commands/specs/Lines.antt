@@ -1,8 +1,8 @@
 -- The lines of the issues of a text, and what a call that lints a stream took, wrote and answers.
-use Rattle.std.specs.Prelude.{◌≡◌, ◌⊎◌, ℕ, List, [], ◌∷◌, ◌++◌, length}
+use Rattle.std.specs.Prelude.{◌≡◌, ◌⊎◌, ℕ, List, length}
 use Rattle.tf_rule.specs.declared.rule_set.RuleSet.{RuleSet}
 use Rattle.tf_lint.specs.Issues.{AreReports}
-use Rattle.tf_lint.specs.Reports.{Report, line_of}
+use Rattle.tf_lint.specs.Reports.{Report, lines_of}
 use Rattle.tf_stream.specs.Streams.{Source, Target, Puts, Untouched}
 use Rattle.tf_commands.specs.declared.fault.RunFault.{RunFault}
 use Rattle.tf_fix.specs.declared.parsed.Parsed.{Parsed}
@@ -10,11 +10,6 @@ use Rattle.tf_fix.specs.Reading.{Reads}
 use Rattle.tf_commands.specs.Makes.{NotRead}
 use Rattle.tf_commands.specs.declared.fault.Part.{Part}
 use Rattle.tf_commands.specs.Streams.{TakesText, NotPut, FailsOver}
-
--- the line of each issue in a file of this name, each followed by LF
-abbrev pub lines_of : List ℕ → List Report → List ℕ
-lines_of name [] = []
-lines_of name (r ∷ rs) = line_of name r ++ 10 ∷ lines_of name rs
 
 -- the text parses, and these are the issues of the rules in it
 abbrev pub HasIssues : RuleSet → List ℕ → List Report → Type 0

@@ -2,10 +2,11 @@
 
 ghost use Rattle.std.specs.Prelude.{◌≡◌, ◌<◌, ◌↔◌, length, true, false, OnOk, IfOk, IfErr, IsErrOf, IsErrAnd};
 ghost use Rattle.tf_lint.specs.Issues.{reports};
+ghost use Rattle.tf_lint.specs.Reports.{lines_of};
 ghost use Rattle.tf_stream.specs.Told.{has_failed};
 ghost use Rattle.tf_stream.specs.Streams.{from, into, Puts};
 ghost use Rattle.tf_commands.specs.declared.fault.RunFault.TheVariants.{Memory};
-ghost use Rattle.tf_commands.specs.Lines.{lines_of, AreLines, Lints, LintsAtFault, NotListed};
+ghost use Rattle.tf_commands.specs.Lines.{AreLines, Lints, LintsAtFault, NotListed};
 ghost use Rattle.tf_commands.specs.Makes.{NotRead};
 ghost use Rattle.tf_commands.specs.Streams.{is_write};
 
@@ -13,9 +14,9 @@ use crate::command::Fault;
 use crate::fault::RunFault;
 use crate::reading::search_text;
 use crate::texts::{put_text, take_text};
-use std::alloc::{AllocError, Global};
+use std::alloc::Global;
 use std::io::{Read, Write};
-use tf_lint::{Issue, RuleSet, issues_of};
+use tf_lint::{Issue, RuleSet, lines_of_findings, lines_of_issues};
 use tf_stream::Told;
 
 /// Writes a line for each issue that the rules find in the text, each followed by LF, and answers
@@ -64,8 +65,8 @@ pub fn put_issues<W: Write>(
     ensures write { IsErrAnd result (λ fault. is_write fault ≡ true) ↔ has_failed out.new ≡ true }
     ensures asked { IfErr result (λ fault. fault ≡ Memory → 0 < length found.now) }
 {
-    let lines = joined_lines(alloc, name, found)?;
-    put_text(lines.as_slice(), out)
+    let lines = lines_of_issues(alloc, name, found)?;
+    put_text(lines.as_bytes(), out)
 }
 
 /// The lines of the issues of a text, and their number.
@@ -79,22 +80,9 @@ fn issue_lines(
     ensures fault { IfErr result (λ fault. NotRead text.now fault) }
 {
     let searched = search_text(alloc, text, rules)?;
-    let found = issues_of(alloc, &searched.scanned, searched.found.as_slice())?;
-    match joined_lines(alloc, name, found.as_slice()) {
-        Ok(lines) => Ok((lines, found.len())),
+    let found = searched.found.as_slice();
+    match lines_of_findings(alloc, name, &searched.scanned, found) {
+        Ok(lines) => Ok((lines.into_bytes(), found.len())),
         Err(_) => Err(Fault::Memory),
     }
-}
-
-fn joined_lines(alloc: Global, name: &str, found: &[Issue]) -> Result<Vec<u8>, AllocError>
-    ensures lines { IfOk result (λ lines. lines.items ≡ lines_of name.now (reports found.now)) }
-    ensures asked { IfErr result (λ _. 0 < length found.now) }
-{
-    let mut lines = Vec::new(alloc);
-    for issue in found {
-        let line = issue.line(alloc, name)?;
-        lines.extend_from_slice(line.as_bytes())?;
-        lines.push(b'\n')?;
-    }
-    Ok(lines)
 }

@@ -14,6 +14,7 @@ mod Keep
 mod TokenLemmas
 mod BodyLemmas
 mod FileLemmas
+mod LineLists
 mod Telling
 pub mod OneFixLemmas
 pub mod RunLemmas

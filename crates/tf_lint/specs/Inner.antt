@@ -1,4 +1,5 @@
--- For proofs: what is found so far beside the pure parser, one step of a fix, and what is known
--- from some steps on.
+-- For proofs: the parts of a line, what is found so far beside the pure parser, one step of a fix,
+-- and what is known from some steps on.
+pub mod LineParts
 pub mod Passing
 pub mod Seeing

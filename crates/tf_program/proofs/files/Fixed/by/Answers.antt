@@ -3,7 +3,7 @@ use Rattle.std.proofs.Common.{◌≡◌, ◌∙◌, Err, List, ap, rules}
 use Rattle.tf_lint.specs.declared.issue.Issue.{Issue}
 use Rattle.tf_lint.specs.Issues.{reports}
 use Rattle.tf_commands.specs.declared.fault.RunFault.{RunFault}
-use Rattle.tf_commands.specs.Lines.{lines_of}
+use Rattle.tf_lint.specs.Reports.{lines_of}
 use Rattle.tf_commands.specs.Session.{text_of, records_of}
 use Rattle.tf_program.proofs.Fixing.{no_lines}
 use Rattle.tf_program.proofs.files.Fixed.by.Goals as goal
