@@ -39,7 +39,7 @@ pub fn search_text<'t>(alloc: Global, text: &'t [u8], rules: RuleSet) -> Result<
     ensures rules { IfOk result (λ searched. searched.rules ≡ rules) }
     ensures fault { IfErr result (λ fault. NotRead text.now fault) }
 {
-    match tf_lint::search_text(alloc, text, rules) {
+    match tf_lint::search_text(alloc, text, rules, false) {
         Ok(searched) => Ok(searched),
         Err(fault) => Err(Fault::from(fault)),
     }

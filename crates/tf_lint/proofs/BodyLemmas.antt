@@ -1,5 +1,5 @@
 -- What is found in some members, and in one more.
-use Rattle.std.proofs.Common.{◌≡◌, ℕ, zero, suc, List, [], ◌∷◌, ◌++◌, length, Some, Ok, refl, sym, ap, subst, ◌∙◌, append_assoc, append-nil}
+use Rattle.std.proofs.Common.{◌≡◌, ℕ, zero, suc, List, [], ◌∷◌, ◌++◌, length, Some, Result, Ok, Err, OnOk, refl, sym, ap, subst, ◌∙◌, append_assoc, append-nil}
 use Rattle.std.proofs.lemmas.List.{map-append}
 use Rattle.std.proofs.lemmas.Grind.{flat_map-append}
 use Rattle.std.proofs.lemmas.List.Elements.{filter-append}
@@ -14,7 +14,8 @@ use Rattle.tf_rules.specs.Nodes.{Node, member, Stand, nothing, one}
 use Rattle.tf_diagnostics.specs.TreeFindings.{AreTreeFindings}
 use Rattle.tf_lint.specs.Inner.Seeing.{AreOf}
 use Rattle.tf_lint.proofs.MemberAnswers.{member_answers}
-use Rattle.tf_lint.specs.Seen.{IsSeen, AreSeen, nodes_of, blocks_of}
+use Rattle.tf_lint.specs.Seen.{IsSeen, AreSeen}
+use Rattle.tf_lint.specs.declared.body.Gathered.{Gathered}
 use Rattle.tf_lint.specs.declared.member.SeenMember.{SeenMember}
 use Rattle.tf_rule.specs.declared.finding.Finding.{Finding}
 use Rattle.tf_rule.specs.Findings.{is_sound, sound}
@@ -26,6 +27,11 @@ stand-append : {ns ms xs ys : List Node} → Stand ns xs → Stand ms ys → Sta
 stand-append nothing b = b
 stand-append {ms = ms} {ys = ys} (one {n = n} {ns = ns} {inside = inside} {others = others} a c) b =
     subst (λ l. Stand (n ∷ (ns ++ ms)) (n ∷ l)) (sym (append_assoc inside others ys)) (one a (stand-append c b))
+
+-- what three clauses say of a value, where there is one
+pub all_ok : {T E A B C P : Type 0} (r : Result T E) → (A → B → C → P) → OnOk r A → OnOk r B → OnOk r C → OnOk r P
+all_ok (Ok x) f a b c = f a b c
+all_ok (Err e) f a b c = tt
 
 some_same : {X : Type 0} (x y : X) → Some x ≡ Some y → x ≡ y
 some_same x y e = cc
@@ -54,19 +60,34 @@ module _ {rules : RuleSet} {pairs : List Pair} where
   each_more (z ∷ xs) x seen is zero y e = seen zero y e
   each_more (z ∷ xs) x seen is (suc i) y e = each_more xs x (λ i. seen (suc i)) is i y e
 
-  pub none_seen : {xs : List SeenMember} → xs ≡ [] → AreOf rules pairs [] xs
-  none_seen e = rw e (record { each = λ i x e. absurd (cc); at_nodes = record { nodes = []; stand = nothing; are = refl }; at_blocks = refl })
+  pub none_seen : (g : Gathered) → g.members.items ≡ [] → g.nodes.items ≡ [] → g.blocks.items ≡ [] → AreOf rules pairs [] g
+  none_seen g ms ns bs = record {
+    each = rw ms (λ i x e. absurd (cc));
+    at_nodes = rw ns (record { nodes = []; stand = nothing; are = refl });
+    at_blocks = bs;
+  }
 
-  pub one_more : {ms : List Member} {xs : List SeenMember} {x : SeenMember} → AreOf rules pairs ms xs → (is : IsSeen rules pairs x) → AreOf rules pairs (ms ++ is.member ∷ []) (xs ++ x ∷ [])
-  one_more {ms} {xs} {x} seen is = record {
-    each = each_more xs x seen.each is;
-    at_nodes =
-        rw (map-append member ms (is.member ∷ []), flat_map-append nodes_of xs (x ∷ []), append-nil x.nodes.items) (both_trees seen.at_nodes is.at_nodes);
-    at_blocks = flat_map-append blocks_of xs (x ∷ []) ∙ (ap (λ l. flat_map blocks_of xs ++ l) (append-nil x.blocks.items)
+  one_more : {ms : List Member} {x : SeenMember} (g h : Gathered) → AreOf rules pairs ms g → (is : IsSeen rules pairs x) → AreSeen rules pairs h.members.items
+      → h.nodes.items ≡ g.nodes.items ++ x.nodes.items → h.blocks.items ≡ g.blocks.items ++ x.blocks.items → AreOf rules pairs (ms ++ is.member ∷ []) h
+  one_more {ms} {x} g h seen is each nodes blocks = record {
+    each = each;
+    at_nodes = rw (map-append member ms (is.member ∷ []), nodes) (both_trees seen.at_nodes is.at_nodes);
+    at_blocks = blocks
         ∙ (ap (λ l. l ++ x.blocks.items) seen.at_blocks ∙ (ap (λ l. sound (length pairs) (top_findings rules pairs ms) ++ l) is.at_block
         ∙ (sym (filter-append (is_sound (length pairs)) (top_findings rules pairs ms) (member_findings rules pairs is.member))
-        ∙ ap (sound (length pairs)) (one_more_block rules pairs ms is.member)))));
+        ∙ ap (sound (length pairs)) (one_more_block rules pairs ms is.member))));
   }
+
+  -- one more member, which is kept
+  pub one_more_kept : {ms : List Member} {x : SeenMember} (g h : Gathered) → AreOf rules pairs ms g → (is : IsSeen rules pairs x) → h.members.items ≡ g.members.items ++ x ∷ []
+      → h.nodes.items ≡ g.nodes.items ++ x.nodes.items → h.blocks.items ≡ g.blocks.items ++ x.blocks.items → AreOf rules pairs (ms ++ is.member ∷ []) h
+  one_more_kept {x = x} g h seen is members nodes blocks =
+      one_more g h seen is (rw members (each_more g.members.items x seen.each is)) nodes blocks
+
+  -- and one which is given up
+  pub one_more_taken : {ms : List Member} {x : SeenMember} (g h : Gathered) → AreOf rules pairs ms g → (is : IsSeen rules pairs x) → h.members.items ≡ g.members.items
+      → h.nodes.items ≡ g.nodes.items ++ x.nodes.items → h.blocks.items ≡ g.blocks.items ++ x.blocks.items → AreOf rules pairs (ms ++ is.member ∷ []) h
+  one_more_taken g h seen is members nodes blocks = one_more g h seen is (rw members seen.each) nodes blocks
 
 -- the member that comes next, as the parser answers it
 pub read_as : {rules : RuleSet} {pairs : List Pair} {from past : ℕ} {x : SeenMember} → (next : (x.from ≡ from) × (x.past ≡ past) × IsSeen rules pairs x)

@@ -13,19 +13,18 @@ use Rattle.tf_rules.specs.NodeFindings.{node_findings}
 use Rattle.tf_diagnostics.specs.Findings.{AreAtNodesAndBlocks}
 use Rattle.std.specs.List.{flat_map}
 use Rattle.tf_lint.specs.Inner.Seeing.{AreOf}
-use Rattle.tf_lint.specs.Seen.{nodes_of, blocks_of}
-use Rattle.tf_lint.specs.declared.member.SeenMember.{SeenMember}
+use Rattle.tf_lint.specs.declared.body.Gathered.{Gathered}
 use Rattle.tf_rule.specs.declared.finding.Finding.{Finding}
 use Rattle.tf_rule.specs.Findings.{is_sound, sound}
 use Rattle.tf_rule.specs.declared.rule_set.RuleSet.{RuleSet}
 use Rattle.tf_rules.specs.TopFindings.{top_findings}
 
-pub both_found : {rules : RuleSet} {pairs : List Pair} {ms : List Member} {xs : List SeenMember} {all : List Finding} → AreOf rules pairs ms xs
-    → all ≡ flat_map nodes_of xs ++ flat_map blocks_of xs → AreAtNodesAndBlocks rules pairs ms all
-both_found {rules} {pairs} {ms} {xs} seen is = record {
+pub both_found : {rules : RuleSet} {pairs : List Pair} {ms : List Member} {g : Gathered} {all : List Finding} → AreOf rules pairs ms g
+    → all ≡ g.nodes.items ++ g.blocks.items → AreAtNodesAndBlocks rules pairs ms all
+both_found {rules} {pairs} {ms} {g} seen is = record {
   nodes = seen.at_nodes.nodes;
   stand = seen.at_nodes.stand;
-  are = is ∙ (ap (λ l. flat_map nodes_of xs ++ l) seen.at_blocks ∙ (ap (λ l. l ++ sound (length pairs) (top_findings rules pairs ms)) seen.at_nodes.are
+  are = is ∙ (ap (λ l. g.nodes.items ++ l) seen.at_blocks ∙ (ap (λ l. l ++ sound (length pairs) (top_findings rules pairs ms)) seen.at_nodes.are
       ∙ sym (filter-append (is_sound (length pairs)) (flat_map (node_findings rules pairs) seen.at_nodes.nodes) (top_findings rules pairs ms))));
 }
 

@@ -1,5 +1,5 @@
 -- A member whose tokens stand elsewhere is read there, and what is found in it is the same.
-use Rattle.std.proofs.Common.{◌≡◌, ℕ, ◌+◌, List, Some, Ok, refl, subst, arith}
+use Rattle.std.proofs.Common.{◌≡◌, ℕ, ◌+◌, List, refl, subst, arith}
 use Rattle.tf_lint.specs.OneMember.{IsOneMember}
 use Rattle.hcl_grammar.specs.Tokens.{Token}
 use Rattle.hcl_scan.specs.Follows.{tokens_of}

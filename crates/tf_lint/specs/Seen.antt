@@ -9,7 +9,6 @@ use Rattle.hcl_token.specs.Tokens.{Pair}
 use Rattle.tf_rules.specs.Nodes as node
 use Rattle.tf_diagnostics.specs.TreeFindings.{AreTreeFindings}
 use Rattle.tf_lint.specs.declared.member.SeenMember.{SeenMember}
-use Rattle.tf_rule.specs.declared.finding.Finding.{Finding}
 use Rattle.tf_rule.specs.Findings.{sound}
 use Rattle.tf_rule.specs.declared.rule_set.RuleSet.{RuleSet}
 use Rattle.tf_rules.specs.TopFindings.{member_findings}
@@ -24,13 +23,6 @@ pub record IsSeen (rules : RuleSet) (pairs : List Pair) (x : SeenMember) : Type 
 -- each of these is
 abbrev pub AreSeen : RuleSet → List Pair → List SeenMember → Type 0
 AreSeen rules pairs xs = (i : ℕ) (x : SeenMember) → slice_get xs i ≡ Some x → IsSeen rules pairs x
-
--- what is found at the nodes that stand in a member, and what at the member
-abbrev pub nodes_of : SeenMember → List Finding
-nodes_of x = x.nodes.items
-
-abbrev pub blocks_of : SeenMember → List Finding
-blocks_of x = x.blocks.items
 
 -- the member, or none, that the parser reads from one place up to another, with what is found in it
 abbrev pub IsNext : RuleSet → List Pair → ℕ → Option SeenMember → ℕ → Type 0

@@ -2,14 +2,16 @@
 //!
 //! HCL native syntax specification, Structural Elements.
 
-ghost use Rattle.std.specs.Prelude.{◌≡◌, ◌≢◌, ◌++◌, OnOk, IfOk, IfErr, Err};
-ghost use Rattle.std.specs.List.{flat_map};
+ghost use Rattle.std.specs.Prelude.{◌≡◌, ◌≢◌, ◌∷◌, [], ◌++◌, List, OnOk, IfOk, IfErr, Err};
 ghost use Rattle.hcl_grammar.specs.Pure.BodyParser as spec;
 ghost use Rattle.hcl_grammar.specs.declared.fault.TokenFault.TheVariants as fault;
+ghost use Rattle.hcl_grammar.specs.declared.tree.Member.{Member};
 ghost use Rattle.hcl_grammar.specs.declared.bounds.TheConstants.{MAX_NESTING};
 ghost use Rattle.hcl_scan.specs.Follows.{tokens_of};
-ghost use Rattle.tf_lint.specs.Inner.Seeing.{AreRead};
-ghost use Rattle.tf_lint.specs.Seen.{AreSeen, nodes_of, blocks_of};
+ghost use Rattle.hcl_token.specs.Tokens.{Pair};
+ghost use Rattle.tf_lint.specs.Inner.Seeing.{AreOf, AreRead};
+ghost use Rattle.tf_lint.specs.Seen.{IsSeen, AreSeen};
+ghost use Rattle.tf_rule.specs.declared.rule_set.RuleSet.{RuleSet};
 
 use crate::member::{SeenMember, next_member};
 use hcl_grammar::fault::TokenFault;
@@ -18,66 +20,102 @@ use hcl_tree::Reader;
 use std::alloc::{AllocError, Global};
 use tf_rule::{Finding, RuleSet};
 
-/// The members of a body, each with what the rules find in it. Of another text that was read with
-/// the same rules its members are taken as they are, as long as their tokens stand in this one.
+/// What was read of a body.
+#[derive(Drop)]
+pub struct Gathered {
+    /// Its members, each with what was found in it, as far as they are kept.
+    pub members: Vec<SeenMember>,
+    /// What was found at the nodes that stand in its members.
+    pub nodes: Vec<Finding>,
+    /// What was found at those of them that are blocks.
+    pub blocks: Vec<Finding>,
+}
+
+/// Adds findings behind others; where there are no others, without a copy.
+pub fn add_all(found: &mut Vec<Finding>, more: Vec<Finding>) -> Result<(), AllocError>
+    ensures { OnOk result (found.new.items ≡ found.old.items ++ more.items) }
+{
+    if found.is_empty() {
+        *found = more;
+        return Ok(());
+    }
+    found.extend_from_slice(&more)
+}
+
+/// Adds a member and what was found in it, and keeps the member.
+fn keep_member(body: &mut Gathered, x: SeenMember) -> Result<(), AllocError>
+    ensures members { OnOk result (body.new.members.items ≡ body.old.members.items ++ x ∷ []) }
+    ensures nodes { OnOk result
+        (body.new.nodes.items ≡ body.old.nodes.items ++ x.nodes.items) }
+    ensures blocks { OnOk result
+        (body.new.blocks.items ≡ body.old.blocks.items ++ x.blocks.items) }
+{
+    body.nodes.extend_from_slice(&x.nodes)?;
+    body.blocks.extend_from_slice(&x.blocks)?;
+    body.members.push(x)?;
+    Ok(())
+}
+
+/// Adds what was found in a member, which is given up.
+fn take_member(body: &mut Gathered, x: SeenMember) -> Result<(), AllocError>
+    ensures members { OnOk result (body.new.members.items ≡ body.old.members.items) }
+    ensures nodes { OnOk result
+        (body.new.nodes.items ≡ body.old.nodes.items ++ x.nodes.items) }
+    ensures blocks { OnOk result
+        (body.new.blocks.items ≡ body.old.blocks.items ++ x.blocks.items) }
+{
+    add_all(&mut body.nodes, x.nodes)?;
+    add_all(&mut body.blocks, x.blocks)
+}
+
+/// Adds a member that may be kept.
+fn add_member(body: &mut Gathered, x: SeenMember, keep: bool) -> Result<(), AllocError>
+    ensures { (rules : RuleSet) (pairs : List Pair) (ms : List Member)
+        → AreOf rules pairs ms body.old → (is : IsSeen rules pairs x)
+        → OnOk result (AreOf rules pairs (ms ++ is.member ∷ []) body.new) }
+{
+    if keep {
+        keep_member(body, x)
+    } else {
+        take_member(body, x)
+    }
+}
+
+/// The members of a body with what the rules find in them. Of another text that was read with the
+/// same rules its members are taken as they are, as long as their tokens stand in this one.
+///
+/// Without `keep` each member is given up as soon as it was looked at.
 pub fn body(
     alloc: Global,
     scanned: &Scanned<'_>,
     rules: RuleSet,
     old: &Scanned<'_>,
     seen: &[SeenMember],
+    keep: bool,
     at: &mut usize,
-) -> Result<Vec<SeenMember>, TokenFault>
+) -> Result<Gathered, TokenFault>
     requires { AreSeen rules old.now.pairs seen.now }
     ensures seen { IfOk result
         (λ found. AreRead rules scanned.now.pairs
-        (spec.members (tokens_of scanned.now.pairs) MAX_NESTING at.old) at.new found.items) }
+        (spec.members (tokens_of scanned.now.pairs) MAX_NESTING at.old) at.new found) }
     ensures fault { IfErr result
         (λ e. e ≢ fault.Memory
         → spec.members (tokens_of scanned.now.pairs) MAX_NESTING at.old ≡ Err e) }
 {
     let reader = Reader::new(alloc, scanned);
-    let mut members = Vec::new(alloc);
+    let mut found = Gathered {
+        members: Vec::new(alloc),
+        nodes: Vec::new(alloc),
+        blocks: Vec::new(alloc),
+    };
     for _turn in 0..scanned.len() {
         if reader.line(at) {
             continue;
         }
-        let Some(x) = next_member(alloc, scanned, rules, old, seen, members.len(), at)? else {
-            return Ok(members);
+        let Some(x) = next_member(alloc, scanned, rules, old, seen, found.members.len(), at)? else {
+            return Ok(found);
         };
-        members.push(x)?;
+        add_member(&mut found, x, keep)?;
     }
-    Ok(members)
-}
-
-/// Adds what is found at the nodes that stand in some members.
-fn add_nodes(members: &[SeenMember], found: &mut Vec<Finding>) -> Result<(), AllocError>
-    ensures { OnOk result (found.new.items ≡ found.old.items ++ flat_map nodes_of members.now) }
-{
-    for x in members {
-        found.extend_from_slice(&x.nodes)?;
-    }
-    Ok(())
-}
-
-/// Adds what is found at those of them that are blocks.
-fn add_blocks(members: &[SeenMember], found: &mut Vec<Finding>) -> Result<(), AllocError>
-    ensures { OnOk result (found.new.items ≡ found.old.items ++ flat_map blocks_of members.now) }
-{
-    for x in members {
-        found.extend_from_slice(&x.blocks)?;
-    }
-    Ok(())
-}
-
-/// What is found in some members: at the nodes that stand in them, and then at those of them that
-/// are blocks.
-pub fn gathered(alloc: Global, members: &[SeenMember]) -> Result<Vec<Finding>, AllocError>
-    ensures { IfOk result
-        (λ all. all.items ≡ flat_map nodes_of members.now ++ flat_map blocks_of members.now) }
-{
-    let mut found = Vec::new(alloc);
-    add_nodes(members, &mut found)?;
-    add_blocks(members, &mut found)?;
     Ok(found)
 }

@@ -12,6 +12,7 @@ pub struct Searched<'t> {
     pub rules: RuleSet,
     /// What they find, in the order of a report, without what comments silence.
     pub found: Vec<Finding>,
-    /// The attributes and blocks of its body, each with what they find in it.
+    /// The attributes and blocks of its body, each with what they find in it; none where nothing
+    /// will come of the text.
     pub members: Vec<SeenMember>,
 }

@@ -17,18 +17,20 @@ use tf_rule::{Rule, RuleSet};
 
 /// The tokens of a text, if it parses, and what the rules of the set find in it.
 ///
-/// The text is read once, and no tree of it is kept.
+/// The text is read once, and no tree of it is kept. Its attributes and blocks are kept where the
+/// steps of a fix will make another text of it.
 pub fn search_text<'t>(
     alloc: Global,
     text: &'t [u8],
     rules: RuleSet,
+    keep: bool,
 ) -> Result<Searched<'t>, FixFault>
     ensures searched { IfOk result (λ searched. (p : Parsed) × Reads text.now p × IsOf p searched) }
     ensures rules { IfOk result (λ searched. searched.rules ≡ rules) }
     ensures fault { IfErr result (λ fault. NotRead text.now fault) }
 {
     let scanned = scan(alloc, text)?;
-    match findings(alloc, &scanned, rules, &scanned, &[]) {
+    match findings(alloc, &scanned, rules, &scanned, &[], keep) {
         Ok(seen) => Ok(Searched {
             scanned,
             rules,
@@ -54,7 +56,14 @@ fn search_again<'t>(
 {
     let scanned = scan_in(alloc, room, text)?;
     let rules = before.rules;
-    match findings(alloc, &scanned, rules, &before.scanned, &before.members) {
+    match findings(
+        alloc,
+        &scanned,
+        rules,
+        &before.scanned,
+        &before.members,
+        true,
+    ) {
         Ok(seen) => Ok(Searched {
             scanned,
             rules,

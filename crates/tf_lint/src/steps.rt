@@ -251,7 +251,7 @@ pub fn fix_text(alloc: Global, text: &[u8], rules: RuleSet) -> Result<Fixed, Fix
         (λ fixed. IsReport rules (text_after text.now fixed.change) fixed.left.items) }
     ensures fault { IfErr result (λ fault. Refuses rules text.now fault) }
 {
-    let searched = search_text(alloc, text, rules)?;
+    let searched = search_text(alloc, text, rules, true)?;
     let passed = first_change(alloc, &searched, &Rule::ALL, 0)?;
     match passed {
         Passed::Same { fixed, left } => Ok(Fixed {

@@ -16,7 +16,7 @@ ghost use Rattle.tf_lint.specs.Inner.Seeing.{AreOf};
 ghost use Rattle.tf_lint.specs.Seen.{AreSeen};
 ghost use Rattle.tf_rule.specs.Findings.{AreSound};
 
-use crate::body::{body, gathered};
+use crate::body::{Gathered, add_all, body};
 use crate::member::SeenMember;
 use hcl_grammar::fault::TokenFault;
 use hcl_scan::Scanned;
@@ -29,7 +29,7 @@ use tf_rule::{Finding, RuleSet};
 /// What the rules find in a text, and in each member of its body.
 #[derive(Drop)]
 pub struct Seen {
-    /// The members of its body, one behind the other.
+    /// The members of its body, one behind the other, as far as they are kept.
     pub members: Vec<SeenMember>,
     /// What is found in the text, in the order of a report, without what comments silence.
     pub found: Vec<Finding>,
@@ -42,20 +42,21 @@ fn file(
     rules: RuleSet,
     old: &Scanned<'_>,
     seen: &[SeenMember],
+    keep: bool,
     at: &mut usize,
-) -> Result<Vec<SeenMember>, TokenFault>
+) -> Result<Gathered, TokenFault>
     requires { AreSeen rules old.now.pairs seen.now }
     ensures found { IfOk result
         (λ found. (t : Tree)
         × (spec.file (tokens_of scanned.now.pairs) MAX_NESTING at.old ≡ Ok (t, at.new))
-        × AreOf rules scanned.now.pairs t.body.members found.items) }
+        × AreOf rules scanned.now.pairs t.body.members found) }
     ensures fault { IfErr result
         (λ e. e ≢ fault.Memory
         → spec.file (tokens_of scanned.now.pairs) MAX_NESTING at.old ≡ Err e) }
 {
     let reader = Reader::new(alloc, scanned);
     let _is_mark = reader.eat(Kind::Mark, at);
-    let members = body(alloc, scanned, rules, old, seen, at)?;
+    let members = body(alloc, scanned, rules, old, seen, keep, at)?;
     let _is_comment = reader.eat(Kind::LineComment, at);
     ended(&reader, at)?;
     Ok(members)
@@ -87,16 +88,22 @@ fn reported(
     alloc: Global,
     scanned: &Scanned<'_>,
     rules: RuleSet,
-    members: &[SeenMember],
-) -> Result<Vec<Finding>, ParseFault>
-    requires { (ms : List Member) × AreOf rules scanned.now.pairs ms members.now }
-    ensures are { (ms : List Member) → AreOf rules scanned.now.pairs ms members.now
-        → IfOk result (λ told. AreFindings rules scanned.now.pairs ms told.items) }
-    ensures sound { IfOk result (λ told. AreSound (length scanned.now.pairs) told.items) }
+    read: Gathered,
+) -> Result<Seen, ParseFault>
+    requires { (ms : List Member) × AreOf rules scanned.now.pairs ms read }
+    ensures are { (ms : List Member) → AreOf rules scanned.now.pairs ms read
+        → IfOk result (λ seen. AreFindings rules scanned.now.pairs ms seen.found.items) }
+    ensures members { IfOk result (λ seen. seen.members ≡ read.members) }
+    ensures sound { IfOk result (λ seen. AreSound (length scanned.now.pairs) seen.found.items) }
     ensures fault { IfErr result (λ fault. fault ≡ Memory) }
 {
-    match gathered(alloc, members) {
-        Ok(found) => in_order(alloc, scanned, rules, found),
+    let members = read.members;
+    let mut found = read.nodes;
+    match add_all(&mut found, read.blocks) {
+        Ok(()) => {
+            let found = in_order(alloc, scanned, rules, found)?;
+            Ok(Seen { members, found })
+        }
         Err(_) => Err(ParseFault::Memory),
     }
 }
@@ -107,13 +114,15 @@ fn reported(
 /// The text is read once, from left to right. Of its tree no more is kept at a time than one
 /// attribute or block of its body. Of another text, that was read before with the same rules, the
 /// members are handed in: where the tokens of the next of them stand here too, what was found in it
-/// is taken as it was, its numbers moved, and it is not read again. There need not be any.
+/// is taken as it was, its numbers moved, and it is not read again. There need not be any. The
+/// members are kept for a next text, or they are given up, and what was found in them is not copied.
 pub fn findings(
     alloc: Global,
     scanned: &Scanned<'_>,
     rules: RuleSet,
     old: &Scanned<'_>,
     seen: &[SeenMember],
+    keep: bool,
 ) -> Result<Seen, ParseFault>
     requires { AreSeen rules old.now.pairs seen.now }
     // The text parses, and this is what the rules find in its tree.
@@ -132,11 +141,8 @@ pub fn findings(
     hcl_scan::laws::one_cut();
     let _count = scanned.len();
     let mut at = 0;
-    match file(alloc, scanned, rules, old, seen, &mut at) {
-        Ok(members) => {
-            let found = reported(alloc, scanned, rules, &members)?;
-            Ok(Seen { members, found })
-        }
+    match file(alloc, scanned, rules, old, seen, keep, &mut at) {
+        Ok(read) => reported(alloc, scanned, rules, read),
         Err(fault) => Err(in_bytes(scanned, fault)),
     }
 }

@@ -78,10 +78,10 @@ fn issues(rt: HostRuntime) {
 
 #[test]
 fn search_text(rt: HostRuntime) {
-    let right = tf_lint::search_text(rt.alloc(), TEXT, RuleSet::all());
+    let right = tf_lint::search_text(rt.alloc(), TEXT, RuleSet::all(), false);
     let right = given(&rt, right);
     begin(&rt);
-    let answer = tf_lint::search_text(rt.alloc(), TEXT, RuleSet::all());
+    let answer = tf_lint::search_text(rt.alloc(), TEXT, RuleSet::all(), false);
     let searched = answered(&rt, answer, FixFault::Memory, true);
     assert!(rt; searched.found.len() == right.found.len());
 }

@@ -9,7 +9,7 @@ use Rattle.hcl_grammar.specs.declared.fault.TokenFault.TheVariants.{Memory}
 use Rattle.hcl_grammar.specs.declared.bounds.TheConstants.{MAX_NESTING}
 use Rattle.hcl_scan.specs.Follows.{tokens_of}
 use Rattle.hcl_tree.proofs.Passing.{left, begins, at_line, at_member, at_none, at_fault, at_end}
-use Rattle.tf_lint.proofs.BodyLemmas.{none_seen, one_more, read_as}
+use Rattle.tf_lint.proofs.BodyLemmas.{none_seen, read_as}
 use Rattle.tf_lint.proofs.FileLemmas.{residual}
 use Rattle.tf_lint.proofs.body.body.Goals as goal
 
@@ -19,7 +19,7 @@ loop-turn-init c =
     let as_many : length ts ≡ length c.args.scanned.now.pairs = length-map c.args.scanned.now.pairs (λ (p : Pair). (p.kind, p.spelling)) in
     let told = c.len-turn-end.ensures.value in
     let all : length ts ≡ c.len-turn-end.result - 0 = omega (arith, as_many, told) in
-    ([], ap (λ (n : ℕ). left ts MAX_NESTING n [] c.args.at.now) all, none_seen c.new-members.ensures.items)
+    ([], ap (λ (n : ℕ). left ts MAX_NESTING n [] c.args.at.now) all, none_seen _ c.new.ensures.items c.new-2.ensures.items c.new-3.ensures.items)
 
 pub loop-turn-preserved-then-line : goal.loop-turn-preserved-then-line
 loop-turn-preserved-then-line c =
@@ -56,7 +56,7 @@ loop-turn-preserved c =
     let some = rw c.in-Some.is at c.in_ok-x.ensures.next in (
       so_far.0 ++ some.2.member ∷ [],
       e ∙ at_member ts MAX_NESTING n so_far.0 c.loop-turn.at (rw c.new-reader.ensures at c.line.ensures) c.if-line.false (read_as some),
-      rw c.in_ok-push.ensures.items (one_more so_far.2 some.2),
+      c.in_ok-add_member.ensures c.args.rules c.args.scanned.now.pairs so_far.0 so_far.2 some.2,
     )
 
 pub returns-clause-seen : goal.returns-clause-seen

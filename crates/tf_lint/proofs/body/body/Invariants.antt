@@ -11,4 +11,4 @@ invariant-loop-turn l =
     let ts = tokens_of l.scanned.pairs in
     (ms : List Member)
     × (members_from ts MAX_NESTING (deeper_members ts MAX_NESTING) (length ts) [] l.fn.at ≡ members_from ts MAX_NESTING (deeper_members ts MAX_NESTING) (l._turn-end - l._turn) ms l.at)
-    × AreOf l.rules l.scanned.pairs ms l.members.items
+    × AreOf l.rules l.scanned.pairs ms l.found

@@ -36,5 +36,5 @@ returns-clause-found c =
     let j = c.body.new.at in (
       file_tree ts MAX_NESTING i seen.0 j,
       file_read ts MAX_NESTING i seen.0 c.eat-is_mark.new.at j c.eat-is_comment.new.at c.ended.new.at (rw c.new-reader.ensures at c.eat-is_mark.ensures.after) seen.1 (rw c.new-reader.ensures at c.eat-is_comment.ensures.after) (rw c.new-reader.ensures at c.in_ok-ended.ensures),
-      subst (λ (ms : List Member). AreOf c.args.rules c.args.scanned.now.pairs ms c.in_ok-members.members.items) (sym (its_members ts MAX_NESTING i seen.0 j)) seen.2,
+      subst (λ (ms : List Member). AreOf c.args.rules c.args.scanned.now.pairs ms c.in_ok-members.members) (sym (its_members ts MAX_NESTING i seen.0 j)) seen.2,
     )

@@ -1,17 +1,20 @@
-use Rattle.std.proofs.Common.{Ok, Err, sym, subst, List}
+use Rattle.std.proofs.Common.{Ok, Err}
 use Rattle.hcl_grammar.specs.declared.bounds.TheConstants.{MAX_NESTING}
 use Rattle.hcl_scan.specs.Follows.{tokens_of}
 use Rattle.hcl_tree.proofs.FaultLemmas.{own_tokens, memory_in_bytes, deep_in_bytes}
-use Rattle.tf_lint.specs.Inner.Seeing.{AreOf}
-use Rattle.tf_lint.specs.declared.member.SeenMember.{SeenMember}
+use Rattle.tf_diagnostics.specs.Findings.{AreFindings}
+use Rattle.tf_lint.specs.declared.text.Seen.{Seen}
+use Rattle.tf_lint.proofs.FileLemmas.{if_ok}
 use Rattle.tf_lint.proofs.text.findings.Goals as goal
 
-pub returns-in_ok-found-in-Ok-clause-found : goal.returns-in_ok-found-in-Ok-clause-found
-returns-in_ok-found-in-Ok-clause-found c =
-    let ts = tokens_of c.args.scanned.now.pairs in
+pub returns-in-Ok-clause-found : goal.returns-in-Ok-clause-found
+returns-in-Ok-clause-found c =
+    let pairs = c.args.scanned.now.pairs in
+    let ts = tokens_of pairs in
     let read = c.in-Ok.ensures.found in
-    let are = subst (λ (xs : List SeenMember). AreOf c.args.rules c.args.scanned.now.pairs read.0.body.members xs) (sym c.deref.ensures.value) read.2 in
-    (read.0, (c.file_answers.ensures ts MAX_NESTING (Ok read.0) _ read.1).derived, c.in_ok-found-in-Ok.ensures.are read.0.body.members are)
+    let derived = (c.file_answers.ensures ts MAX_NESTING (Ok read.0) _ read.1).derived in
+    if_ok c.reported.result (λ (seen : Seen). AreFindings c.args.rules pairs read.0.body.members seen.found.items) _
+    (λ seen are. (read.0, derived, are)) (c.reported.ensures.are read.0.body.members read.2)
 
 pub returns-in-Err-clause-only : goal.returns-in-Err-clause-only
 returns-in-Err-clause-only c = λ t p.
