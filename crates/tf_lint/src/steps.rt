@@ -201,8 +201,10 @@ fn run(
     } = done;
     let Searching { searched, passed } = pass(alloc, &text, &before, spare, order, by, count)?;
     // The text before the last step is not asked any more: the tokens of the next one come into the
-    // memory of its tokens.
+    // memory of its tokens, and the rest goes before the next step takes more.
     let spare = before.scanned.into_room();
+    drop(before.found);
+    drop(before.members);
     match passed {
         Passed::Same { fixed, left } => {
             drop(searched);
@@ -222,6 +224,8 @@ fn run(
             rest,
         } => {
             let edits = gather(alloc, &so_far, &change.edits)?;
+            drop(so_far);
+            drop(change.edits);
             run(
                 alloc,
                 searched,
