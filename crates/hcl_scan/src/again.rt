@@ -456,8 +456,9 @@ pub fn scan_again<'t>(
     }
     match cut_again(alloc, text, old, replaced, &mut items) {
         Some(last_at) => {
-            let tokens = Tokens::new(alloc, text, items, last_at)?;
-            Ok(Scanned { tokens })
+            Ok(Scanned {
+                tokens: Tokens::new(text, items, last_at),
+            })
         }
         None => scan_in(alloc, items, text),
     }

@@ -2,20 +2,19 @@
 
 ghost use Rattle.std.specs.Prelude.{◌≡◌, ◌<◌, ◌≤◌, ◌↔◌, [], Some, IsTrue, IsUtf8, length, IfOk, IfErr, ◌⊎◌};
 ghost use Rattle.hcl_token.specs.CutText.{CutText, AreUtf8, kind_of, spelling_of, gap_of, clusters_of, item_of, joins_of};
-ghost use Rattle.hcl_token.specs.Place.{place_of};
 ghost use Rattle.hcl_scan.specs.Cut.{IsCut, MAX_TEXT};
 ghost use Rattle.hcl_scan.specs.Fault.{IsFault};
 ghost use Rattle.hcl_scan.specs.declared.fault.ScanFault.TheVariants.{Memory};
 
 use crate::cut::cut_of;
 use crate::fault::ScanFault;
-use hcl_token::{Item, Kind, Place, Token, Tokens};
-use std::alloc::Global;
+use hcl_token::{Item, Kind, Places, Token, Tokens};
+use std::alloc::{AllocError, Global};
 use std::marker::Model;
 
 /// A text with its cut: its tokens, each with the gap before it, and the gap behind the last.
 ///
-/// Tokens are numbered from 0. No call takes memory.
+/// Tokens are numbered from 0. No call but `places` takes memory.
 #[derive(Drop)]
 pub struct Scanned<'t> {
     pub(crate) tokens: Tokens<'t>,
@@ -59,8 +58,9 @@ pub fn scan_in<'t>(
         ⊎ IsFault text.now e) }
 {
     let (items, last_at) = cut_of(alloc, room, text)?;
-    let tokens = Tokens::new(alloc, text, items, last_at)?;
-    Ok(Scanned { tokens })
+    Ok(Scanned {
+        tokens: Tokens::new(text, items, last_at),
+    })
 }
 
 impl<'t> Scanned<'t> {
@@ -154,11 +154,10 @@ impl<'t> Scanned<'t> {
         self.tokens.clusters(i)
     }
 
-    /// The line and the column of token `i`, from 1.
-    pub fn place_of(&self, i: usize) -> Place
-        requires { i < length self.now.pairs }
-        ensures { result ≡ place_of self.now.pairs i }
+    /// Where the tokens stand, by line and column. The text is read once.
+    pub fn places(&self, alloc: Global) -> Result<Places<'_>, AllocError>
+        ensures { IfOk result (λ places. places ≡ self.now.pairs) }
     {
-        self.tokens.place_of(i)
+        self.tokens.places(alloc)
     }
 }

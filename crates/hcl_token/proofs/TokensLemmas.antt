@@ -2,48 +2,47 @@
 use Rattle.std.proofs.Common.{◌≡◌, ℕ, ◌<◌, ◌==◌, ◌↔◌, Bool, false, IsTrue, List, [], ◌∷◌, length, get_or, slice_get, Some, sym, ap, subst, ◌∙◌, arith}
 use Rattle.std.specs.Option.{option_map}
 use Rattle.hcl_token.specs.declared.item.Item.{Item}
-use Rattle.hcl_token.specs.declared.milestone.Milestone.{Milestone}
 use Rattle.hcl_token.specs.declared.token.Token.{Token}
 use Rattle.hcl_token.specs.Tokens.{whole_text}
 use Rattle.hcl_token.specs.Items.{cut_text, pair_at, pairs_of}
 use Rattle.hcl_token.specs.CutText.{CutText, item_of}
-use Rattle.hcl_token.specs.Inner.Milestones.{IsKept, gap_at}
+use Rattle.hcl_token.specs.Inner.Milestones.{IsOrdered, gap_at}
 use Rattle.hcl_token.proofs.OrderLemmas.{IsTokenAt, token_at, item_is, length-pairs, text_is-from}
 
 -- the value is a view of a text with its tokens
-pub record IsViewOf (text : List ℕ) (tokens : List Token) (last_at : ℕ) (milestones : List Milestone) (value : CutText) : Type 0 where
+pub record IsViewOf (text : List ℕ) (tokens : List Token) (last_at : ℕ) (value : CutText) : Type 0 where
   pub view : cut_text text tokens last_at ≡ value
-  pub kept : IsKept text tokens last_at milestones
+  pub ordered : IsOrdered text tokens last_at
 
-pub number_is : (text : List ℕ) (tokens : List Token) (last_at : ℕ) (milestones : List Milestone) (value : CutText) → IsViewOf text tokens last_at milestones value → length tokens ≡ length value.pairs
-number_is text tokens last_at milestones value v = sym (length-pairs text tokens 0) ∙ ap (λ (x : CutText). length x.pairs) v.view
+pub number_is : (text : List ℕ) (tokens : List Token) (last_at : ℕ) (value : CutText) → IsViewOf text tokens last_at value → length tokens ≡ length value.pairs
+number_is text tokens last_at value v = sym (length-pairs text tokens 0) ∙ ap (λ (x : CutText). length x.pairs) v.view
 
-pub known_token : (text : List ℕ) (tokens : List Token) (last_at i : ℕ) (milestones : List Milestone) (value : CutText) (token : Token) → IsViewOf text tokens last_at milestones value → i < length value.pairs
+pub known_token : (text : List ℕ) (tokens : List Token) (last_at i : ℕ) (value : CutText) (token : Token) → IsViewOf text tokens last_at value → i < length value.pairs
     → token ≡ get_or tokens i token → IsTokenAt text tokens i token
-known_token text tokens last_at i milestones value token v h e =
-    token_at text tokens last_at i token token v.kept.ordered (omega (arith, h, number_is text tokens last_at milestones value v)) e
+known_token text tokens last_at i value token v h e =
+    token_at text tokens last_at i token token v.ordered (omega (arith, h, number_is text tokens last_at value v)) e
 
 -- a part of token i, as the value has it
-pub known_pair : (text : List ℕ) (tokens : List Token) (last_at i : ℕ) (milestones : List Milestone) (value : CutText) (token : Token) → IsViewOf text tokens last_at milestones value → IsTokenAt text tokens i token
+pub known_pair : (text : List ℕ) (tokens : List Token) (last_at i : ℕ) (value : CutText) (token : Token) → IsViewOf text tokens last_at value → IsTokenAt text tokens i token
     → slice_get value.pairs i ≡ Some (pair_at text (gap_at tokens i) token)
-known_pair text tokens last_at i milestones value token v k = ap (λ (x : CutText). slice_get x.pairs i) (sym v.view) ∙ k.pair
+known_pair text tokens last_at i value token v k = ap (λ (x : CutText). slice_get x.pairs i) (sym v.view) ∙ k.pair
 
-pub known_place : (text : List ℕ) (tokens : List Token) (last_at i at : ℕ) (milestones : List Milestone) (value : CutText) (token : Token) → IsViewOf text tokens last_at milestones value → at ≡ gap_at tokens i
+pub known_place : (text : List ℕ) (tokens : List Token) (last_at i at : ℕ) (value : CutText) (token : Token) → IsViewOf text tokens last_at value → at ≡ gap_at tokens i
     → IsTokenAt text tokens i token
     → let item : Item = record { gap_at = at; start = token.start; stop = token.stop; kind = token.kind } in Some item ≡ item_of value.pairs i
-known_place text tokens last_at i at milestones value token v begins k =
-    ap (λ (x : Item). Some x) (item_is text tokens last_at i at token v.kept.ordered begins k)
+known_place text tokens last_at i at value token v begins k =
+    ap (λ (x : Item). Some x) (item_is text tokens last_at i at token v.ordered begins k)
     ∙ sym (ap (option_map _) k.pair)
     ∙ ap (λ (x : CutText). item_of x.pairs i) v.view
 
-pub known_text : (text : List ℕ) (tokens : List Token) (last_at : ℕ) (milestones : List Milestone) (value : CutText) → IsViewOf text tokens last_at milestones value → value.text ≡ whole_text value.pairs value.last
-known_text text tokens last_at milestones value v =
-    subst (λ (x : CutText). x.text ≡ whole_text x.pairs x.last) v.view (sym (text_is-from text tokens 0 last_at v.kept.ordered.order))
+pub known_text : (text : List ℕ) (tokens : List Token) (last_at : ℕ) (value : CutText) → IsViewOf text tokens last_at value → value.text ≡ whole_text value.pairs value.last
+known_text text tokens last_at value v =
+    subst (λ (x : CutText). x.text ≡ whole_text x.pairs x.last) v.view (sym (text_is-from text tokens 0 last_at v.ordered.order))
 
-pub empty_is : (text : List ℕ) (tokens : List Token) (last_at : ℕ) (milestones : List Milestone) (value : CutText) (empty : Bool) → IsViewOf text tokens last_at milestones value
+pub empty_is : (text : List ℕ) (tokens : List Token) (last_at : ℕ) (value : CutText) (empty : Bool) → IsViewOf text tokens last_at value
     → empty ≡ (length tokens == 0) → IsTrue empty ↔ (value.pairs ≡ [])
-empty_is text [] last_at milestones value empty v e = (λ _. ap (λ (x : CutText). x.pairs) (sym v.view), λ _. e)
-empty_is text (t ∷ tokens) last_at milestones value empty v e =
+empty_is text [] last_at value empty v e = (λ _. ap (λ (x : CutText). x.pairs) (sym v.view), λ _. e)
+empty_is text (t ∷ tokens) last_at value empty v e =
     let other : value.pairs ≡ pairs_of text (t ∷ tokens) = ap (λ (x : CutText). x.pairs) (sym v.view) in
     let some : (length (t ∷ tokens) == 0) ≡ false = grind arith in
     (λ h. absurd (cc), λ none. absurd (cc))

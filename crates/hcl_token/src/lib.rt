@@ -8,6 +8,7 @@ mod join_table;
 mod kind;
 mod milestone;
 mod place;
+mod places;
 mod token;
 mod tokens;
 
@@ -16,5 +17,6 @@ pub use item::Item;
 pub use join_table::joins;
 pub use kind::Kind;
 pub use place::Place;
+pub use places::Places;
 pub use token::Token;
 pub use tokens::{MAX_TEXT, Tokens};

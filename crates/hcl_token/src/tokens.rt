@@ -4,16 +4,15 @@ ghost use Rattle.std.specs.Prelude.{◌≡◌, ◌<◌, ◌≤◌, ◌↔◌, []
 ghost use Rattle.hcl_token.specs.declared.tokens.TheConstants.{MAX_TEXT};
 ghost use Rattle.hcl_token.specs.CutText.{CutText, AreUtf8, kind_of, spelling_of, gap_of, clusters_of, item_of, joins_of};
 ghost use Rattle.hcl_token.specs.Items.{InOrder, cut_text, pairs_of};
-ghost use Rattle.hcl_token.specs.Inner.Milestones.{IsKept};
-ghost use Rattle.hcl_token.specs.Place.{place_of};
+ghost use Rattle.hcl_token.specs.Inner.Milestones.{IsOrdered};
 ghost use Rattle.hcl_token.specs.Tokens.{whole_text};
 
 use crate::graphemes::clusters;
 use crate::item::Item;
 use crate::join_table::joins;
 use crate::kind::Kind;
-use crate::milestone::{Milestone, gap_at, milestones, part, place_at};
-use crate::place::Place;
+use crate::milestone::{gap_at, part};
+use crate::places::Places;
 use crate::token::Token;
 use std::alloc::{AllocError, Global};
 use std::marker::Model;
@@ -23,13 +22,12 @@ pub const MAX_TEXT: usize = 16_777_216;
 
 /// A text with its tokens, each with the gap before it, and the gap behind the last.
 ///
-/// Tokens are numbered from 0. Nothing but `new` takes memory.
+/// Tokens are numbered from 0. Nothing but `places` takes memory.
 #[derive(Drop)]
 pub struct Tokens<'t> {
     text: &'t [u8],
     tokens: Vec<Token>,
     last_at: u32,
-    milestones: Vec<Milestone>,
 }
 
 impl<'t> Model for Tokens<'t> {
@@ -37,34 +35,26 @@ impl<'t> Model for Tokens<'t> {
 
     ghost view = { λ t. cut_text t.text.now t.tokens.items t.last_at };
 
-    ghost invariant = { λ t. IsKept t.text.now t.tokens.items t.last_at t.milestones.items };
+    ghost invariant = { λ t. IsOrdered t.text.now t.tokens.items t.last_at };
 }
 
 impl<'t> Tokens<'t> {
     /// The tokens of a text, which stand one behind the other from its front, and the offset in
-    /// bytes of the gap behind the last of them. The text is read once.
-    pub fn new(
-        alloc: Global,
-        text: &'t [u8],
-        tokens: Vec<Token>,
-        last_at: usize,
-    ) -> Result<Tokens<'t>, AllocError>
+    /// bytes of the gap behind the last of them.
+    pub fn new(text: &'t [u8], tokens: Vec<Token>, last_at: usize) -> Tokens<'t>
         requires order { InOrder 0 tokens.items last_at }
         requires within { last_at ≤ length text.now }
         requires short { length text.now ≤ MAX_TEXT }
         requires utf8 { AreUtf8 (pairs_of text.now tokens.items) }
-        ensures text { IfOk result (λ t. t.text ≡ text.now) }
-        ensures pairs { IfOk result (λ t. t.pairs ≡ pairs_of text.now tokens.items) }
-        ensures last { IfOk result (λ t. t.last ≡ drop last_at text.now) }
+        ensures text { result.text ≡ text.now }
+        ensures pairs { result.pairs ≡ pairs_of text.now tokens.items }
+        ensures last { result.last ≡ drop last_at text.now }
     {
-        let last_at = last_at as u32;
-        let milestones = milestones(alloc, text, &tokens)?;
-        Ok(Tokens {
+        Tokens {
             text,
             tokens,
-            last_at,
-            milestones,
-        })
+            last_at: last_at as u32,
+        }
     }
 
     /// The memory of the tokens, which are given up: an empty list with room for as many.
@@ -173,12 +163,10 @@ impl<'t> Tokens<'t> {
         clusters(self.spelling(i))
     }
 
-    /// The line and the column of token `i`, from 1: found from a milestone at most 63 tokens
-    /// before it.
-    pub fn place_of(&self, i: usize) -> Place
-        requires { i < length self.now.pairs }
-        ensures { result ≡ place_of self.now.pairs i }
+    /// Where the tokens stand, by line and column. The text is read once.
+    pub fn places(&self, alloc: Global) -> Result<Places<'_>, AllocError>
+        ensures { IfOk result (λ places. places ≡ self.now.pairs) }
     {
-        place_at(self.text, &self.tokens, &self.milestones, i)
+        Places::new(alloc, self.text, &self.tokens)
     }
 }

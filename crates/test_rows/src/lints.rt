@@ -101,18 +101,22 @@ pub fn searched(row: &Row, scanned: &Scanned<'_>, tree: &Tree, out: &mut Answer)
 }
 
 fn tell_findings(found: &[Finding], scanned: &Scanned<'_>, out: &mut Answer) {
-    for finding in found {
-        tell_finding(finding, scanned, out);
-        out.put("; ");
+    match scanned.places(out.alloc) {
+        Ok(places) => {
+            for finding in found {
+                if finding.first >= scanned.len() {
+                    return out.put("no such token");
+                }
+                tell_finding(finding, places.of(finding.first), out);
+                out.put("; ");
+            }
+        }
+        Err(fault) => out.refuse(&fault),
     }
 }
 
 /// Its place, its rule, its tokens, whether a fix can mend it, what its message names, and its fix.
-fn tell_finding(found: &Finding, scanned: &Scanned<'_>, out: &mut Answer) {
-    if found.first >= scanned.len() {
-        return out.put("no such token");
-    }
-    let place = scanned.place_of(found.first);
+fn tell_finding(found: &Finding, place: Place, out: &mut Answer) {
     let (line, column, rule) = (place.line, place.column, found.rule.name());
     let (first, past, message, fix) = (found.first, found.past, found.message, found.fix);
     let mends = if found.is_fixable() {

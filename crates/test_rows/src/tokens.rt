@@ -69,10 +69,15 @@ fn gap(gap: &[u8], out: &mut Answer) {
 
 /// The line and the column of each token.
 fn places(scanned: &Scanned<'_>, out: &mut Answer) {
-    for i in 0..scanned.len() {
-        let place = scanned.place_of(i);
-        let (line, column) = (place.line, place.column);
-        let _ = write!(out, "{line}:{column} ");
+    match scanned.places(out.alloc) {
+        Ok(places) => {
+            for i in 0..scanned.len() {
+                let place = places.of(i);
+                let (line, column) = (place.line, place.column);
+                let _ = write!(out, "{line}:{column} ");
+            }
+        }
+        Err(fault) => out.refuse(&fault),
     }
 }
 

@@ -6,6 +6,7 @@ mod OneOrder
 mod OneRuleFinds
 mod OneText
 mod PartLemmas
+mod SilenceLemmas
 mod SoundLemmas
 mod TextLemmas
 mod TotalOrder

@@ -61,3 +61,9 @@ quiet pairs rule line i kind spelling is_kind is_spelling none_said =
           ap (λ o. unwrap_or (option_map test o) false) found ∙ ap (λ b. b && is_near line (line_of pairs i)) off
       | inr (past, none) ↦ ap (λ o. unwrap_or (option_map test o) false) none
     ]
+
+-- past a token that is no silencing comment
+pub quiet_step : (pairs : List Pair) (rule : Rule) (line i : ℕ) (kind : Kind) (spelling : List ℕ) → i < length pairs → Some kind ≡ kind_of pairs i → Some spelling ≡ spelling_of pairs i
+    → silences kind spelling rule ≡ false → silenced_from pairs rule line (i + 1) (drop (i + 1) pairs) ≡ silenced_from pairs rule line i (drop i pairs)
+quiet_step pairs rule line i kind spelling within is_kind is_spelling none_said =
+    sym (silenced_step pairs rule line i within ∙ ap (λ b. b || silenced_from pairs rule line (i + 1) (drop (i + 1) pairs)) (quiet pairs rule line i kind spelling is_kind is_spelling none_said))

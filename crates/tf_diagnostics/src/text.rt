@@ -55,6 +55,6 @@ pub fn complete_findings(
     let mut all = found;
     add_comment_findings(scanned, rules, &mut all)?;
     put_in_order(&mut all)?;
-    let told = without_silenced(alloc, scanned, all.as_slice())?;
+    let told = without_silenced(alloc, scanned, all)?;
     Ok(told)
 }

@@ -1,6 +1,8 @@
 -- Findings told one after the other.
 use Rattle.std.proofs.Common.{◌≡◌, ◌∙◌, ◌<◌, ◌+◌, ℕ, zero, suc, List, [], ◌∷◌, ◌++◌, length, take, map, get_or, ap, sym, arith}
 use Rattle.std.proofs.lemmas.List.{take_more, map-append}
+use Rattle.hcl_token.specs.declared.place.Place.{Place}
+use Rattle.hcl_token.specs.Place.{place_of}
 use Rattle.hcl_token.specs.Tokens.{Pair}
 use Rattle.tf_rule.specs.Findings.{AreSound}
 use Rattle.tf_rule.specs.declared.finding.Finding.{Finding}
@@ -13,6 +15,13 @@ pub begins_inside : (count : ℕ) (found : List Finding) (i : ℕ) (d : Finding)
 begins_inside count [] i d sound below = absurd (omega (arith, below))
 begins_inside count (f ∷ fs) zero d sound below = omega (arith, sound.0.0, sound.0.1)
 begins_inside count (f ∷ fs) (suc i) d sound below = begins_inside count fs i d sound.1 (omega (arith, below))
+
+-- the same where the places are of these tokens
+pub begins_there : (pairs places : List Pair) (found : List Finding) (i : ℕ) (d : Finding) → places ≡ pairs → AreSound (length pairs) found → i < length found → (get_or found i d).first < length places
+begins_there pairs places found i d same sound below = omega (arith, begins_inside (length pairs) found i d sound below, ap length same)
+
+pub place_there : (pairs places : List Pair) (i : ℕ) (place : Place) → places ≡ pairs → place ≡ place_of places i → place ≡ place_of pairs i
+place_there pairs places i place same is = is ∙ ap (λ (ps : List Pair). place_of ps i) same
 
 -- the first i findings are told, and one more
 pub one_told : (pairs : List Pair) (found : List Finding) (i : ℕ) (d : Finding) (issues grown : List Issue) (issue : Issue) → i < length found

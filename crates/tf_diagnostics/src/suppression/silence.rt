@@ -8,8 +8,8 @@ ghost use Rattle.tf_diagnostics.specs.Silencing.{is_silenced};
 ghost use Rattle.tf_diagnostics.specs.Inner.Marks.{Ascend, is_hit, IsNext};
 
 use crate::suppression::mark::Mark;
-use crate::suppression::marking::marks_of;
-use hcl_scan::Scanned;
+use crate::suppression::marking::{first_silencing, marks_of};
+use hcl_scan::{Places, Scanned};
 use std::alloc::{AllocError, Global};
 use tf_rule::{Finding, Rule};
 
@@ -89,14 +89,14 @@ fn keep(kept: &mut Vec<Finding>, f: Finding, is_silenced: bool) -> Result<(), Al
 
 /// The line of a token; where it is the token whose line was told last, that line, without a second
 /// look.
-fn line_at(scanned: &Scanned<'_>, told: Option<(usize, usize)>, i: usize) -> usize
-    requires within { i < length scanned.now.pairs }
-    requires told { IfSome told (λ t. t.1 ≡ line_of scanned.now.pairs t.0) }
-    ensures { result ≡ line_of scanned.now.pairs i }
+fn line_at(places: &Places<'_>, told: Option<(usize, usize)>, i: usize) -> usize
+    requires within { i < length places.now }
+    requires told { IfSome told (λ t. t.1 ≡ line_of places.now t.0) }
+    ensures { result ≡ line_of places.now i }
 {
     match told {
         Some((token, line)) if token == i => line,
-        _ => scanned.place_of(i).line,
+        _ => places.of(i).line,
     }
 }
 
@@ -106,23 +106,23 @@ fn line_at(scanned: &Scanned<'_>, told: Option<(usize, usize)>, i: usize) -> usi
 /// once.
 fn unmarked(
     alloc: Global,
-    scanned: &Scanned<'_>,
+    places: &Places<'_>,
     found: &[Finding],
     marks: &[Mark],
 ) -> Result<Vec<Finding>, AllocError>
-    requires sound { AreSound (length scanned.now.pairs) found.now }
+    requires sound { AreSound (length places.now) found.now }
     requires order { (b : ℕ) × Ascend 0 marks.now b }
     ensures { IfOk result
         (λ kept. kept.items
         ≡ filter (λ f. not
-        (is_hit f.rule (line_of scanned.now.pairs f.first) marks.now)) found.now) }
+        (is_hit f.rule (line_of places.now f.first) marks.now)) found.now) }
 {
     let mut kept = Vec::new(alloc);
     let mut rest = marks;
     let mut reached = 0;
     let mut told = None;
     for f in found {
-        let line = line_at(scanned, told, f.first);
+        let line = line_at(places, told, f.first);
         told = Some((f.first, line));
         rest = left_at(marks, rest, reached, line);
         reached = line;
@@ -133,18 +133,24 @@ fn unmarked(
 
 /// The findings that no comment of the text silences, in the same order.
 ///
-/// It takes one pass over the tokens and one over the findings, if these stand by place.
+/// It takes one pass over the tokens. Only where a comment silences anything are places made, and
+/// then it takes one pass over the findings too, if these stand by place.
 ///
 /// TFLint, Annotations.
 pub fn without_silenced(
     alloc: Global,
     scanned: &Scanned<'_>,
-    found: &[Finding],
+    found: Vec<Finding>,
 ) -> Result<Vec<Finding>, AllocError>
-    requires { AreSound (length scanned.now.pairs) found.now }
+    requires { AreSound (length scanned.now.pairs) found.items }
     ensures { IfOk result
-        (λ kept. kept.items ≡ filter (λ f. not (is_silenced scanned.now.pairs f)) found.now) }
+        (λ kept. kept.items ≡ filter (λ f. not (is_silenced scanned.now.pairs f)) found.items) }
 {
-    let marks = marks_of(alloc, scanned)?;
-    unmarked(alloc, scanned, found, marks.as_slice())
+    let first = first_silencing(scanned);
+    if first == scanned.len() {
+        return Ok(found);
+    }
+    let places = scanned.places(alloc)?;
+    let marks = marks_of(alloc, scanned, &places, first)?;
+    unmarked(alloc, &places, found.as_slice(), marks.as_slice())
 }

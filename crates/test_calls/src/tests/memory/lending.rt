@@ -4,7 +4,7 @@ use super::begin;
 use super::inputs::{FIRST, JOURNAL, LAST, LINE, TEXT, bytes_of, edits_of, journal_of, roomy};
 use crate::tests::{Host, given};
 use edit_record::{Edit, Edits, Journal, Record, Word};
-use hcl_scan::{Item, Kind, MAX_TEXT, Place, ScanFault, Scanned, scan};
+use hcl_scan::{Item, Kind, MAX_TEXT, ScanFault, Scanned, scan};
 use std::io;
 use std::io::{Error, ErrorKind, Read, Write};
 use tf_lint::{Rule, RuleSet};
@@ -22,7 +22,7 @@ fn no_memory_scanned(rt: HostRuntime) {
     assert!(rt; makes(&all, TEXT));
 }
 
-/// The tokens of the line. The comment is at its places and has its width, and could not stand at
+/// The tokens of the line. The comment is where it is and has its width, and could not stand at
 /// the line end's place with no line end.
 fn is_the_line(scanned: &Scanned<'_>) -> bool {
     if scanned.len() != 5 {
@@ -47,7 +47,6 @@ fn is_the_line(scanned: &Scanned<'_>) -> bool {
         && scanned.last_gap().is_empty()
         && is_the_comment(scanned.item(3))
         && scanned.clusters(3) == 6
-        && scanned.place_of(3) == Place { line: 1, column: 7 }
         && scanned.joins(0, 2)
         && !scanned.joins(0, 1)
 }

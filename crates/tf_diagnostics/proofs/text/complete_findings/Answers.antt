@@ -1,7 +1,3 @@
-use Rattle.std.proofs.Common.{ap, filter, length, not, subst, sym, ◌∙◌}
-use Rattle.tf_rule.specs.declared.finding.Finding.{Finding}
-use Rattle.tf_diagnostics.specs.Silencing.{is_silenced}
-use Rattle.tf_rule.specs.Findings.{AreSound}
 use Rattle.tf_diagnostics.proofs.TextLemmas.{gather, ordered_sound, told_sound, are_findings}
 use Rattle.tf_diagnostics.proofs.text.complete_findings.Goals as goal
 
@@ -9,16 +5,16 @@ pub without_silenced-requires : goal.without_silenced-requires
 without_silenced-requires c =
     let order = c.in_ok-put_in_order.ensures in
     let g = gather c.requires.1 c.in_ok-add_comment_findings.ensures order.same order.sorted order.stable in
-    subst (AreSound (length c.args.scanned.now.pairs)) (sym c.as_slice.ensures.value) (ordered_sound c.sound_is_sound.ensures g)
+    ordered_sound c.sound_is_sound.ensures g
 
 pub returns-clause-are : goal.returns-clause-are
 returns-clause-are c = λ members both.
     let order = c.in_ok-put_in_order.ensures in
     let g = gather both c.in_ok-add_comment_findings.ensures order.same order.sorted order.stable in
-    are_findings c.sound_is_sound.ensures g c.in_ok-told.told.items (c.in_ok-told.ensures ∙ ap (filter (λ (f : Finding). not (is_silenced c.args.scanned.now.pairs f))) c.as_slice.ensures.value)
+    are_findings c.sound_is_sound.ensures g c.in_ok-told.told.items c.in_ok-told.ensures
 
 pub returns-clause-sound : goal.returns-clause-sound
 returns-clause-sound c =
     let order = c.in_ok-put_in_order.ensures in
     let g = gather c.requires.1 c.in_ok-add_comment_findings.ensures order.same order.sorted order.stable in
-    told_sound c.sound_is_sound.ensures g c.in_ok-told.told.items (c.in_ok-told.ensures ∙ ap (filter (λ (f : Finding). not (is_silenced c.args.scanned.now.pairs f))) c.as_slice.ensures.value)
+    told_sound c.sound_is_sound.ensures g c.in_ok-told.told.items c.in_ok-told.ensures

@@ -7,30 +7,30 @@ use Rattle.hcl_token.proofs.TokensLemmas.{known_token, known_pair, number_is}
 use Rattle.hcl_token.proofs.tokens.Tokens.gap.Goals as goal
 
 pub index-token-requires : goal.index-token-requires
-index-token-requires c = omega (arith, c.requires, number_is _ _ _ _ _ (record { view = c.self.view_is; kept = c.self.invariant }))
+index-token-requires c = omega (arith, c.requires, number_is _ _ _ _ (record { view = c.self.view_is; ordered = c.self.invariant }))
 
 pub gap_at-requires : goal.gap_at-requires
-gap_at-requires c = omega (arith, c.requires, number_is _ _ _ _ _ (record { view = c.self.view_is; kept = c.self.invariant }))
+gap_at-requires c = omega (arith, c.requires, number_is _ _ _ _ (record { view = c.self.view_is; ordered = c.self.invariant }))
 
 pub part-requires-clause-ordered : goal.part-requires-clause-ordered
 part-requires-clause-ordered c =
-    let known = known_token _ _ _ _ _ _ _ (record { view = c.self.view_is; kept = c.self.invariant }) c.requires c.index-token.ensures in
+    let known = known_token _ _ _ _ _ _ (record { view = c.self.view_is; ordered = c.self.invariant }) c.requires c.index-token.ensures in
     omega (arith, known.gap, c.gap_at.ensures ∙ ap (λ (l : List Token). gap_at l c.args.i) c.deref.ensures.value)
 
 pub part-requires-clause-within : goal.part-requires-clause-within
 part-requires-clause-within c =
-    let known = known_token _ _ _ _ _ _ _ (record { view = c.self.view_is; kept = c.self.invariant }) c.requires c.index-token.ensures in
+    let known = known_token _ _ _ _ _ _ (record { view = c.self.view_is; ordered = c.self.invariant }) c.requires c.index-token.ensures in
     omega (arith, known.spelling, known.within)
 
 pub returns-clause-value : goal.returns-clause-value
 returns-clause-value c =
-    let known = known_token _ _ _ _ _ _ _ (record { view = c.self.view_is; kept = c.self.invariant }) c.requires c.index-token.ensures in
+    let known = known_token _ _ _ _ _ _ (record { view = c.self.view_is; ordered = c.self.invariant }) c.requires c.index-token.ensures in
     let begins = c.gap_at.ensures ∙ ap (λ (l : List Token). gap_at l c.args.i) c.deref.ensures.value in
     ap (λ x. Some x) (c.part.ensures ∙ ap (λ n. slice_range c.self.inside.text.now n c.index-token.result.now.start) begins)
-    ∙ sym (ap (option_map (λ (p : Pair). p.gap)) (known_pair _ _ _ _ _ _ _ (record { view = c.self.view_is; kept = c.self.invariant }) known))
+    ∙ sym (ap (option_map (λ (p : Pair). p.gap)) (known_pair _ _ _ _ _ _ (record { view = c.self.view_is; ordered = c.self.invariant }) known))
 
 pub returns-clause-utf8 : goal.returns-clause-utf8
 returns-clause-utf8 c =
-    let known = known_token _ _ _ _ _ _ _ (record { view = c.self.view_is; kept = c.self.invariant }) c.requires c.index-token.ensures in
+    let known = known_token _ _ _ _ _ _ (record { view = c.self.view_is; ordered = c.self.invariant }) c.requires c.index-token.ensures in
     let begins = c.gap_at.ensures ∙ ap (λ (l : List Token). gap_at l c.args.i) c.deref.ensures.value in
     subst IsUtf8 (sym (c.part.ensures ∙ ap (λ n. slice_range c.self.inside.text.now n c.index-token.result.now.start) begins)) known.gap_utf8

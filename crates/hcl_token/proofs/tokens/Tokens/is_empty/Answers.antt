@@ -6,4 +6,4 @@ use Rattle.hcl_token.proofs.tokens.Tokens.is_empty.Goals as goal
 pub returns : goal.returns
 returns c =
     let size : vec_len c.self.inside.tokens ≡ length c.self.inside.tokens.items = omega arith in
-    empty_is _ _ _ _ _ _ (record { view = c.self.view_is; kept = c.self.invariant }) (c.is_empty.ensures ∙ ap (λ n. n == 0) size)
+    empty_is _ _ _ _ _ (record { view = c.self.view_is; ordered = c.self.invariant }) (c.is_empty.ensures ∙ ap (λ n. n == 0) size)

@@ -5,12 +5,12 @@ use Rattle.hcl_token.proofs.TokensLemmas.{known_token, known_place, number_is}
 use Rattle.hcl_token.proofs.tokens.Tokens.item.Goals as goal
 
 pub index-token-requires : goal.index-token-requires
-index-token-requires c = omega (arith, c.requires, number_is _ _ _ _ _ (record { view = c.self.view_is; kept = c.self.invariant }))
+index-token-requires c = omega (arith, c.requires, number_is _ _ _ _ (record { view = c.self.view_is; ordered = c.self.invariant }))
 
 pub gap_at-requires : goal.gap_at-requires
-gap_at-requires c = omega (arith, c.requires, number_is _ _ _ _ _ (record { view = c.self.view_is; kept = c.self.invariant }))
+gap_at-requires c = omega (arith, c.requires, number_is _ _ _ _ (record { view = c.self.view_is; ordered = c.self.invariant }))
 
 pub returns : goal.returns
 returns c =
-    let known = known_token _ _ _ _ _ _ _ (record { view = c.self.view_is; kept = c.self.invariant }) c.requires c.index-token.ensures in
-    known_place _ _ _ _ _ _ _ _ (record { view = c.self.view_is; kept = c.self.invariant }) (c.gap_at.ensures ∙ ap (λ (l : List Token). gap_at l c.args.i) c.deref.ensures.value) known
+    let known = known_token _ _ _ _ _ _ (record { view = c.self.view_is; ordered = c.self.invariant }) c.requires c.index-token.ensures in
+    known_place _ _ _ _ _ _ _ (record { view = c.self.view_is; ordered = c.self.invariant }) (c.gap_at.ensures ∙ ap (λ (l : List Token). gap_at l c.args.i) c.deref.ensures.value) known

@@ -5,9 +5,9 @@ use Rattle.hcl_token.proofs.TokensLemmas.{known_token, known_pair, number_is}
 use Rattle.hcl_token.proofs.tokens.Tokens.kind.Goals as goal
 
 pub index-token-requires : goal.index-token-requires
-index-token-requires c = omega (arith, c.requires, number_is _ _ _ _ _ (record { view = c.self.view_is; kept = c.self.invariant }))
+index-token-requires c = omega (arith, c.requires, number_is _ _ _ _ (record { view = c.self.view_is; ordered = c.self.invariant }))
 
 pub returns : goal.returns
 returns c =
-    let known = known_token _ _ _ _ _ _ _ (record { view = c.self.view_is; kept = c.self.invariant }) c.requires c.index-token.ensures in
-    sym (ap (option_map (λ (p : Pair). p.kind)) (known_pair _ _ _ _ _ _ _ (record { view = c.self.view_is; kept = c.self.invariant }) known))
+    let known = known_token _ _ _ _ _ _ (record { view = c.self.view_is; ordered = c.self.invariant }) c.requires c.index-token.ensures in
+    sym (ap (option_map (λ (p : Pair). p.kind)) (known_pair _ _ _ _ _ _ (record { view = c.self.view_is; ordered = c.self.invariant }) known))

@@ -3,4 +3,4 @@ use Rattle.hcl_token.proofs.TokensLemmas.{number_is}
 use Rattle.hcl_token.proofs.tokens.Tokens.len.Goals as goal
 
 pub returns : goal.returns
-returns c = omega (arith, c.len.ensures, number_is _ _ _ _ _ (record { view = c.self.view_is; kept = c.self.invariant }))
+returns c = omega (arith, c.len.ensures, number_is _ _ _ _ (record { view = c.self.view_is; ordered = c.self.invariant }))

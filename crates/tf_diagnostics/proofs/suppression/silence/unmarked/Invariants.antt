@@ -9,10 +9,10 @@ use Rattle.tf_diagnostics.proofs.suppression.silence.unmarked.Given as goal
 
 abbrev pub invariant-loop-f : goal.invariant-loop-f
 invariant-loop-f l = record {
-  sound : AreSound (length l.fn.scanned.pairs) (drop l.f-index l.fn.found);
+  sound : AreSound (length l.fn.places) (drop l.f-index l.fn.found);
   order : (b : ℕ) × Ascend 0 l.rest b;
   same : (rule : Rule) (at : ℕ) → l.reached ≤ at → is_hit rule at l.rest ≡ is_hit rule at l.fn.marks;
-  told : IfSome l.told (λ t. t.1 ≡ line_of l.fn.scanned.pairs t.0);
-  kept : l.kept.items ++ filter (λ (f : Finding). not (is_hit f.rule (line_of l.fn.scanned.pairs f.first) l.fn.marks)) (drop l.f-index l.fn.found)
-      ≡ filter (λ (f : Finding). not (is_hit f.rule (line_of l.fn.scanned.pairs f.first) l.fn.marks)) l.fn.found;
+  told : IfSome l.told (λ t. t.1 ≡ line_of l.fn.places t.0);
+  kept : l.kept.items ++ filter (λ (f : Finding). not (is_hit f.rule (line_of l.fn.places f.first) l.fn.marks)) (drop l.f-index l.fn.found)
+      ≡ filter (λ (f : Finding). not (is_hit f.rule (line_of l.fn.places f.first) l.fn.marks)) l.fn.found;
 }
