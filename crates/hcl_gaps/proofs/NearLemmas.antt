@@ -11,7 +11,7 @@ use Rattle.hcl_gaps.specs.Kinds.{is_line_end, is_line_comment, is_identifier, is
 use Rattle.hcl_gaps.specs.Lines.{Line, lines_from}
 use Rattle.hcl_gaps.specs.Indent.{openings, closings}
 use Rattle.hcl_gaps.specs.Space.{passed, passed_all, behind_identifier, is_splat, behind_operand, is_in, is_spaced}
-use Rattle.std.proofs.Common.{take-add, drop-drop, reverse}
+use Rattle.std.proofs.Common.{reverse}
 use Rattle.hcl_gaps.specs.Inner.Rows.{IsPastNearest}
 use Rattle.hcl_gaps.specs.Inner.Stages.{SplitsLine, held_of, space_len, space_len_at, space_lens, spaces_from, line_lens, set_lens, all_lens, open_at, open_behind}
 use Rattle.hcl_gaps.proofs.LineLemmas.{Turn, turn, kind_is, range_split, none_there}
