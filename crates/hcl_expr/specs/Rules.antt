@@ -1,11 +1,13 @@
 -- For proofs: the rules of the pure parser, over a text as it is read at one place.
-use Rattle.std.specs.Prelude.{◌≡◌, ℕ, suc, ◌-◌, ◌||◌, Bool, true, false, List, [], length, Option, Result, Ok, Err}
+use Rattle.std.specs.Prelude.{◌≡◌, ℕ, suc, ◌-◌, ◌||◌, Bool, true, false, if◌then◌else◌, List, [], length, Option, Some, Result, Ok, Err}
 use Rattle.hcl_token.specs.declared.kind.Kind.{Kind}
 use Rattle.hcl_token.specs.declared.kind.Kind.TheVariants as k
 use Rattle.hcl_grammar.specs.declared.fault.TokenFault.{TokenFault}
 use Rattle.hcl_grammar.specs.declared.goal.Goal.{Goal}
+use Rattle.hcl_grammar.specs.declared.goal.Goal.TheVariants.{Whole}
 use Rattle.hcl_grammar.specs.declared.tree.Elem.{Elem}
 use Rattle.hcl_grammar.specs.declared.tree.Expr.{Expr}
+use Rattle.hcl_grammar.specs.declared.tree.Form.TheVariants as form
 use Rattle.hcl_grammar.specs.declared.tree.Intro.{Intro}
 use Rattle.hcl_grammar.specs.declared.tree.Link.{Link}
 use Rattle.hcl_grammar.specs.declared.tree.Operator.{Operator}
@@ -14,11 +16,12 @@ use Rattle.hcl_grammar.specs.declared.tree.Prefix.{Prefix}
 use Rattle.hcl_grammar.specs.declared.tree.Tail.{Tail}
 use Rattle.hcl_grammar.specs.declared.tree.Template.{Template}
 use Rattle.hcl_grammar.specs.declared.tree.Term.{Term}
+use Rattle.hcl_grammar.specs.Nodes as node
 use Rattle.hcl_grammar.specs.Pure.BodyParser as b
 use Rattle.hcl_grammar.specs.Pure.Climb as climb
 use Rattle.hcl_grammar.specs.Pure.Parser as p
 use Rattle.hcl_grammar.specs.Pure.Reading as r
-use Rattle.hcl_grammar.specs.Pure.Reading.{Outcome, Step}
+use Rattle.hcl_grammar.specs.Pure.Reading.{Outcome, Step, ◌>>=◌, ◌>>◌}
 use Rattle.hcl_grammar.specs.Tokens as tokens
 use Rattle.hcl_grammar.specs.Tokens.{Token}
 
@@ -55,9 +58,6 @@ module _ (t : Here) where
   abbrev pub expect : Kind → Step (Unit {0})
   expect kind = r.expect t.tokens t.inside kind
 
-  abbrev pub prefix : Step (Option Prefix)
-  prefix = p.prefix t.tokens t.inside
-
   abbrev pub operator : ℕ → Step (Option Operator)
   operator level = p.operator t.tokens t.inside level
 
@@ -69,6 +69,19 @@ module _ (t : Here) where
 
   abbrev pub whole : Step Expr
   whole = p.whole t.tokens t.depth (p.deeper t.tokens t.depth) t.inside
+
+  -- behind the condition, which begins at token `first`
+  abbrev pub choice : ℕ → Expr → Step Expr
+  choice first c = do
+    opening ← r.ahead t.tokens t.inside
+    is_conditional ← r.eat t.tokens t.inside k.Question
+    if is_conditional then (do
+      r.enter t.depth opening
+      met ← (p.deeper t.tokens t.depth).expr t.inside Whole
+      expect k.Colon
+      unmet ← (p.deeper t.tokens t.depth).expr t.inside Whole
+      end ← r.here
+      r.pure (node.expr first end (form.Conditional c met unmet))) else r.pure c
 
   abbrev pub level : ℕ → Step Expr
   level n = p.level t.tokens t.depth (p.deeper t.tokens t.depth) n t.inside
@@ -87,8 +100,9 @@ module _ (t : Here) where
   abbrev pub unary : Step Expr
   unary = p.unary t.tokens t.depth (p.deeper t.tokens t.depth) t.inside
 
-  abbrev pub post : Step Expr
-  post = p.post t.tokens t.depth (p.deeper t.tokens t.depth) t.inside
+  -- behind the operator before it, which is token `first`
+  abbrev pub prefixed : ℕ → Prefix → Step Expr
+  prefixed first op = p.unary_by t.tokens t.depth (p.deeper t.tokens t.depth) t.inside first (Some op)
 
   abbrev pub tails_from : ℕ → List Tail → Step (List Tail)
   tails_from turns found =
@@ -106,8 +120,17 @@ module _ (t : Here) where
   abbrev pub indexed : ℕ → Step Tail
   indexed first = p.indexed t.tokens t.depth (p.deeper t.tokens t.depth) first
 
-  abbrev pub term : Step Term
-  term = p.term t.tokens t.depth (p.deeper t.tokens t.depth) t.inside
+  -- a term, behind its first token, which is of this kind
+  abbrev pub term_by : ℕ → Kind → Step Term
+  term_by first kind = p.term_by t.tokens t.depth (p.deeper t.tokens t.depth) t.inside first kind
+
+  -- and its tails
+  abbrev pub post_by : ℕ → Kind → Step Expr
+  post_by first kind = do
+    head ← term_by first kind
+    found ← tails
+    end ← r.here
+    r.pure (node.tailed first end head found)
 
   abbrev pub named : ℕ → Step Term
   named first = p.named t.tokens t.depth (p.deeper t.tokens t.depth) t.inside first
@@ -181,6 +204,14 @@ module _ (t : Here) where
 
   abbrev pub element : Step Elem
   element = p.element t.tokens (p.expr t.tokens t.depth)
+
+  -- what stands behind the key
+  abbrev pub element_value : Step Expr
+  element_value = do
+    is_equals ← r.eat t.tokens false k.Equal
+    if is_equals then p.expr t.tokens t.depth false Whole else (do
+      r.expect t.tokens false k.Colon
+      p.expr t.tokens t.depth false Whole)
 
   abbrev pub elements_from : ℕ → List Elem → Step (List Elem)
   elements_from turns found = p.elements_from t.tokens (p.expr t.tokens t.depth) turns found

@@ -54,19 +54,27 @@ impl<'s, 't> Reader<'s, 't> {
         Err(inside.refuse(*at))
     }
 
+    /// What stands behind the key of an element.
+    #[cycle(nest)]
+    fn element_value(&self, at: &mut usize) -> Result<Expr, TokenFault>
+        ensures { Reads (spec.element_value self.now at.old) result at.new }
+    {
+        let lines = self.on_lines();
+        if !lines.eat(Kind::Equal, at) {
+            lines.expect(Kind::Colon, at)?;
+        }
+        lines.expr(Goal::Whole, at)
+    }
+
     /// A key of an object and its value.
     #[cycle(nest)]
     #[tactic(auto, unfolding(hcl_grammar::specs::Pure::Parser::element))]
     fn element(&self, at: &mut usize) -> Result<Elem, TokenFault>
         ensures { Reads (spec.element self.now at.old) result at.new }
     {
-        let lines = self.on_lines();
-        let key = lines.boxed(Goal::Whole, at)?;
-        if !lines.eat(Kind::Equal, at) {
-            lines.expect(Kind::Colon, at)?;
-        }
-        let value = lines.expr(Goal::Whole, at)?;
-        Ok(nodes::elem(key.into_inner(), value))
+        let key = self.on_lines().expr(Goal::Whole, at)?;
+        let value = self.element_value(at)?;
+        Ok(nodes::elem(key, value))
     }
 
     /// Keys with their values, and the closing brace behind them.

@@ -2,13 +2,15 @@
 //!
 //! HCL native syntax specification, Operations.
 
-ghost use Rattle.std.specs.Prelude.{◌≡◌, ◌≤◌, Ok};
+ghost use Rattle.std.specs.Prelude.{◌≡◌, ◌≤◌, Ok, true, false};
+ghost use Rattle.hcl_token.specs.declared.kind.Kind.TheVariants as k;
 ghost use Rattle.hcl_grammar.specs.Operators as operators;
 ghost use Rattle.hcl_grammar.specs.Pure.Climb as climb;
 ghost use Rattle.hcl_grammar.specs.Pure.Reading.{Reads};
 ghost use Rattle.hcl_expr.specs.Rules as spec;
 
 use crate::reader::Reader;
+use crate::stream::same_kind;
 use hcl_grammar::fault::TokenFault;
 use hcl_grammar::goal::Goal;
 use hcl_grammar::tree::{Expr, Form, Link, Operator, Prefix};
@@ -31,18 +33,6 @@ fn level_of(kind: Kind) -> usize
 }
 
 impl<'s, 't> Reader<'s, 't> {
-    /// Takes an operator before an operand, if one comes next.
-    #[tactic(auto, unfolding(hcl_grammar::specs::Pure::Parser::prefix, hcl_grammar::specs::Tokens::after))]
-    fn prefix(&self, at: &mut usize) -> Option<Prefix>
-        ensures { spec.prefix self.now at.old ≡ Ok (result, at.new) }
-    {
-        let (number, next) = self.token(*at);
-        let kind = next?;
-        let found = prefix_of(kind)?;
-        *at = number + 1;
-        Some(found)
-    }
-
     /// Takes an operator of the level, if one comes next.
     #[tactic(auto, unfolding(hcl_grammar::specs::Pure::Parser::operator, hcl_grammar::specs::Tokens::after))]
     fn operator(&self, level: usize, at: &mut usize) -> Option<Operator>
@@ -90,14 +80,39 @@ impl<'s, 't> Reader<'s, 't> {
         Ok(Boxed::new(self.alloc(), found)?)
     }
 
-    /// A whole expression.
+    /// Whether an operand ends a whole expression: neither an operator comes next nor `?`.
+    #[tactic(auto, unfolding(hcl_grammar::specs::Pure::Climb::binds, hcl_grammar::specs::Pure::Reading::sees))]
+    fn ends(&self, at: usize) -> bool
+        ensures quiet { result ≡ true → spec.binds self.now at ≡ 6 }
+        ensures other { result ≡ true → spec.sees self.now k.Question at ≡ false }
+    {
+        match self.next(at) {
+            Some(kind) => level_of(kind) == LEVELS && !same_kind(kind, Kind::Question),
+            None => true,
+        }
+    }
+
+    /// A whole expression. Most are one operand, which one look behind it tells.
     #[cycle(nest)]
-    #[tactic(auto, unfolding(hcl_grammar::specs::Pure::Parser::whole))]
     fn whole(&self, at: &mut usize) -> Result<Expr, TokenFault>
         ensures { Reads (spec.whole self.now at.old) result at.new }
     {
-        let first = self.start(*at);
-        let condition = self.level(LEVELS, at)?;
+        hcl_grammar_laws::laws::climbing();
+        let from = *at;
+        let head = self.unary(at)?;
+        if self.ends(*at) {
+            return Ok(head);
+        }
+        let first = self.start(from);
+        let condition = self.rest(self.binds(*at), LEVELS, first, head, at)?;
+        self.choice(first, condition, at)
+    }
+
+    /// A conditional, behind its condition; where no `?` comes next, the condition alone.
+    #[cycle(nest)]
+    fn choice(&self, first: usize, condition: Expr, at: &mut usize) -> Result<Expr, TokenFault>
+        ensures { Reads (spec.choice self.now first condition at.old) result at.new }
+    {
         let opening = self.start(*at);
         if !self.eat(Kind::Question, at) {
             return Ok(condition);
@@ -118,13 +133,13 @@ impl<'s, 't> Reader<'s, 't> {
         ensures { Reads (spec.level self.now level at.old) result at.new }
     {
         hcl_grammar_laws::laws::climbing();
-        let first = self.start(*at);
+        let before = *at;
         let head = self.unary(at)?;
         let from = self.binds(*at);
         if level <= from {
             return Ok(head);
         }
-        self.rest(from, level, first, head, at)
+        self.rest(from, level, self.start(before), head, at)
     }
 
     /// The operators of the levels below `level`, behind an operand that was read; `from` is the
@@ -169,17 +184,32 @@ impl<'s, 't> Reader<'s, 't> {
         Ok(found)
     }
 
-    /// An operand: a term with its tails, or one with an operator before it.
+    /// An operand behind the operator before it, which is token `first`.
     #[cycle(nest)]
-    #[tactic(auto, unfolding(hcl_grammar::specs::Pure::Parser::unary))]
+    fn prefixed(&self, first: usize, operator: Prefix, at: &mut usize) -> Result<Expr, TokenFault>
+        ensures { Reads (spec.prefixed self.now first operator at.old) result at.new }
+    {
+        let operand = self.enter(first, at)?.boxed(Goal::Operand, at)?;
+        Ok(nodes::expr(first, *at, Form::Prefixed(operator, operand)))
+    }
+
+    /// An operand: a term with its tails, or one with an operator before it. Its first token is
+    /// looked at once.
+    #[cycle(nest)]
+    #[tactic(auto, unfolding(hcl_grammar::specs::Pure::Parser::unary, hcl_grammar::specs::Pure::Parser::prefix, hcl_grammar::specs::Pure::Parser::post, hcl_grammar::specs::Pure::Parser::term, hcl_grammar::specs::Pure::Reading::bump, hcl_grammar::specs::Tokens::after))]
     pub fn unary(&self, at: &mut usize) -> Result<Expr, TokenFault>
         ensures { Reads (spec.unary self.now at.old) result at.new }
     {
-        let first = self.start(*at);
-        let Some(operator) = self.prefix(at) else {
-            return self.post(at);
-        };
-        let operand = self.enter(first, at)?.boxed(Goal::Operand, at)?;
-        Ok(nodes::expr(first, *at, Form::Prefixed(operator, operand)))
+        let (first, next) = self.token(*at);
+        match next {
+            Some(kind) => {
+                *at = first + 1;
+                match prefix_of(kind) {
+                    Some(operator) => self.prefixed(first, operator, at),
+                    None => self.post(first, kind, at),
+                }
+            }
+            None => Err(TokenFault::Syntax(first)),
+        }
     }
 }

@@ -82,14 +82,12 @@ impl<'s, 't> Reader<'s, 't> {
         Ok(found)
     }
 
-    /// A term with its tails.
+    /// A term with its tails, behind its first token, which is `first`.
     #[cycle(nest)]
-    #[tactic(auto, unfolding(hcl_grammar::specs::Pure::Parser::post))]
-    pub fn post(&self, at: &mut usize) -> Result<Expr, TokenFault>
-        ensures { Reads (spec.post self.now at.old) result at.new }
+    pub fn post(&self, first: usize, kind: Kind, at: &mut usize) -> Result<Expr, TokenFault>
+        ensures { Reads (spec.post_by self.now first kind at.old) result at.new }
     {
-        let first = self.start(*at);
-        let head = self.term(at)?;
+        let head = self.term(first, kind, at)?;
         let tails = self.tails(at)?;
         Ok(nodes::tailed(self.alloc(), first, *at, head, tails)?)
     }

@@ -115,17 +115,11 @@ impl<'s, 't> Reader<'s, 't> {
         Ok(nodes::term(first, *at, Shape::Heredoc(template)))
     }
 
-    /// A term.
+    /// A term, behind its first token, which is `first`.
     #[cycle(nest)]
-    #[tactic(auto, unfolding(hcl_grammar::specs::Pure::Parser::term, hcl_grammar::specs::Pure::Reading::bump, hcl_grammar::specs::Tokens::after))]
-    pub fn term(&self, at: &mut usize) -> Result<Term, TokenFault>
-        ensures { Reads (spec.term self.now at.old) result at.new }
+    pub fn term(&self, first: usize, kind: Kind, at: &mut usize) -> Result<Term, TokenFault>
+        ensures { Reads (spec.term_by self.now first kind at.old) result at.new }
     {
-        let (first, next) = self.token(*at);
-        let Some(kind) = next else {
-            return Err(TokenFault::Syntax(first));
-        };
-        *at = first + 1;
         match kind {
             Kind::Number => Ok(nodes::term(first, *at, Shape::Number)),
             Kind::Identifier => self.named(first, at),

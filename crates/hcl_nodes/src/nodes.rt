@@ -221,20 +221,15 @@ pub fn for_part(
 
 /// An attribute, whose first token is its name.
 #[tactic(auto, unfolding(hcl_grammar::specs::Nodes::attribute))]
-pub fn attribute(
-    alloc: Global,
-    first: usize,
-    past: usize,
-    value: Expr,
-) -> Result<Attribute, AllocError>
-    ensures { IfOk result (λ a. a ≡ nodes.attribute first past value) }
+pub fn attribute(first: usize, past: usize, value: Boxed<Expr>) -> Attribute
+    ensures { result ≡ nodes.attribute first past value }
 {
-    Ok(Attribute {
+    Attribute {
         first,
         past,
         name: first,
-        value: Boxed::new(alloc, value)?,
-    })
+        value,
+    }
 }
 
 /// The attribute of a block on one line.

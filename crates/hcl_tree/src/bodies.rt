@@ -51,8 +51,8 @@ fn on_line(reader: &Reader<'_, '_>, at: &mut usize) -> Result<Content, TokenFaul
         return Ok(Content::Line(None));
     }
     lines.expect(Kind::Equal, at)?;
-    let value = lines.expr(Goal::Whole, at)?;
-    let attribute = nodes::attribute(reader.alloc(), first, *at, value)?;
+    let value = lines.boxed(Goal::Whole, at)?;
+    let attribute = nodes::attribute(first, *at, value);
     Ok(nodes::line(reader.alloc(), attribute)?)
 }
 
@@ -63,7 +63,7 @@ fn attribute(reader: &Reader<'_, '_>, first: usize, at: &mut usize) -> Result<Me
 {
     let value = reader.on_lines().boxed(Goal::Whole, at)?;
     eol(reader, at)?;
-    Ok(Member::Attribute(nodes::attribute(reader.alloc(), first, *at, value.into_inner())?))
+    Ok(Member::Attribute(nodes::attribute(first, *at, value)))
 }
 
 /// The body of a block that was opened.

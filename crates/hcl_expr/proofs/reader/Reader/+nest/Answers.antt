@@ -4,10 +4,12 @@ use Rattle.hcl_grammar.specs.declared.goal.Goal.{Goal}
 use Rattle.hcl_grammar.specs.declared.goal.Goal.TheVariants.{Whole, Operand}
 use Rattle.hcl_grammar.specs.Pure.Climb.{rest}
 use Rattle.hcl_grammar.specs.Pure.Parser as p
-use Rattle.hcl_grammar.specs.Pure.Parser.{deeper, twice, under, arguments_from, elements_from, items_from, links_from, parts_from, tails_from}
+use Rattle.hcl_grammar.specs.Pure.Parser.{deeper, twice, under, whole, arguments_from, elements_from, items_from, links_from, parts_from, tails_from}
 use Rattle.hcl_grammar.specs.Tokens.{Token}
 use Rattle.hcl_expr.proofs.Turns.{turn_left, none_left, one_nests, refused}
+use Rattle.hcl_grammar.specs.Pure.Reading.{go_on, past}
 use Rattle.hcl_expr.specs.Rules as spec
+use Rattle.hcl_expr.specs.Rules.{Here}
 use Rattle.hcl_expr.proofs.reader.Reader.+nest.Goals as goal
 
 -- ---- an expression, by what is asked for
@@ -24,6 +26,34 @@ expr-returns-in-Whole t c = rw (c.in-Whole.is, expr-is c.args.self.now.tokens c.
 pub expr-returns-in-Operand : goal.expr-returns-in-Operand
 expr-returns-in-Operand t c = rw (c.in-Operand.is, expr-is c.args.self.now.tokens c.args.self.now.depth c.args.self.now.inside Operand c.args.at.now) c.unary.ensures
 
+-- ---- a whole expression
+
+whole-is : (t : Here) (i : ℕ) → spec.whole t i ≡ go_on (spec.level t 6 i) (spec.choice t (spec.start t i))
+unfolding whole
+whole-is t i = refl
+
+pub whole-returns-in_err-head : goal.whole-returns-in_err-head
+unfolding whole
+whole-returns-in_err-head t c =
+    let e = (c.climbing.ensures c.args.self.now.tokens c.args.self.now.depth (deeper c.args.self.now.tokens c.args.self.now.depth)).level_is 6 c.args.self.now.inside c.args.at.now in
+    first_of (search rules, grind (arith, common_steps))
+
+pub whole-returns-then-ends : goal.whole-returns-then-ends
+unfolding past
+whole-returns-then-ends t c =
+    let k = (c.climbing.ensures c.args.self.now.tokens c.args.self.now.depth (deeper c.args.self.now.tokens c.args.self.now.depth)).level_not 6 c.args.self.now.inside c.args.at.now _ _ (c.in_ok-head.ensures {u = tt}) (omega (arith, c.ends.ensures.quiet c.if-ends.true)) in
+    rw (whole-is c.args.self.now c.args.at.now, k, c.ends.ensures.other c.if-ends.true) refl
+
+pub whole-returns-in_err-condition : goal.whole-returns-in_err-condition
+whole-returns-in_err-condition t c =
+    let k = (c.climbing.ensures c.args.self.now.tokens c.args.self.now.depth (deeper c.args.self.now.tokens c.args.self.now.depth)).level_is 6 c.args.self.now.inside c.args.at.now in
+    rw (whole-is c.args.self.now c.args.at.now, k, c.in_ok-head.ensures {u = tt}, ← c.start-first.ensures) (refused (spec.choice c.args.self.now c.start-first.result) 0 _ (search rules) refl c.in_err-condition.ensures)
+
+pub whole-returns : goal.whole-returns
+whole-returns t c =
+    let k = (c.climbing.ensures c.args.self.now.tokens c.args.self.now.depth (deeper c.args.self.now.tokens c.args.self.now.depth)).level_is 6 c.args.self.now.inside c.args.at.now in
+    rw (whole-is c.args.self.now c.args.at.now, k, c.in_ok-head.ensures {u = tt}, ← c.start-first.ensures, c.in_ok-condition.ensures {u = tt}) c.choice.ensures
+
 -- ---- levels
 
 pub level-returns-in_err-head : goal.level-returns-in_err-head
@@ -36,7 +66,7 @@ level-returns-then-level-from t c =
 
 pub level-returns : goal.level-returns
 level-returns t c =
-    rw ((c.climbing.ensures c.args.self.now.tokens c.args.self.now.depth (deeper c.args.self.now.tokens c.args.self.now.depth)).level_is c.args.level c.args.self.now.inside c.args.at.now, c.in_ok-head.ensures {u = tt}, ← c.start-first.ensures) c.rest.ensures
+    rw ((c.climbing.ensures c.args.self.now.tokens c.args.self.now.depth (deeper c.args.self.now.tokens c.args.self.now.depth)).level_is c.args.level c.args.self.now.inside c.args.at.now, c.in_ok-head.ensures {u = tt}, ← c.start.ensures) c.rest.ensures
 
 pub rest-returns-then-level-from : goal.rest-returns-then-level-from
 rest-returns-then-level-from t c =

@@ -16,6 +16,12 @@ decreases-expr l = 128 * l.self.now.depth + 62
 abbrev pub decreases-whole : goal.decreases-whole
 decreases-whole l = 128 * l.self.now.depth + 61
 
+abbrev pub decreases-choice : goal.decreases-choice
+decreases-choice l = 128 * l.self.now.depth + 60
+
+abbrev pub decreases-prefixed : goal.decreases-prefixed
+decreases-prefixed l = 128 * l.self.now.depth + 27
+
 abbrev pub decreases-links : goal.decreases-links
 decreases-links l = 128 * l.self.now.depth + 3 * l.level + 33
 
@@ -93,6 +99,9 @@ decreases-elements l = 128 * l.self.now.depth + 82
 
 abbrev pub decreases-element : goal.decreases-element
 decreases-element l = 128 * l.self.now.depth + 81
+
+abbrev pub decreases-element_value : goal.decreases-element_value
+decreases-element_value l = 128 * l.self.now.depth + 80
 
 abbrev pub decreases-closed : goal.decreases-closed
 decreases-closed l = 128 * l.self.now.depth + 70
