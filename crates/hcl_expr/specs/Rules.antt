@@ -1,5 +1,5 @@
 -- For proofs: the rules of the pure parser, over a text as it is read at one place.
-use Rattle.std.specs.Prelude.{◌≡◌, ℕ, suc, ◌-◌, ◌||◌, Bool, true, false, if◌then◌else◌, List, [], length, Option, Some, Result, Ok, Err}
+use Rattle.std.specs.Prelude.{◌≡◌, ℕ, suc, ◌-◌, Bool, true, false, if◌then◌else◌, List, [], length, Option, Some, Result, Ok, Err}
 use Rattle.hcl_token.specs.declared.kind.Kind.{Kind}
 use Rattle.hcl_token.specs.declared.kind.Kind.TheVariants as k
 use Rattle.hcl_grammar.specs.declared.fault.TokenFault.{TokenFault}

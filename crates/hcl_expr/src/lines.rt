@@ -5,20 +5,28 @@ ghost use Rattle.hcl_expr.specs.Rules as spec;
 ghost use Rattle.hcl_grammar.specs.Pure.Reading.{Gives};
 
 use crate::reader::Reader;
+use crate::stream::same_kind;
 use hcl_grammar::fault::TokenFault;
 use hcl_token::Kind;
 
 impl<'s, 't> Reader<'s, 't> {
     /// Takes a line end with the comment before it, if it comes next. A comment at the end of the
     /// text is left.
-    #[tactic(auto, unfolding(hcl_grammar::specs::Pure::Parser::line, hcl_grammar::specs::Pure::Reading::past))]
+    #[tactic(auto, unfolding(hcl_grammar::specs::Pure::Parser::line, hcl_grammar::specs::Pure::Reading::sees, hcl_grammar::specs::Pure::Reading::past, hcl_grammar::specs::Tokens::after))]
     pub fn line(&self, at: &mut usize) -> bool
         ensures { spec.line self.now at.old ≡ Ok (result, at.new) }
     {
         let lines = self.on_lines();
-        let mut behind = *at;
-        let _is_comment = lines.eat(Kind::LineComment, &mut behind);
-        let is_line = lines.eat(Kind::LineEnd, &mut behind);
+        let (number, next) = lines.token(*at);
+        let Some(kind) = next else {
+            return false;
+        };
+        let mut behind = number + 1;
+        let is_line = if same_kind(kind, Kind::LineComment) {
+            lines.eat(Kind::LineEnd, &mut behind)
+        } else {
+            same_kind(kind, Kind::LineEnd)
+        };
         if is_line {
             *at = behind;
         }

@@ -6,6 +6,7 @@ ghost use Rattle.hcl_grammar.specs.Pure.Reading.{Gives, Reads};
 ghost use Rattle.hcl_expr.specs.Rules as spec;
 
 use crate::reader::Reader;
+use crate::stream::same_kind;
 use hcl_grammar::fault::TokenFault;
 use hcl_grammar::goal::Goal;
 use hcl_grammar::tree::{Expr, Tail};
@@ -15,16 +16,23 @@ use plain_tree::Items;
 
 impl<'s, 't> Reader<'s, 't> {
     /// What stands behind `.`: a name, or `*`.
-    #[tactic(auto, unfolding(hcl_grammar::specs::Pure::Parser::dotted))]
+    #[tactic(auto, unfolding(hcl_grammar::specs::Pure::Parser::dotted, hcl_grammar::specs::Pure::Reading::sees, hcl_grammar::specs::Pure::Reading::past, hcl_grammar::specs::Pure::Reading::expect, hcl_grammar::specs::Tokens::after))]
     fn dotted(&self, at: &mut usize) -> Result<Tail, TokenFault>
         ensures { Gives (spec.dotted self.now at.old) result at.new }
     {
-        if self.eat(Kind::Star, at) {
+        let (number, next) = self.token(*at);
+        let Some(kind) = next else {
+            return Err(TokenFault::Syntax(number));
+        };
+        if same_kind(kind, Kind::Star) {
+            *at = number + 1;
             return Ok(Tail::AttributeSplat);
         }
-        let name = self.start(*at);
-        self.expect(Kind::Identifier, at)?;
-        Ok(Tail::Name(name))
+        if !same_kind(kind, Kind::Identifier) {
+            return Err(TokenFault::Syntax(number));
+        }
+        *at = number + 1;
+        Ok(Tail::Name(number))
     }
 
     /// What stands behind `[`, at token `first`: `*`, or an expression.
