@@ -10,10 +10,8 @@ ghost use Rattle.tf_fix.specs.declared.parsed.Parsed.{Parsed};
 use crate::fault::FixFault;
 use crate::searched::Searched;
 use crate::text::findings;
-use edit_list::Edits;
 use hcl_scan::laws::{no_cut_with_fault, one_cut};
-use hcl_scan::{Replaced, Token, scan, scan_again};
-use hcl_text_laws::laws::parsed_apart;
+use hcl_scan::{Token, scan, scan_in};
 use std::alloc::Global;
 use tf_rule::{Rule, RuleSet};
 
@@ -43,39 +41,20 @@ pub fn search_text<'t>(
     }
 }
 
-/// The pieces of a text that edits replace, for `scan_again`; where memory is refused, the first of
-/// them.
-pub fn replaced_by(alloc: Global, edits: &Edits) -> Vec<Replaced> {
-    let mut pieces = Vec::new(alloc);
-    for edit in edits.edits() {
-        let piece = Replaced {
-            at: edit.at,
-            removed: edit.removed.len(),
-            added: edit.added.len(),
-        };
-        if pieces.push(piece).is_err() {
-            return pieces;
-        }
-    }
-    pieces
-}
-
-/// The same of a text that came from one that was searched, in which these pieces were replaced:
-/// what stayed as it was is not read again. Its tokens come into a list that has room.
+/// The same of a text that came from one that was searched: what stayed as it was is not read
+/// again. Its tokens come into a list that has room.
 fn search_again<'t>(
     alloc: Global,
     text: &'t [u8],
     before: &Searched<'_>,
     room: Vec<Token>,
-    replaced: &[Replaced],
 ) -> Result<Searched<'t>, FixFault>
     requires { (p : Parsed) × IsOf p before.now }
     ensures searched { IfOk result (λ searched. (p : Parsed) × Reads text.now p × IsOf p searched) }
     ensures rules { IfOk result (λ searched. searched.rules ≡ before.now.rules) }
     ensures fault { IfErr result (λ fault. NotRead text.now fault) }
 {
-    parsed_apart();
-    let scanned = scan_again(alloc, room, text, &before.scanned, replaced)?;
+    let scanned = scan_in(alloc, room, text)?;
     let rules = before.rules;
     match findings(
         alloc,
@@ -112,7 +91,6 @@ pub fn search_made<'t>(
     text: &'t [u8],
     before: &Searched<'_>,
     room: Vec<Token>,
-    replaced: &[Replaced],
     rule: Rule,
 ) -> Result<Searched<'t>, FixFault>
     requires { (p : Parsed) × IsOf p before.now }
@@ -124,7 +102,7 @@ pub fn search_made<'t>(
 {
     no_cut_with_fault();
     one_cut();
-    match search_again(alloc, text, before, room, replaced) {
+    match search_again(alloc, text, before, room) {
         Ok(searched) => Ok(searched),
         Err(fault) => Err(broken(fault, rule)),
     }
