@@ -17,6 +17,7 @@ use Rattle.hcl_grammar.specs.declared.tree.Tail.{Tail}
 use Rattle.hcl_grammar.specs.declared.tree.Template.{Template}
 use Rattle.hcl_grammar.specs.declared.tree.Term.{Term}
 use Rattle.hcl_grammar.specs.Nodes as node
+use Rattle.hcl_grammar.specs.Operators.{levels}
 use Rattle.hcl_grammar.specs.Pure.BodyParser as b
 use Rattle.hcl_grammar.specs.Pure.Climb as climb
 use Rattle.hcl_grammar.specs.Pure.Parser as p
@@ -97,6 +98,12 @@ module _ (t : Here) where
   abbrev pub rest : ℕ → ℕ → Expr → Step Expr
   rest n first head = climb.rest t.tokens t.depth (p.deeper t.tokens t.depth) n t.inside first head
 
+  -- behind the first operand of an expression, which begins at token `first`
+  abbrev pub behind : ℕ → Expr → Step Expr
+  behind first head = do
+    condition ← rest levels first head
+    choice first condition
+
   abbrev pub unary : Step Expr
   unary = p.unary t.tokens t.depth (p.deeper t.tokens t.depth) t.inside
 
@@ -124,13 +131,18 @@ module _ (t : Here) where
   abbrev pub term_by : ℕ → Kind → Step Term
   term_by first kind = p.term_by t.tokens t.depth (p.deeper t.tokens t.depth) t.inside first kind
 
-  -- and its tails
-  abbrev pub post_by : ℕ → Kind → Step Expr
-  post_by first kind = do
-    head ← term_by first kind
+  -- its tails
+  abbrev pub tailed : ℕ → Term → Step Expr
+  tailed first head = do
     found ← tails
     end ← r.here
     r.pure (node.tailed first end head found)
+
+  -- and both
+  abbrev pub post_by : ℕ → Kind → Step Expr
+  post_by first kind = do
+    head ← term_by first kind
+    tailed first head
 
   abbrev pub named : ℕ → Step Term
   named first = p.named t.tokens t.depth (p.deeper t.tokens t.depth) t.inside first

@@ -103,7 +103,16 @@ impl<'s, 't> Reader<'s, 't> {
         if self.ends(*at) {
             return Ok(head);
         }
-        let first = self.start(from);
+        self.behind(self.start(from), head, at)
+    }
+
+    /// What stands behind the first operand of an expression, which begins at token `first`:
+    /// operators of all levels, and a conditional.
+    #[cycle(nest)]
+    #[inline(never)]
+    fn behind(&self, first: usize, head: Expr, at: &mut usize) -> Result<Expr, TokenFault>
+        ensures { Reads (spec.behind self.now first head at.old) result at.new }
+    {
         let condition = self.rest(self.binds(*at), LEVELS, first, head, at)?;
         self.choice(first, condition, at)
     }
@@ -186,6 +195,7 @@ impl<'s, 't> Reader<'s, 't> {
 
     /// An operand behind the operator before it, which is token `first`.
     #[cycle(nest)]
+    #[inline(never)]
     fn prefixed(&self, first: usize, operator: Prefix, at: &mut usize) -> Result<Expr, TokenFault>
         ensures { Reads (spec.prefixed self.now first operator at.old) result at.new }
     {
@@ -194,8 +204,9 @@ impl<'s, 't> Reader<'s, 't> {
     }
 
     /// An operand: a term with its tails, or one with an operator before it. Its first token is
-    /// looked at once.
+    /// looked at once. (Inlined, so that its answer is not copied once more.)
     #[cycle(nest)]
+    #[inline(always)]
     #[tactic(auto, unfolding(hcl_grammar::specs::Pure::Parser::unary, hcl_grammar::specs::Pure::Parser::prefix, hcl_grammar::specs::Pure::Parser::post, hcl_grammar::specs::Pure::Parser::term, hcl_grammar::specs::Pure::Reading::bump, hcl_grammar::specs::Tokens::after))]
     pub fn unary(&self, at: &mut usize) -> Result<Expr, TokenFault>
         ensures { Reads (spec.unary self.now at.old) result at.new }

@@ -2,6 +2,7 @@
 //!
 //! HCL native syntax specification, Expressions.
 
+ghost use Rattle.std.specs.Prelude.{◌≡◌, false, None, Ok};
 ghost use Rattle.hcl_grammar.specs.Pure.Reading.{Gives, Reads};
 ghost use Rattle.hcl_expr.specs.Rules as spec;
 
@@ -9,10 +10,10 @@ use crate::reader::Reader;
 use crate::stream::same_kind;
 use hcl_grammar::fault::TokenFault;
 use hcl_grammar::goal::Goal;
-use hcl_grammar::tree::{Expr, Tail};
+use hcl_grammar::tree::{Expr, Tail, Term};
 use hcl_nodes::nodes;
 use hcl_token::Kind;
-use plain_tree::Items;
+use plain_tree::{Boxed, Items};
 
 impl<'s, 't> Reader<'s, 't> {
     /// What stands behind `.`: a name, or `*`.
@@ -75,12 +76,33 @@ impl<'s, 't> Reader<'s, 't> {
         }
     }
 
+    /// Whether a tail comes next.
+    #[tactic(auto, unfolding(hcl_grammar::specs::Pure::Parser::tail_of))]
+    fn has_tail(&self, at: usize) -> bool
+        ensures { result ≡ false → spec.tail self.now at ≡ Ok (None, at) }
+    {
+        match self.next(at) {
+            Some(Kind::Dot) | Some(Kind::DotIndex) | Some(Kind::OpenBracket) => true,
+            _ => false,
+        }
+    }
+
+    /// How many tails to take memory for, where one comes next: more than one if another tail
+    /// stands behind a `.` and a name.
+    fn room(&self, at: usize) -> usize {
+        if self.has_tail(at.saturating_add(2)) {
+            3
+        } else {
+            1
+        }
+    }
+
     /// The tails that come next.
     #[cycle(nest)]
     fn tails(&self, at: &mut usize) -> Result<Items<Tail>, TokenFault>
         ensures { Reads (spec.tails self.now at.old) result at.new }
     {
-        let mut found = Items::new(self.alloc());
+        let mut found = Items::with_room(self.alloc(), self.room(*at))?;
         for _turn in 0..self.len() {
             let Some(tail) = self.tail(at)? else {
                 return Ok(found);
@@ -90,13 +112,27 @@ impl<'s, 't> Reader<'s, 't> {
         Ok(found)
     }
 
-    /// A term with its tails, behind its first token, which is `first`.
+    /// A term with the tails that come next.
+    #[cycle(nest)]
+    #[inline(never)]
+    fn tailed(&self, first: usize, head: Boxed<Term>, at: &mut usize) -> Result<Expr, TokenFault>
+        ensures { Reads (spec.tailed self.now first head at.old) result at.new }
+    {
+        let tails = self.tails(at)?;
+        Ok(nodes::tailed(first, *at, head, tails))
+    }
+
+    /// A term with its tails, behind its first token, which is `first`. Most have none, which one
+    /// look behind it tells.
     #[cycle(nest)]
     pub fn post(&self, first: usize, kind: Kind, at: &mut usize) -> Result<Expr, TokenFault>
         ensures { Reads (spec.post_by self.now first kind at.old) result at.new }
     {
         let head = self.term(first, kind, at)?;
-        let tails = self.tails(at)?;
-        Ok(nodes::tailed(self.alloc(), first, *at, head, tails)?)
+        if !self.has_tail(*at) {
+            return Ok(nodes::plain(first, *at, head));
+        }
+        let head = Boxed::new(self.alloc(), head)?;
+        self.tailed(first, head, at)
     }
 }

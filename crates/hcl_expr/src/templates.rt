@@ -131,6 +131,7 @@ impl<'s, 't> Reader<'s, 't> {
 
     /// The directive that comes next, if it begins one.
     #[cycle(nest)]
+    #[inline(never)]
     #[tactic(auto, unfolding(hcl_grammar::specs::Pure::Parser::directive))]
     fn directive(&self, first: usize, at: &mut usize) -> Result<Option<Part>, TokenFault>
         ensures { Reads (spec.directive self.now first at.old) result at.new }

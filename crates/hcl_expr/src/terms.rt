@@ -30,6 +30,7 @@ impl<'s, 't> Reader<'s, 't> {
 
     /// What stands behind `(` that is no call.
     #[cycle(nest)]
+    #[inline(never)]
     #[tactic(auto, unfolding(hcl_grammar::specs::Pure::Parser::parens))]
     fn parens(&self, first: usize, at: &mut usize) -> Result<Term, TokenFault>
         ensures { Reads (spec.parens self.now first at.old) result at.new }
@@ -69,6 +70,7 @@ impl<'s, 't> Reader<'s, 't> {
 
     /// What stands behind `[`: a tuple, or a `for`.
     #[cycle(nest)]
+    #[inline(never)]
     #[tactic(auto, unfolding(hcl_grammar::specs::Pure::Parser::bracket))]
     fn bracket(&self, first: usize, at: &mut usize) -> Result<Term, TokenFault>
         ensures { Reads (spec.bracket self.now first at.old) result at.new }
@@ -83,6 +85,7 @@ impl<'s, 't> Reader<'s, 't> {
 
     /// What stands behind `{`: an object, or a `for`.
     #[cycle(nest)]
+    #[inline(never)]
     #[tactic(auto, unfolding(hcl_grammar::specs::Pure::Parser::brace))]
     fn brace(&self, first: usize, at: &mut usize) -> Result<Term, TokenFault>
         ensures { Reads (spec.brace self.now first at.old) result at.new }
@@ -107,6 +110,7 @@ impl<'s, 't> Reader<'s, 't> {
 
     /// What stands behind the opening of a heredoc.
     #[cycle(nest)]
+    #[inline(never)]
     #[tactic(auto, unfolding(hcl_grammar::specs::Pure::Parser::heredoc))]
     fn heredoc(&self, first: usize, at: &mut usize) -> Result<Term, TokenFault>
         ensures { Reads (spec.heredoc self.now first at.old) result at.new }

@@ -6,7 +6,11 @@ use Rattle.std.proofs.lemmas.List.{drop_all, take_all, append-nil, drop-append-l
 use Rattle.hcl_token.specs.declared.item.Item.{Item}
 use Rattle.hcl_token.specs.Tokens.{Pair, whole_text}
 use Rattle.hcl_token.specs.CutText.{spelling_of, gap_of, item_of, item_behind}
-use Rattle.hcl_gaps.specs.Inner.Stages.{KEPT, gap_meant, len_meant, with_gaps}
+use Rattle.hcl_gaps.specs.Inner.Stages.{KEPT, gap_meant, len_meant, set_len, with_gaps, Stay}
+use Rattle.hcl_gaps.specs.Space.{spaces}
+use Rattle.std.proofs.Common.{zero, suc, subst, sum_by, inl, inr}
+use Rattle.std.proofs.lemmas.Bool.{cases_eq}
+use Rattle.std.proofs.lemmas.List.Sums.{sum_by-cons}
 use Rattle.hcl_gaps.proofs.GapLaw.{length_replicate}
 use Rattle.hcl_gaps.proofs.CellGaps.{gaps_length}
 use Rattle.hcl_gaps.proofs.LayoutPieces.{same_is}
@@ -121,6 +125,12 @@ module _ (ps : List Pair) (last : List ℕ) (i : ℕ) (g s : List ℕ) (inside :
           ∙ ap (λ (x : List ℕ). out ++ (before ++ x)) (sym (text_turn ns ps i g s size inside g_is s_is))
           ∙ so_far
 
+-- each token has a gap
+pub gap_there : (ps : List Pair) (i : ℕ) → i < length ps → (g : List ℕ) × (Some g ≡ gap_of ps i)
+gap_there ps i inside =
+    let t = turn ps i (length ps) inside (omega arith) in
+    (t.pair.gap, sym (ap (option_map (λ (p : Pair). p.gap)) t.at))
+
 -- at the front nothing is written, and nothing is copied
 pub nothing_yet : (source : List ℕ) (ps : List Pair) (out whole : List ℕ) → out ≡ [] → out ++ (slice_range source 0 (reached ps 0) ++ whole) ≡ whole
 unfolding reached
@@ -131,6 +141,32 @@ pub spelling_there : (ps : List Pair) (i : ℕ) → i < length ps → (s : List 
 spelling_there ps i inside =
     let t = turn ps i (length ps) inside (omega arith) in
     (t.pair.spelling, sym (ap (option_map (λ (p : Pair). p.spelling)) t.at))
+
+-- one more gap that stays
+pub stay_more : (ps : List Pair) (ns : List ℕ) (from i : ℕ) (gap : List ℕ) → Some gap ≡ gap_of ps i → bytes_eq gap (gap_meant (get_or ns i 0) gap) ≡ true → Stay ps ns from i → Stay ps ns from (i + 1)
+stay_more ps ns from i gap there same stay = λ k g later before g_is. elim (cases_eq k i) [
+  | inl here ↦
+      let both : Some g ≡ Some gap = g_is ∙ ap (gap_of ps) here ∙ sym there in
+      let e : g ≡ gap = cc in
+      ap₂ (λ (x : List ℕ) j. bytes_eq x (gap_meant (get_or ns j 0) x)) e here ∙ same
+  | inr other ↦ stay k g later (omega arith) g_is
+]
+
+-- past gaps that stay
+module _ (ps : List Pair) (last source : List ℕ) (source_is : source ≡ whole_text ps last) (ns : List ℕ) (size : length ns ≡ length ps) (a : ℕ) (out whole : List ℕ) where
+  pub stay_to : (n from to : ℕ) → to ≡ from + n → to ≤ length ps → Stay ps ns from to → a ≤ reached ps from
+      → out ++ (slice_range source a (reached ps from) ++ whole_text (drop from (with_gaps ns ps)) []) ≡ whole
+      → (a ≤ reached ps to) × (out ++ (slice_range source a (reached ps to) ++ whole_text (drop to (with_gaps ns ps)) []) ≡ whole)
+  stay_to zero from to e fits stay behind so_far =
+      let same : from ≡ to = omega arith in
+      (subst (λ i. a ≤ reached ps i) same behind, subst (λ i. out ++ (slice_range source a (reached ps i) ++ whole_text (drop i (with_gaps ns ps)) []) ≡ whole) same so_far)
+  stay_to (suc n) from to e fits stay behind so_far =
+      let inside : from < length ps = omega arith in
+      let (g, g_is) = gap_there ps from inside in
+      let (s, s_is) = spelling_there ps from inside in
+      let one = stays_on ps last from g s inside g_is s_is source source_is ns size a behind out whole so_far (stay from g (omega arith) (omega arith) g_is) in
+      let further : a ≤ reached ps (from + 1) = omega (arith, next ps last from g s inside g_is s_is, behind) in
+      stay_to n (from + 1) to (omega arith) fits (λ k h later before h_is. stay k h (omega arith) before h_is) further one
 
 -- the places of a token
 pub gap_place : (ps : List Pair) (i : ℕ) (item : Item) (g : List ℕ) → i < length ps → Some item ≡ item_of ps i → Some g ≡ gap_of ps i
@@ -194,3 +230,29 @@ item_turn ns ps i item n size inside item_is n_is =
     let whole = ap length (text_turn ns ps i p.gap p.spelling size inside g s) in
     let len = meant_len m item.gap_at item.start item.stop p.gap p.spelling (m == KEPT) refl start stop in
     omega (arith, whole, len, n_is, length-append (gap_meant m p.gap) (p.spelling ++ rest), length-append p.spelling rest)
+
+-- ---- room
+
+gap_most : (n : ℕ) (g : List ℕ) → length (gap_meant n g) ≤ length g + set_len n
+gap_most n g = elim (n == KEPT) as (λ v. length (if v then g else spaces n) ≤ length g + (if v then 0 else n)) [
+  | true ↦ omega arith
+  | false ↦ omega (arith, length_replicate n 32)
+]
+
+-- a text has no more bytes than it had with its old gaps, and the new ones beside
+pub most_len : (ns : List ℕ) (ps : List Pair) → length (whole_text (with_gaps ns ps) []) ≤ length (whole_text ps []) + sum_by set_len ns
+most_len [] ps = omega arith
+most_len (n ∷ ns) [] = omega arith
+most_len (n ∷ ns) (p ∷ ps) =
+    let old : List ℕ = whole_text ps [] in
+    let new : List ℕ = whole_text (with_gaps ns ps) [] in
+    omega (
+      arith,
+      most_len ns ps,
+      gap_most n p.gap,
+      sum_by-cons set_len n ns,
+      length-append (gap_meant n p.gap) (p.spelling ++ new),
+      length-append p.spelling new,
+      length-append p.gap (p.spelling ++ old),
+      length-append p.spelling old,
+    )

@@ -14,12 +14,12 @@ use Rattle.hcl_token.specs.CutText.{kind_of, spelling_of, gap_of}
 use Rattle.hcl_gaps.specs.Kinds.{is_here_open}
 use Rattle.hcl_gaps.specs.Lines.{Line, heredocs_after, ends_line, in_front, lines_from}
 use Rattle.hcl_gaps.specs.Inner.Stages.{line_len, held_behind, held_of, SplitsLine, close}
-use Rattle.hcl_gaps.specs.Inner.Near.{makes_busy, are_busy, IsLine, AreLines}
+use Rattle.hcl_gaps.specs.Inner.Near.{makes_busy, is_comment, is_plain, are_some, IsLine, AreLines}
 use Rattle.std.proofs.Common.{take-add, ◌||◌, ◌&&◌, None}
 use Rattle.std.specs.List.{list_any}
 use Rattle.hcl_token.specs.Place.{is_lf}
-use Rattle.hcl_token.specs.declared.kind.Kind.TheVariants.{LineComment, InlineComment, OpenBrace, CloseBrace, OpenBracket, CloseBracket, OpenParen, CloseParen, SeqClose, InterpOpen, DirectiveOpen}
-use Rattle.hcl_gaps.specs.Kinds.{is_line_comment, is_inline_comment}
+use Rattle.hcl_token.specs.declared.kind.Kind.TheVariants.{Equal, LineComment, InlineComment, OpenBrace, CloseBrace, OpenBracket, CloseBracket, OpenParen, CloseParen, SeqClose, InterpOpen, DirectiveOpen}
+use Rattle.hcl_gaps.specs.Kinds.{is_line_comment, is_inline_comment, is_equal}
 use Rattle.hcl_gaps.specs.Indent.{is_opening, is_closing, openings, closings}
 use Rattle.hcl_gaps.specs.Cells.{before_first, before_later}
 use Rattle.hcl_gaps.specs.declared.lines.LineSpan.{LineSpan}
@@ -195,7 +195,7 @@ pub no_items : (xs : List ℕ) → length xs ≡ 0 → xs ≡ []
 no_items [] h = refl
 no_items (x ∷ xs) h = absurd (omega arith)
 
--- ---- tokens that make a line busy
+-- ---- what a line tells of its tokens
 
 pub range_split : (ps : List Pair) (a b c : ℕ) → a ≤ b → b ≤ c → slice_range ps a c ≡ slice_range ps a b ++ slice_range ps b c
 range_split ps a b c h g =
@@ -206,9 +206,9 @@ range_split ps a b c h g =
 pub none_there : (ps : List Pair) (a : ℕ) → slice_range ps a a ≡ []
 none_there ps a = let none : a - a ≡ 0 = omega arith in ap (λ n. take n (drop a ps)) none
 
-busy_if : (p : Pair) (ps : List Pair) (b : Bool) → makes_busy p.kind ≡ b → are_busy (p ∷ ps) ≡ (b || are_busy ps)
-busy_if p ps true h = rw h refl
-busy_if p ps false h = rw h refl
+some_if : (f : Kind → Bool) (p : Pair) (ps : List Pair) (b : Bool) → f p.kind ≡ b → are_some f (p ∷ ps) ≡ (b || are_some f ps)
+some_if f p ps true h = rw h refl
+some_if f p ps false h = rw h refl
 
 or_group : (a b c : Bool) → (a || (b || c)) ≡ ((a || b) || c)
 or_group true b c = refl
@@ -218,44 +218,122 @@ or_false : (a : Bool) → (a || false) ≡ a
 or_false true = refl
 or_false false = refl
 
-busy_append : (ps qs : List Pair) → are_busy (ps ++ qs) ≡ (are_busy ps || are_busy qs)
-busy_append [] qs = refl
-busy_append (p ∷ ps) qs =
-    busy_if p (ps ++ qs) (makes_busy p.kind) refl
-    ∙ ap (λ b. makes_busy p.kind || b) (busy_append ps qs)
-    ∙ or_group (makes_busy p.kind) (are_busy ps) (are_busy qs)
-    ∙ ap (λ b. b || are_busy qs) (sym (busy_if p ps (makes_busy p.kind) refl))
+some_append : (f : Kind → Bool) (ps qs : List Pair) → are_some f (ps ++ qs) ≡ (are_some f ps || are_some f qs)
+some_append f [] qs = refl
+some_append f (p ∷ ps) qs =
+    some_if f p (ps ++ qs) (f p.kind) refl
+    ∙ ap (λ b. f p.kind || b) (some_append f ps qs)
+    ∙ or_group (f p.kind) (are_some f ps) (are_some f qs)
+    ∙ ap (λ b. b || are_some f qs) (sym (some_if f p ps (f p.kind) refl))
 
 -- one more token
-pub busy_more : (pairs : List Pair) (at i : ℕ) (k : Kind) (b : Bool) → at ≤ i → i < length pairs → Some k ≡ kind_of pairs i → b ≡ are_busy (slice_range pairs at i)
-    → (b || makes_busy k) ≡ are_busy (slice_range pairs at (i + 1))
-busy_more pairs at i k b later inside is b_is =
+pub some_more : (f : Kind → Bool) (pairs : List Pair) (at i : ℕ) (k : Kind) (b : Bool) → at ≤ i → i < length pairs → Some k ≡ kind_of pairs i → b ≡ are_some f (slice_range pairs at i)
+    → (b || f k) ≡ are_some f (slice_range pairs at (i + 1))
+some_more f pairs at i k b later inside is b_is =
     let t = turn pairs i (i + 1) (omega arith) (omega arith) in
     let one : slice_range pairs i (i + 1) ≡ t.pair ∷ [] = t.range ∙ ap (λ (qs : List Pair). t.pair ∷ qs) (none_there pairs (i + 1)) in
-    let last : are_busy (slice_range pairs i (i + 1)) ≡ makes_busy k =
-    ap are_busy one ∙ busy_if t.pair [] (makes_busy t.pair.kind) refl ∙ or_false (makes_busy t.pair.kind) ∙ ap makes_busy (sym (kind_is pairs i (i + 1) k t is)) in
-    sym (ap are_busy (range_split pairs at i (i + 1) later (omega arith)) ∙ busy_append (slice_range pairs at i) (slice_range pairs i (i + 1)) ∙ ap₂ (λ x y. x || y) (sym b_is) last)
+    let last : are_some f (slice_range pairs i (i + 1)) ≡ f k =
+    ap (are_some f) one ∙ some_if f t.pair [] (f t.pair.kind) refl ∙ or_false (f t.pair.kind) ∙ ap f (sym (kind_is pairs i (i + 1) k t is)) in
+    sym (ap (are_some f) (range_split pairs at i (i + 1) later (omega arith)) ∙ some_append f (slice_range pairs at i) (slice_range pairs i (i + 1)) ∙ ap₂ (λ x y. x || y) (sym b_is) last)
+
+-- a flag of a line, one token further
+pub flag_on : (f : Kind → Bool) (pairs : List Pair) (at i : ℕ) (k : Kind) (b m : Bool) → at ≤ i → i < length pairs → Some k ≡ kind_of pairs i → m ≡ f k → b ≡ are_some f (slice_range pairs at i)
+    → (b || m) ≡ are_some f (slice_range pairs at (i + 1))
+flag_on f pairs at i k b m later inside is m_is b_is = ap (λ x. b || x) m_is ∙ some_more f pairs at i k b later inside is b_is
+
+-- a flag of a line, past a token that does not raise it, and past one that does
+pub flag_stays : (f : Kind → Bool) (pairs : List Pair) (at i : ℕ) (k : Kind) (b : Bool) → at ≤ i → i < length pairs → Some k ≡ kind_of pairs i → f k ≡ false → b ≡ are_some f (slice_range pairs at i)
+    → b ≡ are_some f (slice_range pairs at (i + 1))
+flag_stays f pairs at i k b later inside is none b_is = sym (or_false b) ∙ flag_on f pairs at i k b false later inside is (sym none) b_is
+
+or_true : (a : Bool) → (a || true) ≡ true
+or_true true = refl
+or_true false = refl
+
+pub flag_raised : (f : Kind → Bool) (pairs : List Pair) (at i : ℕ) (k : Kind) (b : Bool) → at ≤ i → i < length pairs → Some k ≡ kind_of pairs i → f k ≡ true → b ≡ are_some f (slice_range pairs at i)
+    → true ≡ are_some f (slice_range pairs at (i + 1))
+flag_raised f pairs at i k b later inside is some b_is = sym (or_true b) ∙ flag_on f pairs at i k b true later inside is (sym some) b_is
+
+-- what a token does not do to a line: it raises no flag
+pub record RaisesNone (k : Kind) : Type 0 where
+  pub busy : makes_busy k ≡ false
+  pub noted : is_comment k ≡ false
+  pub assigns : is_equal k ≡ false
+
+pub ends_alone : (held : ℕ) (k : Kind) → ends_line held k ≡ true → RaisesNone k
+ends_alone zero LineEnd h = record { busy = refl; noted = refl; assigns = refl }
+ends_alone zero HereOpen h = record { busy = refl; noted = refl; assigns = refl }
+ends_alone zero k h = absurd (cc)
+ends_alone (suc held) k h = absurd (cc)
+
+pub plain_raises : (k : Kind) → is_plain k ≡ true → RaisesNone k
+plain_raises LineComment h = absurd (cc)
+plain_raises InlineComment h = absurd (cc)
+plain_raises Equal h = absurd (cc)
+plain_raises OpenBrace h = absurd (cc)
+plain_raises CloseBrace h = absurd (cc)
+plain_raises OpenBracket h = absurd (cc)
+plain_raises CloseBracket h = absurd (cc)
+plain_raises OpenParen h = absurd (cc)
+plain_raises CloseParen h = absurd (cc)
+plain_raises SeqClose h = absurd (cc)
+plain_raises InterpOpen h = absurd (cc)
+plain_raises DirectiveOpen h = absurd (cc)
+plain_raises k h = record { busy = refl; noted = refl; assigns = refl }
+
+-- it ends none, and turns no heredoc
+pub plain_ends : (held : ℕ) (k : Kind) → is_plain k ≡ true → ends_line held k ≡ false
+plain_ends zero LineEnd h = absurd (cc)
+plain_ends zero HereOpen h = absurd (cc)
+plain_ends zero k h = refl
+plain_ends (suc held) k h = refl
+
+pub plain_holds : (held : ℕ) (k : Kind) → is_plain k ≡ true → heredocs_after held k ≡ held
+plain_holds held HereOpen h = absurd (cc)
+plain_holds held HereClose h = absurd (cc)
+plain_holds held k h = refl
+
+pub busy_holds : (held : ℕ) (k : Kind) → makes_busy k ≡ true → heredocs_after held k ≡ held
+busy_holds held HereOpen h = absurd (cc)
+busy_holds held HereClose h = absurd (cc)
+busy_holds held k h = refl
+
+pub equal_holds : (held : ℕ) (k : Kind) → is_equal k ≡ true → heredocs_after held k ≡ held
+equal_holds held HereOpen h = absurd (cc)
+equal_holds held HereClose h = absurd (cc)
+equal_holds held k h = refl
+
+-- it raises one flag alone
+pub busy_alone : (k : Kind) → makes_busy k ≡ true → (is_comment k ≡ false) × (is_equal k ≡ false)
+busy_alone LineComment h = absurd (cc)
+busy_alone InlineComment h = absurd (cc)
+busy_alone Equal h = absurd (cc)
+busy_alone k h = (refl, refl)
+
+pub equal_alone : (k : Kind) → is_equal k ≡ true → is_comment k ≡ false
+equal_alone LineComment h = absurd (cc)
+equal_alone InlineComment h = absurd (cc)
+equal_alone k h = refl
 
 or_none : (a b : Bool) → (a || b) ≡ false → b ≡ false
 or_none true b h = absurd (cc)
 or_none false b h = h
 
 -- from a later token on
-pub quiet_later : (pairs : List Pair) (at i past : ℕ) → at ≤ i → i ≤ past → are_busy (slice_range pairs at past) ≡ false → are_busy (slice_range pairs i past) ≡ false
-quiet_later pairs at i past later less h =
-    or_none (are_busy (slice_range pairs at i)) (are_busy (slice_range pairs i past))
-    (sym (ap are_busy (range_split pairs at i past later less) ∙ busy_append (slice_range pairs at i) (slice_range pairs i past)) ∙ h)
+pub quiet_later : (f : Kind → Bool) (pairs : List Pair) (at i past : ℕ) → at ≤ i → i ≤ past → are_some f (slice_range pairs at past) ≡ false → are_some f (slice_range pairs i past) ≡ false
+quiet_later f pairs at i past later less h =
+    or_none (are_some f (slice_range pairs at i)) (are_some f (slice_range pairs i past))
+    (sym (ap (are_some f) (range_split pairs at i past later less) ∙ some_append f (slice_range pairs at i) (slice_range pairs i past)) ∙ h)
+
+or_first : (a b : Bool) → (a || b) ≡ false → (a ≡ false) × (b ≡ false)
+or_first true b h = absurd (cc)
+or_first false b h = (refl, h)
+
+quiet_two : (f : Kind → Bool) (p : Pair) (ps : List Pair) → are_some f (p ∷ ps) ≡ false → (f p.kind ≡ false) × (are_some f ps ≡ false)
+quiet_two f p ps h = or_first (f p.kind) (are_some f ps) (sym (some_if f p ps (f p.kind) refl) ∙ h)
 
 -- what is not among tokens where none makes a line busy
-record IsQuiet (k : Kind) : Type 0 where
-  opening : is_opening k ≡ false
-  closing : is_closing k ≡ false
-  inline : is_inline_comment k ≡ false
-  comment : is_line_comment k ≡ false
-
-quiet : (k : Kind) → makes_busy k ≡ false → IsQuiet k
-quiet LineComment h = absurd (cc)
-quiet InlineComment h = absurd (cc)
+quiet : (k : Kind) → makes_busy k ≡ false → (is_opening k ≡ false) × (is_closing k ≡ false)
 quiet OpenBrace h = absurd (cc)
 quiet CloseBrace h = absurd (cc)
 quiet OpenBracket h = absurd (cc)
@@ -265,44 +343,49 @@ quiet CloseParen h = absurd (cc)
 quiet SeqClose h = absurd (cc)
 quiet InterpOpen h = absurd (cc)
 quiet DirectiveOpen h = absurd (cc)
-quiet k h = record { opening = refl; closing = refl; inline = refl; comment = refl }
+quiet k h = (refl, refl)
 
-or_first : (a b : Bool) → (a || b) ≡ false → (a ≡ false) × (b ≡ false)
-or_first true b h = absurd (cc)
-or_first false b h = (refl, h)
-
-quiet_two : (p : Pair) (ps : List Pair) → are_busy (p ∷ ps) ≡ false → IsQuiet p.kind × (are_busy ps ≡ false)
-quiet_two p ps h =
-    let both = or_first (makes_busy p.kind) (are_busy ps) (sym (busy_if p ps (makes_busy p.kind) refl) ∙ h) in
-    (quiet p.kind both.0, both.1)
-
-pub quiet_openings : (ps : List Pair) → are_busy ps ≡ false → 0 ≡ openings ps
+pub quiet_openings : (ps : List Pair) → are_some makes_busy ps ≡ false → 0 ≡ openings ps
 quiet_openings [] h = refl
 quiet_openings (p ∷ ps) h =
-    let (q, rest) = quiet_two p ps h in
-    let head : cond {A = ℕ} (is_opening p.kind) 1 0 ≡ 0 = ap {B = ℕ} (λ b. cond b 1 0) q.opening in
+    let (none, rest) = quiet_two makes_busy p ps h in
+    let head : cond {A = ℕ} (is_opening p.kind) 1 0 ≡ 0 = ap {B = ℕ} (λ b. cond b 1 0) (quiet p.kind none).0 in
     let more : openings (p ∷ ps) ≡ cond (is_opening p.kind) 1 0 + openings ps = sum_by-cons (λ (r : Pair). cond (is_opening r.kind) 1 0) p ps in
     omega (arith, head, more, quiet_openings ps rest)
 
-pub quiet_closings : (ps : List Pair) → are_busy ps ≡ false → 0 ≡ closings ps
+pub quiet_closings : (ps : List Pair) → are_some makes_busy ps ≡ false → 0 ≡ closings ps
 quiet_closings [] h = refl
 quiet_closings (p ∷ ps) h =
-    let (q, rest) = quiet_two p ps h in
-    let head : cond {A = ℕ} (is_closing p.kind) 1 0 ≡ 0 = ap {B = ℕ} (λ b. cond b 1 0) q.closing in
+    let (none, rest) = quiet_two makes_busy p ps h in
+    let head : cond {A = ℕ} (is_closing p.kind) 1 0 ≡ 0 = ap {B = ℕ} (λ b. cond b 1 0) (quiet p.kind none).1 in
     let more : closings (p ∷ ps) ≡ cond (is_closing p.kind) 1 0 + closings ps = sum_by-cons (λ (r : Pair). cond (is_closing r.kind) 1 0) p ps in
     omega (arith, head, more, quiet_closings ps rest)
 
-pub quiet_breaks : (ps : List Pair) → are_busy ps ≡ false → false ≡ list_any (λ (p : Pair). is_inline_comment p.kind && list_any is_lf p.spelling) ps
+no_inline : (k : Kind) → is_comment k ≡ false → is_inline_comment k ≡ false
+no_inline InlineComment h = absurd (cc)
+no_inline k h = refl
+
+no_closing : (k : Kind) → is_comment k ≡ false → is_line_comment k ≡ false
+no_closing LineComment h = absurd (cc)
+no_closing k h = refl
+
+pub quiet_breaks : (ps : List Pair) → are_some is_comment ps ≡ false → false ≡ list_any (λ (p : Pair). is_inline_comment p.kind && list_any is_lf p.spelling) ps
 quiet_breaks [] h = refl
-quiet_breaks (p ∷ ps) h = let (q, rest) = quiet_two p ps h in rw q.inline (quiet_breaks ps rest)
+quiet_breaks (p ∷ ps) h = let (none, rest) = quiet_two is_comment p ps h in rw (no_inline p.kind none) (quiet_breaks ps rest)
 
-quiet_first : (ps : List Pair) → are_busy ps ≡ false → before_first (λ (p : Pair). is_line_comment p.kind) ps ≡ None
-quiet_first [] h = refl
-quiet_first (p ∷ ps) h = let (q, rest) = quiet_two p ps h in rw (q.comment, quiet_first ps rest) refl
+pub quiet_comments : (ps : List Pair) → are_some is_comment ps ≡ false → are_some is_line_comment ps ≡ false
+quiet_comments [] h = refl
+quiet_comments (p ∷ ps) h =
+    let (none, rest) = quiet_two is_comment p ps h in
+    some_if is_line_comment p ps false (no_closing p.kind none) ∙ quiet_comments ps rest
 
-pub quiet_comments : (at : ℕ) (ps : List Pair) → are_busy ps ≡ false → None ≡ option_map (λ n. at + n) (before_later (λ (p : Pair). is_line_comment p.kind) ps)
-quiet_comments at [] h = refl
-quiet_comments at (p ∷ ps) h = let (q, rest) = quiet_two p ps h in rw (quiet_first ps rest) refl
+quiet_first : (f : Kind → Bool) (ps : List Pair) → are_some f ps ≡ false → before_first (λ (p : Pair). f p.kind) ps ≡ None
+quiet_first f [] h = refl
+quiet_first f (p ∷ ps) h = let (none, rest) = quiet_two f p ps h in rw (none, quiet_first f ps rest) refl
+
+pub none_later : (f : Kind → Bool) (at : ℕ) (ps : List Pair) → are_some f ps ≡ false → None ≡ option_map (λ n. at + n) (before_later (λ (p : Pair). f p.kind) ps)
+none_later f at [] h = refl
+none_later f at (p ∷ ps) h = let (none, rest) = quiet_two f p ps h in rw (quiet_first f ps rest) refl
 
 -- ---- lines as spans
 
@@ -327,7 +410,7 @@ lines_whole pairs at frozen (l ∷ lines) to next (first, rest) end = (first, li
 
 -- what a list of spans answers past its end
 abbrev pub no_span : LineSpan
-no_span = record { past = 0; next = false; busy = false }
+no_span = record { past = 0; next = false; busy = false; noted = false; assigns = false }
 
 -- the line of number i, and those behind it
 pub line_at : (pairs : List Pair) (at : ℕ) (frozen : Bool) (lines : List LineSpan) (i : ℕ) → i < length lines

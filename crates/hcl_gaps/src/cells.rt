@@ -10,7 +10,7 @@ ghost use Rattle.hcl_gaps.specs.Kinds.{is_inline_comment};
 ghost use Rattle.hcl_gaps.specs.Lines.{lines_from, pairs_in};
 ghost use Rattle.hcl_gaps.specs.Cells.{before_later, is_balanced, width, width_before, widths, greatest, aligned};
 ghost use Rattle.hcl_gaps.specs.Inner.Stages.{with_gaps, AreWithin, cell_tokens, set_cell_gaps, cell_gaps_below};
-ghost use Rattle.hcl_gaps.specs.Inner.Near.{cell_is, cell_of, cell_counts, widths_of, tokens_in, width_in, token_in, AreInside, AreLines, are_busy};
+ghost use Rattle.hcl_gaps.specs.Inner.Near.{cell_is, cell_of, cell_counts, widths_of, tokens_in, width_in, token_in, may_begin, makes_busy, is_comment, are_some, IsMarked, AreInside, AreLines};
 
 use crate::indent::brackets;
 use crate::kinds::{is_equal, is_inline_comment, is_line_comment};
@@ -54,16 +54,18 @@ fn breaks_at(scanned: &Scanned<'_>, i: usize) -> bool
     false
 }
 
-/// Whether an inline comment with a line end stands in a line.
-fn breaks(scanned: &Scanned<'_>, at: usize, past: usize, busy: bool) -> bool
+/// Whether an inline comment with a line end stands in a line; none does where no comment stands in
+/// it.
+fn breaks(scanned: &Scanned<'_>, at: usize, past: usize, noted: bool) -> bool
     requires ordered { at ≤ past }
     requires within { past ≤ length scanned.now.pairs }
-    requires busy { busy ≡ false → are_busy (slice_range scanned.now.pairs at past) ≡ false }
+    requires noted { noted ≡ false
+        → are_some is_comment (slice_range scanned.now.pairs at past) ≡ false }
     ensures { result ≡ list_any
         (λ (p : Pair). is_inline_comment p.kind && list_any is_lf p.spelling)
         (slice_range scanned.now.pairs at past) }
 {
-    if !busy {
+    if !noted {
         return false;
     }
     for i in at..past {
@@ -83,23 +85,34 @@ fn cell_is(cell: Cell, kind: Kind) -> bool
     }
 }
 
-/// The first token behind token `at` that begins such a cell.
+/// Whether a token that begins such a cell may stand in a line.
+fn may_begin(cell: Cell, line: LineSpan) -> bool
+    ensures { result ≡ may_begin cell line }
+{
+    match cell {
+        Cell::Assignment => line.assigns,
+        Cell::ClosingComment => line.noted,
+    }
+}
+
+/// The first token behind token `at` that begins such a cell, if one of these may.
 fn first_later(
     scanned: &Scanned<'_>,
     cell: Cell,
     at: usize,
     past: usize,
-    busy: bool,
+    may_begin: bool,
 ) -> Option<usize>
     requires ordered { at < past }
     requires within { past ≤ length scanned.now.pairs }
-    requires busy { busy ≡ false → are_busy (slice_range scanned.now.pairs at past) ≡ false }
+    requires none { may_begin ≡ false
+        → are_some (cell_is cell) (slice_range scanned.now.pairs at past) ≡ false }
     ensures found { result
         ≡ option_map (λ n. at + n)
         (before_later (λ (p : Pair). cell_is cell p.kind) (slice_range scanned.now.pairs at past)) }
     ensures inside { IfSome result (λ i. (at < i) × (i < past)) }
 {
-    if !busy && matches!(cell, Cell::ClosingComment) {
+    if !may_begin {
         return None;
     }
     for i in at + 1..past {
@@ -113,7 +126,8 @@ fn first_later(
 fn is_balanced(scanned: &Scanned<'_>, at: usize, past: usize, busy: bool) -> bool
     requires ordered { at ≤ past }
     requires within { past ≤ length scanned.now.pairs }
-    requires busy { busy ≡ false → are_busy (slice_range scanned.now.pairs at past) ≡ false }
+    requires busy { busy ≡ false
+        → are_some makes_busy (slice_range scanned.now.pairs at past) ≡ false }
     requires few { length scanned.now.pairs ≤ MAX_TEXT }
     ensures { result ≡ is_balanced (slice_range scanned.now.pairs at past) }
 {
@@ -125,7 +139,8 @@ fn is_balanced(scanned: &Scanned<'_>, at: usize, past: usize, busy: bool) -> boo
 fn counts(scanned: &Scanned<'_>, cell: Cell, i: usize, past: usize, busy: bool) -> bool
     requires ordered { i ≤ past }
     requires within { past ≤ length scanned.now.pairs }
-    requires busy { busy ≡ false → are_busy (slice_range scanned.now.pairs i past) ≡ false }
+    requires busy { busy ≡ false
+        → are_some makes_busy (slice_range scanned.now.pairs i past) ≡ false }
     requires few { length scanned.now.pairs ≤ MAX_TEXT }
     ensures { result ≡ cell_counts cell (slice_range scanned.now.pairs i past) }
 {
@@ -140,27 +155,30 @@ fn cell_of(
     scanned: &Scanned<'_>,
     cell: Cell,
     at: usize,
-    past: usize,
     frozen: bool,
-    busy: bool,
+    line: LineSpan,
 ) -> Option<usize>
-    requires ordered { at < past }
-    requires within { past ≤ length scanned.now.pairs }
-    requires busy { busy ≡ false → are_busy (slice_range scanned.now.pairs at past) ≡ false }
+    requires ordered { at < line.past }
+    requires within { line.past ≤ length scanned.now.pairs }
+    requires marked { IsMarked scanned.now.pairs at line }
     requires few { length scanned.now.pairs ≤ MAX_TEXT }
     ensures cell { result
         ≡ option_map (λ n. at + n)
-        (cell_of cell (record { frozen = frozen; pairs = slice_range scanned.now.pairs at past })) }
-    ensures inside { IfSome result (λ i. (at < i) × (i < past)) }
+        (cell_of cell (record {
+          frozen = frozen;
+          pairs = slice_range scanned.now.pairs at line.past;
+        })) }
+    ensures inside { IfSome result (λ i. (at < i) × (i < line.past)) }
 {
     if frozen {
         return None;
     }
-    let i = first_later(scanned, cell, at, past, busy)?;
-    if breaks(scanned, at, past, busy) {
+    let past = line.past as usize;
+    let i = first_later(scanned, cell, at, past, may_begin(cell, line))?;
+    if breaks(scanned, at, past, line.noted) {
         return None;
     }
-    if counts(scanned, cell, i, past, busy) {
+    if counts(scanned, cell, i, past, line.busy) {
         return Some(i);
     }
     None
@@ -202,36 +220,35 @@ fn cell_start(
     cell: Cell,
     gaps: &[u32],
     at: usize,
-    past: usize,
     frozen: bool,
-    busy: bool,
+    line: LineSpan,
 ) -> Option<CellStart>
     requires same { length gaps.now ≡ length scanned.now.pairs }
-    requires ordered { at < past }
-    requires within { past ≤ length scanned.now.pairs }
-    requires busy { busy ≡ false → are_busy (slice_range scanned.now.pairs at past) ≡ false }
+    requires ordered { at < line.past }
+    requires within { line.past ≤ length scanned.now.pairs }
+    requires marked { IsMarked scanned.now.pairs at line }
     requires few { length scanned.now.pairs ≤ MAX_TEXT }
     requires narrow { AreWithin 1073741824
         (width_before (cell_of cell)
         (record {
           frozen = frozen;
-          pairs = slice_range (with_gaps gaps.now scanned.now.pairs) at past;
+          pairs = slice_range (with_gaps gaps.now scanned.now.pairs) at line.past;
         }) ∷ []) }
     ensures width { width_in result
         ≡ width_before (cell_of cell)
         (record {
           frozen = frozen;
-          pairs = slice_range (with_gaps gaps.now scanned.now.pairs) at past;
+          pairs = slice_range (with_gaps gaps.now scanned.now.pairs) at line.past;
         }) }
     ensures token { token_in result
         ≡ option_map (λ n. at + n)
         (cell_of cell (record {
           frozen = frozen;
-          pairs = slice_range (with_gaps gaps.now scanned.now.pairs) at past;
+          pairs = slice_range (with_gaps gaps.now scanned.now.pairs) at line.past;
         })) }
     ensures inside { IfSome result (λ p. p.token < length scanned.now.pairs) }
 {
-    match cell_of(scanned, cell, at, past, frozen, busy) {
+    match cell_of(scanned, cell, at, frozen, line) {
         None => None,
         Some(i) => Some(CellStart {
             token: i as u32,
@@ -269,11 +286,10 @@ fn cell_starts(
     let mut frozen = false;
     let mut at = first;
     for line in lines {
-        let past = line.past as usize;
-        let start = cell_start(scanned, cell, gaps, at, past, frozen, line.busy);
+        let start = cell_start(scanned, cell, gaps, at, frozen, *line);
         starts.push(start)?;
         frozen = line.next;
-        at = past;
+        at = line.past as usize;
     }
     Ok(starts)
 }

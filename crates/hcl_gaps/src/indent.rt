@@ -3,7 +3,7 @@
 ghost use Rattle.std.specs.Prelude.{◌≡◌, false, ◌∷◌, ◌+◌, ◌-◌, nat_lt, if◌then◌else◌, OnOk, ◌<◌, ◌≤◌, length, reverse, slice_range};
 ghost use Rattle.hcl_scan.specs.Cut.{MAX_TEXT};
 ghost use Rattle.hcl_gaps.specs.Indent.{is_opening, is_closing, openings, closings};
-ghost use Rattle.hcl_gaps.specs.Inner.Near.{are_busy};
+ghost use Rattle.hcl_gaps.specs.Inner.Near.{makes_busy, are_some};
 ghost use Rattle.hcl_gaps.specs.Inner.Stages.{close, open_at};
 
 use hcl_scan::Scanned;
@@ -38,7 +38,7 @@ pub(crate) fn brackets(scanned: &Scanned<'_>, from: usize, to: usize, busy: bool
     requires ordered { from ≤ to }
     requires within { to ≤ length scanned.now.pairs }
     requires few { length scanned.now.pairs ≤ MAX_TEXT }
-    requires busy { busy ≡ false → are_busy (slice_range scanned.now.pairs from to) ≡ false }
+    requires busy { busy ≡ false → are_some makes_busy (slice_range scanned.now.pairs from to) ≡ false }
     ensures opened { result.0 ≡ openings (slice_range scanned.now.pairs from to) }
     ensures closed { result.1 ≡ closings (slice_range scanned.now.pairs from to) }
 {

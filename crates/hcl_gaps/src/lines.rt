@@ -3,9 +3,9 @@
 ghost use Rattle.std.specs.Prelude.{◌≡◌, ◌+◌, ◌<◌, ◌≤◌, false, length, IfOk};
 ghost use Rattle.hcl_scan.specs.Cut.{MAX_TEXT};
 ghost use Rattle.hcl_gaps.specs.Lines.{heredocs_after, ends_line};
-ghost use Rattle.hcl_gaps.specs.Inner.Near.{makes_busy, IsLine, AreLines};
+ghost use Rattle.hcl_gaps.specs.Inner.Near.{makes_busy, is_comment, is_plain, IsLine, AreLines};
 
-use crate::kinds::is_here_open;
+use crate::kinds::{is_equal, is_here_open};
 use hcl_scan::Scanned;
 use hcl_token::Kind;
 use std::alloc::{AllocError, Global};
@@ -17,8 +17,12 @@ pub(crate) struct LineSpan {
     pub past: u32,
     /// Whether the next line begins in a heredoc.
     pub next: bool,
-    /// Whether a bracket, a template sequence or a comment stands in it.
+    /// Whether a bracket or a template sequence stands in it.
     pub busy: bool,
+    /// Whether a comment stands in it.
+    pub noted: bool,
+    /// Whether a `=` stands in it.
+    pub assigns: bool,
 }
 
 fn makes_busy(kind: Kind) -> bool
@@ -26,9 +30,7 @@ fn makes_busy(kind: Kind) -> bool
 {
     matches!(
         kind,
-        Kind::LineComment
-            | Kind::InlineComment
-            | Kind::OpenBrace
+        Kind::OpenBrace
             | Kind::CloseBrace
             | Kind::OpenBracket
             | Kind::CloseBracket
@@ -38,6 +40,38 @@ fn makes_busy(kind: Kind) -> bool
             | Kind::InterpOpen
             | Kind::DirectiveOpen
     )
+}
+
+fn is_comment(kind: Kind) -> bool
+    ensures { result ≡ is_comment kind }
+{
+    matches!(kind, Kind::LineComment | Kind::InlineComment)
+}
+
+/// Whether a token of this kind neither ends a line nor raises a flag of it, and is none of a
+/// heredoc's.
+fn is_plain(kind: Kind) -> bool
+    ensures { result ≡ is_plain kind }
+{
+    match kind {
+        Kind::LineEnd
+        | Kind::HereOpen
+        | Kind::HereClose
+        | Kind::HereLit
+        | Kind::LineComment
+        | Kind::InlineComment
+        | Kind::Equal
+        | Kind::OpenBrace
+        | Kind::CloseBrace
+        | Kind::OpenBracket
+        | Kind::CloseBracket
+        | Kind::OpenParen
+        | Kind::CloseParen
+        | Kind::SeqClose
+        | Kind::InterpOpen
+        | Kind::DirectiveOpen => false,
+        _ => true,
+    }
 }
 
 fn heredocs_after(held: usize, kind: Kind) -> usize
@@ -69,22 +103,39 @@ fn line_from(scanned: &Scanned<'_>, at: usize, frozen: bool) -> LineSpan
 {
     let mut held = usize::from(frozen);
     let mut busy = false;
+    let mut noted = false;
+    let mut assigns = false;
     for i in at..scanned.len() {
         let kind = scanned.kind(i);
-        busy = busy | makes_busy(kind);
+        if is_plain(kind) {
+            continue;
+        }
         if ends_line(held, kind) {
             return LineSpan {
                 past: (i + 1) as u32,
                 next: is_here_open(kind),
                 busy,
+                noted,
+                assigns,
             };
         }
+        if makes_busy(kind) {
+            busy = true;
+            continue;
+        }
+        if is_equal(kind) {
+            assigns = true;
+            continue;
+        }
+        noted = noted | is_comment(kind);
         held = heredocs_after(held, kind);
     }
     LineSpan {
         past: scanned.len() as u32,
         next: false,
         busy,
+        noted,
+        assigns,
     }
 }
 

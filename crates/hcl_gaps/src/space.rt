@@ -6,7 +6,7 @@ ghost use Rattle.hcl_scan.specs.Follows.{has_no_gap};
 ghost use Rattle.hcl_gaps.specs.Space.{is_splat, behind_identifier, behind_operand, is_in, is_spaced, passed_all};
 ghost use Rattle.hcl_gaps.specs.Inner.Stages.{near_of, token, space_len_at};
 ghost use Rattle.hcl_gaps.specs.Inner.Near.{near};
-ghost use Rattle.hcl_gaps.specs.Inner.Rows.{leaves_room, takes_room, stands_close, may_join, may_go_on, asks_before, spaced_at, IsPastNearest};
+ghost use Rattle.hcl_gaps.specs.Inner.Rows.{told_behind, told_before, asks_before, ends_name, spaced_at, IsPastNearest};
 
 use crate::kinds::{
     closes_close, ends_operand, is_bang, is_close_brace, is_comma, is_dot, is_double_colon,
@@ -142,74 +142,83 @@ fn is_spaced(before: Before, a: Kind, a_spelling: &[u8], b: Kind) -> bool
     true
 }
 
-/// Whether no row that says "no space" fits by the kind of the token before.
-fn leaves_room(kind: Kind) -> bool
-    ensures { result ≡ leaves_room kind }
+/// A flag that a token shares with the one behind it: a space stands between the two.
+const SPACE: u16 = 1;
+
+/// A space stands behind an opening brace.
+const IN_BRACES: u16 = 2;
+
+/// A space stands before `(` and `[` that call and index nothing.
+const OPENS: u16 = 4;
+
+/// None stands before literal text.
+const LITERAL: u16 = 8;
+
+/// None stands before a line end, `,` and the like.
+const CLOSE: u16 = 16;
+
+/// None stands behind an opening that stands close to what it holds.
+const INSIDE: u16 = 32;
+
+/// None stands in `.name`.
+const NAME: u16 = 64;
+
+/// None stands in `name(`.
+const CALL: u16 = 128;
+
+/// None stands before a closing, or an index.
+const END: u16 = 256;
+
+/// The flags by which a space stands; by the others none does.
+const SPACED: u16 = SPACE | IN_BRACES | OPENS;
+
+/// What a token's kind says of the gap behind it. It shares a flag with `told_before` of the token
+/// behind where the two kinds alone tell the gap.
+fn told_behind(kind: Kind) -> u16
+    ensures { result ≡ told_behind kind }
 {
     match kind {
-        Kind::DoubleColon
-        | Kind::Dot
-        | Kind::Bang
-        | Kind::Minus
-        | Kind::OpenParen
-        | Kind::OpenBracket
+        Kind::Identifier => SPACE | LITERAL | CLOSE | CALL,
+        Kind::Number | Kind::DotIndex | Kind::CloseParen | Kind::CloseBracket | Kind::QuoteClose =>
+            SPACE | LITERAL | CLOSE | END,
+        Kind::Dot => LITERAL | NAME,
+        Kind::OpenBrace => IN_BRACES | LITERAL | CLOSE,
+        Kind::OpenParen | Kind::OpenBracket | Kind::InterpOpen | Kind::DirectiveOpen => LITERAL
+            | CLOSE
+            | INSIDE,
+        Kind::Minus | Kind::DoubleColon => LITERAL | CLOSE,
+        Kind::Mark | Kind::Bang | Kind::HereLit => LITERAL,
+        Kind::Less | Kind::Greater | Kind::Equal | Kind::Colon | Kind::Slash => SPACE
+            | OPENS
+            | LITERAL,
+        Kind::Star | Kind::CloseBrace => SPACE | LITERAL | CLOSE,
+        _ => SPACE | OPENS | LITERAL | CLOSE,
+    }
+}
+
+/// What a token's kind says of the gap before it.
+fn told_before(kind: Kind) -> u16
+    ensures { result ≡ told_before kind }
+{
+    match kind {
+        Kind::Mark
+        | Kind::QuoteClose
+        | Kind::QuoteLit
         | Kind::InterpOpen
-        | Kind::DirectiveOpen => false,
-        _ => true,
-    }
-}
-
-/// Nor by the kind of the token behind, where none does by that of the one before.
-fn takes_room(kind: Kind) -> bool
-    ensures { result ≡ takes_room kind }
-{
-    match kind {
-        Kind::LineEnd
-        | Kind::DotIndex
-        | Kind::DoubleColon
-        | Kind::OpenBracket
-        | Kind::CloseBracket
-        | Kind::OpenParen
-        | Kind::CloseParen
-        | Kind::CloseBrace
-        | Kind::Comma
-        | Kind::Dot
-        | Kind::Ellipsis
-        | Kind::SeqClose => false,
-        _ => true,
-    }
-}
-
-/// Whether no space stands before a token of this kind, whatever stands before it.
-fn stands_close(kind: Kind) -> bool
-    ensures { result ≡ stands_close kind }
-{
-    matches!(
-        kind,
-        Kind::LineEnd
-            | Kind::DotIndex
-            | Kind::DoubleColon
-            | Kind::Comma
-            | Kind::Dot
-            | Kind::Ellipsis
-    )
-}
-
-/// Whether some tokens of these kinds join.
-fn may_join(a: Kind, b: Kind) -> bool
-    ensures { result ≡ may_join a b }
-{
-    match a {
-        Kind::Identifier => matches!(b, Kind::Identifier | Kind::Number | Kind::Minus),
-        Kind::Number => matches!(b, Kind::Number | Kind::Identifier | Kind::DotIndex),
-        Kind::DotIndex => matches!(b, Kind::Number),
-        Kind::Dot => matches!(
-            b,
-            Kind::Number | Kind::Dot | Kind::Ellipsis | Kind::DotIndex
-        ),
-        Kind::InterpOpen | Kind::DirectiveOpen => is_seq_close(b),
-        Kind::Less | Kind::Greater | Kind::Equal | Kind::Bang | Kind::Colon | Kind::Slash => true,
-        _ => false,
+        | Kind::DirectiveOpen
+        | Kind::HereClose
+        | Kind::HereLit => LITERAL,
+        Kind::LineEnd | Kind::DoubleColon | Kind::Comma | Kind::Dot | Kind::Ellipsis => CLOSE
+            | INSIDE,
+        Kind::Identifier => SPACE | IN_BRACES | INSIDE | NAME,
+        Kind::OpenParen => OPENS | INSIDE | CALL,
+        Kind::OpenBracket => OPENS | INSIDE | END,
+        Kind::CloseParen | Kind::CloseBracket => INSIDE | END,
+        Kind::SeqClose => END,
+        Kind::CloseBrace => SPACE,
+        Kind::LineComment | Kind::OpenBrace => SPACE | IN_BRACES,
+        Kind::DotIndex => INSIDE,
+        _ => SPACE | IN_BRACES | INSIDE,
     }
 }
 
@@ -270,17 +279,41 @@ fn is_spaced_at(scanned: &Scanned<'_>, first: usize, a: Kind, b: Kind, i: usize)
     ensures { Some result ≡ spaced_at (passed_all (slice_range scanned.now.pairs first (i - 1)) [])
         scanned.now.pairs i b }
 {
-    if stands_close(b) {
-        return false;
-    }
-    if is_dot(a) & is_identifier(b) {
-        return false;
-    }
     let spelling = scanned.spelling(i - 1);
     if asks_before(a, spelling) {
         return is_spaced(before_at(scanned, first, i - 1), a, spelling, b);
     }
     is_spaced(NOTHING, a, spelling, b)
+}
+
+/// Whether a token of kind `b` closes or indexes a name, which is not `in`.
+fn ends_name(a: Kind, spelling: &[u8], b: Kind) -> bool
+    ensures { result ≡ ends_name (token a spelling.now) b }
+{
+    is_identifier(a) && (closes_close(b) | is_open_bracket(b)) && !is_in(a, spelling)
+}
+
+/// How long the gap is where the two kinds alone don't tell it.
+#[inline(never)]
+fn asked_len(scanned: &Scanned<'_>, first: usize, a: Kind, b: Kind, i: usize) -> u32
+    requires behind { first < i }
+    requires within { i < length scanned.now.pairs }
+    requires a { Some a ≡ kind_of scanned.now.pairs (i - 1) }
+    requires b { Some b ≡ kind_of scanned.now.pairs i }
+    ensures value { Some result ≡ space_len_at
+        (passed_all (slice_range scanned.now.pairs first (i - 1)) []) scanned.now.pairs i }
+    ensures small { result ≤ 1 }
+{
+    if has_no_gap(b) {
+        return 0;
+    }
+    if ends_name(a, scanned.spelling(i - 1), b) {
+        return 0;
+    }
+    if is_spaced_at(scanned, first, a, b, i) {
+        return 1;
+    }
+    u32::from(scanned.joins(i - 1, i))
 }
 
 /// How long the gap is between token `i`, of kind `b`, and the one before it, of kind `a`, on a
@@ -294,17 +327,9 @@ pub(crate) fn gap_len(scanned: &Scanned<'_>, first: usize, a: Kind, b: Kind, i: 
         (passed_all (slice_range scanned.now.pairs first (i - 1)) []) scanned.now.pairs i }
     ensures small { result ≤ 1 }
 {
-    if has_no_gap(b) {
-        return 0;
+    let told = told_behind(a) & told_before(b);
+    if told == 0 {
+        return asked_len(scanned, first, a, b, i);
     }
-    if leaves_room(a) && takes_room(b) {
-        return 1;
-    }
-    if is_spaced_at(scanned, first, a, b, i) {
-        return 1;
-    }
-    if !may_join(a, b) {
-        return 0;
-    }
-    u32::from(scanned.joins(i - 1, i))
+    if told & SPACED == 0 { 0 } else { 1 }
 }

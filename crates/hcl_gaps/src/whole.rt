@@ -11,7 +11,7 @@ ghost use Rattle.hcl_gaps.specs.declared.fault.LayoutFault.TheVariants.{TooLong,
 use crate::edits::{all_stay, gap_edits};
 use crate::fault::LayoutFault;
 use crate::gaps::laid_gaps;
-use crate::written::{short_len, text_with};
+use crate::written::{short_room, text_with};
 use edit_list::{Edit, Edits};
 use hcl_scan::Scanned;
 use std::alloc::Global;
@@ -28,7 +28,7 @@ fn short_gaps(alloc: Global, scanned: &Scanned<'_>) -> Result<Vec<u32>, LayoutFa
         (λ e. (e ≡ Memory) ⊎ ((e ≡ TooLong) × (MAX_TEXT < length (layout_text scanned.now)))) }
 {
     let gaps = laid_gaps(alloc, scanned)?;
-    match short_len(scanned, &gaps) {
+    match short_room(scanned, &gaps) {
         Some(_) => Ok(gaps),
         None => Err(LayoutFault::TooLong),
     }
@@ -82,8 +82,8 @@ pub fn text_laid_out(alloc: Global, scanned: &Scanned<'_>) -> Result<Vec<u8>, La
 {
     let _text = scanned.text();
     let gaps = laid_gaps(alloc, scanned)?;
-    match short_len(scanned, &gaps) {
-        Some(len) => Ok(text_with(alloc, scanned, &gaps, len)?),
+    match short_room(scanned, &gaps) {
+        Some(room) => Ok(text_with(alloc, scanned, &gaps, room)?),
         None => Err(LayoutFault::TooLong),
     }
 }

@@ -65,21 +65,21 @@ pub fn chain(
     }
 }
 
+/// A term without tails.
+pub fn plain(first: usize, past: usize, term: Term) -> Expr
+    ensures { result ≡ nodes.tailed first past term [] }
+{
+    expr(first, past, Form::Plain(term))
+}
+
 /// A term with the tails behind it; with none, the term alone.
-pub fn tailed(
-    alloc: Global,
-    first: usize,
-    past: usize,
-    head: Term,
-    tails: Items<Tail>,
-) -> Result<Expr, AllocError>
-    ensures ok { IfOk result (λ e. e ≡ nodes.tailed first past head tails) }
-    ensures alone { tails ≡ [] → IsOk result }
+pub fn tailed(first: usize, past: usize, head: Boxed<Term>, tails: Items<Tail>) -> Expr
+    ensures { result ≡ nodes.tailed first past head tails }
 {
     if tails.is_empty() {
-        Ok(expr(first, past, Form::Plain(head)))
+        plain(first, past, head.into_inner())
     } else {
-        Ok(expr(first, past, Form::Tailed(Boxed::new(alloc, head)?, tails)))
+        expr(first, past, Form::Tailed(head, tails))
     }
 }
 

@@ -1,5 +1,5 @@
 -- A character at a place, and what follows it.
-use Rattle.std.proofs.Common.{◌≡◌, ◌==◌, ◌||◌, true, false, inl, inr, Some, None, Bool, ℕ, ◌+◌, ◌-◌, ◌<◌, ◌≤◌, List, [], ◌∷◌, ◌++◌, slice_index, if◌then◌else◌, length, drop, IsUtf8, encode_utf8, sym, ap, ◌∙◌, arith, length-append, length-drop}
+use Rattle.std.proofs.Common.{◌≡◌, ◌==◌, ◌||◌, true, false, inl, inr, Some, None, Bool, ℕ, ◌+◌, ◌-◌, ◌<◌, ◌≤◌, List, [], ◌∷◌, ◌++◌, slice_index, if◌then◌else◌, length, drop, IsUtf8, encode_utf8, refl, sym, ap, subst, ◌∙◌, arith, length-append, length-drop}
 use Rattle.std.proofs.lemmas.Str.{chars_past_char, drop_past_char, IsUtf8-past_char, length-encode, encode_ascii, chars-nil, len_utf8_ascii}
 use Rattle.std.proofs.lemmas.List.{drop_more, drop_all}
 use Rattle.std.specs.Char.{len_utf8}
@@ -58,6 +58,35 @@ pub goes_on_at : (text : List ℕ) (at : ℕ) → IsUtf8 (drop at text) → at <
 goes_on_at text at u h on =
     let ascii : slice_index text at < 128 = goes_on_ascii (slice_index text at) on in
     rw (continues_same (slice_index text at) ascii, on) at (continue_length_ascii text at u h ascii)
+
+-- the run goes on by so many bytes
+abbrev pub GoesOn : List ℕ → ℕ → ℕ → Type 0
+GoesOn text at n =
+    (n + continue_length (chars (drop (at + n) text)) ≡ continue_length (chars (drop at text))) × IsUtf8 (drop (at + n) text)
+
+goes_on_more : (text : List ℕ) (at n m : ℕ) → m ≡ n + 1 → at + n < length text → goes_on (slice_index text (at + n)) ≡ true → GoesOn text at n → GoesOn text at m
+goes_on_more text at n m next h on so_far =
+    let step = goes_on_at text (at + n) so_far.1 h on in
+    let place : at + n + 1 ≡ at + m = omega arith in
+    let rest = ap (λ k. continue_length (chars (drop k text))) place in
+    (omega (arith, so_far.0, step.0, rest), subst (λ k. IsUtf8 (drop k text)) place step.1)
+
+module _ (text : List ℕ) (at : ℕ) (u : IsUtf8 (drop at text)) (h : at + 4 ≤ length text) (on : goes_on (slice_index text at) ≡ true) where
+  pub goes_on_1 : GoesOn text at 1
+  goes_on_1 =
+      let step = goes_on_at text at u (omega arith) on in
+      (sym step.0, step.1)
+
+  module _ (on_1 : goes_on (slice_index text (at + 1)) ≡ true) where
+    pub goes_on_2 : GoesOn text at 2
+    goes_on_2 = goes_on_more text at 1 2 refl (omega arith) on_1 goes_on_1
+
+    module _ (on_2 : goes_on (slice_index text (at + 2)) ≡ true) where
+      pub goes_on_3 : GoesOn text at 3
+      goes_on_3 = goes_on_more text at 2 3 refl (omega arith) on_2 goes_on_2
+
+      pub goes_on_4 : goes_on (slice_index text (at + 3)) ≡ true → GoesOn text at 4
+      goes_on_4 on_3 = goes_on_more text at 3 4 refl (omega arith) on_3 goes_on_3
 
 -- the run ends
 pub continue_none : (text : List ℕ) (at : ℕ) → IsUtf8 (drop at text) → slice_index text at < 128 → goes_on (slice_index text at) ≡ false

@@ -4,6 +4,7 @@ pub mod BeatsNumbers
 pub mod BeatsPlain
 pub mod CutFollows
 pub mod CutTo
+pub mod DepthLemmas
 pub mod Ends
 pub mod Exact
 pub mod ExactNumbers

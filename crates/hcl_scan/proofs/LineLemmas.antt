@@ -134,7 +134,7 @@ range_split ps from at to le more =
     ∙ take_split (at - from) (to - at) (drop from ps)
     ∙ ap (λ (x : List Pair). slice_range ps from at ++ take (to - at) x) (drop-drop (at - from) from ps ∙ ap (λ n. drop n ps) (omega arith))
 
-one_at : (ps : List Pair) (i : ℕ) (p : Pair) → slice_get ps i ≡ Some p → drop i ps ≡ p ∷ drop (suc i) ps
+pub one_at : (ps : List Pair) (i : ℕ) (p : Pair) → slice_get ps i ≡ Some p → drop i ps ≡ p ∷ drop (suc i) ps
 one_at [] i p e = absurd (cc)
 one_at (q ∷ ps) zero p e = ap (λ (x : Pair). x ∷ ps) (some_same q p e)
   where
@@ -263,13 +263,6 @@ pub pair_there : (ps : List Pair) (i : ℕ) → i < length ps → (p : Pair) × 
 pair_there [] i h = absurd (omega arith)
 pair_there (q ∷ ps) zero h = (q, refl)
 pair_there (q ∷ ps) (suc i) h = pair_there ps i (omega arith)
-
--- one stretch behind another
-pub stretches : (ps : List Pair) (from at to : ℕ) → IsStretch ps from at → IsStretch ps at to → IsStretch ps from to
-stretches ps from at to a b = record {
-  ordered = omega (arith, a.ordered, b.ordered);
-  lines = subst AreLines (sym (range_split ps from at to a.ordered b.ordered)) (lines_both (slice_range ps from at) (slice_range ps at to) a.lines b.lines);
-}
 
 pub no_stretch : (ps : List Pair) (i : ℕ) → IsStretch ps i i
 no_stretch ps i = record { ordered = omega arith; lines = subst AreLines (sym (range_none ps i)) none_lines }
@@ -493,17 +486,6 @@ line_ends cut from at i kind item f le within is end is_item none =
     let line = next_line cut from at i there.0 f le within there.1 (kind_is cut.pairs i there.0 kind there.1 is ∙ end) none in
     let next = (placed cut.pairs i there.0 item there.1 is_item).next in
     (subst (IsFront cut (i + 1)) (sym next) line.0, line.1, omega arith)
-
--- what one token more does to the openings
-pub opened_more : (ps : List Pair) (from i : ℕ) (before behind : List Mode) → from ≤ i → i < length ps → before ≡ modes_behind [] (slice_range ps from i)
-    → ((p : Pair) → slice_get ps i ≡ Some p → behind ≡ after p.kind p.spelling before) → behind ≡ modes_behind [] (slice_range ps from (i + 1))
-opened_more ps from i before behind le within so_far shifts =
-    let there = pair_there ps i within in
-    let p : Pair = there.0 in
-    shifts p there.1
-    ∙ ap (after p.kind p.spelling) so_far
-    ∙ sym (modes_more (slice_range ps from i) p [])
-    ∙ ap (modes_behind []) (sym (range_more ps from i p le there.1))
 
 -- ---- lines taken over
 

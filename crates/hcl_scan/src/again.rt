@@ -5,21 +5,18 @@
 //! the front of a line, so do its tokens. The rest is cut as texts of their own, each a number of
 //! lines.
 
-ghost use Rattle.std.specs.Prelude.{◌≡◌, ◌<◌, ◌≤◌, ◌+◌, ◌-◌, ◌++◌, ◌∷◌, ℕ, true, false, Some, [], length, drop, slice_get, slice_range, IsTrue, IsUtf8, OnOk, IfOk, IfErr, IfSome, ◌⊎◌};
+ghost use Rattle.std.specs.Prelude.{◌≡◌, ◌<◌, ◌≤◌, ◌+◌, ◌-◌, ◌^◌, ◌++◌, ◌∷◌, ℕ, true, false, Some, [], length, drop, slice_get, slice_range, IsTrue, IsUtf8, OnOk, IfOk, IfErr, ◌⊎◌};
 ghost use Rattle.hcl_token.specs.declared.kind.Kind.TheVariants.{LineEnd};
 ghost use Rattle.hcl_token.specs.Tokens.{Pair};
 ghost use Rattle.hcl_token.specs.Items.{InOrder, pairs_of};
 ghost use Rattle.hcl_scan.specs.Cut.{IsCut, MAX_TEXT};
 ghost use Rattle.hcl_scan.specs.Fault.{IsFault};
 ghost use Rattle.hcl_scan.specs.Follows.{AreApart, FollowsFrom, IsApart};
-ghost use Rattle.hcl_scan.specs.Modes.{after};
-ghost use Rattle.hcl_scan.specs.Inner.Lines.{AreLast, EndsInLine, IsBegun, IsFront, IsStretch, IsWhole, items_at};
-ghost use Rattle.hcl_scan.specs.Inner.Openings.{modes_of};
+ghost use Rattle.hcl_scan.specs.Inner.Lines.{AreLast, EndsInLine, IsBegun, IsFront, IsStretch, IsWhole, depth_after, items_at};
 ghost use Rattle.hcl_scan.specs.declared.fault.ScanFault.TheVariants.{Memory};
 
 use crate::bytes::part;
 use crate::fault::ScanFault;
-use crate::mode::{Opening, opens_or_closes, shift};
 use crate::scanned::{Scanned, scan_in};
 use hcl_token::{Item, Kind, MAX_TEXT, Token, Tokens};
 use std::alloc::{AllocError, Global};
@@ -31,6 +28,21 @@ pub struct Replaced {
     pub at: usize,
     pub removed: usize,
     pub added: usize,
+}
+
+/// Why a text is not cut from the cut of an old one.
+#[derive(Clone, Copy)]
+enum GiveUp {
+    /// A growth was refused.
+    Memory,
+    /// The text is not made of old lines and of lines that are cut by themselves.
+    Unfit,
+}
+
+impl From<AllocError> for GiveUp {
+    fn from(_: AllocError) -> Self {
+        GiveUp::Memory
+    }
 }
 
 /// Where a line of a text begins: the number of its first token, and the bytes before it.
@@ -47,13 +59,6 @@ fn is_line_end(kind: Kind) -> bool
     matches!(kind, Kind::LineEnd)
 }
 
-/// Whether no opening is open.
-fn is_none_open(openings: &[Opening<'_>]) -> bool
-    ensures { result ≡ true → modes_of openings.now ≡ [] }
-{
-    openings.is_empty()
-}
-
 /// Whether the byte order mark is a text's first token.
 fn has_mark(scanned: &Scanned<'_>) -> bool
     ensures { result ≡ false → FollowsFrom [] scanned.now.pairs scanned.now.last [] }
@@ -63,58 +68,77 @@ fn has_mark(scanned: &Scanned<'_>) -> bool
     count > 0 && matches!(scanned.kind(0), Kind::Mark)
 }
 
-/// What a token does to the openings; false where memory for that is refused.
-fn shifted<'t>(openings: &mut Vec<Opening<'t>>, old: &Scanned<'t>, i: usize) -> bool
-    requires { i < length old.now.pairs }
-    ensures { result ≡ true → (p : Pair) → slice_get old.now.pairs i ≡ Some p
-        → modes_of openings.new.items ≡ after p.kind p.spelling (modes_of openings.old.items) }
+/// How many openings are open behind a token of the kind, of so many before it. A brace opens
+/// something in a template alone.
+fn depth_after(kind: Kind, depth: usize) -> usize
+    requires { depth + 1 < 2 ^ 64 }
+    ensures value { result ≡ depth_after kind depth }
+    ensures small { result ≤ depth + 1 }
 {
-    let kind = old.kind(i);
-    if !opens_or_closes(kind) {
-        return true;
+    match kind {
+        Kind::QuoteOpen | Kind::HereOpen | Kind::InterpOpen | Kind::DirectiveOpen => depth + 1,
+        Kind::OpenBrace => { if depth == 0 { 0 } else { depth + 1 } }
+        Kind::QuoteClose | Kind::HereClose | Kind::SeqClose | Kind::CloseBrace => {
+            depth.saturating_sub(1)
+        }
+        _ => depth,
     }
-    shift(openings, kind, old.spelling(i), 0).is_ok()
 }
 
-/// Where the line behind this one begins, if this one ends.
-fn next_front<'t>(old: &Scanned<'t>, from: Front, openings: &mut Vec<Opening<'t>>) -> Option<Front>
-    requires { IsFront old.now from.index from.at }
-    ensures { IfSome result (λ to. IsFront old.now to.index to.at
-        × IsStretch old.now.pairs from.index to.index × (from.index < to.index)) }
+/// Whether a token ends a line, where so many openings are open.
+fn ends_line(kind: Kind, depth: usize) -> bool
+    ensures kind { result ≡ true → kind ≡ LineEnd }
+    ensures none { result ≡ true → depth ≡ 0 }
 {
-    openings.clear();
-    for i in from.index..old.len() {
-        if is_line_end(old.kind(i)) && is_none_open(openings) {
-            let at = old.item(i).stop as usize;
-            return Some(Front { index: i + 1, at });
-        }
-        if !shifted(openings, old, i) {
-            return None;
-        }
-    }
-    None
+    is_line_end(kind) && depth == 0
 }
 
 /// The last place at most so far from the front of the text, and behind whole lines, where a line
 /// begins.
-fn last_front<'t>(
-    old: &Scanned<'t>,
-    from: Front,
-    limit: usize,
-    openings: &mut Vec<Opening<'t>>,
-) -> Front
+fn last_front(old: &Scanned<'_>, from: Front, limit: usize) -> Front
     requires { IsFront old.now from.index from.at }
     ensures front { IsFront old.now result.index result.at }
     ensures lines { IsStretch old.now.pairs from.index result.index }
 {
     let mut to = from;
-    while let Some(next) = next_front(old, to, openings) {
-        if next.at > limit {
-            return to;
+    let mut depth = 0;
+    for i in from.index..old.len() {
+        let kind = old.kind(i);
+        if ends_line(kind, depth) {
+            let at = old.item(i).stop as usize;
+            if at > limit {
+                return to;
+            }
+            to = Front { index: i + 1, at };
+        } else {
+            depth = depth_after(kind, depth);
         }
-        to = next;
     }
     to
+}
+
+/// The first place behind a line of the old text that comes further than so far from its front;
+/// unfit where there is none.
+fn first_front(old: &Scanned<'_>, from: Front, limit: usize) -> Result<Front, GiveUp>
+    requires { IsFront old.now from.index from.at }
+    ensures { IfOk result (λ to. IsFront old.now to.index to.at) }
+{
+    if from.at > limit {
+        return Ok(from);
+    }
+    let mut depth = 0;
+    for i in from.index..old.len() {
+        let kind = old.kind(i);
+        if ends_line(kind, depth) {
+            let at = old.item(i).stop as usize;
+            if at > limit {
+                return Ok(Front { index: i + 1, at });
+            }
+        } else {
+            depth = depth_after(kind, depth);
+        }
+    }
+    Err(GiveUp::Unfit)
 }
 
 /// A token as it stands where the bytes from one place on stand from another on.
@@ -187,22 +211,20 @@ fn take_over(
     old: &Scanned<'_>,
     from: Front,
     to: Front,
-) -> Option<usize>
+) -> Result<usize, GiveUp>
     requires begun { IsBegun text.now items.old.items at }
     requires short { length text.now ≤ MAX_TEXT }
     requires front { IsFront old.now from.index from.at }
     requires end { IsFront old.now to.index to.at }
     requires lines { IsStretch old.now.pairs from.index to.index }
-    ensures { IfSome result (λ end. IsBegun text.now items.new.items end) }
+    ensures { IfOk result (λ end. IsBegun text.now items.new.items end) }
 {
     let bytes = part(old.text(), from.at, to.at);
     if !stands(text, at, bytes) {
-        return None;
+        return Err(GiveUp::Unfit);
     }
-    match push_moved(items, at, old, from, to.index) {
-        Ok(()) => Some(at + bytes.len()),
-        Err(_) => None,
-    }
+    push_moved(items, at, old, from, to.index)?;
+    Ok(at + bytes.len())
 }
 
 /// Whether a token touches the one before it and joins with it.
@@ -246,6 +268,18 @@ fn ends_in_line(scanned: &Scanned<'_>) -> bool
     is_line_end(scanned.kind(count - 1)) && scanned.last_gap().is_empty()
 }
 
+/// The cut of a text by itself; unfit where it has none.
+fn scan_part<'t>(alloc: Global, room: Vec<Token>, text: &'t [u8]) -> Result<Scanned<'t>, GiveUp>
+    ensures text { IfOk result (λ s. s.text ≡ text.now) }
+    ensures cut { IfOk result (λ s. IsCut text.now s.pairs s.last) }
+{
+    match scan_in(alloc, room, text) {
+        Ok(scanned) => Ok(scanned),
+        Err(ScanFault::Memory) => Err(GiveUp::Memory),
+        Err(_) => Err(GiveUp::Unfit),
+    }
+}
+
 /// Adds the items of so many bytes, if they are whole lines, and gives back the room for their cut.
 fn scan_lines(
     alloc: Global,
@@ -254,24 +288,20 @@ fn scan_lines(
     at: usize,
     len: usize,
     spare: Vec<Token>,
-) -> Option<Vec<Token>>
+) -> Result<Vec<Token>, GiveUp>
     requires begun { IsBegun text.now items.old.items at }
     requires short { length text.now ≤ MAX_TEXT }
-    ensures { IfSome result (λ spare. IsBegun text.now items.new.items (at + len)) }
+    ensures { IfOk result (λ spare. IsBegun text.now items.new.items (at + len)) }
 {
     if len > text.len() - at {
-        return None;
+        return Err(GiveUp::Unfit);
     }
-    let Ok(lines) = scan_in(alloc, spare, part(text, at, at + len)) else {
-        return None;
-    };
+    let lines = scan_part(alloc, spare, part(text, at, at + len))?;
     if !ends_in_line(&lines) || !goes_behind_lines(&lines) {
-        return None;
+        return Err(GiveUp::Unfit);
     }
-    match push_moved(items, at, &lines, Front { index: 0, at: 0 }, lines.len()) {
-        Ok(()) => Some(lines.into_room()),
-        Err(_) => None,
-    }
+    push_moved(items, at, &lines, Front { index: 0, at: 0 }, lines.len())?;
+    Ok(lines.into_room())
 }
 
 /// Adds the items of what is left of a text, and answers where its last gap begins.
@@ -281,41 +311,17 @@ fn scan_rest(
     items: &mut Vec<Token>,
     at: usize,
     spare: Vec<Token>,
-) -> Option<usize>
+) -> Result<usize, GiveUp>
     requires begun { IsBegun text.now items.old.items at }
     requires short { length text.now ≤ MAX_TEXT }
-    ensures { IfSome result (λ last_at. IsWhole text.now items.new.items last_at) }
+    ensures { IfOk result (λ last_at. IsWhole text.now items.new.items last_at) }
 {
-    let Ok(rest) = scan_in(alloc, spare, part(text, at, text.len())) else {
-        return None;
-    };
+    let rest = scan_part(alloc, spare, part(text, at, text.len()))?;
     if !goes_behind_lines(&rest) {
-        return None;
+        return Err(GiveUp::Unfit);
     }
-    match push_moved(items, at, &rest, Front { index: 0, at: 0 }, rest.len()) {
-        Ok(()) => Some(text.len() - rest.last_gap().len()),
-        Err(_) => None,
-    }
-}
-
-/// The first place behind a line of the old text that comes so far from its front at least.
-fn first_front<'t>(
-    old: &Scanned<'t>,
-    from: Front,
-    limit: usize,
-    openings: &mut Vec<Opening<'t>>,
-) -> Option<Front>
-    requires { IsFront old.now from.index from.at }
-    ensures { IfSome result (λ to. IsFront old.now to.index to.at) }
-{
-    let mut to = from;
-    while to.at <= limit {
-        match next_front(old, to, openings) {
-            Some(next) => to = next,
-            None => return None,
-        }
-    }
-    Some(to)
+    push_moved(items, at, &rest, Front { index: 0, at: 0 }, rest.len())?;
+    Ok(text.len() - rest.last_gap().len())
 }
 
 /// Lines of the old text in which bytes are replaced: where the next line begins that stays, how
@@ -328,16 +334,15 @@ struct Touched {
 
 /// The lines from this one on in which the pieces with this number and those behind it are
 /// replaced.
-fn touched_lines<'t>(
-    old: &Scanned<'t>,
+fn touched_lines(
+    old: &Scanned<'_>,
     from: Front,
     replaced: &[Replaced],
     first: usize,
-    openings: &mut Vec<Opening<'t>>,
-) -> Option<Touched>
+) -> Result<Touched, GiveUp>
     requires front { IsFront old.now from.index from.at }
     requires some { first < length replaced.now }
-    ensures { IfSome result (λ touched. IsFront old.now touched.to.index touched.to.at
+    ensures { IfOk result (λ touched. IsFront old.now touched.to.index touched.to.at
         × (first < touched.count)) }
 {
     let mut count = first;
@@ -348,15 +353,12 @@ fn touched_lines<'t>(
         let piece = replaced[count];
         removed = removed.saturating_add(piece.removed);
         added = added.saturating_add(piece.added);
-        match first_front(old, to, piece.at.saturating_add(piece.removed), openings) {
-            Some(next) => to = next,
-            None => return None,
-        }
+        to = first_front(old, to, piece.at.saturating_add(piece.removed))?;
         count += 1;
     }
     let before = to.at.saturating_sub(from.at);
     let len = before.saturating_add(added).saturating_sub(removed);
-    Some(Touched { to, len, count })
+    Ok(Touched { to, len, count })
 }
 
 /// How far a new text is done: so many of its bytes, up to a line of the old one.
@@ -367,28 +369,25 @@ struct Done {
 }
 
 /// Adds the items of the lines up to those in which bytes are replaced, or up to the last.
-fn stretch_again<'t>(
+fn stretch_again(
     text: &[u8],
     items: &mut Vec<Token>,
-    old: &Scanned<'t>,
+    old: &Scanned<'_>,
     done: Done,
     limit: usize,
-    openings: &mut Vec<Opening<'t>>,
-) -> Option<Done>
+) -> Result<Done, GiveUp>
     requires begun { IsBegun text.now items.old.items done.at }
     requires short { length text.now ≤ MAX_TEXT }
     requires front { IsFront old.now done.front.index done.front.at }
-    ensures { IfSome result (λ done. IsBegun text.now items.new.items done.at
+    ensures { IfOk result (λ done. IsBegun text.now items.new.items done.at
         × IsFront old.now done.front.index done.front.at) }
 {
-    let front = last_front(old, done.front, limit, openings);
-    match take_over(text, items, done.at, old, done.front, front) {
-        Some(at) => Some(Done { front, at }),
-        None => None,
-    }
+    let front = last_front(old, done.front, limit);
+    let at = take_over(text, items, done.at, old, done.front, front)?;
+    Ok(Done { front, at })
 }
 
-/// The items of a text that came from one that was cut, and where its last gap begins; none where
+/// The items of a text that came from one that was cut, and where its last gap begins; unfit where
 /// more was changed than the replaced pieces say, or what was changed is not cut by itself.
 fn cut_again(
     alloc: Global,
@@ -396,16 +395,16 @@ fn cut_again(
     old: &Scanned<'_>,
     replaced: &[Replaced],
     items: &mut Vec<Token>,
-) -> Option<usize>
+) -> Result<usize, GiveUp>
     requires apart { AreApart old.now.pairs }
     requires short { length text.now ≤ MAX_TEXT }
-    ensures { IfSome result (λ last_at. IsWhole text.now items.new.items last_at) }
+    ensures { IfOk result (λ last_at. IsWhole text.now items.new.items last_at) }
 {
     items.clear();
-    if has_mark(old) || items.reserve(text.len() / 8).is_err() {
-        return None;
+    if has_mark(old) {
+        return Err(GiveUp::Unfit);
     }
-    let mut openings = Vec::new(alloc);
+    items.reserve(text.len() / 8)?;
     let mut spare = Vec::new(alloc);
     let mut done = Done {
         front: Front { index: 0, at: 0 },
@@ -414,14 +413,8 @@ fn cut_again(
     let mut first = 0;
     while first < replaced.len() {
         let limit = replaced[first].at;
-        done = stretch_again(text, items, old, done, limit, &mut openings)?;
-        let Touched { to, len, count } = touched_lines(
-            old,
-            done.front,
-            replaced,
-            first,
-            &mut openings,
-        )?;
+        done = stretch_again(text, items, old, done, limit)?;
+        let Touched { to, len, count } = touched_lines(old, done.front, replaced, first)?;
         spare = scan_lines(alloc, text, items, done.at, len, spare)?;
         done = Done {
             front: to,
@@ -429,8 +422,22 @@ fn cut_again(
         };
         first = count;
     }
-    done = stretch_again(text, items, old, done, usize::MAX, &mut openings)?;
+    done = stretch_again(text, items, old, done, usize::MAX)?;
     scan_rest(alloc, text, items, done.at, spare)
+}
+
+/// The fault of a text for the cut of which memory was refused: ill-formed bytes are told before
+/// that.
+fn refused(text: &[u8]) -> ScanFault
+    requires { length text.now ≤ MAX_TEXT }
+    ensures { ((result ≡ Memory) × IsUtf8 text.now) ⊎ IsFault text.now result }
+{
+    match simdutf8::compat::from_utf8(text) {
+        Err(e) => ScanFault::NotUtf8 {
+            at: e.valid_up_to(),
+        },
+        Ok(_) => ScanFault::Memory,
+    }
 }
 
 /// The cut of a text that came from one whose tokens don't join, or its fault: what `scan_in`
@@ -455,11 +462,12 @@ pub fn scan_again<'t>(
         return scan_in(alloc, items, text);
     }
     match cut_again(alloc, text, old, replaced, &mut items) {
-        Some(last_at) => {
+        Ok(last_at) => {
             Ok(Scanned {
                 tokens: Tokens::new(text, items, last_at),
             })
         }
-        None => scan_in(alloc, items, text),
+        Err(GiveUp::Memory) => Err(refused(text)),
+        Err(GiveUp::Unfit) => scan_in(alloc, items, text),
     }
 }

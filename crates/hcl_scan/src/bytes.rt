@@ -77,7 +77,7 @@ pub fn part(text: &[u8], from: usize, to: usize) -> &[u8]
 fn is_blank(b: u8) -> bool
     ensures { result ≡ is_blank b }
 {
-    b == b' ' || b == b'\t'
+    (b == b' ') | (b == b'\t')
 }
 
 /// The end of the blanks from a place on.
@@ -91,6 +91,41 @@ pub fn blanks_end(text: &[u8], from: usize) -> usize
         at += 1;
     }
     at
+}
+
+/// The end of the blanks from a place on, and the byte that stands there, 0 past the end.
+///
+/// Most tokens have no blank before them: so the first byte is asked before the loop.
+pub fn behind_blanks(text: &[u8], from: usize) -> (usize, u8)
+    requires { from ≤ length text.now }
+    ensures value { result.0 ≡ from + prefix_len is_blank (drop from text.now) }
+    ensures within { result.0 ≤ length text.now }
+    ensures byte { result.1 ≡ slice_index text.now result.0 }
+    ensures byte_within { 0 < result.1 → result.0 < length text.now }
+{
+    let first = byte(text, from);
+    if is_blank(first) {
+        past_blanks(text, from + 1)
+    } else {
+        (from, first)
+    }
+}
+
+/// The same behind the first blank.
+fn past_blanks(text: &[u8], from: usize) -> (usize, u8)
+    requires { from ≤ length text.now }
+    ensures value { result.0 ≡ from + prefix_len is_blank (drop from text.now) }
+    ensures within { result.0 ≤ length text.now }
+    ensures byte { result.1 ≡ slice_index text.now result.0 }
+    ensures byte_within { 0 < result.1 → result.0 < length text.now }
+{
+    let mut at = from;
+    let mut first = byte(text, from);
+    while is_blank(first) {
+        at += 1;
+        first = byte(text, at);
+    }
+    (at, first)
 }
 
 /// The end of the digits from a place on.

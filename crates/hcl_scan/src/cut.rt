@@ -1,13 +1,13 @@
 //! Where the tokens of a whole text stand.
 
-ghost use Rattle.std.specs.Prelude.{◌≡◌, ◌+◌, ◌<◌, ◌≤◌, ◌++◌, length, drop, IsUtf8, IfOk, IfErr, OnOk, IsTrue, ◌↔◌, [], ◌⊎◌};
+ghost use Rattle.std.specs.Prelude.{◌≡◌, ◌+◌, ◌<◌, ◌≤◌, ◌++◌, ◌∷◌, length, drop, IsUtf8, IfOk, IfErr, OnOk, IsTrue, ◌↔◌, [], ◌⊎◌};
 ghost use Rattle.hcl_token.specs.Items.{pairs_of, InOrder};
 ghost use Rattle.hcl_scan.specs.Characters.{begins};
 ghost use Rattle.hcl_scan.specs.Cut.{IsCut, MAX_TEXT, byte_order_mark};
 ghost use Rattle.hcl_scan.specs.declared.fault.ScanFault.TheVariants.{Memory};
 ghost use Rattle.hcl_scan.specs.Fault.{Stops, IsFault, token_fault, fault_at};
 ghost use Rattle.hcl_scan.specs.Inner.Openings.{mode_view};
-ghost use Rattle.hcl_scan.specs.Inner.MarkItem.{front_items, front_length};
+ghost use Rattle.hcl_scan.specs.Inner.MarkItem.{front_items, front_length, token_item};
 
 use crate::bytes::{byte, part};
 use crate::fault::ScanFault;
@@ -87,6 +87,26 @@ fn push_mark(items: &mut Vec<Token>, text: &[u8]) -> Result<usize, AllocError>
     Ok(3)
 }
 
+/// One token more.
+fn push_token(
+    items: &mut Vec<Token>,
+    start: usize,
+    stop: usize,
+    kind: Kind,
+) -> Result<(), AllocError>
+    requires start { start ≤ MAX_TEXT }
+    requires stop { stop ≤ MAX_TEXT }
+    ensures { OnOk result (items.new.items ≡ items.old.items ++ token_item start stop kind ∷ []) }
+{
+    items.reserve(1)?;
+    items.push_reserved(Token {
+        start: start as u32,
+        stop: stop as u32,
+        kind,
+    });
+    Ok(())
+}
+
 /// The items of a text, in a list that has room, and where its last gap begins.
 fn cut(alloc: Global, room: Vec<Token>, text: &str) -> Result<(Vec<Token>, usize), ScanFault>
     requires { length text.now ≤ MAX_TEXT }
@@ -115,11 +135,7 @@ fn cut(alloc: Global, room: Vec<Token>, text: &str) -> Result<(Vec<Token>, usize
             }
             Some((kind, len)) => {
                 let stop = start + len;
-                items.push(Token {
-                    start: start as u32,
-                    stop: stop as u32,
-                    kind,
-                })?;
+                push_token(&mut items, start, stop, kind)?;
                 if opens_or_closes(kind) {
                     shift(&mut openings, kind, part(bytes, start, stop), start)?;
                     mode = mode_of(&openings);

@@ -43,8 +43,53 @@ pub fn begins_word(b: u8) -> bool
     b.is_ascii_alphabetic() | (b == b'_') | (128 <= b)
 }
 
+/// How many of the four bytes at a place continue an identifier, up to the first that does not.
+fn goes_on_by(text: &str, at: usize) -> usize
+    requires within { at + 4 ≤ length text.now }
+    requires utf8 { IsUtf8 (drop at text.now) }
+    ensures value { result + continue_length (chars (drop (at + result) text.now))
+        ≡ continue_length (chars (drop at text.now)) }
+    ensures within { result ≤ 4 }
+    ensures rest { IsUtf8 (drop (at + result) text.now) }
+    ensures stops { result < 4 → goes_on (slice_index text.now (at + result)) ≡ false }
+{
+    let bytes = text.as_bytes();
+    if !goes_on(bytes[at]) {
+        0
+    } else if !goes_on(bytes[at + 1]) {
+        1
+    } else if !goes_on(bytes[at + 2]) {
+        2
+    } else if !goes_on(bytes[at + 3]) {
+        3
+    } else {
+        4
+    }
+}
+
 /// The end of the ASCII characters from a place on that continue an identifier.
 fn ascii_end(text: &str, from: usize) -> usize
+    requires within { from ≤ length text.now }
+    requires utf8 { IsUtf8 (drop from text.now) }
+    ensures value { result + continue_length (chars (drop result text.now))
+        ≡ from + continue_length (chars (drop from text.now)) }
+    ensures within { result ≤ length text.now }
+    ensures rest { IsUtf8 (drop result text.now) }
+    ensures stops { goes_on (slice_index text.now result) ≡ false }
+{
+    let mut at = from;
+    while at + 4 <= text.len() {
+        let count = goes_on_by(text, at);
+        at += count;
+        if count < 4 {
+            return at;
+        }
+    }
+    last_ascii_end(text, at)
+}
+
+/// The same, byte by byte.
+fn last_ascii_end(text: &str, from: usize) -> usize
     requires within { from ≤ length text.now }
     requires utf8 { IsUtf8 (drop from text.now) }
     ensures value { result + continue_length (chars (drop result text.now))

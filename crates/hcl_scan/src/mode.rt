@@ -1,10 +1,12 @@
 //! The openings that are not closed, and what a token does to them.
 
-ghost use Rattle.std.specs.Prelude.{◌≡◌, ◌+◌, ◌≤◌, ◌∷◌, ℕ, List, false, OnOk, drop, length};
+ghost use Rattle.std.specs.Prelude.{◌≡◌, ◌+◌, ◌≤◌, ◌∷◌, ℕ, List, true, false, OnOk, drop, length};
 ghost use Rattle.std.specs.List.{prefix_len};
 ghost use Rattle.hcl_scan.specs.Modes as spec;
 ghost use Rattle.hcl_scan.specs.Modes.{mode_of, is_braces, in_sequence, begins_line, marker_of, after};
+ghost use Rattle.hcl_scan.specs.Modes.Mode.{Sequence, Heredoc};
 ghost use Rattle.hcl_scan.specs.Runs.{line_behind};
+ghost use Rattle.hcl_token.specs.declared.kind.Kind.TheVariants.{HereLit};
 ghost use Rattle.hcl_scan.specs.Fault.{places_after, innermost};
 ghost use Rattle.hcl_scan.specs.Inner.Openings.{mode_view, modes_of, places_of, with_line, with_line_in, is_in_line};
 
@@ -136,7 +138,8 @@ fn push<'t>(openings: &mut Vec<Opening<'t>>, at: usize, mode: Mode<'t>) -> Resul
     ensures places { OnOk result
         (places_of openings.new.items ≡ at ∷ places_of openings.old.items) }
 {
-    openings.push(Opening { at, mode })?;
+    openings.reserve(1)?;
+    openings.push_reserved(Opening { at, mode });
     Ok(())
 }
 
@@ -160,6 +163,47 @@ fn read_on<'t>(openings: &mut Vec<Opening<'t>>, fresh: bool) -> Result<(), Alloc
         Some(opening) => push(openings, opening.at, with_line(opening.mode, fresh)),
         None => Ok(()),
     }
+}
+
+/// A template sequence opens: in a heredoc no line begins behind it.
+#[inline(never)]
+fn open_sequence<'t>(openings: &mut Vec<Opening<'t>>, at: usize) -> Result<(), AllocError>
+    ensures modes { OnOk result
+        (modes_of openings.new.items ≡ Sequence ∷ with_line_in false (modes_of openings.old.items)) }
+    ensures places { OnOk result
+        (places_of openings.new.items ≡ at ∷ places_of openings.old.items) }
+{
+    read_on(openings, false)?;
+    push(openings, at, Mode::Sequence)
+}
+
+/// A heredoc opens, whose marker stands in the spelling.
+#[inline(never)]
+fn open_heredoc<'t>(
+    openings: &mut Vec<Opening<'t>>,
+    spelling: &'t [u8],
+    at: usize,
+) -> Result<(), AllocError>
+    ensures modes { OnOk result
+        (modes_of openings.new.items
+        ≡ Heredoc (marker_of spelling.now) true ∷ modes_of openings.old.items) }
+    ensures places { OnOk result
+        (places_of openings.new.items ≡ at ∷ places_of openings.old.items) }
+{
+    let marker = marker_of(spelling);
+    let fresh = true;
+    push(openings, at, Mode::Heredoc { marker, fresh })
+}
+
+/// The innermost opening, a heredoc, goes on behind a piece of its text.
+#[inline(never)]
+fn read_piece<'t>(openings: &mut Vec<Opening<'t>>, piece: &[u8]) -> Result<(), AllocError>
+    ensures modes { OnOk result
+        (modes_of openings.new.items ≡ after HereLit piece.now (modes_of openings.old.items)) }
+    ensures places { OnOk result (places_of openings.new.items ≡ places_of openings.old.items) }
+{
+    let fresh = line_behind(begins_line(mode_of(openings)), piece);
+    read_on(openings, fresh)
 }
 
 /// Whether a token of the kind can do anything to the openings.
@@ -202,21 +246,8 @@ pub fn shift<'t>(
     }
     match kind {
         Kind::QuoteOpen => push(openings, at, Mode::Quoted)?,
-        Kind::HereOpen => {
-            let marker = marker_of(spelling);
-            push(
-                openings,
-                at,
-                Mode::Heredoc {
-                    marker,
-                    fresh: true,
-                },
-            )?;
-        }
-        Kind::InterpOpen | Kind::DirectiveOpen => {
-            read_on(openings, false)?;
-            push(openings, at, Mode::Sequence)?;
-        }
+        Kind::HereOpen => open_heredoc(openings, spelling, at)?,
+        Kind::InterpOpen | Kind::DirectiveOpen => open_sequence(openings, at)?,
         Kind::QuoteClose | Kind::HereClose | Kind::SeqClose => pop(openings),
         Kind::OpenBrace => {
             if in_sequence(mode_of(openings)) {
@@ -228,10 +259,7 @@ pub fn shift<'t>(
                 pop(openings);
             }
         }
-        Kind::HereLit => {
-            let fresh = line_behind(begins_line(mode_of(openings)), spelling);
-            read_on(openings, fresh)?;
-        }
+        Kind::HereLit => read_piece(openings, spelling)?,
         _ => {}
     }
     Ok(())

@@ -27,8 +27,48 @@ pub trait Unit {
         ensures line { result ≡ true → (b == 10) ≡ false };
 }
 
+/// How many of the four bytes at a place are plain, up to the first that is not; no line begins
+/// there.
+fn plain_by<U: Unit>(unit: &U, text: &[u8], at: usize) -> usize
+    requires { at + 4 ≤ length text.now }
+    ensures run { result + run_length (U.len unit.now) false (drop (at + result) text.now)
+        ≡ run_length (U.len unit.now) false (drop at text.now) }
+    ensures within { result ≤ 4 }
+{
+    if !unit.is_plain(text[at]) {
+        0
+    } else if !unit.is_plain(text[at + 1]) {
+        1
+    } else if !unit.is_plain(text[at + 2]) {
+        2
+    } else if !unit.is_plain(text[at + 3]) {
+        3
+    } else {
+        4
+    }
+}
+
 /// The end of the plain bytes from a place on, at which no line begins.
 fn plain_end<U: Unit>(unit: &U, text: &[u8], from: usize) -> usize
+    requires { from ≤ length text.now }
+    ensures run { result + run_length (U.len unit.now) false (drop result text.now)
+        ≡ from + run_length (U.len unit.now) false (drop from text.now) }
+    ensures within { result ≤ length text.now }
+    ensures onward { from ≤ result }
+{
+    let mut at = from;
+    while at + 4 <= text.len() {
+        let count = plain_by(unit, text, at);
+        at += count;
+        if count < 4 {
+            return at;
+        }
+    }
+    last_plain_end(unit, text, at)
+}
+
+/// The same, byte by byte.
+fn last_plain_end<U: Unit>(unit: &U, text: &[u8], from: usize) -> usize
     requires { from ≤ length text.now }
     ensures run { result + run_length (U.len unit.now) false (drop result text.now)
         ≡ from + run_length (U.len unit.now) false (drop from text.now) }

@@ -1,7 +1,7 @@
 //! A text with its cut.
 
-ghost use Rattle.std.specs.Prelude.{◌≡◌, ◌<◌, ◌≤◌, ◌↔◌, [], Some, IsTrue, IsUtf8, length, IfOk, IfErr, ◌⊎◌};
-ghost use Rattle.hcl_token.specs.CutText.{CutText, AreUtf8, kind_of, spelling_of, gap_of, clusters_of, item_of, joins_of};
+ghost use Rattle.std.specs.Prelude.{◌≡◌, ◌+◌, ◌<◌, ◌≤◌, ◌↔◌, [], Some, IsTrue, IsUtf8, length, IfOk, IfErr, ◌⊎◌};
+ghost use Rattle.hcl_token.specs.CutText.{CutText, AreUtf8, kind_of, spelling_of, gap_of, clusters_of, item_of, joins_of, stretch_of};
 ghost use Rattle.hcl_scan.specs.Cut.{IsCut, MAX_TEXT};
 ghost use Rattle.hcl_scan.specs.Fault.{IsFault};
 ghost use Rattle.hcl_scan.specs.declared.fault.ScanFault.TheVariants.{Memory};
@@ -152,6 +152,18 @@ impl<'t> Scanned<'t> {
         ensures { Some result ≡ clusters_of self.now.pairs i }
     {
         self.tokens.clusters(i)
+    }
+
+    /// Whether `count` tokens from number `from` on stand in another text from number `to` on: of
+    /// the same kinds, spelled alike, and with the same gaps between them. The gaps before the
+    /// first are not compared.
+    pub fn same_stretch(&self, from: usize, other: &Scanned<'_>, to: usize, count: usize) -> bool
+        requires here { from + count ≤ length self.now.pairs }
+        requires there { to + count ≤ length other.now.pairs }
+        ensures { IsTrue result
+            ↔ (stretch_of self.now.pairs from count ≡ stretch_of other.now.pairs to count) }
+    {
+        self.tokens.same_stretch(from, &other.tokens, to, count)
     }
 
     /// Where the tokens stand, by line and column. The text is read once.

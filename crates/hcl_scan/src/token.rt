@@ -1,13 +1,13 @@
 //! The token at a place.
 
-ghost use Rattle.std.specs.Prelude.{◌≡◌, ◌+◌, ◌<◌, ◌≤◌, length, drop, IsUtf8, Some, IfSome, if◌then◌else◌};
+ghost use Rattle.std.specs.Prelude.{◌≡◌, ◌+◌, ◌<◌, ◌≤◌, length, drop, slice_index, IsUtf8, Some, IfSome, if◌then◌else◌};
 ghost use Rattle.hcl_token.specs.declared.kind.Kind.TheVariants.{SeqClose, CloseBrace};
 ghost use Rattle.hcl_scan.specs.Inner.Next.{inline_comment, dot_token, punctuation, here_or_less, expression_token, quoted_token, gap_length, token};
 ghost use Rattle.hcl_scan.specs.Inner.Markers.{HasMarker};
 ghost use Rattle.hcl_scan.specs.Inner.Openings.{mode_view};
 ghost use Rattle.hcl_scan.specs.Modes.{closes_sequence};
 
-use crate::bytes::{blanks_end, byte, digits_end, is_letter};
+use crate::bytes::{behind_blanks, byte, digits_end, is_letter};
 use crate::here::{begins_intro, begins_opening, here_open, here_token, opening};
 use crate::ident::{begins_word, identifier, word_len};
 use crate::mode::Mode;
@@ -87,19 +87,21 @@ fn dot_token(text: &[u8], at: usize) -> Option<(Kind, usize)>
     }
 }
 
-/// The token outside of literal text. A `}` closes a template sequence where `closes` says so.
+/// The token outside of literal text, of which the first byte is told, 0 past the end. A `}` closes
+/// a template sequence where `closes` says so.
 ///
 /// The tokens that most texts are made of are told by their first byte.
-fn expression_token(text: &str, at: usize, closes: bool) -> Option<(Kind, usize)>
-    requires within { at < length text.now }
+fn expression_token(text: &str, at: usize, first: u8, closes: bool) -> Option<(Kind, usize)>
+    requires within { at ≤ length text.now }
     requires utf8 { IsUtf8 (drop at text.now) }
+    requires first { first ≡ slice_index text.now at }
+    requires first_within { 0 < first → at < length text.now }
     ensures { result ≡ expression_token closes (drop at text.now) }
 {
-    let bytes = text.as_bytes();
-    let first = bytes[at];
     if is_letter(first) {
         return Some((Kind::Identifier, word_len(text, at)));
     }
+    let bytes = text.as_bytes();
     match first {
         b'\n' => Some((Kind::LineEnd, 1)),
         b'"' => Some((Kind::QuoteOpen, 1)),
@@ -112,7 +114,7 @@ fn expression_token(text: &str, at: usize, closes: bool) -> Option<(Kind, usize)
         b']' => Some((Kind::CloseBracket, 1)),
         b'(' => Some((Kind::OpenParen, 1)),
         b')' => Some((Kind::CloseParen, 1)),
-        _ => other_token(text, at, closes),
+        _ => expression_at(text, at, closes),
     }
 }
 
@@ -127,7 +129,20 @@ fn close_token(closes: bool) -> Option<(Kind, usize)>
     }
 }
 
-/// The token outside of literal text, whatever it begins with.
+/// The token outside of literal text, whatever it begins with; none at the end.
+fn expression_at(text: &str, at: usize, closes: bool) -> Option<(Kind, usize)>
+    requires within { at ≤ length text.now }
+    requires utf8 { IsUtf8 (drop at text.now) }
+    ensures { result ≡ expression_token closes (drop at text.now) }
+{
+    if at == text.len() {
+        None
+    } else {
+        other_token(text, at, closes)
+    }
+}
+
+/// The same where a byte stands.
 fn other_token(text: &str, at: usize, closes: bool) -> Option<(Kind, usize)>
     requires within { at < length text.now }
     requires utf8 { IsUtf8 (drop at text.now) }
@@ -182,19 +197,6 @@ fn closes_sequence(mode: Mode<'_>) -> bool
     matches!(mode, Mode::Sequence)
 }
 
-/// The token outside of literal text; none at the end.
-fn expression_at(text: &str, at: usize, closes: bool) -> Option<(Kind, usize)>
-    requires within { at ≤ length text.now }
-    requires utf8 { IsUtf8 (drop at text.now) }
-    ensures { result ≡ expression_token closes (drop at text.now) }
-{
-    if at == text.len() {
-        None
-    } else {
-        expression_token(text, at, closes)
-    }
-}
-
 /// What stands behind a place: a gap, and a token or none.
 #[derive(Clone, Copy)]
 pub struct Next {
@@ -226,8 +228,8 @@ pub fn step(text: &str, at: usize, mode: Mode<'_>) -> Next
             token: here_token(bytes, at, marker, fresh),
         },
         _ => {
-            let start = blanks_end(bytes, at);
-            let token = expression_at(text, start, closes_sequence(mode));
+            let (start, first) = behind_blanks(bytes, at);
+            let token = expression_token(text, start, first, closes_sequence(mode));
             Next { start, token }
         }
     }

@@ -6,3 +6,4 @@ pub mod MilestoneLemmas
 pub mod PlaceLemmas
 pub mod StretchLemmas
 pub mod TokensLemmas
+pub mod RunLemmas

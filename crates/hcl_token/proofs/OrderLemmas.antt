@@ -42,6 +42,12 @@ pairs-take text [] from (suc n) = refl
 pairs-take text (x ∷ tokens) from zero = refl
 pairs-take text (x ∷ tokens) from (suc n) = ap (λ (ps : List Pair). pair_at text from x ∷ ps) (pairs-take text tokens x.stop n)
 
+pub pairs-drop : (text : List ℕ) (tokens : List Token) (from n : ℕ) → drop n (pairs_from text from tokens) ≡ pairs_from text (gap_from from tokens n) (drop n tokens)
+pairs-drop text [] from zero = refl
+pairs-drop text [] from (suc n) = refl
+pairs-drop text (x ∷ tokens) from zero = refl
+pairs-drop text (x ∷ tokens) from (suc n) = pairs-drop text tokens x.stop n
+
 -- where the gap before a token begins
 pub gap-first : (tokens : List Token) (from : ℕ) → gap_from from tokens 0 ≡ from
 gap-first [] from = refl

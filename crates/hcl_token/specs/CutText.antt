@@ -1,5 +1,5 @@
 -- A text with its tokens, as callers see it.
-use Rattle.std.specs.Prelude.{ℕ, Bool, List, [], ◌∷◌, ◌++◌, length, take, slice_get, Option, IsUtf8, ⊤}
+use Rattle.std.specs.Prelude.{ℕ, Bool, List, [], ◌∷◌, ◌++◌, length, take, drop, slice_get, Option, IsUtf8, ⊤}
 use Rattle.std.specs.Option.{option_map, option_and_then}
 use Rattle.hcl_token.specs.declared.item.Item.{Item}
 use Rattle.hcl_token.specs.declared.kind.Kind.{Kind}
@@ -48,3 +48,13 @@ joins_of pairs i j =
     option_and_then (λ (p : Pair). option_map
     (λ (q : Pair). joins_with p.kind p.spelling q.kind q.spelling) (slice_get pairs j))
     (slice_get pairs i)
+
+-- ---- the same tokens in another text
+
+abbrev pub without_first_gap : List Pair → List Pair
+without_first_gap [] = []
+without_first_gap (p ∷ ps) = record { gap = []; kind = p.kind; spelling = p.spelling } ∷ ps
+
+-- so many tokens from number `from` on, with the gaps between them
+abbrev pub stretch_of : List Pair → ℕ → ℕ → List Pair
+stretch_of pairs from count = without_first_gap (take count (drop from pairs))

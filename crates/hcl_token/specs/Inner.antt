@@ -3,3 +3,4 @@
 -- The clauses of public calls are said without them.
 pub mod Milestones
 pub mod Plain
+pub mod Runs

@@ -2,6 +2,9 @@
 
 /// What a token is. Each operator has a kind of its own.
 ///
+/// The kinds from `OpenBrace` on can open or close something: as they stand together, one comparison
+/// tells them from the others.
+///
 /// HCL native syntax specification, Lexical Elements and Templates.
 #[derive(Clone, Copy, Debug, PartialEq, Eq)]
 pub enum Kind {
@@ -57,10 +60,6 @@ pub enum Kind {
     Equal,
     /// `=>`
     FatArrow,
-    /// `{`
-    OpenBrace,
-    /// `}` that closes a `{`, or nothing
-    CloseBrace,
     /// `[`
     OpenBracket,
     /// `]`
@@ -75,6 +74,12 @@ pub enum Kind {
     Dot,
     /// `...`
     Ellipsis,
+    /// Literal text in quotes.
+    QuoteLit,
+    /// `{`
+    OpenBrace,
+    /// `}` that closes a `{`, or nothing
+    CloseBrace,
     /// `"` before quoted text.
     QuoteOpen,
     /// `<<` or `<<-`, the marker, and the end of the line.
@@ -87,8 +92,6 @@ pub enum Kind {
     InterpOpen,
     /// `%{` or `%{~`: a template directive begins.
     DirectiveOpen,
-    /// Literal text in quotes.
-    QuoteLit,
     /// The line that closes a heredoc, without its line end.
     HereClose,
     /// Literal text of a heredoc.

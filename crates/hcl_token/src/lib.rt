@@ -9,6 +9,7 @@ mod kind;
 mod milestone;
 mod place;
 mod places;
+mod run;
 mod token;
 mod tokens;
 

@@ -16,6 +16,13 @@ use std::alloc::{AllocError, Global};
 /// How many tokens apart the places are that are kept.
 const SPACING: usize = 64;
 
+/// The greatest number of bytes whose line ends are counted in 8 bits.
+const MOST_SHORT: usize = 255;
+
+/// So many bytes at a time are counted of a longer piece: a multiple of 32, so that none of them is
+/// done alone.
+const STEP: usize = 224;
+
 /// The place of the gap before a token; a text is so short that 32 bits hold its lines and columns.
 #[derive(Clone, Copy)]
 pub(crate) struct Milestone {
@@ -51,7 +58,8 @@ pub(crate) fn gap_at(tokens: &[Token], i: usize) -> u32
     if i == 0 { 0 } else { tokens[i - 1].stop }
 }
 
-fn stretch(tokens: &[Token], from: usize, to: usize) -> &[Token]
+/// The tokens from one number to another.
+pub(crate) fn stretch(tokens: &[Token], from: usize, to: usize) -> &[Token]
     requires ordered { from ≤ to }
     requires within { to ≤ length tokens.now }
     ensures { result.now ≡ slice_range tokens.now from to }
@@ -65,23 +73,40 @@ fn is_mark(kind: Kind) -> bool
     matches!(kind, Kind::Mark)
 }
 
+/// No early end: the processor does many tokens at once.
 fn has_mark(tokens: &[Token]) -> bool
     ensures { result ≡ has_mark tokens.now }
 {
-    tokens.iter().any(|token| is_mark(token.kind))
+    let mut marked = false;
+    for token in tokens {
+        marked |= is_mark(token.kind);
+    }
+    marked
 }
 
-/// Counted in 32 bits, of which the processor adds several at once.
+/// Counted in 8 bits, of which the processor adds sixteen at once.
+fn line_ends_in_short(piece: &[u8]) -> u8
+    requires { length piece.now < 2 ^ 8 }
+    ensures { result ≡ count_by is_lf piece.now }
+{
+    let mut ends: u8 = 0;
+    for byte in piece {
+        ends += u8::from(*byte == 10);
+    }
+    ends
+}
+
 fn line_ends(piece: &[u8]) -> usize
-    requires { length piece.now < 2 ^ 32 }
     ensures value { result ≡ count_by is_lf piece.now }
     ensures within { result ≤ length piece.now }
 {
-    let mut ends: u32 = 0;
-    for byte in piece {
-        ends += u32::from(*byte == 10);
+    let mut ends = 0;
+    let mut from = 0;
+    while piece.len() - from > MOST_SHORT {
+        ends += usize::from(line_ends_in_short(&piece[from..from + STEP]));
+        from += STEP;
     }
-    ends as usize
+    ends + usize::from(line_ends_in_short(&piece[from..]))
 }
 
 fn last_line(piece: &[u8]) -> &[u8]

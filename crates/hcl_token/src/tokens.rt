@@ -1,8 +1,8 @@
 //! A text with its tokens.
 
-ghost use Rattle.std.specs.Prelude.{◌≡◌, ◌<◌, ◌≤◌, ◌↔◌, [], length, drop, IsTrue, IsUtf8, Some, IfOk};
+ghost use Rattle.std.specs.Prelude.{◌≡◌, ◌+◌, ◌<◌, ◌≤◌, ◌↔◌, [], length, drop, IsTrue, IsUtf8, Some, IfOk};
 ghost use Rattle.hcl_token.specs.declared.tokens.TheConstants.{MAX_TEXT};
-ghost use Rattle.hcl_token.specs.CutText.{CutText, AreUtf8, kind_of, spelling_of, gap_of, clusters_of, item_of, joins_of};
+ghost use Rattle.hcl_token.specs.CutText.{CutText, AreUtf8, kind_of, spelling_of, gap_of, clusters_of, item_of, joins_of, stretch_of};
 ghost use Rattle.hcl_token.specs.Items.{InOrder, cut_text, pairs_of};
 ghost use Rattle.hcl_token.specs.Inner.Milestones.{IsOrdered};
 ghost use Rattle.hcl_token.specs.Tokens.{whole_text};
@@ -11,8 +11,9 @@ use crate::graphemes::clusters;
 use crate::item::Item;
 use crate::join_table::joins;
 use crate::kind::Kind;
-use crate::milestone::{gap_at, part};
+use crate::milestone::{gap_at, part, stretch};
 use crate::places::Places;
+use crate::run::same_run;
 use crate::token::Token;
 use std::alloc::{AllocError, Global};
 use std::marker::Model;
@@ -161,6 +162,23 @@ impl<'t> Tokens<'t> {
         ensures { Some result ≡ clusters_of self.now.pairs i }
     {
         clusters(self.spelling(i))
+    }
+
+    /// Whether `count` tokens from number `from` on stand in another text from number `to` on: of
+    /// the same kinds, spelled alike, and with the same gaps between them. The gaps before the
+    /// first are not compared.
+    pub fn same_stretch(&self, from: usize, other: &Tokens<'_>, to: usize, count: usize) -> bool
+        requires here { from + count ≤ length self.now.pairs }
+        requires there { to + count ≤ length other.now.pairs }
+        ensures { IsTrue result
+            ↔ (stretch_of self.now.pairs from count ≡ stretch_of other.now.pairs to count) }
+    {
+        if count == 0 {
+            return true;
+        }
+        let tokens = stretch(&self.tokens, from, from + count);
+        let others = stretch(&other.tokens, to, to + count);
+        same_run(self.text, tokens, other.text, others)
     }
 
     /// Where the tokens stand, by line and column. The text is read once.

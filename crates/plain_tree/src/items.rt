@@ -1,9 +1,12 @@
 //! An owner of many values.
 
-ghost use Rattle.std.specs.Prelude.{◌≡◌, [], ◌∷◌, ◌++◌, ◌↔◌, length, IsTrue, OnOk, OnErr};
+ghost use Rattle.std.specs.Prelude.{◌≡◌, [], ◌∷◌, ◌++◌, ◌↔◌, length, IsTrue, IfOk, OnOk, OnErr};
 
 use std::alloc::{AllocError, Allocator, Global};
 use std::marker::Model;
+
+/// A list of fewer elements is short.
+const SHORT_LIST: usize = 64;
 
 /// A `Vec`. Contracts see the list of its elements alone.
 #[derive(Drop)]
@@ -32,6 +35,15 @@ impl<T, A: Allocator> Items<T, A> {
         }
     }
 
+    /// No element, and room for so many; `AllocError` where that is not there.
+    pub fn with_room(alloc: A, count: usize) -> Result<Items<T, A>, AllocError>
+        ensures { IfOk result (λ it. it ≡ []) }
+    {
+        Ok(Items {
+            vec: Vec::with_capacity(alloc, count)?,
+        })
+    }
+
     /// The elements.
     pub fn as_slice(&self) -> &[T]
         ensures { result.now ≡ self.now }
@@ -54,18 +66,36 @@ impl<T, A: Allocator> Items<T, A> {
     }
 }
 
-impl<T: Drop, A: Allocator> Items<T, A> {
+impl<T: Drop, A: Allocator + Copy> Items<T, A> {
+    /// Makes room for one element or more in a list that is full.
+    fn grow(&mut self) -> Result<(), AllocError>
+        ensures { self.new ≡ self.old }
+    {
+        let len = self.len();
+        if len == 0 {
+            return self.vec.reserve_exact(1);
+        }
+        if len >= SHORT_LIST {
+            // A long list is most of its tree, and grows by a quarter.
+            return self.vec.reserve_exact(len / 4);
+        }
+        // A short list grows by half. It moves to a piece of memory that was let go before, which
+        // malloc finds sooner than it makes a piece longer.
+        let more = if len < 4 { 2 } else { len / 2 + 1 };
+        let mut room = Vec::with_capacity(*self.vec.allocator(), len + more)?;
+        room.append(&mut self.vec)?;
+        self.vec = room;
+        Ok(())
+    }
+
     /// Puts an element at the end; `AllocError` where there is no room for one more, and then the
     /// element is dropped.
     pub fn push(&mut self, item: T) -> Result<(), AllocError>
         ensures ok { OnOk result (self.new ≡ self.old ++ item ∷ []) }
         ensures err { OnErr result (self.new ≡ self.old) }
     {
-        let len = self.len();
-        if len == self.vec.capacity() {
-            // A short list doubles; a long one is most of its tree, and grows by a quarter.
-            let more = if len < 64 { len + 1 } else { len / 4 };
-            self.vec.reserve_exact(more)?;
+        if self.len() == self.vec.capacity() {
+            self.grow()?;
         }
         self.vec.push(item)?;
         Ok(())

@@ -48,22 +48,39 @@ silenced_step pairs rule line i within =
       | inr (past, none) ↦ absurd (omega arith)
     ]
 
+-- what is known of each kind and spelling of a token is known of its own
+abbrev pub IsQuiet : List Pair → Rule → ℕ → Type 0
+IsQuiet pairs rule i = (kind : Kind) (spelling : List ℕ) → Some kind ≡ kind_of pairs i → Some spelling ≡ spelling_of pairs i → silences kind spelling rule ≡ false
+
 -- a token that is no silencing comment
-pub quiet : (pairs : List Pair) (rule : Rule) (line i : ℕ) (kind : Kind) (spelling : List ℕ) → Some kind ≡ kind_of pairs i → Some spelling ≡ spelling_of pairs i
-    → silences kind spelling rule ≡ false → silences_at pairs rule line i ≡ false
-quiet pairs rule line i kind spelling is_kind is_spelling none_said =
+pub quiet : (pairs : List Pair) (rule : Rule) (line i : ℕ) → IsQuiet pairs rule i → silences_at pairs rule line i ≡ false
+quiet pairs rule line i none_said =
     let test = λ (p : Pair). silences p.kind p.spelling rule && is_near line (line_of pairs i) in
     elim (slice_get_cases pairs i).1 [
       | inl (x, below, found, same) ↦
-          let k : kind ≡ x.kind = cc (is_kind, ap (option_map (λ (p : Pair). p.kind)) found) in
-          let t : spelling ≡ x.spelling = cc (is_spelling, ap (option_map (λ (p : Pair). p.spelling)) found) in
-          let off : silences x.kind x.spelling rule ≡ false = ap (λ a. silences a x.spelling rule) (sym k) ∙ (ap (λ a. silences kind a rule) (sym t) ∙ none_said) in
+          let off : silences x.kind x.spelling rule ≡ false =
+          none_said x.kind x.spelling (sym (ap (option_map (λ (p : Pair). p.kind)) found)) (sym (ap (option_map (λ (p : Pair). p.spelling)) found)) in
           ap (λ o. unwrap_or (option_map test o) false) found ∙ ap (λ b. b && is_near line (line_of pairs i)) off
       | inr (past, none) ↦ ap (λ o. unwrap_or (option_map test o) false) none
     ]
 
+-- a token of a kind that silences nothing
+pub quiet_kind : (pairs : List Pair) (rule : Rule) (line i : ℕ) (kind : Kind) → Some kind ≡ kind_of pairs i → ((spelling : List ℕ) → silences kind spelling rule ≡ false)
+    → silences_at pairs rule line i ≡ false
+quiet_kind pairs rule line i kind is_kind none_said =
+    quiet pairs rule line i (λ k spelling same _. let e : k ≡ kind = cc (same, is_kind) in ap (λ x. silences x spelling rule) e ∙ none_said spelling)
+
+-- a token that silences nothing as it is spelled
+pub quiet_spelling : (pairs : List Pair) (rule : Rule) (line i : ℕ) (kind : Kind) (spelling : List ℕ) → Some kind ≡ kind_of pairs i → Some spelling ≡ spelling_of pairs i
+    → silences kind spelling rule ≡ false → silences_at pairs rule line i ≡ false
+quiet_spelling pairs rule line i kind spelling is_kind is_spelling none_said =
+    quiet pairs rule line i (λ k t same_kind same_spelling.
+    let e : k ≡ kind = cc (same_kind, is_kind) in
+    let f : t ≡ spelling = cc (same_spelling, is_spelling) in
+    ap (λ x. silences x t rule) e ∙ (ap (λ x. silences kind x rule) f ∙ none_said))
+
 -- past a token that is no silencing comment
-pub quiet_step : (pairs : List Pair) (rule : Rule) (line i : ℕ) (kind : Kind) (spelling : List ℕ) → i < length pairs → Some kind ≡ kind_of pairs i → Some spelling ≡ spelling_of pairs i
-    → silences kind spelling rule ≡ false → silenced_from pairs rule line (i + 1) (drop (i + 1) pairs) ≡ silenced_from pairs rule line i (drop i pairs)
-quiet_step pairs rule line i kind spelling within is_kind is_spelling none_said =
-    sym (silenced_step pairs rule line i within ∙ ap (λ b. b || silenced_from pairs rule line (i + 1) (drop (i + 1) pairs)) (quiet pairs rule line i kind spelling is_kind is_spelling none_said))
+pub quiet_step : (pairs : List Pair) (rule : Rule) (line i : ℕ) → i < length pairs → silences_at pairs rule line i ≡ false
+    → silenced_from pairs rule line (i + 1) (drop (i + 1) pairs) ≡ silenced_from pairs rule line i (drop i pairs)
+quiet_step pairs rule line i within none_said =
+    sym (silenced_step pairs rule line i within ∙ ap (λ b. b || silenced_from pairs rule line (i + 1) (drop (i + 1) pairs)) none_said)

@@ -32,18 +32,20 @@ fn step_edits(
     alloc: Global,
     scanned: &Scanned<'_>,
     rule: Rule,
-    findings: &[Finding],
+    findings: Vec<Finding>,
 ) -> Result<Vec<Edit>, LintFault>
     requires filled { AreFilled scanned.now.pairs }
-    requires sound { AreSound (length scanned.now.pairs) findings.now }
+    requires sound { AreSound (length scanned.now.pairs) findings.items }
     ensures ok { IfOk result
-        (λ edits. entries edits.items ≡ step_entries rule scanned.now findings.now) }
+        (λ edits. entries edits.items ≡ step_entries rule scanned.now findings.items) }
     ensures err { IfErr result (λ e. e ≡ Memory) }
 {
     if is_comment_rule(rule) {
-        return Ok(comment_edits(alloc, scanned, findings)?);
+        return Ok(comment_edits(alloc, scanned, &findings)?);
     }
-    let all = taken_replacements(alloc, scanned, findings)?;
+    let all = taken_replacements(alloc, scanned, &findings)?;
+    // The edits take as much memory as the findings, which are not asked any more.
+    drop(findings);
     Ok(replacement_edits(alloc, scanned, &all)?)
 }
 
@@ -56,19 +58,19 @@ pub fn mended_edits(
     alloc: Global,
     scanned: &Scanned<'_>,
     rule: Rule,
-    findings: &[Finding],
+    findings: Vec<Finding>,
 ) -> Result<Edits, LintFault>
     requires apart { AreApart scanned.now.pairs }
-    requires of { AreOf rule scanned.now.pairs findings.now }
-    requires sound { AreSound (length scanned.now.pairs) findings.now }
-    ensures edits { IfOk result (λ edits. edits ≡ mended_edits rule scanned.now findings.now) }
+    requires of { AreOf rule scanned.now.pairs findings.items }
+    requires sound { AreSound (length scanned.now.pairs) findings.items }
+    ensures edits { IfOk result (λ edits. edits ≡ mended_edits rule scanned.now findings.items) }
     ensures turns { IfOk result
-        (λ edits. Turns edits scanned.now.text (mended_text scanned.now findings.now)) }
+        (λ edits. Turns edits scanned.now.text (mended_text scanned.now findings.items)) }
     ensures short { IfOk result
-        (λ edits. length (mended_text scanned.now findings.now) ≤ MAX_TEXT) }
+        (λ edits. length (mended_text scanned.now findings.items) ≤ MAX_TEXT) }
     ensures err { IfErr result
         (λ e. (e ≡ Memory)
-        ⊎ ((e ≡ TooLong) × (MAX_TEXT < length (mended_text scanned.now findings.now)))) }
+        ⊎ ((e ≡ TooLong) × (MAX_TEXT < length (mended_text scanned.now findings.items)))) }
 {
     let text = scanned.text();
     let edits = step_edits(alloc, scanned, rule, findings)?;

@@ -40,26 +40,26 @@ fn step_edits(
     alloc: Global,
     scanned: &Scanned<'_>,
     rule: Rule,
-    found: &[Finding],
+    found: Vec<Finding>,
 ) -> Result<Mended, LintFault>
     requires finds { (p : Parsed) × (p.scanned ≡ scanned.now) × Reads p.scanned.text p
-        × Finds (only rule) p found.now }
-    requires sound { AreSound (length scanned.now.pairs) found.now }
-    ensures count { IfOk result (λ mended. mended.count ≡ fix_count found.now) }
+        × Finds (only rule) p found.items }
+    requires sound { AreSound (length scanned.now.pairs) found.items }
+    ensures count { IfOk result (λ mended. mended.count ≡ fix_count found.items) }
     ensures few { IfOk result (λ mended. mended.count ≤ MAX_TEXT) }
-    ensures edits { IfOk result (λ mended. mended.edits ≡ mended_edits rule scanned.now found.now) }
+    ensures edits { IfOk result (λ mended. mended.edits ≡ mended_edits rule scanned.now found.items) }
     ensures turns { IfOk result
-        (λ mended. Turns mended.edits scanned.now.text (mended_text scanned.now found.now)) }
-    ensures short { IfOk result (λ mended. length (mended_text scanned.now found.now) ≤ MAX_TEXT) }
+        (λ mended. Turns mended.edits scanned.now.text (mended_text scanned.now found.items)) }
+    ensures short { IfOk result (λ mended. length (mended_text scanned.now found.items) ≤ MAX_TEXT) }
     ensures fault { IfErr result
         (λ fault. (fault ≡ Memory)
-        ⊎ ((fault ≡ TooLong) × (MAX_TEXT < length (mended_text scanned.now found.now)))) }
+        ⊎ ((fault ≡ TooLong) × (MAX_TEXT < length (mended_text scanned.now found.items)))) }
 {
     parsed_apart();
     one_origin();
     taken_are_few();
+    let count = taken(&found);
     let edits = mended_edits(alloc, scanned, rule, found)?;
-    let count = taken(found);
     Ok(Mended { count, edits })
 }
 
@@ -76,7 +76,7 @@ pub fn fix_step(alloc: Global, parsed: &Parsed<'_>, rule: Rule) -> Result<Mended
         ⊎ ((fault ≡ TooLong) × IsTooLong rule parsed.now)) }
 {
     let found = findings(alloc, &parsed.scanned, &parsed.tree, RuleSet::only(rule))?;
-    step_edits(alloc, &parsed.scanned, rule, &found)
+    step_edits(alloc, &parsed.scanned, rule, found)
 }
 
 /// The same over what was found in a text by the rules of a set that has the rule.
@@ -98,5 +98,5 @@ pub fn found_step(
 {
     found_by_one();
     let own = of_rule(alloc, found, rule)?;
-    step_edits(alloc, scanned, rule, &own)
+    step_edits(alloc, scanned, rule, own)
 }

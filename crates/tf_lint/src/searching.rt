@@ -10,9 +10,11 @@ ghost use Rattle.tf_fix.specs.declared.parsed.Parsed.{Parsed};
 use crate::fault::FixFault;
 use crate::searched::Searched;
 use crate::text::findings;
+use edit_list::Edits;
 use hcl_scan::laws::{no_cut_with_fault, one_cut};
-use hcl_scan::{Token, scan, scan_in};
-use std::alloc::Global;
+use hcl_scan::{Replaced, Token, scan, scan_again};
+use hcl_text_laws::laws::parsed_apart;
+use std::alloc::{AllocError, Global};
 use tf_rule::{Rule, RuleSet};
 
 /// The tokens of a text, if it parses, and what the rules of the set find in it.
@@ -41,20 +43,37 @@ pub fn search_text<'t>(
     }
 }
 
-/// The same of a text that came from one that was searched: what stayed as it was is not read
-/// again. Its tokens come into a list that has room.
+/// The pieces of a text that edits replace, for `scan_again`.
+pub fn replaced_by(alloc: Global, edits: &Edits) -> Result<Vec<Replaced>, AllocError> {
+    let edits = edits.edits();
+    let mut pieces = Vec::with_capacity(alloc, edits.len())?;
+    for edit in edits {
+        pieces.push(Replaced {
+            at: edit.at,
+            removed: edit.removed.len(),
+            added: edit.added.len(),
+        })?;
+    }
+    Ok(pieces)
+}
+
+/// The same of a text that came from one that was searched, in which these pieces were replaced:
+/// what stayed as it was is not read again. Its tokens come into a list that has room.
 fn search_again<'t>(
     alloc: Global,
     text: &'t [u8],
     before: &Searched<'_>,
     room: Vec<Token>,
+    replaced: Vec<Replaced>,
 ) -> Result<Searched<'t>, FixFault>
     requires { (p : Parsed) × IsOf p before.now }
     ensures searched { IfOk result (λ searched. (p : Parsed) × Reads text.now p × IsOf p searched) }
     ensures rules { IfOk result (λ searched. searched.rules ≡ before.now.rules) }
     ensures fault { IfErr result (λ fault. NotRead text.now fault) }
 {
-    let scanned = scan_in(alloc, room, text)?;
+    parsed_apart();
+    let scanned = scan_again(alloc, room, text, &before.scanned, &replaced)?;
+    drop(replaced);
     let rules = before.rules;
     match findings(
         alloc,
@@ -91,6 +110,7 @@ pub fn search_made<'t>(
     text: &'t [u8],
     before: &Searched<'_>,
     room: Vec<Token>,
+    replaced: Vec<Replaced>,
     rule: Rule,
 ) -> Result<Searched<'t>, FixFault>
     requires { (p : Parsed) × IsOf p before.now }
@@ -102,7 +122,7 @@ pub fn search_made<'t>(
 {
     no_cut_with_fault();
     one_cut();
-    match search_again(alloc, text, before, room) {
+    match search_again(alloc, text, before, room, replaced) {
         Ok(searched) => Ok(searched),
         Err(fault) => Err(broken(fault, rule)),
     }

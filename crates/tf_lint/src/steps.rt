@@ -16,12 +16,12 @@ use crate::fault::FixFault;
 use crate::issue::Issue;
 use crate::listing::issues_of;
 use crate::searched::Searched;
-use crate::searching::{search_made, search_text};
+use crate::searching::{replaced_by, search_made, search_text};
 use crate::step::{NewText, Step, one_step};
 use edit_list::Edits;
 use edit_list::laws::turned_texts_have_the_lengths;
 use edit_squash::{Unmet, squash};
-use hcl_scan::Token;
+use hcl_scan::{Replaced, Token};
 use std::alloc::Global;
 use tf_rule::{Rule, RuleSet};
 
@@ -141,6 +141,7 @@ fn pass<'t, 'o>(
     text: &'t [u8],
     before: &Searched<'_>,
     spare: Vec<Token>,
+    replaced: Vec<Replaced>,
     order: &'o [Rule],
     by: Rule,
     count: usize,
@@ -154,7 +155,7 @@ fn pass<'t, 'o>(
     ensures fault { IfErr result
         (λ fault. RefusesFrom before.now.rules order.now text.now by fault) }
 {
-    match search_made(alloc, text, before, spare, by) {
+    match search_made(alloc, text, before, spare, replaced, by) {
         Ok(searched) => {
             let passed = first_change(alloc, &searched, order, count)?;
             Ok(Searching { searched, passed })
@@ -171,13 +172,14 @@ struct Ended {
     left: Vec<Issue>,
 }
 
-/// The steps of these rules over a text that the step of one made of one that was searched, behind
-/// the edits so far.
+/// The steps of these rules over a text that the step of one made of one that was searched, by
+/// replacing these pieces of it, behind the edits so far.
 fn run(
     alloc: Global,
     before: Searched<'_>,
     spare: Vec<Token>,
     done: NewText,
+    replaced: Vec<Replaced>,
     order: &[Rule],
     by: Rule,
     count: usize,
@@ -199,7 +201,9 @@ fn run(
         text,
         edits: so_far,
     } = done;
-    let Searching { searched, passed } = pass(alloc, &text, &before, spare, order, by, count)?;
+    let Searching { searched, passed } = pass(
+        alloc, &text, &before, spare, replaced, order, by, count,
+    )?;
     // The text before the last step is not asked any more: the tokens of the next one come into the
     // memory of its tokens, and the rest goes before the next step takes more.
     let spare = before.scanned.into_room();
@@ -225,6 +229,7 @@ fn run(
         } => {
             let edits = gather(alloc, &so_far, &change.edits)?;
             drop(so_far);
+            let replaced = replaced_by(alloc, &change.edits)?;
             drop(change.edits);
             run(
                 alloc,
@@ -234,6 +239,7 @@ fn run(
                     text: change.text,
                     edits,
                 },
+                replaced,
                 rest,
                 next,
                 fixed,
@@ -269,7 +275,9 @@ pub fn fix_text(alloc: Global, text: &[u8], rules: RuleSet) -> Result<Fixed, Fix
             by,
             rest,
         } => {
-            let ended = run(alloc, searched, Vec::new(alloc), change, rest, by, fixed)?;
+            let replaced = replaced_by(alloc, &change.edits)?;
+            let spare = Vec::new(alloc);
+            let ended = run(alloc, searched, spare, change, replaced, rest, by, fixed)?;
             Ok(Fixed {
                 change: Some(ended.change),
                 fixed: ended.fixed,

@@ -1,79 +1,75 @@
 -- What is known of the gap between two tokens before all rows of the table are gone through. For
 -- proofs: nothing here has to be believed.
-use Rattle.std.specs.Prelude.{◌≡◌, ◌<◌, ◌≤◌, ℕ, ◌-◌, Bool, true, false, ◌||◌, List, [], ◌∷◌, slice_range, slice_get, Option, Some, option_map}
+use Rattle.std.specs.Prelude.{◌≡◌, ◌<◌, ◌≤◌, ℕ, ◌-◌, Bool, not, ◌&&◌, ◌||◌, List, [], ◌∷◌, slice_range, slice_get, Option, Some, option_map}
 use Rattle.hcl_token.specs.declared.kind.Kind.{Kind}
-use Rattle.hcl_token.specs.declared.kind.Kind.TheVariants.{LineEnd, Identifier, Number, DotIndex, Minus, Slash, Bang, Less, Greater, Colon, DoubleColon, Equal, OpenBracket, CloseBracket, OpenParen, CloseParen, CloseBrace, Comma, Dot, Ellipsis, SeqClose, InterpOpen, DirectiveOpen}
+use Rattle.hcl_token.specs.declared.kind.Kind.TheVariants.{Mark, LineEnd, LineComment, Identifier, Number, DotIndex, Minus, Star, Slash, Bang, Less, Greater, Colon, DoubleColon, Equal, OpenBrace, CloseBrace, OpenBracket, CloseBracket, OpenParen, CloseParen, Comma, Dot, Ellipsis, SeqClose, QuoteClose, InterpOpen, DirectiveOpen, QuoteLit, HereClose, HereLit}
 use Rattle.hcl_token.specs.Tokens.{Pair}
-use Rattle.hcl_token.specs.Joins.{after_identifier, after_dot, after_dot_index}
 use Rattle.hcl_token.specs.CutText.{kind_of}
-use Rattle.hcl_gaps.specs.Kinds.{is_minus, is_star, is_seq_close}
+use Rattle.hcl_gaps.specs.Kinds.{is_identifier, is_minus, is_star, is_open_bracket, closes_close}
 use Rattle.hcl_gaps.specs.Space.{passed_all, is_in, is_spaced}
 use Rattle.hcl_gaps.specs.Inner.Stages.{token}
 
--- no row that says "no space" fits by the kind of the token before
-abbrev pub leaves_room : Kind → Bool
-leaves_room DoubleColon = false
-leaves_room Dot = false
-leaves_room Bang = false
-leaves_room Minus = false
-leaves_room OpenParen = false
-leaves_room OpenBracket = false
-leaves_room InterpOpen = false
-leaves_room DirectiveOpen = false
-leaves_room kind = true
+-- what a token's kind says of the gap behind it, as flags
+abbrev pub told_behind : Kind → ℕ
+told_behind Identifier = 153
+told_behind Number = 281
+told_behind DotIndex = 281
+told_behind CloseParen = 281
+told_behind CloseBracket = 281
+told_behind QuoteClose = 281
+told_behind Dot = 72
+told_behind OpenBrace = 26
+told_behind OpenParen = 56
+told_behind OpenBracket = 56
+told_behind InterpOpen = 56
+told_behind DirectiveOpen = 56
+told_behind Minus = 24
+told_behind DoubleColon = 24
+told_behind Mark = 8
+told_behind Bang = 8
+told_behind HereLit = 8
+told_behind Less = 13
+told_behind Greater = 13
+told_behind Equal = 13
+told_behind Colon = 13
+told_behind Slash = 13
+told_behind Star = 25
+told_behind CloseBrace = 25
+told_behind kind = 29
 
--- nor by the kind of the token behind, where none does by that of the one before
-abbrev pub takes_room : Kind → Bool
-takes_room LineEnd = false
-takes_room DotIndex = false
-takes_room DoubleColon = false
-takes_room OpenBracket = false
-takes_room CloseBracket = false
-takes_room OpenParen = false
-takes_room CloseParen = false
-takes_room CloseBrace = false
-takes_room Comma = false
-takes_room Dot = false
-takes_room Ellipsis = false
-takes_room SeqClose = false
-takes_room kind = true
-
--- no space stands before a token of this kind, whatever stands before it
-abbrev pub stands_close : Kind → Bool
-stands_close LineEnd = true
-stands_close DotIndex = true
-stands_close DoubleColon = true
-stands_close Comma = true
-stands_close Dot = true
-stands_close Ellipsis = true
-stands_close kind = false
-
--- what a number may join with
-abbrev pub may_go_on : Kind → Bool
-may_go_on Number = true
-may_go_on Identifier = true
-may_go_on DotIndex = true
-may_go_on kind = false
-
--- some tokens of these kinds join
-abbrev pub may_join : Kind → Kind → Bool
-may_join Identifier kind = after_identifier kind
-may_join Number kind = may_go_on kind
-may_join DotIndex kind = after_dot_index kind
-may_join Less kind = true
-may_join Greater kind = true
-may_join Equal kind = true
-may_join Bang kind = true
-may_join Colon kind = true
-may_join Dot kind = after_dot kind
-may_join Slash kind = true
-may_join InterpOpen kind = is_seq_close kind
-may_join DirectiveOpen kind = is_seq_close kind
-may_join first kind = false
+-- what it says of the gap before it
+abbrev pub told_before : Kind → ℕ
+told_before Mark = 8
+told_before QuoteClose = 8
+told_before QuoteLit = 8
+told_before InterpOpen = 8
+told_before DirectiveOpen = 8
+told_before HereClose = 8
+told_before HereLit = 8
+told_before LineEnd = 48
+told_before DoubleColon = 48
+told_before Comma = 48
+told_before Dot = 48
+told_before Ellipsis = 48
+told_before Identifier = 99
+told_before OpenParen = 164
+told_before OpenBracket = 292
+told_before CloseParen = 288
+told_before CloseBracket = 288
+told_before SeqClose = 256
+told_before CloseBrace = 1
+told_before LineComment = 3
+told_before OpenBrace = 3
+told_before DotIndex = 32
+told_before kind = 35
 
 -- a row asks for the tokens before this one
 abbrev pub asks_before : Pair → Bool
 asks_before a = is_minus a.kind || (is_star a.kind || is_in a)
+
+-- a token of kind b closes or indexes this name, which is not `in`
+abbrev pub ends_name : Pair → Kind → Bool
+ends_name a b = is_identifier a.kind && ((closes_close b || is_open_bracket b) && not (is_in a))
 
 -- whether a space stands between token i, of kind b, and the one before it
 abbrev pub spaced_at : List Kind → List Pair → ℕ → Kind → Option Bool

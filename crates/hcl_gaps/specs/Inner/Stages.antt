@@ -1,9 +1,10 @@
 -- The layout as the code works it out, stage by stage. For proofs: nothing here has to be believed.
-use Rattle.std.specs.Prelude.{◌≡◌, ◌<◌, ◌≤◌, drop, slice_range, ℕ, suc, ◌+◌, ◌-◌, ◌*◌, ◌==◌, Bool, ◌&&◌, nat_lt, List, [], ◌∷◌, length, replicate, slice_get, slice_set, ◌||◌, ◌++◌, Option, Some, None, option_map, option_and_then, if◌then◌else◌, ⊤}
+use Rattle.std.specs.Prelude.{◌≡◌, ◌<◌, ◌≤◌, drop, slice_range, ℕ, suc, ◌+◌, ◌-◌, ◌*◌, ◌==◌, Bool, true, ◌&&◌, nat_lt, List, [], ◌∷◌, length, get_or, replicate, slice_get, slice_set, ◌||◌, ◌++◌, Option, Some, None, option_map, option_and_then, if◌then◌else◌, ⊤}
 use Rattle.std.specs.Str.{bytes_eq}
 use Rattle.hcl_token.specs.declared.kind.Kind.{Kind}
 use Rattle.hcl_token.specs.declared.item.Item.{Item}
 use Rattle.hcl_token.specs.Tokens.{Pair}
+use Rattle.hcl_token.specs.CutText.{gap_of}
 use Rattle.hcl_token.specs.Place.{is_mark}
 use Rattle.hcl_gaps.specs.Lines.{Line, heredocs_after, ends_line, lines_from}
 use Rattle.hcl_gaps.specs.Indent.{openings, closings}
@@ -159,6 +160,10 @@ all_lens surplus before (line ∷ lines) =
 abbrev pub gap_meant : ℕ → List ℕ → List ℕ
 gap_meant n old = if n == KEPT then old else spaces n
 
+-- how many spaces it stands for; none where the gap stays
+abbrev pub set_len : ℕ → ℕ
+set_len n = if n == KEPT then 0 else n
+
 -- how long a token is with that gap
 abbrev pub len_meant : ℕ → Item → ℕ
 len_meant n item = if n == KEPT then item.stop - item.gap_at else n + (item.stop - item.start)
@@ -167,6 +172,12 @@ len_meant n item = if n == KEPT then item.stop - item.gap_at else n + (item.stop
 abbrev pub with_gaps : List ℕ → List Pair → List Pair
 with_gaps (n ∷ ns) (p ∷ ps) = record p { gap = gap_meant n p.gap } ∷ with_gaps ns ps
 with_gaps ns ps = []
+
+-- the gaps before tokens from one number up to another are those that their numbers stand for
+abbrev pub Stay : List Pair → List ℕ → ℕ → ℕ → Type 0
+Stay pairs gaps from to =
+    (k : ℕ) (g : List ℕ) → from ≤ k → k < to → Some g ≡ gap_of pairs k
+    → bytes_eq g (gap_meant (get_or gaps k 0) g) ≡ true
 
 -- how many tokens belong to no line: the byte order mark
 abbrev pub marks : List Pair → ℕ

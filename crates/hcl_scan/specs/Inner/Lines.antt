@@ -1,12 +1,27 @@
 -- Whole lines of a text that is cut, and a text of which the front is made of such.
-use Rattle.std.specs.Prelude.{◌≡◌, ℕ, ◌+◌, ◌≤◌, List, [], ◌∷◌, length, take, drop, slice_range, ⊤}
+use Rattle.std.specs.Prelude.{◌≡◌, ℕ, ◌+◌, ◌-◌, ◌≤◌, min, List, [], ◌∷◌, length, take, drop, slice_range, ⊤}
 use Rattle.hcl_token.specs.declared.token.Token.{Token}
-use Rattle.hcl_token.specs.declared.kind.Kind.TheVariants.{LineEnd}
+use Rattle.hcl_token.specs.declared.kind.Kind.{Kind}
+use Rattle.hcl_token.specs.declared.kind.Kind.TheVariants.{LineEnd, OpenBrace, CloseBrace, QuoteOpen, QuoteClose, HereOpen, HereClose, InterpOpen, DirectiveOpen, SeqClose}
 use Rattle.hcl_token.specs.CutText.{CutText}
 use Rattle.hcl_token.specs.Items.{pairs_of, InOrder}
 use Rattle.hcl_token.specs.Tokens.{Pair, whole_text}
 use Rattle.hcl_scan.specs.Cut.{IsCut}
 use Rattle.hcl_scan.specs.Follows.{FollowsFrom, AreApart}
+
+-- how many openings are open behind a token of the kind, of so many before it: a `{` is one only
+-- behind another
+abbrev pub depth_after : Kind → ℕ → ℕ
+depth_after QuoteOpen depth = depth + 1
+depth_after HereOpen depth = depth + 1
+depth_after InterpOpen depth = depth + 1
+depth_after DirectiveOpen depth = depth + 1
+depth_after OpenBrace depth = depth + min depth 1
+depth_after QuoteClose depth = depth - 1
+depth_after HereClose depth = depth - 1
+depth_after SeqClose depth = depth - 1
+depth_after CloseBrace depth = depth - 1
+depth_after kind depth = depth
 
 -- nothing, or the last token ends a line
 abbrev pub EndsInLine : List Pair → Type 0

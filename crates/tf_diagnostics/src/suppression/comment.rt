@@ -141,8 +141,8 @@ fn held(kind: Kind, spelling: &[u8]) -> &[u8]
     }
 }
 
-/// Whether a token of the kind can say anything.
-fn is_comment(kind: Kind) -> bool
+/// Whether a token of the kind can silence anything.
+pub fn is_comment(kind: Kind) -> bool
     ensures { (spelling : List ℕ) (rule : Rule) → result ≡ false
         → silences kind spelling rule ≡ false }
 {
@@ -153,8 +153,15 @@ fn is_comment(kind: Kind) -> bool
 pub fn rules_silenced(kind: Kind, spelling: &[u8]) -> Option<RuleSet>
     ensures { (rule : Rule) → option_has result rule ≡ silences kind spelling.now rule }
 {
-    if !is_comment(kind) {
-        return None;
-    }
     rules_said(held(kind, spelling))
+}
+
+/// Whether a token is a comment that silences anything.
+pub fn is_silencing(kind: Kind, spelling: &[u8]) -> bool
+    ensures { (rule : Rule) → result ≡ false → silences kind spelling.now rule ≡ false }
+{
+    match rules_silenced(kind, spelling) {
+        None => false,
+        Some(_) => true,
+    }
 }

@@ -1,13 +1,13 @@
 //! The lines of a text with silencing comments.
 
-ghost use Rattle.std.specs.Prelude.{◌≡◌, ◌++◌, [], ◌∷◌, ◌||◌, ◌&&◌, ◌<◌, ◌≤◌, ℕ, length, drop, OnOk, IfOk};
+ghost use Rattle.std.specs.Prelude.{◌≡◌, ◌++◌, [], ◌∷◌, ◌||◌, ◌&&◌, ◌<◌, ◌≤◌, ℕ, false, length, drop, OnOk, IfOk};
 ghost use Rattle.hcl_token.specs.Place.{line_of};
 ghost use Rattle.tf_rule.specs.declared.rule.Rule.{Rule};
 ghost use Rattle.tf_rule.specs.RuleSets.{has_rule};
 ghost use Rattle.tf_diagnostics.specs.Silencing.{is_silenced_on, silenced_from};
 ghost use Rattle.tf_diagnostics.specs.Inner.Marks.{Ascend, hits, is_hit, silences_at};
 
-use crate::suppression::comment::rules_silenced;
+use crate::suppression::comment::{is_comment, is_silencing, rules_silenced};
 use crate::suppression::mark::Mark;
 use hcl_scan::{Places, Scanned};
 use std::alloc::{AllocError, Global};
@@ -43,7 +43,7 @@ fn push_mark(marks: &mut Vec<Mark>, mark: Mark) -> Result<(), AllocError>
 }
 
 /// Adds what token `i` silences, if it is a comment that silences anything.
-fn mark_token(
+fn mark_comment(
     marks: &mut Vec<Mark>,
     scanned: &Scanned<'_>,
     places: &Places<'_>,
@@ -68,6 +68,41 @@ fn mark_token(
     }
 }
 
+/// The same; of most tokens the kind alone tells that there is nothing to add.
+fn mark_token(
+    marks: &mut Vec<Mark>,
+    scanned: &Scanned<'_>,
+    places: &Places<'_>,
+    i: usize,
+) -> Result<(), AllocError>
+    requires places { places.now ≡ scanned.now.pairs }
+    requires within { i < length scanned.now.pairs }
+    requires before { Ascend 0 marks.old.items (line_of scanned.now.pairs i) }
+    ensures after { OnOk result (Ascend 0 marks.new.items (line_of scanned.now.pairs i)) }
+    ensures hit { OnOk result
+        ((rule : Rule) (line : ℕ)
+        → is_hit rule line marks.new.items
+        ≡ (is_hit rule line marks.old.items || silences_at scanned.now.pairs rule line i)) }
+{
+    if !is_comment(scanned.kind(i)) {
+        return Ok(());
+    }
+    mark_comment(marks, scanned, places, i)
+}
+
+/// Whether token `i` is a comment that silences anything; of most tokens the kind alone tells it.
+fn silences_any(scanned: &Scanned<'_>, i: usize) -> bool
+    requires { i < length scanned.now.pairs }
+    ensures { (rule : Rule) (line : ℕ) → result ≡ false
+        → silences_at scanned.now.pairs rule line i ≡ false }
+{
+    let kind = scanned.kind(i);
+    if !is_comment(kind) {
+        return false;
+    }
+    is_silencing(kind, scanned.spelling(i))
+}
+
 /// The number of the first token that silences anything; where none does, that of the tokens.
 pub fn first_silencing(scanned: &Scanned<'_>) -> usize
     ensures within { result ≤ length scanned.now.pairs }
@@ -76,9 +111,8 @@ pub fn first_silencing(scanned: &Scanned<'_>) -> usize
         ≡ is_silenced_on scanned.now.pairs rule line }
 {
     for i in 0..scanned.len() {
-        match rules_silenced(scanned.kind(i), scanned.spelling(i)) {
-            Some(_) => return i,
-            None => {}
+        if silences_any(scanned, i) {
+            return i;
         }
     }
     scanned.len()

@@ -1,6 +1,6 @@
 //! Findings without those that a comment silences.
 
-ghost use Rattle.std.specs.Prelude.{◌≡◌, ◌<◌, ◌≤◌, ◌+◌, ◌++◌, [], ◌∷◌, ℕ, not, nat_lt, filter, length, take, OnOk, IfOk, IfSome, if◌then◌else◌};
+ghost use Rattle.std.specs.Prelude.{◌≡◌, ◌<◌, ◌≤◌, ◌+◌, ◌++◌, [], ◌∷◌, ℕ, not, nat_lt, filter, length, take, drop, IfOk, IfSome, if◌then◌else◌};
 ghost use Rattle.hcl_token.specs.Place.{line_of};
 ghost use Rattle.tf_rule.specs.declared.rule.Rule.{Rule};
 ghost use Rattle.tf_rule.specs.Findings.{AreSound};
@@ -77,14 +77,20 @@ fn is_hit(marks: &[Mark], rule: Rule, line: usize) -> bool
     }
 }
 
-fn keep(kept: &mut Vec<Finding>, f: Finding, is_silenced: bool) -> Result<(), AllocError>
-    ensures { OnOk result
-        (kept.new.items ≡ kept.old.items ++ (if is_silenced then [] else f ∷ [])) }
+/// Puts a finding behind the first `kept` of a list, if it is not silenced, and answers how many
+/// these are then.
+fn keep(found: &mut [Finding], kept: usize, f: Finding, is_silenced: bool) -> usize
+    requires { kept < length found.old }
+    ensures kept { take result found.new
+        ≡ take kept found.old ++ (if is_silenced then [] else f ∷ []) }
+    ensures behind { (n : ℕ) → kept < n → drop n found.new ≡ drop n found.old }
+    ensures within { result ≤ kept + 1 }
 {
-    if !is_silenced {
-        kept.push(f)?;
+    if is_silenced {
+        return kept;
     }
-    Ok(())
+    found[kept] = f;
+    kept + 1
 }
 
 /// The line of a token; where it is the token whose line was told last, that line, without a second
@@ -100,41 +106,51 @@ fn line_at(places: &Places<'_>, told: Option<(usize, usize)>, i: usize) -> usize
     }
 }
 
-/// The findings that none of the marks silences.
+/// Puts the findings that none of the marks silences to the front of a list, in the same order, and
+/// answers how many these are.
 ///
 /// Many findings can begin at one token, which may stand behind a long one: its line is asked for
 /// once.
-fn unmarked(
-    alloc: Global,
-    places: &Places<'_>,
-    found: &[Finding],
-    marks: &[Mark],
-) -> Result<Vec<Finding>, AllocError>
-    requires sound { AreSound (length places.now) found.now }
+fn unmarked_first(places: &Places<'_>, found: &mut [Finding], marks: &[Mark]) -> usize
+    requires sound { AreSound (length places.now) found.old }
     requires order { (b : ℕ) × Ascend 0 marks.now b }
-    ensures { IfOk result
-        (λ kept. kept.items
+    ensures { take result found.new
         ≡ filter (λ f. not
-        (is_hit f.rule (line_of places.now f.first) marks.now)) found.now) }
+        (is_hit f.rule (line_of places.now f.first) marks.now)) found.old }
 {
-    let mut kept = Vec::new(alloc);
+    let mut kept = 0;
     let mut rest = marks;
     let mut reached = 0;
     let mut told = None;
-    for f in found {
+    for i in 0..found.len() {
+        let f = found[i];
         let line = line_at(places, told, f.first);
         told = Some((f.first, line));
         rest = left_at(marks, rest, reached, line);
         reached = line;
-        keep(&mut kept, *f, is_hit(rest, f.rule, line))?;
+        kept = keep(found, kept, f, is_hit(rest, f.rule, line));
     }
-    Ok(kept)
+    kept
+}
+
+/// The findings that none of the marks silences.
+fn unmarked(places: &Places<'_>, found: Vec<Finding>, marks: &[Mark]) -> Vec<Finding>
+    requires sound { AreSound (length places.now) found.items }
+    requires order { (b : ℕ) × Ascend 0 marks.now b }
+    ensures { result.items
+        ≡ filter (λ f. not
+        (is_hit f.rule (line_of places.now f.first) marks.now)) found.items }
+{
+    let mut left = found;
+    let kept = unmarked_first(places, &mut left, marks);
+    left.truncate(kept);
+    left
 }
 
 /// The findings that no comment of the text silences, in the same order.
 ///
 /// It takes one pass over the tokens. Only where a comment silences anything are places made, and
-/// then it takes one pass over the findings too, if these stand by place.
+/// then it takes one pass over the findings too, if these stand by place. These stay in their list.
 ///
 /// TFLint, Annotations.
 pub fn without_silenced(
@@ -152,5 +168,5 @@ pub fn without_silenced(
     }
     let places = scanned.places(alloc)?;
     let marks = marks_of(alloc, scanned, &places, first)?;
-    unmarked(alloc, &places, found.as_slice(), marks.as_slice())
+    Ok(unmarked(&places, found, marks.as_slice()))
 }

@@ -18,5 +18,5 @@ returns c =
     sym (breaks_none c.args.scanned.now.pairs c.loop-i.i c.args.past c.loop-i-test.false)
     ∙ (c.loop-i.invariant ∙ breaks_is c.args.scanned.now.pairs c.args.at c.args.past)
 
-pub returns-then-not-busy : goal.returns-then-not-busy
-returns-then-not-busy c = quiet_breaks (slice_range c.args.scanned.now.pairs c.args.at c.args.past) (c.requires.busy c.if-not-busy.true)
+pub returns-then-not-noted : goal.returns-then-not-noted
+returns-then-not-noted c = quiet_breaks (slice_range c.args.scanned.now.pairs c.args.at c.args.past) (c.requires.noted c.if-not-noted.true)

@@ -1,4 +1,4 @@
-use Rattle.std.proofs.Common.{sym, ◌∙◌, get_or, arith}
+use Rattle.std.proofs.Common.{get_or, arith}
 use Rattle.hcl_gaps.specs.declared.lines.LineSpan.{LineSpan}
 use Rattle.hcl_gaps.proofs.LineLemmas.{no_span, line_at, no_line}
 use Rattle.hcl_gaps.proofs.CellCode.{starts_narrow, starts_turn, starts_end}
@@ -34,7 +34,7 @@ returns-clause-tokens c =
     let end = no_line c.args.scanned.now.pairs c.loop-line.at c.loop-line.frozen c.args.lines.now c.loop-line.line-index c.loop-line-test.false c.loop-line.invariant.lines in
     (starts_end c.args.cell c.args.gaps.now c.args.scanned.now.pairs c.args.first c.loop-line.at c.loop-line.frozen c.loop-line.starts.items c.requires.same (omega (arith, end)) c.loop-line.invariant.starts).1
 
-pub cell_start-start-requires-clause-busy : goal.cell_start-start-requires-clause-busy
-cell_start-start-requires-clause-busy c = λ h.
+pub cell_start-start-requires-clause-marked : goal.cell_start-start-requires-clause-marked
+cell_start-start-requires-clause-marked c =
     let (this, more) = line_at c.args.scanned.now.pairs c.loop-line.at c.loop-line.frozen c.args.lines.now c.loop-line.line-index c.loop-line-test.true c.loop-line.invariant.lines in
-    sym this.busy ∙ h
+    this.marked

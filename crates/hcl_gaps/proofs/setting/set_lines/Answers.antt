@@ -35,4 +35,4 @@ loop-line-preserved c =
 pub brackets-opened-requires-clause-busy : goal.brackets-opened-requires-clause-busy
 brackets-opened-requires-clause-busy c = λ h.
     let (this, more) = line_at c.args.scanned.now.pairs c.loop-line.at c.loop-line.frozen c.args.lines.now c.loop-line.line-index c.loop-line-test.true c.loop-line.invariant.lines in
-    sym this.busy ∙ h
+    sym this.marked.busy ∙ h

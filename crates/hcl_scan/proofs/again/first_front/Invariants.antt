@@ -1,9 +1,9 @@
-use Rattle.std.proofs.Common.{◌-◌, length}
-use Rattle.hcl_scan.specs.Inner.Lines.{IsFront}
+use Rattle.std.proofs.Common.{◌≡◌, ◌≤◌, [], length, slice_range}
+use Rattle.hcl_scan.proofs.PairLemmas.{modes_behind}
 use Rattle.hcl_scan.proofs.again.first_front.Given as goal
 
-abbrev pub invariant-loop-to : goal.invariant-loop-to
-invariant-loop-to l = IsFront l.old l.to.index l.to.at
-
-abbrev pub decreases-loop-to : goal.decreases-loop-to
-decreases-loop-to l = length l.old.pairs - l.to.index
+abbrev pub invariant-loop-i : goal.invariant-loop-i
+invariant-loop-i l = record {
+  depth : l.depth ≡ length (modes_behind [] (slice_range l.old.pairs l.fn.from.index l.i));
+  few : l.depth ≤ l.i;
+}

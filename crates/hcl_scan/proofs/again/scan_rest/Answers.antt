@@ -4,12 +4,12 @@ use Rattle.hcl_scan.specs.Inner.Lines.{IsWhole, items_at}
 use Rattle.hcl_scan.proofs.LineLemmas.{rest_scanned}
 use Rattle.hcl_scan.proofs.again.scan_rest.Goals as goal
 
-pub returns-in-Ok-push_moved : goal.returns-in-Ok-push_moved
-returns-in-Ok-push_moved c =
+pub returns : goal.returns
+returns c =
     let text = c.args.text.now in
     let at = c.args.at in
-    let rest = c.in-Ok.rest in
+    let rest = c.in_ok-rest.rest in
     let items = c.args.items.now.items in
-    let pushed = c.in-Ok-push_moved.ensures ∙ ap (λ n. items ++ items_at at (slice_range rest.pairs 0 n)) c.len.ensures.value in
-    let whole = rest_scanned text c.part.result.now items c.push_moved.new.items.items at rest c.requires.short c.requires.begun c.part.ensures c.in-Ok.ensures.cut (c.goes_behind_lines.ensures c.if-not-goes_behind_lines.false) pushed in
+    let pushed = c.in_ok-push_moved.ensures ∙ ap (λ n. items ++ items_at at (slice_range rest.pairs 0 n)) c.len.ensures.value in
+    let whole = rest_scanned text c.part.result.now items c.push_moved.new.items.items at rest c.requires.short c.requires.begun c.part.ensures c.in_ok-rest.ensures.cut (c.goes_behind_lines.ensures c.if-not-goes_behind_lines.false) pushed in
     subst (λ (x : List ℕ). IsWhole text c.push_moved.new.items.items (length text - length x)) (sym c.last_gap.ensures) whole

@@ -13,11 +13,11 @@ part-bytes-requires-clause-ordered c = (known c).ordered
 pub part-bytes-requires-clause-within : goal.part-bytes-requires-clause-within
 part-bytes-requires-clause-within c = subst (λ (x : List ℕ). c.args.to.at ≤ length x) (sym c.text.ensures.text) (known c).within
 
-pub returns-in-Ok : goal.returns-in-Ok
-returns-in-Ok c =
+pub returns : goal.returns
+returns c =
     let from = c.args.from in
     let to = c.args.to in
     let known = stretch_text c.args.old.now from.index from.at to.index to.at c.text.ensures.cut.cuts.text_is c.requires.front c.requires.end c.requires.lines.ordered in
     let bytes = c.part-bytes.ensures ∙ ap (λ (x : List ℕ). slice_range x from.at to.at) c.text.ensures.text in
     taken c.args.text.now c.args.items.now.items c.push_moved.new.items.items c.args.at c.args.old.now from.index from.at to.index to.at c.part-bytes.result.now c.requires.begun c.requires.lines known bytes
-    (c.stands.ensures c.if-not-stands.false) c.in-Ok.ensures
+    (c.stands.ensures c.if-not-stands.false) c.in_ok-push_moved.ensures

@@ -76,10 +76,10 @@ tokens-preserved c =
     let start_is = rw mode at c.step-next.ensures.gap in
     let found = rw mode at (sym c.step-next.ensures.token ∙ c.in-Some.is) in
     let more = one_more text c.tokens.items.items at modes places start kind c.in-Some.len state start_is found in
-    let pushed = c.in_ok-push-in-Some.ensures.items in
+    let item : Token = record { start = start; stop = stop; kind = kind } in
+    let pushed = c.in_ok-push_token-in-Some.ensures in
     let shifted = c.opens_or_closes.ensures.modes (slice_range text start stop) modes c.if-opens_or_closes.false in
     let placed = c.opens_or_closes.ensures.places start modes places c.if-opens_or_closes.false in
-    let item : Token = record { start = start; stop = stop; kind = kind } in
     let items = c.tokens.items.items ++ item ∷ [] in
     let next = subst₂ (λ (m : List Mode) (o : List ℕ). IsCutTo text items stop m o) shifted placed more.1 in
     record {
@@ -102,11 +102,11 @@ tokens-preserved-in_ok-shift-in-Some c =
     let start_is = rw mode at c.step-next.ensures.gap in
     let found = rw mode at (sym c.step-next.ensures.token ∙ c.in-Some.is) in
     let more = one_more text c.tokens.items.items at modes places start kind c.in-Some.len state start_is found in
-    let pushed = c.in_ok-push-in-Some.ensures.items in
+    let item : Token = record { start = start; stop = stop; kind = kind } in
+    let pushed = c.in_ok-push_token-in-Some.ensures in
     let spelling = rw same at c.part.ensures in
     let shifted = c.in_ok-shift-in-Some.ensures.modes ∙ ap (λ (s : List ℕ). after kind s modes) spelling in
     let placed = c.in_ok-shift-in-Some.ensures.places in
-    let item : Token = record { start = start; stop = stop; kind = kind } in
     let items = c.tokens.items.items ++ item ∷ [] in
     let next = subst₂ (λ (m : List Mode) (o : List ℕ). IsCutTo text items stop m o) (sym shifted) (sym placed) more.1 in
     record {

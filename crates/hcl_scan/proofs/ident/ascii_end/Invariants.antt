@@ -5,10 +5,10 @@ use Rattle.hcl_scan.proofs.ident.ascii_end.Given as goal
 
 abbrev pub invariant-loop-at : goal.invariant-loop-at
 invariant-loop-at l = record {
-  counted : l.at + continue_length (chars (drop l.at l.bytes)) ≡ l.from + continue_length (chars (drop l.from l.bytes));
-  within : l.at ≤ length l.bytes;
-  utf8 : IsUtf8 (drop l.at l.bytes);
+  counted : l.at + continue_length (chars (drop l.at l.text)) ≡ l.from + continue_length (chars (drop l.from l.text));
+  within : l.at ≤ length l.text;
+  utf8 : IsUtf8 (drop l.at l.text);
 }
 
 abbrev pub decreases-loop-at : goal.decreases-loop-at
-decreases-loop-at l = length l.bytes - l.at
+decreases-loop-at l = length l.text - l.at

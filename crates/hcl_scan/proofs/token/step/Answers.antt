@@ -2,10 +2,10 @@ use Rattle.hcl_scan.specs.Modes.Mode.{Expression, Quoted, Heredoc}
 use Rattle.hcl_scan.proofs.Steps.{expression_within, token_within, gap_at}
 use Rattle.hcl_scan.proofs.token.step.Goals as goal
 
-pub expression_at-token-requires-clause-utf8 : goal.expression_at-token-requires-clause-utf8
-expression_at-token-requires-clause-utf8 c =
-    let start = rw c.as_bytes-bytes.ensures.value at c.blanks_end-start.ensures.value in
-    (gap_at c.args.text.now Expression c.args.at c.blanks_end-start.result c.requires.within c.requires.utf8 start).utf8
+pub expression_token-token-requires-clause-utf8 : goal.expression_token-token-requires-clause-utf8
+expression_token-token-requires-clause-utf8 c =
+    let start = rw c.as_bytes-bytes.ensures.value at c.behind_blanks-start.ensures.value in
+    (gap_at c.args.text.now Expression c.args.at c.behind_blanks-start.result.0 c.requires.within c.requires.utf8 start).utf8
 
 pub returns-in-Quoted-clause-within : goal.returns-in-Quoted-clause-within
 returns-in-Quoted-clause-within c =
@@ -20,6 +20,6 @@ returns-in-Heredoc-clause-within c =
 
 pub returns-in_default-clause-within : goal.returns-in_default-clause-within
 returns-in_default-clause-within c =
-    let start = rw c.as_bytes-bytes.ensures.value at c.blanks_end-start.ensures in
-    let utf8 = (gap_at c.args.text.now Expression c.args.at c.blanks_end-start.result c.requires.within c.requires.utf8 start.value).utf8 in
-    expression_within c.closes_sequence.result c.args.text.now c.blanks_end-start.result start.within utf8 _ c.expression_at-token.ensures
+    let start = rw c.as_bytes-bytes.ensures.value at c.behind_blanks-start.ensures in
+    let utf8 = (gap_at c.args.text.now Expression c.args.at c.behind_blanks-start.result.0 c.requires.within c.requires.utf8 start.value).utf8 in
+    expression_within c.closes_sequence.result c.args.text.now c.behind_blanks-start.result.0 start.within utf8 _ c.expression_token-token.ensures

@@ -1,6 +1,10 @@
-use Rattle.std.proofs.Common.{◌≡◌, count_by, take}
+use Rattle.std.proofs.Common.{◌≡◌, ◌+◌, ◌≤◌, ◌-◌, count_by, drop, length}
 use Rattle.hcl_token.specs.Place.{is_lf}
 use Rattle.hcl_token.proofs.milestone.line_ends.Given as goal
 
-abbrev pub invariant-loop-byte : goal.invariant-loop-byte
-invariant-loop-byte l = l.ends ≡ count_by is_lf (take l.byte-index l.piece)
+abbrev pub invariant-loop-from : goal.invariant-loop-from
+invariant-loop-from l =
+    (l.from ≤ length l.piece) × (l.ends + count_by is_lf (drop l.from l.piece) ≡ count_by is_lf l.piece)
+
+abbrev pub decreases-loop-from : goal.decreases-loop-from
+decreases-loop-from l = length l.piece - l.from

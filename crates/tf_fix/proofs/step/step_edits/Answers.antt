@@ -14,10 +14,10 @@ mended_edits-requires-clause-apart c =
 pub mended_edits-requires-clause-of : goal.mended_edits-requires-clause-of
 mended_edits-requires-clause-of c =
     let (p, same, reads, finds) = c.requires.finds in
-    subst (λ (s : CutText). AreOf c.args.rule s.pairs c.args.found.now) same (of_all c.args.rule p.scanned.pairs c.args.found.now (c.one_origin.ensures c.args.rule p.scanned.pairs p.tree.body.members c.args.found.now finds))
+    subst (λ (s : CutText). AreOf c.args.rule s.pairs c.args.found.items) same (of_all c.args.rule p.scanned.pairs c.args.found.items (c.one_origin.ensures c.args.rule p.scanned.pairs p.tree.body.members c.args.found.items finds))
 
 pub returns-clause-few : goal.returns-clause-few
 returns-clause-few c =
     let (p, same, reads, finds) = c.requires.finds in
-    rw c.taken-count.ensures
-    (c.taken_are_few.ensures _ _ _ c.args.found.now reads.1 (subst (λ (s : CutText). AreSound (length s.pairs) c.args.found.now) (sym same) c.requires.sound))
+    rw (c.taken-count.ensures, c.deref.ensures.value)
+    (c.taken_are_few.ensures _ _ _ c.args.found.items reads.1 (subst (λ (s : CutText). AreSound (length s.pairs) c.args.found.items) (sym same) c.requires.sound))

@@ -28,8 +28,8 @@ returns-in-Same-clause-made n c =
     let reads : Reads text told.0 = subst (λ (t : List ℕ). Reads t told.0) c.deref.ensures.value told.1 in
     no_more asked c.args.order.now text told.0 c.args.done.edits c.args.count c.in-Same.fixed c.in-Same.left reads (subst (Passes asked c.args.order.now told.0 c.args.count) c.in-Same.is told.3)
 
-pub returns-in_ok-edits-in-Changed-clause-made : goal.returns-in_ok-edits-in-Changed-clause-made
-returns-in_ok-edits-in-Changed-clause-made n c =
+pub returns-in_ok-replaced-in-Changed-clause-made : goal.returns-in_ok-replaced-in-Changed-clause-made
+returns-in_ok-replaced-in-Changed-clause-made n c =
     let told = c.in_ok-searched.ensures.passes in
     let asked = c.args.before.rules in
     let text = c.args.done.text.items in
@@ -41,8 +41,8 @@ returns-in_ok-edits-in-Changed-clause-made n c =
     (λ e more. and_more asked c.args.order.now text told.0 c.args.done.edits edits c.args.count c.in-Changed.fixed c.in-Changed.change c.in-Changed.next c.in-Changed.rest (made_by e)
     reads to c.in_ok-edits-in-Changed.ensures.both more) next
 
-pub returns-in_ok-edits-in-Changed-clause-turns : goal.returns-in_ok-edits-in-Changed-clause-turns
-returns-in_ok-edits-in-Changed-clause-turns n c = λ old before.
+pub returns-in_ok-replaced-in-Changed-clause-turns : goal.returns-in_ok-replaced-in-Changed-clause-turns
+returns-in_ok-replaced-in-Changed-clause-turns n c = λ old before.
     let told = c.in_ok-searched.ensures.passes in
     let text = c.args.done.text.items in
     let change = c.in-Changed.change in
@@ -50,12 +50,12 @@ returns-in_ok-edits-in-Changed-clause-turns n c = λ old before.
     let turns : Turns change.edits text change.text.items = subst (λ (t : List ℕ). Turns change.edits t change.text.items) (told.1.0 ∙ c.deref.ensures.value) to.4 in
     c.run.ensures.turns old ((c.in_ok-edits-in-Changed.ensures.both.alike old change.text.items).1 (text, before, turns))
 
-pub returns-in_ok-edits-in-Changed-clause-left : goal.returns-in_ok-edits-in-Changed-clause-left
-returns-in_ok-edits-in-Changed-clause-left n c =
+pub returns-in_ok-replaced-in-Changed-clause-left : goal.returns-in_ok-replaced-in-Changed-clause-left
+returns-in_ok-replaced-in-Changed-clause-left n c =
     subst (λ (r : RuleSet). IfOk c.run.result (λ e. IsReport r e.change.text.items e.left.items)) c.in_ok-searched.ensures.rules c.run.ensures.left
 
-pub returns-in_ok-edits-in-Changed-clause-fault : goal.returns-in_ok-edits-in-Changed-clause-fault
-returns-in_ok-edits-in-Changed-clause-fault n c =
+pub returns-in_ok-replaced-in-Changed-clause-fault : goal.returns-in_ok-replaced-in-Changed-clause-fault
+returns-in_ok-replaced-in-Changed-clause-fault n c =
     let told = c.in_ok-searched.ensures.passes in
     let asked = c.args.before.rules in
     let text = c.args.done.text.items in

@@ -1,4 +1,4 @@
-use Rattle.std.proofs.Common.{◌≡◌, ℕ, zero, suc, Bool, List, [], length, refl, rules, arith}
+use Rattle.std.proofs.Common.{◌≡◌, ℕ, zero, suc, Bool, List, [], length, None, Ok, refl, rules, arith}
 use Rattle.std.proofs.lemmas.Grind.{common_steps}
 use Rattle.hcl_grammar.specs.declared.goal.Goal.{Goal}
 use Rattle.hcl_grammar.specs.declared.goal.Goal.TheVariants.{Whole, Operand}
@@ -44,15 +44,17 @@ whole-returns-then-ends t c =
     let k = (c.climbing.ensures c.args.self.now.tokens c.args.self.now.depth (deeper c.args.self.now.tokens c.args.self.now.depth)).level_not 6 c.args.self.now.inside c.args.at.now _ _ (c.in_ok-head.ensures {u = tt}) (omega (arith, c.ends.ensures.quiet c.if-ends.true)) in
     rw (whole-is c.args.self.now c.args.at.now, k, c.ends.ensures.other c.if-ends.true) refl
 
-pub whole-returns-in_err-condition : goal.whole-returns-in_err-condition
-whole-returns-in_err-condition t c =
-    let k = (c.climbing.ensures c.args.self.now.tokens c.args.self.now.depth (deeper c.args.self.now.tokens c.args.self.now.depth)).level_is 6 c.args.self.now.inside c.args.at.now in
-    rw (whole-is c.args.self.now c.args.at.now, k, c.in_ok-head.ensures {u = tt}, ← c.start-first.ensures) (refused (spec.choice c.args.self.now c.start-first.result) 0 _ (search rules) refl c.in_err-condition.ensures)
-
 pub whole-returns : goal.whole-returns
 whole-returns t c =
     let k = (c.climbing.ensures c.args.self.now.tokens c.args.self.now.depth (deeper c.args.self.now.tokens c.args.self.now.depth)).level_is 6 c.args.self.now.inside c.args.at.now in
-    rw (whole-is c.args.self.now c.args.at.now, k, c.in_ok-head.ensures {u = tt}, ← c.start-first.ensures, c.in_ok-condition.ensures {u = tt}) c.choice.ensures
+    rw (whole-is c.args.self.now c.args.at.now, k, c.in_ok-head.ensures {u = tt}, ← c.start.ensures) c.behind.ensures
+
+pub behind-returns-in_err-condition : goal.behind-returns-in_err-condition
+behind-returns-in_err-condition t c =
+    refused (spec.choice c.args.self.now c.args.first) 0 _ (search rules) refl c.in_err-condition.ensures
+
+pub behind-returns : goal.behind-returns
+behind-returns t c = rw (c.in_ok-condition.ensures {u = tt}) c.choice.ensures
 
 -- ---- levels
 
@@ -109,6 +111,16 @@ links-returns t c =
     first_of (search rules, grind (arith, common_steps))
 
 -- ---- tails
+
+no_tails : (t : Here) (n i : ℕ) → spec.tail t i ≡ Ok (None, i) → spec.tails_from t n [] i ≡ Ok ([], i)
+unfolding tails_from
+no_tails t zero i none = refl
+no_tails t (suc n) i none = rw none refl
+
+pub post-returns-then-not-has_tail : goal.post-returns-then-not-has_tail
+post-returns-then-not-has_tail t c =
+    let e = no_tails c.args.self.now (length c.args.self.now.tokens) _ (c.has_tail.ensures c.if-not-has_tail.true) in
+    rw (c.in_ok-head.ensures {u = tt}, e, c.plain.ensures) refl
 
 pub tails-returns-in_err-tail : goal.tails-returns-in_err-tail
 unfolding tails_from

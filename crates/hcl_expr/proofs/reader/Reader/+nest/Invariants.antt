@@ -16,8 +16,11 @@ decreases-expr l = 128 * l.self.now.depth + 62
 abbrev pub decreases-whole : goal.decreases-whole
 decreases-whole l = 128 * l.self.now.depth + 61
 
+abbrev pub decreases-behind : goal.decreases-behind
+decreases-behind l = 128 * l.self.now.depth + 60
+
 abbrev pub decreases-choice : goal.decreases-choice
-decreases-choice l = 128 * l.self.now.depth + 60
+decreases-choice l = 128 * l.self.now.depth + 59
 
 abbrev pub decreases-prefixed : goal.decreases-prefixed
 decreases-prefixed l = 128 * l.self.now.depth + 27
@@ -40,14 +43,17 @@ decreases-post l = 128 * l.self.now.depth + 27
 abbrev pub decreases-term : goal.decreases-term
 decreases-term l = 128 * l.self.now.depth + 26
 
+abbrev pub decreases-tailed : goal.decreases-tailed
+decreases-tailed l = 128 * l.self.now.depth + 26
+
 abbrev pub decreases-tails : goal.decreases-tails
-decreases-tails l = 128 * l.self.now.depth + 26
+decreases-tails l = 128 * l.self.now.depth + 25
 
 abbrev pub decreases-tail : goal.decreases-tail
-decreases-tail l = 128 * l.self.now.depth + 25
+decreases-tail l = 128 * l.self.now.depth + 24
 
 abbrev pub decreases-indexed : goal.decreases-indexed
-decreases-indexed l = 128 * l.self.now.depth + 24
+decreases-indexed l = 128 * l.self.now.depth + 23
 
 abbrev pub decreases-named : goal.decreases-named
 decreases-named l = 128 * l.self.now.depth + 25

@@ -1,12 +1,12 @@
 use Rattle.std.proofs.Common.{◌||◌, ap, sym, ◌∙◌}
-use Rattle.tf_diagnostics.proofs.LineLemmas.{quiet}
+use Rattle.tf_diagnostics.proofs.LineLemmas.{quiet_kind}
 use Rattle.tf_diagnostics.proofs.MarkLemmas.{or_false}
-use Rattle.tf_diagnostics.specs.Inner.Marks.{option_has, is_hit}
+use Rattle.tf_diagnostics.specs.Inner.Marks.{is_hit}
 use Rattle.tf_diagnostics.proofs.suppression.marking.mark_token.Goals as goal
 
-pub returns-in-None-clause-hit : goal.returns-in-None-clause-hit
-returns-in-None-clause-hit c = λ rule line.
-    let no = sym (c.rules_silenced.ensures rule) ∙ ap (λ o. option_has o rule) c.in-None.is in
-    let none = quiet c.args.scanned.now.pairs rule line c.args.i c.kind.result c.spelling.result.now c.kind.ensures c.spelling.ensures.value no in
+pub returns-then-not-is_comment-clause-hit : goal.returns-then-not-is_comment-clause-hit
+returns-then-not-is_comment-clause-hit c = λ rule line.
+    let none = quiet_kind c.args.scanned.now.pairs rule line c.args.i c.kind.result c.kind.ensures
+    (λ spelling. c.is_comment.ensures spelling rule c.if-not-is_comment.true) in
     let old = is_hit rule line c.args.marks.now.items in
     sym (ap (λ b. old || b) none ∙ or_false old)

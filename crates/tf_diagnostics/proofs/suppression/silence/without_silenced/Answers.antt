@@ -1,5 +1,4 @@
-use Rattle.std.proofs.Common.{◌≡◌, List, IfOk, subst, arith}
-use Rattle.tf_rule.specs.declared.finding.Finding.{Finding}
+use Rattle.std.proofs.Common.{refl, ◌∙◌, arith}
 use Rattle.tf_diagnostics.proofs.SilenceLemmas.{all_left, unhit_left}
 use Rattle.tf_diagnostics.proofs.suppression.silence.without_silenced.Goals as goal
 
@@ -9,5 +8,4 @@ returns-then-first-len c =
 
 pub returns : goal.returns
 returns c =
-    let left = unhit_left c.args.scanned.now.pairs _ c.args.found.items _ c.in_ok-marks.marks.items _ c.in_ok-places.ensures c.as_slice.ensures.value c.as_slice-2.ensures.value c.in_ok-marks.ensures.hit in
-    subst (λ (xs : List Finding). IfOk c.unmarked.result (λ kept. kept.items ≡ xs)) left c.unmarked.ensures
+    c.unmarked.ensures ∙ unhit_left c.args.scanned.now.pairs _ c.args.found.items _ c.in_ok-marks.marks.items _ c.in_ok-places.ensures refl c.as_slice.ensures.value c.in_ok-marks.ensures.hit

@@ -1,6 +1,6 @@
 use Rattle.std.proofs.Common.{arith, sym, ◌∙◌}
 use Rattle.hcl_scan.proofs.IdentLemmas.{goes_on_at}
-use Rattle.hcl_scan.proofs.ident.ascii_end.Goals as goal
+use Rattle.hcl_scan.proofs.ident.last_ascii_end.Goals as goal
 
 pub loop-at-preserved : goal.loop-at-preserved
 loop-at-preserved c =
