@@ -21,5 +21,5 @@ mod token;
 
 pub use again::{Replaced, scan_again};
 pub use fault::ScanFault;
-pub use hcl_token::{Item, Kind, MAX_TEXT, Place, Places, Token};
+pub use hcl_token::{Item, Kind, MAX_TEXT, Place, Places, Token, TokenList};
 pub use scanned::{Scanned, scan, scan_in};

@@ -2,13 +2,14 @@
 
 ghost use Rattle.std.specs.Prelude.{◌≡◌, ◌+◌, ◌<◌, ◌≤◌, ◌↔◌, [], Some, IsTrue, IsUtf8, length, IfOk, IfErr, ◌⊎◌};
 ghost use Rattle.hcl_token.specs.CutText.{CutText, AreUtf8, kind_of, spelling_of, gap_of, clusters_of, item_of, joins_of, stretch_of};
+ghost use Rattle.hcl_token.specs.Lists.{AreTokensOf};
 ghost use Rattle.hcl_scan.specs.Cut.{IsCut, MAX_TEXT};
 ghost use Rattle.hcl_scan.specs.Fault.{IsFault};
 ghost use Rattle.hcl_scan.specs.declared.fault.ScanFault.TheVariants.{Memory};
 
 use crate::cut::cut_of;
 use crate::fault::ScanFault;
-use hcl_token::{Item, Kind, Places, Token, Tokens};
+use hcl_token::{Item, Kind, Places, Token, TokenList, Tokens};
 use std::alloc::{AllocError, Global};
 use std::marker::Model;
 
@@ -69,6 +70,24 @@ impl<'t> Scanned<'t> {
         ensures { result.items ≡ [] }
     {
         self.tokens.into_room()
+    }
+
+    /// The tokens alone: the text may move, and `over` puts them together again.
+    pub fn without_text(self) -> TokenList
+        ensures { AreTokensOf self.entry result }
+    {
+        self.tokens.without_text()
+    }
+
+    /// The text with its cut, of which the tokens were kept.
+    pub fn over(text: &'t [u8], list: TokenList) -> Scanned<'t>
+        requires { (cut : CutText) × (cut.text ≡ text.now) × AreTokensOf cut list
+            × IsCut cut.text cut.pairs cut.last }
+        ensures { (cut : CutText) → cut.text ≡ text.now → AreTokensOf cut list → result ≡ cut }
+    {
+        Scanned {
+            tokens: Tokens::over(text, list),
+        }
     }
 
     /// The text: the gaps and the tokens, one behind the other.

@@ -2,5 +2,6 @@ pub mod CutText
 pub mod Inner
 pub mod Items
 pub mod Joins
+pub mod Lists
 pub mod Place
 pub mod Tokens

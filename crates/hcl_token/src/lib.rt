@@ -11,6 +11,7 @@ mod place;
 mod places;
 mod run;
 mod token;
+mod token_list;
 mod tokens;
 
 pub use graphemes::clusters;
@@ -20,4 +21,5 @@ pub use kind::Kind;
 pub use place::Place;
 pub use places::Places;
 pub use token::Token;
+pub use token_list::TokenList;
 pub use tokens::{MAX_TEXT, Tokens};

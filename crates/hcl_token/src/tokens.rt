@@ -5,6 +5,7 @@ ghost use Rattle.hcl_token.specs.declared.tokens.TheConstants.{MAX_TEXT};
 ghost use Rattle.hcl_token.specs.CutText.{CutText, AreUtf8, kind_of, spelling_of, gap_of, clusters_of, item_of, joins_of, stretch_of};
 ghost use Rattle.hcl_token.specs.Items.{InOrder, cut_text, pairs_of};
 ghost use Rattle.hcl_token.specs.Inner.Milestones.{IsOrdered};
+ghost use Rattle.hcl_token.specs.Lists.{AreTokensOf};
 ghost use Rattle.hcl_token.specs.Tokens.{whole_text};
 
 use crate::graphemes::clusters;
@@ -15,6 +16,7 @@ use crate::milestone::{gap_at, part, stretch};
 use crate::places::Places;
 use crate::run::same_run;
 use crate::token::Token;
+use crate::token_list::TokenList;
 use std::alloc::{AllocError, Global};
 use std::marker::Model;
 
@@ -65,6 +67,28 @@ impl<'t> Tokens<'t> {
         let mut room = self.tokens;
         room.clear();
         room
+    }
+
+    /// The tokens alone.
+    pub fn without_text(self) -> TokenList
+        ensures { AreTokensOf self.entry result }
+    {
+        TokenList {
+            tokens: self.tokens,
+            last_at: self.last_at,
+        }
+    }
+
+    /// The text with these of its tokens again.
+    pub fn over(text: &'t [u8], list: TokenList) -> Tokens<'t>
+        requires { (cut : CutText) × (cut.text ≡ text.now) × AreTokensOf cut list }
+        ensures { (cut : CutText) → cut.text ≡ text.now → AreTokensOf cut list → result ≡ cut }
+    {
+        Tokens {
+            text,
+            tokens: list.tokens,
+            last_at: list.last_at,
+        }
     }
 
     /// The text: the gaps and the tokens, one behind the other.

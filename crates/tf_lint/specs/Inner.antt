@@ -3,3 +3,4 @@
 pub mod LineParts
 pub mod Passing
 pub mod Seeing
+pub mod Turning

@@ -1,7 +1,7 @@
 //! A text that was searched.
 
 use crate::member::SeenMember;
-use hcl_scan::Scanned;
+use hcl_scan::{Scanned, TokenList};
 use tf_rule::{Finding, RuleSet};
 
 /// A text that parses: its tokens, and what the rules find in it.
@@ -14,5 +14,16 @@ pub struct Searched<'t> {
     pub found: Vec<Finding>,
     /// The attributes and blocks of its body, each with what they find in it; none where nothing
     /// will come of the text.
+    pub members: Vec<SeenMember>,
+}
+
+/// What the search of the next text asks of one that was searched, without the text: it is let go
+/// of as soon as the next one was searched.
+#[derive(Drop)]
+pub struct Before {
+    pub tokens: TokenList,
+    /// The rules that were asked.
+    pub rules: RuleSet,
+    /// The attributes and blocks of its body, each with what the rules find in it.
     pub members: Vec<SeenMember>,
 }

@@ -3,16 +3,19 @@
 ghost use Rattle.std.specs.Prelude.{◌≡◌, ◌≢◌, ◌⊎◌, IfOk, IfErr};
 ghost use Rattle.tf_fix.specs.Reading.{Reads};
 ghost use Rattle.tf_lint.specs.Reading.{IsUnread, NotRead};
-ghost use Rattle.tf_lint.specs.Searching.{IsOf};
+ghost use Rattle.hcl_scan.specs.Follows.{AreApart};
+ghost use Rattle.tf_lint.specs.Searching.{IsBefore, IsOf};
+ghost use Rattle.tf_lint.specs.Seen.{AreSeen};
 ghost use Rattle.tf_lint.specs.declared.fault.FixFault.{FixFault};
 ghost use Rattle.tf_fix.specs.declared.parsed.Parsed.{Parsed};
 
 use crate::fault::FixFault;
-use crate::searched::Searched;
+use crate::member::SeenMember;
+use crate::searched::{Before, Searched};
 use crate::text::findings;
 use edit_list::Edits;
 use hcl_scan::laws::{no_cut_with_fault, one_cut};
-use hcl_scan::{Replaced, Token, scan, scan_again};
+use hcl_scan::{Replaced, Scanned, Token, scan, scan_again};
 use hcl_text_laws::laws::parsed_apart;
 use std::alloc::{AllocError, Global};
 use tf_rule::{Rule, RuleSet};
@@ -62,27 +65,21 @@ pub fn replaced_by(alloc: Global, edits: &Edits) -> Result<Vec<Replaced>, AllocE
 fn search_again<'t>(
     alloc: Global,
     text: &'t [u8],
-    before: &Searched<'_>,
+    rules: RuleSet,
+    old: &Scanned<'_>,
+    members: &[SeenMember],
     room: Vec<Token>,
     replaced: Vec<Replaced>,
 ) -> Result<Searched<'t>, FixFault>
-    requires { (p : Parsed) × IsOf p before.now }
+    requires apart { AreApart old.now.pairs }
+    requires seen { AreSeen rules old.now.pairs members.now }
     ensures searched { IfOk result (λ searched. (p : Parsed) × Reads text.now p × IsOf p searched) }
-    ensures rules { IfOk result (λ searched. searched.rules ≡ before.now.rules) }
+    ensures rules { IfOk result (λ searched. searched.rules ≡ rules) }
     ensures fault { IfErr result (λ fault. NotRead text.now fault) }
 {
-    parsed_apart();
-    let scanned = scan_again(alloc, room, text, &before.scanned, &replaced)?;
+    let scanned = scan_again(alloc, room, text, old, &replaced)?;
     drop(replaced);
-    let rules = before.rules;
-    match findings(
-        alloc,
-        &scanned,
-        rules,
-        &before.scanned,
-        &before.members,
-        true,
-    ) {
+    match findings(alloc, &scanned, rules, old, members, true) {
         Ok(seen) => Ok(Searched {
             scanned,
             rules,
@@ -91,6 +88,43 @@ fn search_again<'t>(
         }),
         Err(fault) => Err(FixFault::from(fault)),
     }
+}
+
+/// A text that was searched, and the memory of the tokens of the one before it.
+#[derive(Drop)]
+pub struct Made<'t> {
+    pub searched: Searched<'t>,
+    pub room: Vec<Token>,
+}
+
+/// The same of a text behind another, of which nothing is kept but the memory of its tokens.
+fn search_behind<'t>(
+    alloc: Global,
+    text: &'t [u8],
+    old_text: &[u8],
+    before: Before,
+    room: Vec<Token>,
+    replaced: Vec<Replaced>,
+) -> Result<Made<'t>, FixFault>
+    requires { (p : Parsed) × (p.scanned.text ≡ old_text.now) × IsBefore p before }
+    ensures searched { IfOk result
+        (λ made. (p : Parsed) × Reads text.now p × IsOf p made.searched) }
+    ensures rules { IfOk result (λ made. made.searched.rules ≡ before.rules) }
+    ensures fault { IfErr result (λ fault. NotRead text.now fault) }
+{
+    parsed_apart();
+    let Before {
+        tokens,
+        rules,
+        members,
+    } = before;
+    let old = Scanned::over(old_text, tokens);
+    let searched = search_again(alloc, text, rules, &old, &members, room, replaced)?;
+    drop(members);
+    Ok(Made {
+        searched,
+        room: old.into_room(),
+    })
 }
 
 /// Why a text that the step of a rule made is not read.
@@ -108,22 +142,36 @@ fn broken(fault: FixFault, rule: Rule) -> FixFault
 pub fn search_made<'t>(
     alloc: Global,
     text: &'t [u8],
-    before: &Searched<'_>,
+    old_text: &[u8],
+    before: Before,
     room: Vec<Token>,
     replaced: Vec<Replaced>,
     rule: Rule,
-) -> Result<Searched<'t>, FixFault>
-    requires { (p : Parsed) × IsOf p before.now }
-    ensures searched { IfOk result (λ searched. (p : Parsed) × Reads text.now p × IsOf p searched) }
-    ensures rules { IfOk result (λ searched. searched.rules ≡ before.now.rules) }
+) -> Result<Made<'t>, FixFault>
+    requires { (p : Parsed) × (p.scanned.text ≡ old_text.now) × IsBefore p before }
+    ensures searched { IfOk result
+        (λ made. (p : Parsed) × Reads text.now p × IsOf p made.searched) }
+    ensures rules { IfOk result (λ made. made.searched.rules ≡ before.rules) }
     ensures fault { IfErr result
         (λ fault. (fault ≡ FixFault.Memory)
         ⊎ ((fault ≡ FixFault.FixBroken rule) × IsUnread text.now)) }
 {
     no_cut_with_fault();
     one_cut();
-    match search_again(alloc, text, before, room, replaced) {
-        Ok(searched) => Ok(searched),
+    match search_behind(alloc, text, old_text, before, room, replaced) {
+        Ok(made) => Ok(made),
         Err(fault) => Err(broken(fault, rule)),
+    }
+}
+
+/// What the search of the next text asks of this one. What was found in it goes.
+pub fn before_next(searched: Searched<'_>) -> Before
+    ensures before { (p : Parsed) → IsOf p searched.entry → IsBefore p result }
+    ensures rules { result.rules ≡ searched.entry.rules }
+{
+    Before {
+        tokens: searched.scanned.without_text(),
+        rules: searched.rules,
+        members: searched.members,
     }
 }

@@ -6,7 +6,8 @@ ghost use Rattle.edit_squash.specs.Squash.{CanFollow, IsSquash};
 ghost use Rattle.tf_lint.specs.Fixed.{made_of, text_after};
 ghost use Rattle.hcl_scan.specs.Cut.{MAX_TEXT};
 ghost use Rattle.tf_fix.specs.Reading.{Reads};
-ghost use Rattle.tf_lint.specs.Searching.{IsOf};
+ghost use Rattle.tf_lint.specs.Searching.{IsBefore, IsOf};
+ghost use Rattle.tf_lint.specs.Inner.Turning.{IsTurned};
 ghost use Rattle.tf_lint.specs.Steps.{Reports, IsReport, Fixes, Refuses};
 ghost use Rattle.tf_lint.specs.Inner.Passing.{has_step, RunFixed, room, Passes, FixesFrom, RefusesFrom, made_by};
 ghost use Rattle.tf_lint.specs.declared.fault.FixFault.{FixFault};
@@ -15,8 +16,8 @@ ghost use Rattle.tf_fix.specs.declared.parsed.Parsed.{Parsed};
 use crate::fault::FixFault;
 use crate::issue::Issue;
 use crate::listing::issues_of;
-use crate::searched::Searched;
-use crate::searching::{replaced_by, search_made, search_text};
+use crate::searched::{Before, Searched};
+use crate::searching::{before_next, replaced_by, search_made, search_text};
 use crate::step::{NewText, Step, one_step};
 use edit_list::Edits;
 use edit_list::laws::turned_texts_have_the_lengths;
@@ -127,41 +128,48 @@ fn first_change<'o>(
     }
 }
 
-/// A text that a step made, and what the rules up to the first that changes it did.
+/// A text that a step made, with the edits so far, and what the rules up to the first that changes
+/// it did.
 #[derive(Drop)]
-struct Searching<'t, 'o> {
-    searched: Searched<'t>,
+struct Turned<'o> {
+    done: NewText,
+    before: Before,
+    /// The memory of the tokens of the text before.
+    spare: Vec<Token>,
     passed: Passed<'o>,
 }
 
-/// The first of the rules that changes a text which the step of one made of one that was searched.
-/// Its tokens come into a list that has room.
-fn pass<'t, 'o>(
+/// The first of the rules that changes a text which the step of one made of one that was searched,
+/// by replacing these pieces of it. Its tokens come into a list that has room.
+fn turn<'o>(
     alloc: Global,
-    text: &'t [u8],
-    before: &Searched<'_>,
+    old_text: &[u8],
+    before: Before,
     spare: Vec<Token>,
+    done: NewText,
     replaced: Vec<Replaced>,
     order: &'o [Rule],
     by: Rule,
     count: usize,
-) -> Result<Searching<'t, 'o>, FixFault>
-    requires searched { (p : Parsed) × IsOf p before.now }
+) -> Result<Turned<'o>, FixFault>
+    requires searched { (p : Parsed) × (p.scanned.text ≡ old_text.now) × IsBefore p before }
     requires few { count + room order.now ≤ MAX_TEXT * 16 }
-    ensures passes { IfOk result
-        (λ pass. (parsed : Parsed) × Reads text.now parsed × IsOf parsed pass.searched
-        × Passes before.now.rules order.now parsed count pass.passed) }
-    ensures rules { IfOk result (λ pass. pass.searched.rules ≡ before.now.rules) }
+    ensures turned { IfOk result (λ turned. (p : Parsed) × IsTurned order.now count p turned) }
+    ensures done { IfOk result (λ turned. turned.done ≡ done) }
+    ensures rules { IfOk result (λ turned. turned.before.rules ≡ before.rules) }
     ensures fault { IfErr result
-        (λ fault. RefusesFrom before.now.rules order.now text.now by fault) }
+        (λ fault. RefusesFrom before.rules order.now done.text.items by fault) }
 {
-    match search_made(alloc, text, before, spare, replaced, by) {
-        Ok(searched) => {
-            let passed = first_change(alloc, &searched, order, count)?;
-            Ok(Searching { searched, passed })
-        }
-        Err(fault) => Err(fault),
-    }
+    let made = search_made(alloc, &done.text, old_text, before, spare, replaced, by)?;
+    let spare = made.room;
+    let passed = first_change(alloc, &made.searched, order, count)?;
+    let before = before_next(made.searched);
+    Ok(Turned {
+        done,
+        before,
+        spare,
+        passed,
+    })
 }
 
 /// What all steps did to a text that the first of them changed.
@@ -172,78 +180,56 @@ struct Ended {
     left: Vec<Issue>,
 }
 
-/// The steps of these rules over a text that the step of one made of one that was searched, by
-/// replacing these pieces of it, behind the edits so far.
-fn run(
-    alloc: Global,
-    before: Searched<'_>,
-    spare: Vec<Token>,
-    done: NewText,
-    replaced: Vec<Replaced>,
-    order: &[Rule],
-    by: Rule,
-    count: usize,
-) -> Result<Ended, FixFault>
-    requires searched { (p : Parsed) × IsOf p before }
-    requires leads { (old : List ℕ) × Turns done.edits old done.text.items }
-    requires few { count + room order.now ≤ MAX_TEXT * 16 }
-    ensures made { IfOk result
-        (λ ended. FixesFrom before.entry.rules order.now done.text.items done.edits count
-        (made_by ended)) }
-    ensures turns { (old : List ℕ) → Turns done.edits old done.text.items
+/// The other steps, behind one that was made. The text before the last step is not held: the tokens
+/// of the next one come into the memory of its tokens, and the rest goes before the next step takes
+/// more.
+fn run(alloc: Global, turned: Turned<'_>) -> Result<Ended, FixFault>
+    requires turned { (order : List Rule) × (count : ℕ) × (p : Parsed)
+        × IsTurned order count p turned }
+    requires leads { (old : List ℕ) × Turns turned.done.edits old turned.done.text.items }
+    ensures made { (order : List Rule) (count : ℕ) (p : Parsed)
+        → IsTurned order count p turned.entry
+        → IfOk result (λ ended. FixesFrom turned.entry.before.rules order
+        turned.entry.done.text.items turned.entry.done.edits count (made_by ended)) }
+    ensures turns { (old : List ℕ) → Turns turned.entry.done.edits old turned.entry.done.text.items
         → IfOk result (λ ended. Turns ended.change.edits old ended.change.text.items) }
     ensures left { IfOk result
-        (λ ended. IsReport before.entry.rules ended.change.text.items ended.left.items) }
-    ensures fault { IfErr result
-        (λ fault. RefusesFrom before.entry.rules order.now done.text.items by fault) }
+        (λ ended. IsReport turned.entry.before.rules ended.change.text.items ended.left.items) }
+    ensures fault { (order : List Rule) (count : ℕ) (p : Parsed) (by : Rule)
+        → IsTurned order count p turned.entry
+        → IfErr result
+        (RefusesFrom turned.entry.before.rules order turned.entry.done.text.items by) }
 {
-    let NewText {
-        text,
-        edits: so_far,
-    } = done;
-    let Searching { searched, passed } = pass(
-        alloc, &text, &before, spare, replaced, order, by, count,
-    )?;
-    // The text before the last step is not asked any more: the tokens of the next one come into the
-    // memory of its tokens, and the rest goes before the next step takes more.
-    let spare = before.scanned.into_room();
-    drop(before.found);
-    drop(before.members);
+    let Turned {
+        done,
+        before,
+        spare,
+        passed,
+    } = turned;
     match passed {
-        Passed::Same { fixed, left } => {
-            drop(searched);
-            Ok(Ended {
-                change: NewText {
-                    text,
-                    edits: so_far,
-                },
-                fixed,
-                left,
-            })
-        }
+        Passed::Same { fixed, left } => Ok(Ended {
+            change: done,
+            fixed,
+            left,
+        }),
         Passed::Changed {
             fixed,
             change,
-            by: next,
+            by,
             rest,
         } => {
-            let edits = gather(alloc, &so_far, &change.edits)?;
-            drop(so_far);
+            let NewText { text: old, edits } = done;
+            let both = gather(alloc, &edits, &change.edits)?;
+            drop(edits);
             let replaced = replaced_by(alloc, &change.edits)?;
             drop(change.edits);
-            run(
-                alloc,
-                searched,
-                spare,
-                NewText {
-                    text: change.text,
-                    edits,
-                },
-                replaced,
-                rest,
-                next,
-                fixed,
-            )
+            let done = NewText {
+                text: change.text,
+                edits: both,
+            };
+            let next = turn(alloc, &old, before, spare, done, replaced, rest, by, fixed)?;
+            drop(old);
+            run(alloc, next)
         }
     }
 }
@@ -276,8 +262,12 @@ pub fn fix_text(alloc: Global, text: &[u8], rules: RuleSet) -> Result<Fixed, Fix
             rest,
         } => {
             let replaced = replaced_by(alloc, &change.edits)?;
+            let before = before_next(searched);
             let spare = Vec::new(alloc);
-            let ended = run(alloc, searched, spare, change, replaced, rest, by, fixed)?;
+            let first = turn(
+                alloc, text, before, spare, change, replaced, rest, by, fixed,
+            )?;
+            let ended = run(alloc, first)?;
             Ok(Fixed {
                 change: Some(ended.change),
                 fixed: ended.fixed,

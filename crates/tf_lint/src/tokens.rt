@@ -1,6 +1,6 @@
 //! Tokens that stand in two texts.
 
-ghost use Rattle.std.specs.Prelude.{◌≡◌, ◌≢◌, ◌<◌, true, false, length, slice_get};
+ghost use Rattle.std.specs.Prelude.{◌≡◌, ◌≢◌, ◌<◌, ◌≤◌, ◌+◌, true, false, length, take, drop, slice_get};
 ghost use Rattle.hcl_scan.specs.Follows.{tokens_of};
 ghost use Rattle.tf_lint.specs.Keeping.{SameTokens};
 
@@ -38,6 +38,37 @@ fn same_token(old: &Scanned<'_>, new: &Scanned<'_>, i: usize, j: usize) -> bool
     same_spelling(old.spelling(i), new.spelling(j))
 }
 
+/// Whether so many tokens are the same with the gaps between them: their bytes are compared at once.
+#[tactic(auto, using(crate::proofs::TokenLemmas::stretch_tokens))]
+fn same_stretch(old: &Scanned<'_>, new: &Scanned<'_>, from: usize, to: usize, count: usize) -> bool
+    requires old { from + count ≤ length old.now.pairs }
+    requires new { to + count ≤ length new.now.pairs }
+    ensures { result ≡ true
+        → take count (drop from (tokens_of old.now.pairs))
+        ≡ take count (drop to (tokens_of new.now.pairs)) }
+{
+    old.same_stretch(from, new, to, count)
+}
+
+/// Whether so many tokens are the same, one by one, whatever gaps stand between them.
+fn same_each(old: &Scanned<'_>, new: &Scanned<'_>, from: usize, to: usize, count: usize) -> bool
+    requires old { from + count ≤ length old.now.pairs }
+    requires new { to + count ≤ length new.now.pairs }
+    ensures same { result ≡ true
+        → SameTokens (tokens_of old.now.pairs) (tokens_of new.now.pairs) from to count }
+    ensures other { result ≡ false
+        → ¬ (SameTokens (tokens_of old.now.pairs) (tokens_of new.now.pairs) from to count) }
+{
+    let _all = old.len();
+    let _all = new.len();
+    for k in 0..count {
+        if !same_token(old, new, from + k, to + k) {
+            return false;
+        }
+    }
+    true
+}
+
 /// Whether `count` tokens stand in the old text from number `from` on, and the same in the new one
 /// from number `to` on.
 pub fn same_tokens(
@@ -58,10 +89,5 @@ pub fn same_tokens(
     if count > new.len() || to > new.len() - count {
         return false;
     }
-    for k in 0..count {
-        if !same_token(old, new, from + k, to + k) {
-            return false;
-        }
-    }
-    true
+    same_stretch(old, new, from, to, count) || same_each(old, new, from, to, count)
 }

@@ -1,6 +1,6 @@
 use Rattle.hcl_scan.specs.Follows.{tokens_of}
 use Rattle.tf_lint.proofs.TokenLemmas.{same_more}
-use Rattle.tf_lint.proofs.tokens.same_tokens.Goals as goal
+use Rattle.tf_lint.proofs.tokens.same_each.Goals as goal
 
 pub loop-k-preserved : goal.loop-k-preserved
 loop-k-preserved c =

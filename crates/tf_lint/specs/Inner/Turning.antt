@@ -1,0 +1,14 @@
+-- For proofs: a text that a step made, and what the rules up to the first that changes it did.
+use Rattle.std.specs.Prelude.{ℕ, List}
+use Rattle.tf_rule.specs.declared.rule.Rule.{Rule}
+use Rattle.tf_fix.specs.Reading.{Reads}
+use Rattle.tf_fix.specs.declared.parsed.Parsed.{Parsed}
+use Rattle.tf_lint.specs.Inner.Passing.{Passes}
+use Rattle.tf_lint.specs.Searching.{IsBefore}
+use Rattle.tf_lint.specs.declared.steps.Turned.{Turned}
+
+-- the text with its tree, and what these rules did to it, where so many findings were mended before
+pub record IsTurned (order : List Rule) (count : ℕ) (p : Parsed) (turned : Turned) : Type 0 where
+  pub reads : Reads turned.done.text.items p
+  pub before : IsBefore p turned.before
+  pub passes : Passes turned.before.rules order p count turned.passed
