@@ -88,9 +88,11 @@ impl<'s, 't> Reader<'s, 't> {
     }
 
     /// How many tails to take memory for, where one comes next: more than one if another tail
-    /// stands behind a `.` and a name.
+    /// stands behind a `.` and a name. For none, where they are not kept.
     fn room(&self, at: usize) -> usize {
-        if self.has_tail(at.saturating_add(2)) {
+        if !self.keeps() {
+            0
+        } else if self.has_tail(at.saturating_add(2)) {
             3
         } else {
             1
@@ -107,7 +109,7 @@ impl<'s, 't> Reader<'s, 't> {
             let Some(tail) = self.tail(at)? else {
                 return Ok(found);
             };
-            found.push(tail)?;
+            self.add(&mut found, tail)?;
         }
         Ok(found)
     }

@@ -177,7 +177,7 @@ impl<'s, 't> Reader<'s, 't> {
             let Some(part) = self.part(at)? else {
                 return Ok(found);
             };
-            found.push(part)?;
+            self.add(&mut found, part)?;
         }
         Ok(found)
     }

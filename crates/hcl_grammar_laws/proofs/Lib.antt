@@ -22,3 +22,4 @@ pub mod Alike
 pub mod AlikeExpressions
 pub mod AlikeBodies
 pub mod Quiet
+pub mod Passing

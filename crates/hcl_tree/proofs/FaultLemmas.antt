@@ -1,5 +1,5 @@
 -- The tokens of a text that parses, and faults by numbers of tokens and by bytes.
-use Rattle.std.proofs.Common.{◌≡◌, false, List, Result, sym, subst}
+use Rattle.std.proofs.Common.{◌≡◌, ℕ, Bool, true, false, List, Result, sym, subst}
 use Rattle.hcl_expr.specs.Rules.{Here}
 use Rattle.hcl_token.specs.CutText.{CutText}
 use Rattle.hcl_token.specs.Tokens.{Pair}
@@ -9,9 +9,11 @@ use Rattle.hcl_grammar.specs.declared.fault.TokenFault.TheVariants as token
 use Rattle.hcl_grammar.specs.declared.tree.Tree.{Tree}
 use Rattle.hcl_grammar.specs.Bodies.{IsFile}
 use Rattle.hcl_grammar.specs.Faults as pure
+use Rattle.hcl_grammar.specs.Pure.BodyParser.{file}
+use Rattle.hcl_grammar.specs.Pure.Reading.{Reads}
 use Rattle.hcl_grammar.specs.Tokens.{Token}
-use Rattle.hcl_grammar_laws.specs.Pure.Answering.{IsAnswer}
 use Rattle.hcl_grammar.specs.declared.bounds.TheConstants.{MAX_NESTING}
+use Rattle.hcl_grammar_laws.specs.Pure.Answering.{FileAnswers, IsAnswer, IsToldOf, PassingAnswers}
 use Rattle.hcl_text_laws.specs.Parses.{Parses}
 use Rattle.hcl_tree.specs.Faults.{IsMemory, IsMemoryOrDeep, in_bytes}
 
@@ -19,9 +21,19 @@ use Rattle.hcl_tree.specs.Faults.{IsMemory, IsMemoryOrDeep, in_bytes}
 pub own_tokens : (s : CutText) (t : Tree) (p : Parses s.text t) → s.pairs ≡ p.pairs → IsFile (tokens_of s.pairs) MAX_NESTING t
 own_tokens s t p e = subst (λ (ps : List Pair). IsFile (tokens_of ps) MAX_NESTING t) (sym e) p.derived
 
--- an answer over a reader of a text is one to the text's own tokens
-pub its_answer : (ts : List Token) {here : Here} {r q : Result Tree TokenFault} → here ≡ record { tokens = ts; inside = false; depth = MAX_NESTING } → r ≡ q → IsAnswer here.tokens here.depth r → IsAnswer ts MAX_NESTING q
-its_answer ts {here} {r} {q} e same a = subst (λ (h : Here). IsAnswer h.tokens h.depth q) e (subst (λ (o : Result Tree TokenFault). IsAnswer here.tokens here.depth o) same a)
+-- what is read by a reader of a text is read of the text's own tokens
+its_reading : (ts : List Token) (keep : Bool) {here : Here} {r q : Result Tree TokenFault} (new : ℕ) → here ≡ record { tokens = ts; inside = false; depth = MAX_NESTING; keep = keep } → r ≡ q
+    → Reads (file here.keep here.tokens here.depth 0) r new → Reads (file keep ts MAX_NESTING 0) q new
+its_reading ts keep {here} {r} {q} new e same h = subst (λ (h : Here). Reads (file h.keep h.tokens h.depth 0) q new) e (subst (λ (o : Result Tree TokenFault). Reads (file here.keep here.tokens here.depth 0) o new) same h)
+
+pub its_answer : (ts : List Token) {here : Here} {r q : Result Tree TokenFault} (new : ℕ) → FileAnswers → here ≡ record { tokens = ts; inside = false; depth = MAX_NESTING; keep = true } → r ≡ q
+    → Reads (file here.keep here.tokens here.depth 0) r new → IsAnswer ts MAX_NESTING q
+its_answer ts {q = q} new answers e same h = answers ts MAX_NESTING q new (its_reading ts true new e same h)
+
+-- the same where nothing is kept
+pub its_told : (ts : List Token) {here : Here} {r q : Result Tree TokenFault} (new : ℕ) → PassingAnswers → here ≡ record { tokens = ts; inside = false; depth = MAX_NESTING; keep = false } → r ≡ q
+    → Reads (file here.keep here.tokens here.depth 0) r new → IsToldOf ts MAX_NESTING q
+its_told ts {q = q} new answers e same h = answers ts MAX_NESTING q new (its_reading ts false new e same h)
 
 -- ---- faults by bytes
 

@@ -1,14 +1,12 @@
 -- For proofs: the rules of the pure parser of bodies, over a text as it is read at one place.
-use Rattle.std.specs.Prelude.{◌≡◌, ◌≢◌, ℕ, suc, false, List, [], length, Option, Result, Ok, Err}
+use Rattle.std.specs.Prelude.{ℕ, suc, false, List, [], length, Option}
 use Rattle.hcl_expr.specs.Rules.{Here}
-use Rattle.hcl_grammar.specs.declared.fault.TokenFault.{TokenFault}
-use Rattle.hcl_grammar.specs.declared.fault.TokenFault.TheVariants.{Memory}
 use Rattle.hcl_grammar.specs.declared.tree.Content.{Content}
 use Rattle.hcl_grammar.specs.declared.tree.Label.{Label}
 use Rattle.hcl_grammar.specs.declared.tree.Member.{Member}
 use Rattle.hcl_grammar.specs.declared.tree.Tree.{Tree}
 use Rattle.hcl_grammar.specs.Pure.BodyParser as b
-use Rattle.hcl_grammar.specs.Pure.Reading.{Outcome, Step}
+use Rattle.hcl_grammar.specs.Pure.Reading.{Step}
 use Rattle.hcl_grammar.specs.Tokens as tokens
 
 module _ (t : Here) where
@@ -26,46 +24,42 @@ module _ (t : Here) where
   label = b.label_of t.tokens
 
   abbrev pub labels_from : ℕ → List Label → Step (List Label)
-  labels_from turns found = b.labels_from t.tokens turns found
+  labels_from turns found = b.labels_from t.keep t.tokens turns found
 
   abbrev pub labels : Step (List Label)
   labels = labels_from (length t.tokens) []
 
   abbrev pub attribute : ℕ → Step Member
-  attribute first = b.attribute_by t.tokens t.depth (b.deeper_members t.tokens t.depth) first
+  attribute first =
+      b.attribute_by t.keep t.tokens t.depth (b.deeper_members t.keep t.tokens t.depth) first
 
   abbrev pub block : ℕ → Step Member
-  block first = b.block_by t.tokens t.depth (b.deeper_members t.tokens t.depth) first
+  block first = b.block_by t.keep t.tokens t.depth (b.deeper_members t.keep t.tokens t.depth) first
 
   abbrev pub named : ℕ → Step Member
-  named first = b.named_member t.tokens t.depth (b.deeper_members t.tokens t.depth) first
+  named first =
+      b.named_member t.keep t.tokens t.depth (b.deeper_members t.keep t.tokens t.depth) first
 
   abbrev pub member : Step (Option Member)
-  member = b.member_of t.tokens t.depth (b.deeper_members t.tokens t.depth)
+  member = b.member_of t.keep t.tokens t.depth (b.deeper_members t.keep t.tokens t.depth)
 
   abbrev pub members_from : ℕ → List Member → Step (List Member)
   members_from turns found =
-      b.members_from t.tokens t.depth (b.deeper_members t.tokens t.depth) turns found
+      b.members_from t.keep t.tokens t.depth (b.deeper_members t.keep t.tokens t.depth) turns found
 
   abbrev pub members : Step (List Member)
-  members = b.members t.tokens t.depth
+  members = b.members t.keep t.tokens t.depth
 
   abbrev pub file : Step Tree
-  file = b.file t.tokens t.depth
+  file = b.file t.keep t.tokens t.depth
 
 -- what stands in the braces of a block, which were opened
 module _ (t : Here) where
   abbrev pub on_line : Step Content
-  on_line = b.on_line t.tokens t.depth
+  on_line = b.on_line t.keep t.tokens t.depth
 
   abbrev pub nested_body : Step Content
-  nested_body = b.nested_body t.tokens (suc t.depth) (b.members t.tokens t.depth)
+  nested_body = b.nested_body t.keep t.tokens (suc t.depth) (b.members t.keep t.tokens t.depth)
 
   abbrev pub block_content : Step Content
-  block_content = b.block_content t.tokens (suc t.depth) (b.members t.tokens t.depth)
-
--- what a function that reads and keeps nothing ensures: the parser's place behind what it reads, or
--- its fault, unless memory fails
-abbrev pub Passes : {A : Type 0} → Outcome A → Result (Unit {0}) TokenFault → ℕ → Type 0
-Passes {A} outcome (Ok u) new = (a : A) × (outcome ≡ Ok (a, new))
-Passes outcome (Err e) new = e ≢ Memory → outcome ≡ Err e
+  block_content = b.block_content t.keep t.tokens (suc t.depth) (b.members t.keep t.tokens t.depth)

@@ -9,10 +9,9 @@ ghost use Rattle.hcl_grammar.specs.declared.tree.Tree as tree;
 ghost use Rattle.hcl_text_laws.specs.Parses.{Parses};
 ghost use Rattle.hcl_scan.specs.Follows.{tokens_of};
 ghost use Rattle.hcl_tree.specs.Rules as spec;
-ghost use Rattle.hcl_tree.specs.Rules.{Passes};
 ghost use Rattle.hcl_tree.specs.Faults.{IsMemory, IsMemoryOrDeep, start_of, in_bytes};
 
-use crate::bodies::{ended, member, members};
+use crate::bodies::{ended, members};
 use crate::fault::ParseFault;
 use hcl_expr::Reader;
 use hcl_grammar::MAX_NESTING;
@@ -91,34 +90,8 @@ pub fn parse(alloc: Global, scanned: &Scanned<'_>) -> Result<Tree, ParseFault>
     }
 }
 
-/// Goes over the members of a body. Each is given up before the next is read.
-fn pass_members(reader: &Reader<'_, '_>, at: &mut usize) -> Result<(), TokenFault>
-    ensures { Passes (spec.members reader.now at.old) result at.new }
-{
-    for _turn in 0..reader.len() {
-        if reader.line(at) {
-            continue;
-        }
-        let Some(_member) = member(reader, at)? else {
-            return Ok(());
-        };
-    }
-    Ok(())
-}
-
-/// Goes over all the tokens.
-fn pass_file(reader: &Reader<'_, '_>, at: &mut usize) -> Result<(), TokenFault>
-    ensures { Passes (spec.file reader.now at.old) result at.new }
-{
-    let lines = reader.on_lines();
-    let _is_mark = lines.eat(Kind::Mark, at);
-    pass_members(reader, at)?;
-    let _is_comment = lines.eat(Kind::LineComment, at);
-    ended(reader, at)
-}
-
-/// Whether a text parses, as `parse` says it, with no tree of it kept: each attribute or block of
-/// its body is given up before the next is read.
+/// Whether a text parses, as `parse` says it, with no tree of it kept: what stands in a list is
+/// given up before the next is read.
 pub fn check(alloc: Global, scanned: &Scanned<'_>) -> Result<(), ParseFault>
     // A tree stands over the text.
     ensures parses { OnOk result
@@ -129,12 +102,12 @@ pub fn check(alloc: Global, scanned: &Scanned<'_>) -> Result<(), ParseFault>
     ensures deeper { (d : ℕ) (t : tree.Tree) → IsFile (tokens_of scanned.now.pairs) d t
         → IfErr result IsMemoryOrDeep }
 {
-    hcl_grammar_laws::laws::file_answers();
+    hcl_grammar_laws::laws::passing_answers();
     hcl_scan::laws::one_cut();
     let _count = scanned.len();
     let mut at = 0;
-    match pass_file(&Reader::new(alloc, scanned), &mut at) {
-        Ok(()) => Ok(()),
+    match file(&Reader::passing(alloc, scanned), &mut at) {
+        Ok(_tree) => Ok(()),
         Err(fault) => Err(in_bytes(scanned, fault)),
     }
 }

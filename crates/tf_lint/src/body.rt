@@ -2,7 +2,7 @@
 //!
 //! HCL native syntax specification, Structural Elements.
 
-ghost use Rattle.std.specs.Prelude.{◌≡◌, ◌≢◌, ◌∷◌, [], ◌++◌, List, OnOk, IfOk, IfErr, Err};
+ghost use Rattle.std.specs.Prelude.{◌≡◌, ◌≢◌, ◌∷◌, [], ◌++◌, true, List, OnOk, IfOk, IfErr, Err};
 ghost use Rattle.hcl_grammar.specs.Pure.BodyParser as spec;
 ghost use Rattle.hcl_grammar.specs.declared.fault.TokenFault.TheVariants as fault;
 ghost use Rattle.hcl_grammar.specs.declared.tree.Member.{Member};
@@ -97,10 +97,10 @@ pub fn body(
     requires { AreSeen rules old.now.pairs seen.now }
     ensures seen { IfOk result
         (λ found. AreRead rules scanned.now.pairs
-        (spec.members (tokens_of scanned.now.pairs) MAX_NESTING at.old) at.new found) }
+        (spec.members true (tokens_of scanned.now.pairs) MAX_NESTING at.old) at.new found) }
     ensures fault { IfErr result
         (λ e. e ≢ fault.Memory
-        → spec.members (tokens_of scanned.now.pairs) MAX_NESTING at.old ≡ Err e) }
+        → spec.members true (tokens_of scanned.now.pairs) MAX_NESTING at.old ≡ Err e) }
 {
     let reader = Reader::new(alloc, scanned);
     let mut found = Gathered {

@@ -77,7 +77,8 @@ fn new_member(
     ensures next { IfOk result (λ x. IsNext rules scanned.now.pairs at.old x at.new) }
     ensures fault { let ts = tokens_of scanned.now.pairs in
         IfErr result (λ e. e ≢ fault.Memory
-        → spec.member_of ts MAX_NESTING (spec.deeper_members ts MAX_NESTING) at.old ≡ Err e) }
+        → spec.member_of true ts MAX_NESTING (spec.deeper_members true ts MAX_NESTING) at.old
+        ≡ Err e) }
 {
     let from = *at;
     let Some(x) = member(&Reader::new(alloc, scanned), at)? else {
@@ -173,7 +174,8 @@ pub fn next_member(
     ensures next { IfOk result (λ x. IsNext rules scanned.now.pairs at.old x at.new) }
     ensures fault { let ts = tokens_of scanned.now.pairs in
         IfErr result (λ e. e ≢ fault.Memory
-        → spec.member_of ts MAX_NESTING (spec.deeper_members ts MAX_NESTING) at.old ≡ Err e) }
+        → spec.member_of true ts MAX_NESTING (spec.deeper_members true ts MAX_NESTING) at.old
+        ≡ Err e) }
 {
     let Some(x) = old_member(alloc, old, scanned, seen, index, *at)? else {
         return new_member(alloc, scanned, rules, at);

@@ -1,6 +1,6 @@
 //! What the rules find in a text that parses.
 
-ghost use Rattle.std.specs.Prelude.{◌≡◌, ◌≢◌, ◌++◌, ℕ, List, length, IfOk, IfErr, Ok, Err};
+ghost use Rattle.std.specs.Prelude.{◌≡◌, ◌≢◌, ◌++◌, ℕ, true, List, length, IfOk, IfErr, Ok, Err};
 ghost use Rattle.hcl_grammar.specs.Bodies.{IsFile};
 ghost use Rattle.hcl_grammar.specs.Pure.BodyParser as spec;
 ghost use Rattle.hcl_grammar.specs.declared.fault.TokenFault.TheVariants as fault;
@@ -48,11 +48,11 @@ fn file(
     requires { AreSeen rules old.now.pairs seen.now }
     ensures found { IfOk result
         (λ found. (t : Tree)
-        × (spec.file (tokens_of scanned.now.pairs) MAX_NESTING at.old ≡ Ok (t, at.new))
+        × (spec.file true (tokens_of scanned.now.pairs) MAX_NESTING at.old ≡ Ok (t, at.new))
         × AreOf rules scanned.now.pairs t.body.members found) }
     ensures fault { IfErr result
         (λ e. e ≢ fault.Memory
-        → spec.file (tokens_of scanned.now.pairs) MAX_NESTING at.old ≡ Err e) }
+        → spec.file true (tokens_of scanned.now.pairs) MAX_NESTING at.old ≡ Err e) }
 {
     let reader = Reader::new(alloc, scanned);
     let _is_mark = reader.eat(Kind::Mark, at);

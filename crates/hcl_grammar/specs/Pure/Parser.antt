@@ -123,6 +123,13 @@ module _ (ts : List Token) where
     word ts true w
     expect ts true k.SeqClose
 
+-- a list with what was found behind it; as it is, where nothing is kept
+abbrev pub adds : {A : Type 0} → Bool → List A → A → List A
+adds true found x = found ++ x ∷ []
+adds false found x = found
+
+-- keep: whether lists keep what is found; the steps that read don't hang on it
+module _ (keep : Bool) (ts : List Token) where
   -- inner: the expressions of one construct deeper
   module _ (inner : Exprs) where
     -- (Expr ("," Expr)* ","?)? and `]`, put behind those that were found; so in the lists below
@@ -133,9 +140,9 @@ module _ (ts : List Token) where
       if is_closed then pure found else (do
         x ← inner true Whole
         more ← eat ts true k.Comma
-        if more then items_from n (found ++ x ∷ []) else (do
+        if more then items_from n (adds keep found x) else (do
           expect ts true k.CloseBracket
-          pure (found ++ x ∷ [])))
+          pure (adds keep found x)))
 
     -- (Expr ("," Expr)* (","|"...")?)? and `)`
     unfoldable pub arguments_from : ℕ → List Expr → Step (List Expr × Bool)
@@ -145,10 +152,10 @@ module _ (ts : List Token) where
       if is_closed then pure (found, false) else (do
         x ← inner true Whole
         more ← eat ts true k.Comma
-        if more then arguments_from n (found ++ x ∷ []) else (do
+        if more then arguments_from n (adds keep found x) else (do
           spread ← eat ts true k.Ellipsis
           expect ts true k.CloseParen
-          pure (found ++ x ∷ [], spread)))
+          pure (adds keep found x, spread)))
 
     -- Elem
     unfoldable pub element : Step Elem
@@ -167,8 +174,8 @@ module _ (ts : List Token) where
       is_closed ← eat ts false k.CloseBrace
       if is_closed then pure found else (do
         x ← element
-        more ← separator_or_end
-        if more then elements_from n (found ++ x ∷ []) else pure (found ++ x ∷ []))
+        more ← separator_or_end ts
+        if more then elements_from n (adds keep found x) else pure (adds keep found x))
 
     -- Intro
     unfoldable pub intro : Step Intro
@@ -177,7 +184,7 @@ module _ (ts : List Token) where
       word ts true for_word
       name ← ahead ts true
       expect ts true k.Identifier
-      o ← second
+      o ← second ts
       word ts true in_word
       source ← inner true Whole
       end ← here
@@ -204,7 +211,7 @@ module _ (ts : List Token) where
 
     unfoldable pub object : ℕ → Step Term
     object first = do
-      lines
+      lines ts
       xs ← elements_from (length ts) []
       end ← here
       pure (node.term first end (shape.Object xs))
@@ -287,7 +294,7 @@ module _ (ts : List Token) where
     -- a call, after its first name
     unfoldable pub call : Bool → ℕ → Step Term
     call m first = do
-      names ← names_from m (length ts) []
+      names ← names_from ts m (length ts) []
       opening ← ahead ts m
       expect ts m k.OpenParen
       enter depth opening
@@ -359,7 +366,7 @@ module _ (ts : List Token) where
     abbrev pub tails_step : (List Tail → Step (List Tail)) → List Tail → Option Tail
         → Step (List Tail)
     tails_step more found None = pure found
-    tails_step more found (Some t) = more (found ++ t ∷ [])
+    tails_step more found (Some t) = more (adds keep found t)
 
     -- Tail*
     unfoldable pub tails_from : Bool → ℕ → List Tail → Step (List Tail)
@@ -389,7 +396,7 @@ module _ (ts : List Token) where
     unfoldable pub unary : Bool → Step Expr
     unary m = do
       first ← ahead ts m
-      op ← prefix m
+      op ← prefix ts m
       unary_by m first op
 
     module _ (operand : Bool → Step Expr) where
@@ -398,13 +405,13 @@ module _ (ts : List Token) where
       links_step m more found None = pure found
       links_step m more found (Some op) = do
         x ← operand m
-        more (found ++ node.link op x ∷ [])
+        more (adds keep found (node.link op x))
 
       -- the operators of level n, each with the operand behind it
       unfoldable pub links_from : Bool → ℕ → ℕ → List Link → Step (List Link)
       links_from m n zero found = pure found
       links_from m n (suc turns) found = do
-        op ← operator m n
+        op ← operator ts m n
         links_step m (links_from m n turns) found op
 
     -- level n: level 0 is Unary, level 6 is Or
@@ -449,13 +456,13 @@ module _ (ts : List Token) where
     otherwise m = do
       is_else ← (λ i. Ok (reads ts true else_word (after ts m i), i))
       if is_else then (do
-        keyword m else_word
+        keyword ts m else_word
         from ← here
         ps ← inner.parts m
         to ← here
-        keyword m endif_word
+        keyword ts m endif_word
         pure (Some (node.template (first_of ts m from to) to ps))) else (do
-          keyword m endif_word
+          keyword ts m endif_word
           pure None)
 
     -- braces: the expressions of two constructs deeper
@@ -483,7 +490,7 @@ module _ (ts : List Token) where
         from ← here
         body ← inner.parts m
         to ← here
-        keyword m endfor_word
+        keyword ts m endfor_word
         end ← here
         pure (node.for_part first end x (node.template (first_of ts m from to) to body))
 
@@ -514,7 +521,7 @@ module _ (ts : List Token) where
       abbrev pub parts_step : (List Part → Step (List Part)) → List Part → Option Part
           → Step (List Part)
       parts_step more found None = pure found
-      parts_step more found (Some x) = more (found ++ x ∷ [])
+      parts_step more found (Some x) = more (adds keep found x)
 
       -- Parts
       unfoldable pub parts_from : Bool → ℕ → List Part → Step (List Part)

@@ -1,17 +1,4 @@
-use Rattle.std.proofs.Common.{◌≡◌, false, List, Result, Ok, Err, sym, subst}
-use Rattle.hcl_token.specs.CutText.{CutText}
-use Rattle.hcl_token.specs.Tokens.{Pair}
 use Rattle.hcl_scan.specs.Follows.{tokens_of}
-use Rattle.hcl_grammar.specs.declared.fault.TokenFault.{TokenFault}
-use Rattle.hcl_grammar.specs.declared.fault.TokenFault.TheVariants as token
-use Rattle.hcl_grammar.specs.declared.tree.Tree.{Tree}
-use Rattle.hcl_grammar.specs.Bodies.{IsFile}
-use Rattle.hcl_grammar.specs.Faults as pure
-use Rattle.hcl_grammar.specs.Tokens.{Token}
-use Rattle.hcl_grammar_laws.specs.Pure.Answering.{IsAnswer}
-use Rattle.hcl_grammar.specs.declared.bounds.TheConstants.{MAX_NESTING}
-use Rattle.hcl_text_laws.specs.Parses.{Parses}
-use Rattle.hcl_tree.specs.Faults.{IsMemory, IsMemoryOrDeep, in_bytes}
 use Rattle.hcl_tree.proofs.FaultLemmas.{its_answer, own_tokens, memory_in_bytes, deep_in_bytes}
 use Rattle.hcl_tree.proofs.parsing.parse.Goals as goal
 
@@ -20,25 +7,25 @@ returns-in-Ok-clause-parses c = record {
   pairs = c.args.scanned.now.pairs;
   last = c.args.scanned.now.last;
   cut = c.len-count.ensures.cut;
-  derived = (its_answer (tokens_of c.args.scanned.now.pairs) c.new.ensures c.in-Ok.is (c.file_answers.ensures _ _ _ _ c.file.ensures)).derived;
+  derived = (its_answer (tokens_of c.args.scanned.now.pairs) _ c.file_answers.ensures c.new.ensures c.in-Ok.is c.file.ensures).derived;
 }
 
 pub returns-in-Ok-clause-derived : goal.returns-in-Ok-clause-derived
-returns-in-Ok-clause-derived c = (its_answer (tokens_of c.args.scanned.now.pairs) c.new.ensures c.in-Ok.is (c.file_answers.ensures _ _ _ _ c.file.ensures)).derived
+returns-in-Ok-clause-derived c = (its_answer (tokens_of c.args.scanned.now.pairs) _ c.file_answers.ensures c.new.ensures c.in-Ok.is c.file.ensures).derived
 
 pub returns-in-Ok-clause-only : goal.returns-in-Ok-clause-only
 returns-in-Ok-clause-only c = λ t p.
-    (its_answer (tokens_of c.args.scanned.now.pairs) c.new.ensures c.in-Ok.is (c.file_answers.ensures _ _ _ _ c.file.ensures)).only t (own_tokens c.args.scanned.now t p (c.one_cut.ensures _ _ _ _ _ c.len-count.ensures.cut p.cut).0)
+    (its_answer (tokens_of c.args.scanned.now.pairs) _ c.file_answers.ensures c.new.ensures c.in-Ok.is c.file.ensures).only t (own_tokens c.args.scanned.now t p (c.one_cut.ensures _ _ _ _ _ c.len-count.ensures.cut p.cut).0)
 
 pub returns-in-Ok-clause-deeper : goal.returns-in-Ok-clause-deeper
-returns-in-Ok-clause-deeper c = λ d t w. (its_answer (tokens_of c.args.scanned.now.pairs) c.new.ensures c.in-Ok.is (c.file_answers.ensures _ _ _ _ c.file.ensures)).deeper d t w
+returns-in-Ok-clause-deeper c = λ d t w. (its_answer (tokens_of c.args.scanned.now.pairs) _ c.file_answers.ensures c.new.ensures c.in-Ok.is c.file.ensures).deeper d t w
 
 pub returns-in-Err-clause-only : goal.returns-in-Err-clause-only
 returns-in-Err-clause-only c = λ t p.
-    let h = (its_answer (tokens_of c.args.scanned.now.pairs) c.new.ensures c.in-Err.is (c.file_answers.ensures _ _ _ _ c.file.ensures)).only t (own_tokens c.args.scanned.now t p (c.one_cut.ensures _ _ _ _ _ c.len-count.ensures.cut p.cut).0) in
+    let h = (its_answer (tokens_of c.args.scanned.now.pairs) _ c.file_answers.ensures c.new.ensures c.in-Err.is c.file.ensures).only t (own_tokens c.args.scanned.now t p (c.one_cut.ensures _ _ _ _ _ c.len-count.ensures.cut p.cut).0) in
     rw c.in_bytes.ensures (memory_in_bytes c.args.scanned.now _ h)
 
 pub returns-in-Err-clause-deeper : goal.returns-in-Err-clause-deeper
 returns-in-Err-clause-deeper c = λ d t w.
-    let h = (its_answer (tokens_of c.args.scanned.now.pairs) c.new.ensures c.in-Err.is (c.file_answers.ensures _ _ _ _ c.file.ensures)).deeper d t w in
+    let h = (its_answer (tokens_of c.args.scanned.now.pairs) _ c.file_answers.ensures c.new.ensures c.in-Err.is c.file.ensures).deeper d t w in
     rw c.in_bytes.ensures (deep_in_bytes c.args.scanned.now _ h)
