@@ -38,6 +38,22 @@ pub struct SeenMember {
     pub blocks: Vec<Finding>,
 }
 
+/// A list that was grown has room for so many at least.
+const ROOMY: usize = 4;
+
+/// The same findings, with no room for more where they are few: most members have one or two, and
+/// are kept while their text is fixed.
+fn fitted(alloc: Global, found: Vec<Finding>) -> Result<Vec<Finding>, AllocError>
+    ensures { IfOk result (λ list. list.items ≡ found.items) }
+{
+    if found.is_empty() || found.len() >= ROOMY {
+        return Ok(found);
+    }
+    let mut list = Vec::with_capacity(alloc, found.len())?;
+    list.extend_from_slice(&found)?;
+    Ok(list)
+}
+
 /// A member that was read between two places, and what the rules find in it.
 fn looked_at(
     alloc: Global,
@@ -59,6 +75,8 @@ fn looked_at(
     tf_diagnostics::add_member_findings(scanned, rules, x, &mut nodes)?;
     let mut blocks = Vec::new(alloc);
     tf_rules::add_member_findings(scanned, rules, x, &mut blocks)?;
+    let nodes = fitted(alloc, nodes)?;
+    let blocks = fitted(alloc, blocks)?;
     Ok(SeenMember {
         from,
         past,

@@ -103,7 +103,7 @@ pub fn moved_findings(
 ) -> Result<Vec<Finding>, AllocError>
     ensures { IfOk result (λ found. found.items ≡ map (moved_finding from to) findings.now) }
 {
-    let mut all = Vec::new(alloc);
+    let mut all = Vec::with_capacity(alloc, findings.len())?;
     for finding in findings {
         all.push(moved_finding(*finding, from, to))?;
     }
