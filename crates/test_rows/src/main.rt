@@ -5,6 +5,7 @@
 #![tactic(auto)]
 
 mod answer;
+mod beside;
 mod journals;
 mod layouts;
 mod lints;

@@ -1,6 +1,7 @@
 //! Tokens: the cuts of texts, places, and what joins.
 
 use crate::answer::Answer;
+use crate::beside;
 use crate::journals::with_byte;
 use crate::row::Row;
 use hcl_scan::laws::{
@@ -18,6 +19,7 @@ pub fn answer(row: &Row, out: &mut Answer) {
         }
         "clusters" => out.show(&clusters(row.word(1).as_bytes())),
         "fronts" => fronts(row.text(1), out),
+        "kept" | "again" | "same" => beside::answer(row, out),
         "others" => others(row.text(1), row.text(2), out),
         "laws" => laws(out),
         "memory" => out.show(&ScanFault::Memory),
@@ -28,7 +30,7 @@ pub fn answer(row: &Row, out: &mut Answer) {
     }
 }
 
-fn yes_or_no(yes: bool, out: &mut Answer) {
+pub fn yes_or_no(yes: bool, out: &mut Answer) {
     out.put(if yes { "yes" } else { "no" });
 }
 
@@ -44,7 +46,7 @@ fn tell(row: &Row, scanned: &Scanned<'_>, out: &mut Answer) {
 }
 
 /// The tokens of a text, each with its kind.
-fn cut(scanned: &Scanned<'_>, out: &mut Answer) {
+pub fn cut(scanned: &Scanned<'_>, out: &mut Answer) {
     for i in 0..scanned.len() {
         let kind = scanned.kind(i);
         let _ = write!(out, "{kind:?}(");
