@@ -6,4 +6,4 @@ pub scan_again-requires : goal.scan_again-requires
 scan_again-requires c =
     let (tree, is) = c.in-Ok.ensures.parses in
     let cut = c.args.old.now in
-    c.parsed_apart.ensures cut.text cut.pairs cut.last MAX_NESTING tree c.old_text-old_text.ensures.cut is
+    c.parsed_apart.ensures cut.text cut.pairs cut.last MAX_NESTING tree c.text-old_text.ensures.cut is
