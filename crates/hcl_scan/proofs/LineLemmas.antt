@@ -17,6 +17,9 @@ use Rattle.hcl_scan.specs.Lexeme.{IsLexeme}
 use Rattle.hcl_scan.specs.Cut.{IsCut, MAX_TEXT}
 use Rattle.hcl_scan.specs.Follows.{neighbour, Behind, FollowsFrom, Follows, IsApart, AreApart, mark}
 use Rattle.hcl_scan.specs.Inner.Lines.{EndsInLine, AreLines, AreLast, IsFront, IsStretch, IsBegun, IsWhole, items_at}
+use Rattle.hcl_scan.proofs.MarkerLemmas.{markers_after, marker_of_mode}
+use Rattle.hcl_scan.proofs.Neighbours.{lexeme_filled}
+use Rattle.hcl_scan.proofs.OpenMarkers.{HaveMarkers}
 use Rattle.hcl_scan.proofs.PairLemmas.{modes_behind, joining_rest}
 use Rattle.hcl_scan.proofs.WritesBack.{writes_back}
 
@@ -445,6 +448,32 @@ within_text cut from at i item c f le within e =
       short = omega (arith, stop, known.next, c.short);
     }
 
+-- a token behind others has a byte
+follow_filled : (ps rest : List Pair) (p : Pair) (modes : List Mode) (last : List ℕ) → HaveMarkers modes → FollowsFrom modes (ps ++ p ∷ rest) last [] → 0 < length p.spelling
+follow_filled [] rest p modes last m f = lexeme_filled (mode_of modes) p.kind p.spelling (neighbour rest last) (marker_of_mode modes m) f.2
+follow_filled (q ∷ ps) rest p modes last m f =
+    follow_filled ps rest p (after q.kind q.spelling modes) last (markers_after q.kind q.spelling (neighbour (ps ++ p ∷ rest) last) modes f.2.1 m) f.4
+
+-- an item of a stretch that fits from another place on begins before the end
+pub moved_fits : (cut : CutText) (from at i end to : ℕ) (item : Item) → IsFront cut from at → from ≤ i → i < end → end ≤ length cut.pairs → Some item ≡ item_of cut.pairs i
+    → to + length (whole_text (slice_range cut.pairs from end) []) ≤ MAX_TEXT → to + (item.start - at) < MAX_TEXT
+moved_fits cut from at i end to item f le inside within e fits =
+    let ps : List Pair = cut.pairs in
+    let there = pair_there ps i (omega arith) in
+    let p : Pair = there.0 in
+    let before : List Pair = slice_range ps from i in
+    let known : Placed ps i p item = placed ps i p item there.1 e in
+    let front : length (whole_text (take i ps) []) ≡ at + length (whole_text before []) = place_more cut from at i f le in
+    let split : drop from ps ≡ before ++ p ∷ drop (suc i) ps = drop_split ps from i le ∙ ap (λ (x : List Pair). before ++ x) (one_at ps i p there.1) in
+    let some : 0 < length p.spelling =
+    follow_filled before (drop (suc i) ps) p [] cut.last tt (subst (λ (x : List Pair). FollowsFrom [] x cut.last []) split f.rest.follow) in
+    let here : length (whole_text (slice_range ps from (i + 1)) []) ≡ length (whole_text before []) + length (whole_text (p ∷ []) []) =
+    ap (λ (x : List Pair). length (whole_text x [])) (range_more ps from i p le there.1) ∙ length_both before (p ∷ []) in
+    let all : length (whole_text (slice_range ps from end) []) ≡ length (whole_text (slice_range ps from (i + 1)) []) + length (whole_text (slice_range ps (i + 1) end) []) =
+    ap (λ (x : List Pair). length (whole_text x [])) (range_split ps from (i + 1) end (omega arith) (omega arith))
+    ∙ length_both (slice_range ps from (i + 1)) (slice_range ps (i + 1) end) in
+    omega (arith, front, known.start, some, here, all, length_one p, fits)
+
 same_token : (token : Token) (start stop : ℕ) (kind : Kind) → token.start ≡ start → token.stop ≡ stop → token.kind ≡ kind
     → ◌≡◌ {A = Token} token (record { start = start; stop = stop; kind = kind })
 same_token token start stop kind e f g =
@@ -501,12 +530,27 @@ taken text items new at cut from front to end bytes b s t e stands is =
     let more : IsBegun text (items ++ items_at at lines) (at + length (whole_text lines [])) = begun_more text items at lines rest b s.lines whole in
     subst (λ (x : List Token). IsBegun text x (at + length bytes)) (sym is) (subst (λ n. IsBegun text (items ++ items_at at lines) (at + n)) (sym size) more)
 
+-- and they fit there
+pub lines_fit : (text bytes : List ℕ) (at : ℕ) (cut : CutText) (from front to end : ℕ) → StretchText cut from front to end → bytes ≡ slice_range cut.text front end
+    → drop at text ≡ bytes ++ drop (at + length bytes) text → at ≤ length text → length text ≤ MAX_TEXT → at + length (whole_text (slice_range cut.pairs from to) []) ≤ MAX_TEXT
+lines_fit text bytes at cut from front to end t e stands within short =
+    omega (arith, ap length (e ∙ t.bytes), ap length stands, length-append bytes (drop (at + length bytes) text), length-drop {A = ℕ} at text)
+
 -- a text by itself begins with a front
 pub first_front : (cut : CutText) → AreLast cut.pairs cut.last → IsFront cut 0 0
 first_front cut a = record { within = omega arith; place = refl; rest = a }
 
 all_range : (ps : List Pair) → slice_range ps 0 (length ps) ≡ ps
 all_range ps = ap (λ n. take n ps) (omega arith) ∙ take_all (length ps) ps (omega arith)
+
+-- the tokens of a part that was cut by itself fit where it stands
+pub part_fits : (text piece : List ℕ) (at to : ℕ) (cut : CutText) → IsCut piece cut.pairs cut.last → piece ≡ slice_range text at to → at ≤ to → to ≤ length text → length text ≤ MAX_TEXT
+    → at + length (whole_text (slice_range cut.pairs 0 (length cut.pairs)) []) ≤ MAX_TEXT
+part_fits text piece at to cut c e le within short =
+    let size : length piece ≡ to - at = ap length e ∙ length-take-le (to - at) (drop at text) (omega (arith, length-drop {A = ℕ} at text)) in
+    let all : length (whole_text (slice_range cut.pairs 0 (length cut.pairs)) []) ≡ length (whole_text cut.pairs []) =
+    ap (λ (x : List Pair). length (whole_text x [])) (all_range cut.pairs) in
+    omega (arith, size, all, ap length c.cuts.text_is, joining_rest cut.pairs cut.last)
 
 -- lines that were cut by themselves
 pub lines_scanned : (text piece : List ℕ) (items new : List Token) (at len : ℕ) (cut : CutText) → IsBegun text items at → at + len ≤ length text → piece ≡ slice_range text at (at + len) → IsCut piece cut.pairs cut.last → AreLast cut.pairs cut.last

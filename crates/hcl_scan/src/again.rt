@@ -7,7 +7,7 @@
 
 ghost use Rattle.std.specs.Prelude.{◌≡◌, ◌<◌, ◌≤◌, ◌+◌, ◌-◌, ◌^◌, ◌++◌, ◌∷◌, ℕ, true, false, Some, [], length, drop, slice_get, slice_range, IsTrue, IsUtf8, OnOk, IfOk, IfErr, ◌⊎◌};
 ghost use Rattle.hcl_token.specs.declared.kind.Kind.TheVariants.{LineEnd};
-ghost use Rattle.hcl_token.specs.Tokens.{Pair};
+ghost use Rattle.hcl_token.specs.Tokens.{Pair, whole_text};
 ghost use Rattle.hcl_token.specs.Items.{InOrder, pairs_of};
 ghost use Rattle.hcl_scan.specs.Cut.{IsCut, MAX_TEXT};
 ghost use Rattle.hcl_scan.specs.Fault.{IsFault};
@@ -146,7 +146,7 @@ fn moved(item: Item, from: usize, to: usize) -> Token
     requires start { from ≤ item.start }
     requires stop { item.start ≤ item.stop }
     requires from { from ≤ MAX_TEXT }
-    requires fits { to ≤ MAX_TEXT }
+    requires fits { to + (item.start - from) < MAX_TEXT }
     requires short { item.stop ≤ MAX_TEXT }
     ensures start { result.start ≡ to + (item.start - from) }
     ensures stop { result.stop ≡ to + (item.stop - from) }
@@ -154,11 +154,7 @@ fn moved(item: Item, from: usize, to: usize) -> Token
 {
     let from = from as u32;
     let to = to as u32;
-    Token {
-        start: to + (item.start - from),
-        stop: to + (item.stop - from),
-        kind: item.kind,
-    }
+    Token::new(to + (item.start - from), to + (item.stop - from), item.kind)
 }
 
 /// Adds the items of tokens of a text as they stand in another one from a place on.
@@ -172,7 +168,8 @@ fn push_moved(
     requires front { IsFront old.now from.index from.at }
     requires ordered { from.index ≤ to }
     requires within { to ≤ length old.now.pairs }
-    requires fits { at ≤ MAX_TEXT }
+    requires fits { at + length (whole_text (slice_range old.now.pairs from.index to) [])
+        ≤ MAX_TEXT }
     ensures { OnOk result (items.new.items
         ≡ items.old.items ++ items_at at (slice_range old.now.pairs from.index to)) }
 {

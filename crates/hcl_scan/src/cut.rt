@@ -79,11 +79,7 @@ fn push_mark(items: &mut Vec<Token>, text: &[u8]) -> Result<usize, AllocError>
     if !begins_mark(text) {
         return Ok(0);
     }
-    items.push(Token {
-        start: 0,
-        stop: 3,
-        kind: Kind::Mark,
-    })?;
+    items.push(Token::new(0, 3, Kind::Mark))?;
     Ok(3)
 }
 
@@ -94,16 +90,12 @@ fn push_token(
     stop: usize,
     kind: Kind,
 ) -> Result<(), AllocError>
-    requires start { start ≤ MAX_TEXT }
+    requires start { start < MAX_TEXT }
     requires stop { stop ≤ MAX_TEXT }
     ensures { OnOk result (items.new.items ≡ items.old.items ++ token_item start stop kind ∷ []) }
 {
     items.reserve(1)?;
-    items.push_reserved(Token {
-        start: start as u32,
-        stop: stop as u32,
-        kind,
-    });
+    items.push_reserved(Token::new(start as u32, stop as u32, kind));
     Ok(())
 }
 

@@ -1,6 +1,6 @@
 -- Tokens of two texts that lie alike, and the bytes that they take.
 use Rattle.std.proofs.Common.{◌≡◌, ℕ, zero, suc, ◌+◌, ◌-◌, ◌%◌, ◌^◌, ◌<◌, ◌≤◌, List, [], ◌∷◌, length, take, drop, get_or, slice_range, refl, sym, ap, subst, ◌∙◌, arith, length-drop}
-use Rattle.std.proofs.lemmas.List.{take-take, drop-take, drop-drop, length-take-le}
+use Rattle.std.proofs.lemmas.List.{get_or_default, take-take, drop-take, drop-drop, length-take-le}
 use Rattle.hcl_token.specs.declared.kind.Kind.{Kind}
 use Rattle.hcl_token.specs.declared.token.Token.{Token}
 use Rattle.hcl_token.specs.Tokens.{Pair, whole_text}
@@ -109,6 +109,16 @@ begin_of tokens = (get_or tokens 0 none).start
 
 abbrev pub end_of : List Token → ℕ
 end_of tokens = (get_or tokens (length tokens - 1) none).stop
+
+-- the token that a look-up finds
+pub found_at : (tokens : List Token) (i : ℕ) (token : Token) → token ≡ get_or tokens i token → i < length tokens → token ≡ get_or tokens i none
+found_at tokens i token is within = is ∙ get_or_default tokens i token none within
+
+pub begins_at : (tokens : List Token) (start : ℕ) (token : Token) → start ≡ token.start → token ≡ get_or tokens 0 token → 0 < length tokens → start ≡ begin_of tokens
+begins_at tokens start token e is some = e ∙ ap (λ (t : Token). t.start) (found_at tokens 0 token is some)
+
+pub ends_at : (tokens : List Token) (stop : ℕ) (token : Token) → stop ≡ token.stop → token ≡ get_or tokens (length tokens - 1) token → 0 < length tokens → stop ≡ end_of tokens
+ends_at tokens stop token e is some = e ∙ ap (λ (t : Token). t.stop) (found_at tokens (length tokens - 1) token is (omega arith))
 
 run_is : (text : List ℕ) (tokens : List Token) → 0 < length tokens → run_of text tokens ≡ pairs_from text (begin_of tokens) tokens
 run_is text [] h = absurd (omega arith)

@@ -37,21 +37,25 @@ pub record IsAlong (text : List ℕ) (tokens : List Token) (begin : ℕ) (start 
   pub rest : (to : ℕ) × IsStretch text (drop i tokens) from to at
   pub value : after_pairs at (pairs_from text from (drop i tokens)) ≡ after_pairs start (pairs_from text begin tokens)
 
-pub along_first : (text : List ℕ) (tokens : List Token) (begin : ℕ) (start : Place) (i from : ℕ) (at : Place) (d : Token) → i < length tokens → IsAlong text tokens begin start i from at
-    → IsStretch text (get_or tokens i d ∷ []) from (get_or tokens i d).stop at
-along_first text tokens begin start i from at d h a =
-    let (to, s) = a.rest in
-    stretch_first text (get_or tokens i d) (drop (i + 1) tokens) from to at (subst (λ (l : List Token). IsStretch text l from to at) (drop_more tokens i d h) s)
+-- token i, and those behind it
+split_at : (tokens : List Token) (i : ℕ) (token : Token) → i < length tokens → token ≡ get_or tokens i token → drop i tokens ≡ token ∷ drop (i + 1) tokens
+split_at tokens i token h is = drop_more tokens i token h ∙ ap (λ (x : Token). x ∷ drop (i + 1) tokens) (sym is)
 
-pub along_step : (text : List ℕ) (tokens : List Token) (begin : ℕ) (start : Place) (i from : ℕ) (at : Place) (d : Token) (behind : Place) → i < length tokens → IsAlong text tokens begin start i from at
-    → behind ≡ after_pair at (pair_at text from (get_or tokens i d)) → IsReached behind (get_or tokens i d).stop
-    → IsAlong text tokens begin start (i + 1) (get_or tokens i d).stop behind
-along_step text tokens begin start i from at d behind h a e reached =
+pub along_first : (text : List ℕ) (tokens : List Token) (begin : ℕ) (start : Place) (i from : ℕ) (at : Place) (token : Token) → i < length tokens → token ≡ get_or tokens i token
+    → IsAlong text tokens begin start i from at → IsStretch text (token ∷ []) from token.stop at
+along_first text tokens begin start i from at token h is a =
     let (to, s) = a.rest in
-    let split : drop i tokens ≡ get_or tokens i d ∷ drop (i + 1) tokens = drop_more tokens i d h in
+    stretch_first text token (drop (i + 1) tokens) from to at (subst (λ (l : List Token). IsStretch text l from to at) (split_at tokens i token h is) s)
+
+pub along_step : (text : List ℕ) (tokens : List Token) (begin : ℕ) (start : Place) (i from : ℕ) (at : Place) (token : Token) (behind : Place) → i < length tokens → token ≡ get_or tokens i token
+    → IsAlong text tokens begin start i from at → behind ≡ after_pair at (pair_at text from token) → IsReached behind token.stop
+    → IsAlong text tokens begin start (i + 1) token.stop behind
+along_step text tokens begin start i from at token behind h is a e reached =
+    let (to, s) = a.rest in
+    let split : drop i tokens ≡ token ∷ drop (i + 1) tokens = split_at tokens i token h is in
     record {
-      rest = (to, stretch_others text (get_or tokens i d) (drop (i + 1) tokens) from to at behind (subst (λ (l : List Token). IsStretch text l from to at) split s) reached);
-      value = ap (λ (p : Place). after_pairs p (pairs_from text (get_or tokens i d).stop (drop (i + 1) tokens))) e
+      rest = (to, stretch_others text token (drop (i + 1) tokens) from to at behind (subst (λ (l : List Token). IsStretch text l from to at) split s) reached);
+      value = ap (λ (p : Place). after_pairs p (pairs_from text token.stop (drop (i + 1) tokens))) e
           ∙ ap (λ (l : List Token). after_pairs at (pairs_from text from l)) (sym split)
           ∙ a.value;
     }

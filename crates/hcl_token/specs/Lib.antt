@@ -4,4 +4,5 @@ pub mod Items
 pub mod Joins
 pub mod Lists
 pub mod Place
+pub mod TokenSpan
 pub mod Tokens

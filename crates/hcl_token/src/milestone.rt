@@ -55,7 +55,7 @@ pub(crate) fn gap_at(tokens: &[Token], i: usize) -> u32
     requires { i ≤ length tokens.now }
     ensures { result ≡ gap_at tokens.now i }
 {
-    if i == 0 { 0 } else { tokens[i - 1].stop }
+    if i == 0 { 0 } else { tokens[i - 1].stop() }
 }
 
 /// The tokens from one number to another.
@@ -79,7 +79,7 @@ fn has_mark(tokens: &[Token]) -> bool
 {
     let mut marked = false;
     for token in tokens {
-        marked |= is_mark(token.kind);
+        marked |= is_mark(token.kind());
     }
     marked
 }
@@ -145,11 +145,11 @@ fn after_token(text: &[u8], token: Token, from: u32, at: Place) -> Place
     ensures value { result ≡ after_pair at (pair_at text.now from token) }
     ensures reached { IsReached result token.stop }
 {
-    let at_start = after_piece(at, part(text, from, token.start));
-    if is_mark(token.kind) {
+    let at_start = after_piece(at, part(text, from, token.start()));
+    if is_mark(token.kind()) {
         at_start
     } else {
-        after_piece(at_start, part(text, token.start, token.stop))
+        after_piece(at_start, part(text, token.start(), token.stop()))
     }
 }
 
@@ -162,7 +162,7 @@ fn after_each(text: &[u8], tokens: &[Token], from: u32, at: Place) -> Place
     let mut place = at;
     for token in tokens {
         place = after_token(text, *token, gap_at, place);
-        gap_at = token.stop;
+        gap_at = token.stop();
     }
     place
 }
@@ -239,5 +239,5 @@ pub(crate) fn place_at(text: &[u8], tokens: &[Token], milestones: &[Milestone], 
     let stretch = stretch(tokens, from, i);
     let place = milestones[i / SPACING].place();
     let at = after_tokens(text, stretch, gap_at(tokens, from), begins, place);
-    after_piece(at, part(text, begins, token.start))
+    after_piece(at, part(text, begins, token.start()))
 }

@@ -18,9 +18,9 @@ fn behind(one: u32, other: u32) -> u32
 fn lies_as(one: Token, other: Token, apart: u32) -> bool
     ensures { IsTrue result ↔ LiesAs apart one other }
 {
-    one.kind == other.kind
-        && one.start.wrapping_sub(other.start) == apart
-        && one.stop.wrapping_sub(other.stop) == apart
+    one.kind() == other.kind()
+        && one.start().wrapping_sub(other.start()) == apart
+        && one.stop().wrapping_sub(other.stop()) == apart
 }
 
 fn lie_as(tokens: &[Token], others: &[Token], apart: u32) -> bool
@@ -40,7 +40,7 @@ fn bytes_of<'t>(text: &'t [u8], tokens: &[Token]) -> &'t [u8]
     requires { IsRun text.now tokens.now }
     ensures { result.now ≡ whole_text (run_of text.now tokens.now) [] }
 {
-    part(text, tokens[0].start, tokens[tokens.len() - 1].stop)
+    part(text, tokens[0].start(), tokens[tokens.len() - 1].stop())
 }
 
 fn same_bytes(bytes: &[u8], others: &[u8]) -> bool
@@ -60,5 +60,5 @@ pub(crate) fn same_run(text: &[u8], tokens: &[Token], other: &[u8], others: &[To
     if !same_bytes(bytes_of(text, tokens), bytes_of(other, others)) {
         return false;
     }
-    lie_as(tokens, others, behind(tokens[0].start, others[0].start))
+    lie_as(tokens, others, behind(tokens[0].start(), others[0].start()))
 }

@@ -1,12 +1,83 @@
-//! Where a token ends.
+//! Where a token starts and stops.
+
+ghost use Rattle.std.specs.Prelude.{◌≡◌, ◌<◌};
+ghost use Rattle.hcl_token.specs.declared.tokens.TheConstants.{MAX_TEXT};
 
 use crate::kind::Kind;
+use std::marker::Model;
 
 /// A token of a text, whose spelling is the bytes from `start` to `stop`, counted from 0. The gap
 /// before it begins where the token before it stops, and at the front before the first.
-#[derive(Clone, Copy, Debug, PartialEq, Eq)]
+///
+/// It takes 8 bytes: a token begins before the end of its text, so 24 bits hold its start, which
+/// is `low` + 65,536 * `high`.
+#[derive(Clone, Copy)]
 pub struct Token {
-    pub start: u32,
-    pub stop: u32,
-    pub kind: Kind,
+    low: u16,
+    high: u8,
+    kind: Kind,
+    stop: u32,
+}
+
+impl Model for Token {
+    ghost use Rattle.std.specs.Prelude.{◌≡◌, ◌+◌, ◌*◌, ◌/◌, ◌%◌, ◌<◌};
+    ghost use Rattle.std.proofs.Common.{arith};
+    ghost use Rattle.hcl_token.specs.TokenSpan.{TokenSpan};
+
+    ghost Value = { TokenSpan };
+
+    ghost view = { λ t. record { start = t.low + 65536 * t.high; stop = t.stop; kind = t.kind } };
+
+    ghost invariant = { λ t. t.low < 65536 };
+
+    ghost inverse = { λ s. record {
+      low = s.start % 65536;
+      high = s.start / 65536;
+      kind = s.kind;
+      stop = s.stop;
+    } };
+
+    ghost inverse_ok = { λ t h i.
+        let low : (t.low + 65536 * t.high) % 65536 ≡ t.low = omega (arith, h) in
+        let high : (t.low + 65536 * t.high) / 65536 ≡ t.high = omega (arith, h) in
+        record { low = low i; high = high i; kind = t.kind; stop = t.stop } };
+}
+
+impl Token {
+    /// The token of a kind between two offsets in bytes.
+    pub fn new(start: u32, stop: u32, kind: Kind) -> Token
+        requires { start < MAX_TEXT }
+        ensures { result ≡ record { start = start; stop = stop; kind = kind } }
+    {
+        Token {
+            low: (start % 65_536) as u16,
+            high: (start / 65_536) as u8,
+            kind,
+            stop,
+        }
+    }
+
+    /// Where it starts, in bytes from 0.
+    #[inline]
+    pub fn start(self) -> u32
+        ensures { result ≡ self.start }
+    {
+        u32::from(self.low) + 65_536 * u32::from(self.high)
+    }
+
+    /// Where it stops, in bytes from 0.
+    #[inline]
+    pub fn stop(self) -> u32
+        ensures { result ≡ self.stop }
+    {
+        self.stop
+    }
+
+    /// What it is.
+    #[inline]
+    pub fn kind(self) -> Kind
+        ensures { result ≡ self.kind }
+    {
+        self.kind
+    }
 }

@@ -123,9 +123,9 @@ impl<'t> Tokens<'t> {
         let token = self.tokens[i];
         Item {
             gap_at: gap_at(&self.tokens, i),
-            start: token.start,
-            stop: token.stop,
-            kind: token.kind,
+            start: token.start(),
+            stop: token.stop(),
+            kind: token.kind(),
         }
     }
 
@@ -135,7 +135,7 @@ impl<'t> Tokens<'t> {
         ensures { Some result ≡ kind_of self.now.pairs i }
     {
         let token = self.tokens[i];
-        token.kind
+        token.kind()
     }
 
     /// The text of token `i`.
@@ -145,7 +145,7 @@ impl<'t> Tokens<'t> {
         ensures utf8 { IsUtf8 result.now }
     {
         let token = self.tokens[i];
-        part(self.text, token.start, token.stop)
+        part(self.text, token.start(), token.stop())
     }
 
     /// The gap before token `i`.
@@ -155,7 +155,7 @@ impl<'t> Tokens<'t> {
         ensures utf8 { IsUtf8 result.now }
     {
         let token = self.tokens[i];
-        part(self.text, gap_at(&self.tokens, i), token.start)
+        part(self.text, gap_at(&self.tokens, i), token.start())
     }
 
     /// The gap behind the last token.

@@ -2,7 +2,7 @@ use Rattle.std.proofs.Common.{◌++◌, List, ap, ◌∙◌, sym, append_assoc, 
 use Rattle.hcl_token.specs.declared.token.Token.{Token}
 use Rattle.hcl_scan.specs.Inner.Lines.{items_at}
 use Rattle.std.specs.List.{slice_range}
-use Rattle.hcl_scan.proofs.LineLemmas.{IsWithin, within_text, moved_more}
+use Rattle.hcl_scan.proofs.LineLemmas.{IsWithin, within_text, moved_fits, moved_more}
 use Rattle.hcl_scan.proofs.again.push_moved.Goals as goal
 
 known : (c : goal.After-item) → IsWithin c.args.old.now c.args.from.index c.args.from.at c.loop-i.i c.item.result
@@ -20,6 +20,10 @@ moved-requires-clause-from c = (known c).front
 
 pub moved-requires-clause-short : goal.moved-requires-clause-short
 moved-requires-clause-short c = (known c).short
+
+pub moved-requires-clause-fits : goal.moved-requires-clause-fits
+moved-requires-clause-fits c =
+    moved_fits c.args.old.now c.args.from.index c.args.from.at c.loop-i.i c.args.to c.args.at c.item.result c.requires.front (omega arith) (omega arith) c.requires.within c.item.ensures c.requires.fits
 
 pub loop-i-preserved : goal.loop-i-preserved
 loop-i-preserved c =

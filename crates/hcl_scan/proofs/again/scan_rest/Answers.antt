@@ -1,8 +1,14 @@
-use Rattle.std.proofs.Common.{List, ℕ, ◌++◌, ◌-◌, ◌∙◌, ap, sym, subst, length}
+use Rattle.std.proofs.Common.{List, ℕ, arith, ◌++◌, ◌-◌, ◌∙◌, ap, sym, subst, length}
 use Rattle.std.specs.List.{slice_range}
 use Rattle.hcl_scan.specs.Inner.Lines.{IsWhole, items_at}
-use Rattle.hcl_scan.proofs.LineLemmas.{rest_scanned}
+use Rattle.hcl_scan.proofs.LineLemmas.{part_fits, rest_scanned}
 use Rattle.hcl_scan.proofs.again.scan_rest.Goals as goal
+
+pub push_moved-requires-clause-fits : goal.push_moved-requires-clause-fits
+push_moved-requires-clause-fits c =
+    let text = c.args.text.now in
+    rw c.len.ensures.value
+    (part_fits text c.part.result.now c.args.at (length text) c.in_ok-rest.rest c.in_ok-rest.ensures.cut c.part.ensures c.requires.begun.within (omega arith) c.requires.short)
 
 pub returns : goal.returns
 returns c =

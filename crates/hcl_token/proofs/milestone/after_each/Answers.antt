@@ -6,10 +6,11 @@ pub loop-token-init : goal.loop-token-init
 loop-token-init c = record { rest = c.requires; value = refl }
 
 pub after_token-place-requires : goal.after_token-place-requires
-after_token-place-requires c = along_first _ _ _ _ _ _ _ _ c.loop-token-test.true c.loop-token.invariant
+after_token-place-requires c = along_first _ _ _ _ _ _ _ _ c.loop-token-test.true c.token-item.is c.loop-token.invariant
 
 pub loop-token-preserved : goal.loop-token-preserved
-loop-token-preserved c = along_step _ _ _ _ _ _ _ _ _ c.loop-token-test.true c.loop-token.invariant c.after_token-place.ensures.value c.after_token-place.ensures.reached
+loop-token-preserved c =
+    rw c.stop-gap_at.ensures (along_step _ _ _ _ _ _ _ c.token-item.result _ c.loop-token-test.true c.token-item.is c.loop-token.invariant c.after_token-place.ensures.value c.after_token-place.ensures.reached)
 
 pub returns : goal.returns
 returns c = along_end _ _ _ _ _ _ _ c.loop-token-test.false c.loop-token.invariant

@@ -1,4 +1,5 @@
 use Rattle.std.proofs.Common.{◌≡◌, ◌-◌, suc, sym, ap, ◌∙◌, arith}
+use Rattle.hcl_token.specs.declared.token.Token.{Token}
 use Rattle.hcl_token.specs.Inner.Milestones.{gap_at}
 use Rattle.hcl_token.proofs.OrderLemmas.{gap-first, gap-behind}
 use Rattle.hcl_token.proofs.milestone.gap_at.Goals as goal
@@ -9,4 +10,7 @@ returns-then-i-eq0 c = sym (ap (gap_at c.args.tokens.now) c.if-i-eq0.true ∙ ga
 pub returns-else-i-eq0 : goal.returns-else-i-eq0
 returns-else-i-eq0 c =
     let before : suc (c.args.i - 1) ≡ c.args.i = omega arith in
-    sym (gap-behind c.args.tokens.now 0 (c.args.i - 1) _ (omega arith)) ∙ ap (gap_at c.args.tokens.now) before
+    c.stop.ensures
+    ∙ ap (λ (t : Token). t.stop) c.index-tokens-i.is
+    ∙ sym (gap-behind c.args.tokens.now 0 (c.args.i - 1) _ (omega arith))
+    ∙ ap (gap_at c.args.tokens.now) before

@@ -1,12 +1,21 @@
-use Rattle.std.proofs.Common.{sym, ◌∙◌}
-use Rattle.hcl_token.proofs.RunLemmas.{run_within, run_text}
+use Rattle.std.proofs.Common.{◌≡◌, ap₂, sym, ◌∙◌, arith, slice_range}
+use Rattle.hcl_token.proofs.RunLemmas.{begin_of, end_of, begins_at, ends_at, run_within, run_text}
 use Rattle.hcl_token.proofs.run.bytes_of.Goals as goal
 
+begins : (c : goal.After-stop) → c.start.result ≡ begin_of c.args.tokens.now
+begins c = begins_at c.args.tokens.now _ _ c.start.ensures c.index-tokens-0.is c.requires.some
+
+ends : (c : goal.After-stop) → c.stop.result ≡ end_of c.args.tokens.now
+ends c = ends_at c.args.tokens.now _ _ c.stop.ensures c.index-tokens-tokens.is c.requires.some
+
 pub part-requires-clause-ordered : goal.part-requires-clause-ordered
-part-requires-clause-ordered c = (run_within _ _ c.requires).0
+part-requires-clause-ordered c = omega (arith, begins c, ends c, (run_within _ _ c.requires).0)
 
 pub part-requires-clause-within : goal.part-requires-clause-within
-part-requires-clause-within c = (run_within _ _ c.requires).1
+part-requires-clause-within c = omega (arith, ends c, (run_within _ _ c.requires).1)
 
 pub returns : goal.returns
-returns c = c.part.ensures ∙ sym (run_text _ _ c.requires)
+returns c =
+    let begins = begins_at c.args.tokens.now _ _ c.start.ensures c.index-tokens-0.is c.requires.some in
+    let ends = ends_at c.args.tokens.now _ _ c.stop.ensures c.index-tokens-tokens.is c.requires.some in
+    c.part.ensures ∙ ap₂ (slice_range c.args.text.now) begins ends ∙ sym (run_text _ _ c.requires)

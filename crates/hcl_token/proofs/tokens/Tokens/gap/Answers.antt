@@ -1,4 +1,4 @@
-use Rattle.std.proofs.Common.{List, Some, sym, ap, subst, ◌∙◌, arith, IsUtf8, slice_range}
+use Rattle.std.proofs.Common.{List, Some, sym, ap, ap₂, subst, ◌∙◌, arith, IsUtf8, slice_range}
 use Rattle.std.specs.Option.{option_map}
 use Rattle.hcl_token.specs.declared.token.Token.{Token}
 use Rattle.hcl_token.specs.Tokens.{Pair}
@@ -26,11 +26,11 @@ pub returns-clause-value : goal.returns-clause-value
 returns-clause-value c =
     let known = known_token _ _ _ _ _ _ (record { view = c.self.view_is; ordered = c.self.invariant }) c.requires c.index-token.ensures in
     let begins = c.gap_at.ensures ∙ ap (λ (l : List Token). gap_at l c.args.i) c.deref.ensures.value in
-    ap (λ x. Some x) (c.part.ensures ∙ ap (λ n. slice_range c.self.inside.text.now n c.index-token.result.now.start) begins)
+    ap (λ x. Some x) (c.part.ensures ∙ ap₂ (slice_range c.self.inside.text.now) begins c.start.ensures)
     ∙ sym (ap (option_map (λ (p : Pair). p.gap)) (known_pair _ _ _ _ _ _ (record { view = c.self.view_is; ordered = c.self.invariant }) known))
 
 pub returns-clause-utf8 : goal.returns-clause-utf8
 returns-clause-utf8 c =
     let known = known_token _ _ _ _ _ _ (record { view = c.self.view_is; ordered = c.self.invariant }) c.requires c.index-token.ensures in
     let begins = c.gap_at.ensures ∙ ap (λ (l : List Token). gap_at l c.args.i) c.deref.ensures.value in
-    subst IsUtf8 (sym (c.part.ensures ∙ ap (λ n. slice_range c.self.inside.text.now n c.index-token.result.now.start) begins)) known.gap_utf8
+    subst IsUtf8 (sym (c.part.ensures ∙ ap₂ (slice_range c.self.inside.text.now) begins c.start.ensures)) known.gap_utf8

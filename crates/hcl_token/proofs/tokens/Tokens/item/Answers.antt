@@ -13,4 +13,5 @@ gap_at-requires c = omega (arith, c.requires, number_is _ _ _ _ (record { view =
 pub returns : goal.returns
 returns c =
     let known = known_token _ _ _ _ _ _ (record { view = c.self.view_is; ordered = c.self.invariant }) c.requires c.index-token.ensures in
-    known_place _ _ _ _ _ _ _ (record { view = c.self.view_is; ordered = c.self.invariant }) (c.gap_at.ensures ∙ ap (λ (l : List Token). gap_at l c.args.i) c.deref.ensures.value) known
+    rw (c.start.ensures, c.stop.ensures, c.kind.ensures)
+    (known_place _ _ _ _ _ _ _ (record { view = c.self.view_is; ordered = c.self.invariant }) (c.gap_at.ensures ∙ ap (λ (l : List Token). gap_at l c.args.i) c.deref.ensures.value) known)

@@ -1,4 +1,4 @@
-use Rattle.std.proofs.Common.{sym, ap, arith}
+use Rattle.std.proofs.Common.{Some, sym, ap, ◌∙◌, arith}
 use Rattle.std.specs.Option.{option_map}
 use Rattle.hcl_token.specs.Tokens.{Pair}
 use Rattle.hcl_token.proofs.TokensLemmas.{known_token, known_pair, number_is}
@@ -10,4 +10,5 @@ index-token-requires c = omega (arith, c.requires, number_is _ _ _ _ (record { v
 pub returns : goal.returns
 returns c =
     let known = known_token _ _ _ _ _ _ (record { view = c.self.view_is; ordered = c.self.invariant }) c.requires c.index-token.ensures in
-    sym (ap (option_map (λ (p : Pair). p.kind)) (known_pair _ _ _ _ _ _ (record { view = c.self.view_is; ordered = c.self.invariant }) known))
+    ap (λ x. Some x) c.kind.ensures
+    ∙ sym (ap (option_map (λ (p : Pair). p.kind)) (known_pair _ _ _ _ _ _ (record { view = c.self.view_is; ordered = c.self.invariant }) known))

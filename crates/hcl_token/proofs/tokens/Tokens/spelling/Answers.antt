@@ -1,4 +1,4 @@
-use Rattle.std.proofs.Common.{Some, sym, ap, subst, ◌∙◌, arith, IsUtf8}
+use Rattle.std.proofs.Common.{Some, sym, ap, ap₂, subst, ◌∙◌, arith, IsUtf8, slice_range}
 use Rattle.std.specs.Option.{option_map}
 use Rattle.hcl_token.specs.Tokens.{Pair}
 use Rattle.hcl_token.proofs.TokensLemmas.{known_token, known_pair, number_is}
@@ -20,8 +20,10 @@ part-requires-clause-within c =
 pub returns-clause-value : goal.returns-clause-value
 returns-clause-value c =
     let known = known_token _ _ _ _ _ _ (record { view = c.self.view_is; ordered = c.self.invariant }) c.requires c.index-token.ensures in
-    ap (λ x. Some x) c.part.ensures ∙ sym (ap (option_map (λ (p : Pair). p.spelling)) (known_pair _ _ _ _ _ _ (record { view = c.self.view_is; ordered = c.self.invariant }) known))
+    ap (λ x. Some x) (c.part.ensures ∙ ap₂ (slice_range c.self.inside.text.now) c.start.ensures c.stop.ensures)
+    ∙ sym (ap (option_map (λ (p : Pair). p.spelling)) (known_pair _ _ _ _ _ _ (record { view = c.self.view_is; ordered = c.self.invariant }) known))
 
 pub returns-clause-utf8 : goal.returns-clause-utf8
 returns-clause-utf8 c =
-    subst IsUtf8 (sym c.part.ensures) (known_token _ _ _ _ _ _ (record { view = c.self.view_is; ordered = c.self.invariant }) c.requires c.index-token.ensures).spelling_utf8
+    subst IsUtf8 (sym (c.part.ensures ∙ ap₂ (slice_range c.self.inside.text.now) c.start.ensures c.stop.ensures))
+    (known_token _ _ _ _ _ _ (record { view = c.self.view_is; ordered = c.self.invariant }) c.requires c.index-token.ensures).spelling_utf8
