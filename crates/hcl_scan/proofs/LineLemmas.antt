@@ -104,9 +104,6 @@ last_both ps rest last a b = record {
   apart = apart_both ps rest a.ended a.apart b.apart;
 }
 
-pub none_lines : AreLines []
-none_lines = record { follow = refl; ended = tt; apart = tt }
-
 -- ---- one token more
 
 pub modes_more : (ps : List Pair) (p : Pair) (modes : List Mode) → modes_behind modes (ps ++ p ∷ []) ≡ after p.kind p.spelling (modes_behind modes ps)
@@ -152,11 +149,6 @@ one_range ps i p e =
 
 pub range_more : (ps : List Pair) (from i : ℕ) (p : Pair) → from ≤ i → slice_get ps i ≡ Some p → slice_range ps from (i + 1) ≡ slice_range ps from i ++ p ∷ []
 range_more ps from i p le e = range_split ps from i (i + 1) le (omega arith) ∙ ap (λ (x : List Pair). slice_range ps from i ++ x) (one_range ps i p e)
-
-pub range_none : (ps : List Pair) (i : ℕ) → slice_range ps i i ≡ []
-range_none ps i =
-    let width : i - i ≡ 0 = omega arith in
-    ap (λ n. take n (drop i ps)) width
 
 -- the pairs before a number, with those of a stretch from there on
 take_range : (ps : List Pair) (from to : ℕ) → from ≤ to → take to ps ≡ take from ps ++ slice_range ps from to
@@ -267,9 +259,6 @@ pair_there [] i h = absurd (omega arith)
 pair_there (q ∷ ps) zero h = (q, refl)
 pair_there (q ∷ ps) (suc i) h = pair_there ps i (omega arith)
 
-pub no_stretch : (ps : List Pair) (i : ℕ) → IsStretch ps i i
-no_stretch ps i = record { ordered = omega arith; lines = subst AreLines (sym (range_none ps i)) none_lines }
-
 -- ---- the text begun
 
 pub items_more : (ps : List Pair) (p : Pair) (at : ℕ) → items_at at (ps ++ p ∷ []) ≡ items_at at ps ++ items_at (at + length (whole_text ps [])) (p ∷ [])
@@ -324,9 +313,6 @@ order_both (x ∷ xs) ys from at to a b = (a.0, a.1, order_both xs ys x.stop at 
 pairs_both : (text : List ℕ) (xs ys : List Token) (from at : ℕ) → InOrder from xs at → pairs_from text from (xs ++ ys) ≡ pairs_from text from xs ++ pairs_from text at ys
 pairs_both text [] ys from at a = ap (λ n. pairs_from text n ys) a
 pairs_both text (x ∷ xs) ys from at a = ap (λ (ps : List Pair). pair_at text from x ∷ ps) (pairs_both text xs ys x.stop at a.2)
-
-pub none_begun : (text : List ℕ) → IsBegun text [] 0
-none_begun text = record { within = omega arith; lines = none_lines; text_is = refl; order = refl }
 
 -- what pairs that stand behind the text begun do to it
 record Grown (text : List ℕ) (items : List Token) (at : ℕ) (ps : List Pair) (rest : List ℕ) : Type 0 where
@@ -608,7 +594,3 @@ last_ends ps kind some is end =
     let back : length ps - 1 + 1 ≡ length ps = omega arith in
     let all : ps ≡ take (length ps - 1) ps ++ last.0 ∷ [] = sym (take_all (length ps) ps (omega arith)) ∙ ap (λ n. take n ps) (sym back) ∙ take_next ps (length ps - 1) last.0 last.1 in
     subst EndsInLine (sym all) (ends_more (take (length ps - 1) ps) last.0 (kind_is ps (length ps - 1) last.0 kind last.1 is ∙ end))
-
--- the text before its first line
-pub old_front : (cut : CutText) → FollowsFrom [] cut.pairs cut.last [] → AreApart cut.pairs → IsFront cut 0 0
-old_front cut follow apart = first_front cut (record { follow = follow; apart = apart })

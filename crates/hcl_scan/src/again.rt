@@ -25,9 +25,9 @@ use std::alloc::{AllocError, Global};
 /// old text, in bytes from 0, how many they are, and how many the others are.
 #[derive(Clone, Copy, Debug, PartialEq, Eq)]
 pub struct Replaced {
-    pub at: usize,
-    pub removed: usize,
-    pub added: usize,
+    pub at: u32,
+    pub removed: u32,
+    pub added: u32,
 }
 
 /// Why a text is not cut from the cut of an old one.
@@ -346,11 +346,11 @@ fn touched_lines(
     let mut to = from;
     let mut removed: usize = 0;
     let mut added: usize = 0;
-    while count < replaced.len() && (count == first || replaced[count].at < to.at) {
+    while count < replaced.len() && (count == first || (replaced[count].at as usize) < to.at) {
         let piece = replaced[count];
-        removed = removed.saturating_add(piece.removed);
-        added = added.saturating_add(piece.added);
-        to = first_front(old, to, piece.at.saturating_add(piece.removed))?;
+        removed = removed.saturating_add(piece.removed as usize);
+        added = added.saturating_add(piece.added as usize);
+        to = first_front(old, to, piece.at as usize + piece.removed as usize)?;
         count += 1;
     }
     let before = to.at.saturating_sub(from.at);
@@ -409,7 +409,7 @@ fn cut_again(
     };
     let mut first = 0;
     while first < replaced.len() {
-        let limit = replaced[first].at;
+        let limit = replaced[first].at as usize;
         done = stretch_again(text, items, old, done, limit)?;
         let Touched { to, len, count } = touched_lines(old, done.front, replaced, first)?;
         spare = scan_lines(alloc, text, items, done.at, len, spare)?;

@@ -22,4 +22,4 @@ mod token;
 pub use again::{Replaced, scan_again};
 pub use fault::ScanFault;
 pub use hcl_token::{Item, Kind, MAX_TEXT, Place, Places, Token, TokenList};
-pub use scanned::{Scanned, scan, scan_in};
+pub use scanned::{Scanned, scan};

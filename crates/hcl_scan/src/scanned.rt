@@ -47,7 +47,7 @@ pub fn scan<'t>(alloc: Global, text: &'t [u8]) -> Result<Scanned<'t>, ScanFault>
 
 /// The same, with the tokens in a list that has room, as `Scanned::into_room` gives it back. What
 /// stands in the list is given up.
-pub fn scan_in<'t>(
+pub(crate) fn scan_in<'t>(
     alloc: Global,
     room: Vec<Token>,
     text: &'t [u8],

@@ -45,6 +45,7 @@ impl Model for Token {
 
 impl Token {
     /// The token of a kind between two offsets in bytes.
+    #[inline]
     pub fn new(start: u32, stop: u32, kind: Kind) -> Token
         requires { start < MAX_TEXT }
         ensures { result ≡ record { start = start; stop = stop; kind = kind } }
