@@ -145,7 +145,7 @@ impl<'s, 't> Reader<'s, 't> {
         ensures { Reads (spec.tuple self.now first at.old) result at.new }
     {
         let found = self.items(at)?;
-        Ok(nodes::term(first, *at, Shape::Tuple(found)))
+        nodes::term(first, *at, Shape::Tuple(found))
     }
 
     /// An object, after its brace.
@@ -156,7 +156,7 @@ impl<'s, 't> Reader<'s, 't> {
     {
         self.lines(at)?;
         let found = self.elements(at)?;
-        Ok(nodes::term(first, *at, Shape::Object(found)))
+        nodes::term(first, *at, Shape::Object(found))
     }
 
     /// A `for` in brackets, after the bracket.
@@ -171,7 +171,7 @@ impl<'s, 't> Reader<'s, 't> {
         let value = inside.boxed(Goal::Whole, at)?;
         let filter = inside.filter(Kind::CloseBracket, at)?;
         let shape = nodes::for_tuple(self.alloc(), intro.into_inner(), value.into_inner(), filter)?;
-        Ok(nodes::term(first, *at, shape))
+        nodes::term(first, *at, shape)
     }
 
     /// A `for` in braces, after its key.
@@ -193,7 +193,7 @@ impl<'s, 't> Reader<'s, 't> {
         let filter = inside.filter(Kind::CloseBrace, at)?;
         let (intro, key, value) = (intro.into_inner(), key.into_inner(), value.into_inner());
         let shape = nodes::for_object(self.alloc(), intro, key, value, grouped, filter)?;
-        Ok(nodes::term(first, *at, shape))
+        nodes::term(first, *at, shape)
     }
 
     /// A `for` in braces, after the brace.

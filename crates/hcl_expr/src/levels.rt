@@ -131,7 +131,7 @@ impl<'s, 't> Reader<'s, 't> {
         let met = inner.boxed(Goal::Whole, at)?;
         self.expect(Kind::Colon, at)?;
         let unmet = inner.boxed(Goal::Whole, at)?;
-        Ok(nodes::expr(first, *at, Form::Conditional(condition, met, unmet)))
+        nodes::expr(first, *at, Form::Conditional(condition, met, unmet))
     }
 
     /// An operand, with the operators of the levels below `level` behind it. Where none follows, no
@@ -173,7 +173,7 @@ impl<'s, 't> Reader<'s, 't> {
         }
         let lower = self.rest(from, level - 1, first, head, at)?;
         let links = self.links(level - 1, at)?;
-        Ok(nodes::chain(self.alloc(), first, *at, lower, links)?)
+        nodes::chain(self.alloc(), first, *at, lower, links)
     }
 
     /// The operators of the level that come next, each with the operand behind it.
@@ -200,7 +200,7 @@ impl<'s, 't> Reader<'s, 't> {
         ensures { Reads (spec.prefixed self.now first operator at.old) result at.new }
     {
         let operand = self.enter(first, at)?.boxed(Goal::Operand, at)?;
-        Ok(nodes::expr(first, *at, Form::Prefixed(operator, operand)))
+        nodes::expr(first, *at, Form::Prefixed(operator, operand))
     }
 
     /// An operand: a term with its tails, or one with an operator before it. Its first token is

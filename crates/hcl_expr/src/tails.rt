@@ -121,7 +121,7 @@ impl<'s, 't> Reader<'s, 't> {
         ensures { Reads (spec.tailed self.now first head at.old) result at.new }
     {
         let tails = self.tails(at)?;
-        Ok(nodes::tailed(first, *at, head, tails))
+        nodes::tailed(first, *at, head, tails)
     }
 
     /// A term with its tails, behind its first token, which is `first`. Most have none, which one
@@ -132,7 +132,7 @@ impl<'s, 't> Reader<'s, 't> {
     {
         let head = self.term(first, kind, at)?;
         if !self.has_tail(*at) {
-            return Ok(nodes::plain(first, *at, head));
+            return nodes::plain(first, *at, head);
         }
         let head = Boxed::new(self.alloc(), head)?;
         self.tailed(first, head, at)

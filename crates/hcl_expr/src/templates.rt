@@ -57,7 +57,7 @@ impl<'s, 't> Reader<'s, 't> {
         let to = *at;
         self.expect(close, at)?;
         let first = self.first_of(from, to);
-        Ok(nodes::template(first, to, parts))
+        Ok(nodes::template(first, to, parts)?)
     }
 
     /// An interpolation, after its opening.
@@ -90,7 +90,7 @@ impl<'s, 't> Reader<'s, 't> {
         let to = *at;
         self.keyword(b"endif", at)?;
         let first = self.first_of(from, to);
-        Ok(Some(nodes::template(first, to, parts)))
+        Ok(Some(nodes::template(first, to, parts)?))
     }
 
     /// An `if` directive, after its opening.
@@ -106,9 +106,8 @@ impl<'s, 't> Reader<'s, 't> {
         braces.expect(Kind::SeqClose, at)?;
         let from = *at;
         let parts = inner.parts(at)?;
-        let to = *at;
+        let met = nodes::template(self.first_of(from, *at), *at, parts)?;
         let unmet = inner.otherwise(at)?;
-        let met = nodes::template(self.first_of(from, to), to, parts);
         Ok(nodes::if_part(self.alloc(), first, *at, condition.into_inner(), met, unmet)?)
     }
 
@@ -123,9 +122,8 @@ impl<'s, 't> Reader<'s, 't> {
         braces.expect(Kind::SeqClose, at)?;
         let from = *at;
         let parts = inner.parts(at)?;
-        let to = *at;
+        let body = nodes::template(self.first_of(from, *at), *at, parts)?;
         self.keyword(b"endfor", at)?;
-        let body = nodes::template(self.first_of(from, to), to, parts);
         Ok(nodes::for_part(self.alloc(), first, *at, intro.into_inner(), body)?)
     }
 

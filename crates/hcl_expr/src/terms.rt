@@ -38,7 +38,7 @@ impl<'s, 't> Reader<'s, 't> {
         let inner = self.enter(first, at)?.in_brackets();
         let value = inner.boxed(Goal::Whole, at)?;
         inner.expect(Kind::CloseParen, at)?;
-        Ok(nodes::term(first, *at, Shape::Parens(value)))
+        nodes::term(first, *at, Shape::Parens(value))
     }
 
     /// A call, behind the first name of the function.
@@ -52,7 +52,7 @@ impl<'s, 't> Reader<'s, 't> {
         self.expect(Kind::OpenParen, at)?;
         let (arguments, spread) = self.enter(opening, at)?.arguments(at)?;
         let shape = nodes::call(self.alloc(), names, arguments, spread)?;
-        Ok(nodes::term(first, *at, shape))
+        nodes::term(first, *at, shape)
     }
 
     /// An identifier, or a call, behind the identifier.
@@ -64,7 +64,7 @@ impl<'s, 't> Reader<'s, 't> {
         if self.is_called(*at) {
             self.call(first, at)
         } else {
-            Ok(nodes::term(first, *at, Shape::Identifier))
+            nodes::term(first, *at, Shape::Identifier)
         }
     }
 
@@ -105,7 +105,7 @@ impl<'s, 't> Reader<'s, 't> {
         ensures { Reads (spec.quoted self.now first at.old) result at.new }
     {
         let template = self.enter(first, at)?.closed(Kind::QuoteClose, at)?;
-        Ok(nodes::term(first, *at, Shape::Quoted(template)))
+        nodes::term(first, *at, Shape::Quoted(template))
     }
 
     /// What stands behind the opening of a heredoc.
@@ -116,7 +116,7 @@ impl<'s, 't> Reader<'s, 't> {
         ensures { Reads (spec.heredoc self.now first at.old) result at.new }
     {
         let template = self.enter(first, at)?.closed(Kind::HereClose, at)?;
-        Ok(nodes::term(first, *at, Shape::Heredoc(template)))
+        nodes::term(first, *at, Shape::Heredoc(template))
     }
 
     /// A term, behind its first token, which is `first`.
@@ -125,7 +125,7 @@ impl<'s, 't> Reader<'s, 't> {
         ensures { Reads (spec.term_by self.now first kind at.old) result at.new }
     {
         match kind {
-            Kind::Number => Ok(nodes::term(first, *at, Shape::Number)),
+            Kind::Number => nodes::term(first, *at, Shape::Number),
             Kind::Identifier => self.named(first, at),
             Kind::OpenBracket => self.bracket(first, at),
             Kind::OpenBrace => self.brace(first, at),

@@ -54,9 +54,9 @@ pub enum Operator {
 #[derive(Drop)]
 pub struct Expr {
     /// The number of its first token.
-    pub first: usize,
+    pub first: u32,
     /// The number past its last token.
-    pub past: usize,
+    pub past: u32,
     /// What it is.
     pub form: Form,
 }
@@ -109,9 +109,9 @@ pub enum Tail {
 #[derive(Drop)]
 pub struct Term {
     /// The number of its first token.
-    pub first: usize,
+    pub first: u32,
     /// The number past its last token.
-    pub past: usize,
+    pub past: u32,
     /// What it is.
     pub shape: Shape,
 }
@@ -214,9 +214,9 @@ pub struct ForObject {
 #[derive(Drop)]
 pub struct Template {
     /// The number of its first token; where it has none, the number past the token before it.
-    pub first: usize,
+    pub first: u32,
     /// The number past its last token.
-    pub past: usize,
+    pub past: u32,
     /// Its parts, one behind the other.
     pub parts: Items<Part>,
 }

@@ -1,13 +1,17 @@
 //! The nodes of a tree, each made by one function.
 //!
-//! `first` is the number of a node's first token, `past` the number past its last.
+//! `first` is the number of a node's first token, `past` the number past its last. Expressions,
+//! terms, templates and blocks hold them in 32 bits: past these a node is refused as a growth is,
+//! since no list of tokens has room for so many.
 
-ghost use Rattle.std.specs.Prelude.{◌≡◌, ◌^◌, ◌≤◌, ◌⊎◌, [], Ok, Some, IfOk, IfErr, IsOk};
+ghost use Rattle.std.specs.Prelude.{◌≡◌, ◌^◌, ◌≤◌, ◌⊎◌, [], Ok, Some, IfOk, IfErr};
 ghost use Rattle.hcl_grammar.specs.declared.tree.Content.TheVariants as content;
 ghost use Rattle.hcl_grammar.specs.declared.tree.Part.TheVariants as part;
 ghost use Rattle.hcl_grammar.specs.declared.tree.Tail.TheVariants as tail;
 ghost use Rattle.hcl_grammar.specs.Nodes as nodes;
+ghost use Rattle.hcl_grammar.specs.Pure.Reading.{Reads};
 
+use hcl_grammar::fault::TokenFault;
 use hcl_grammar::tree::{
     Attribute, Block, Body, Call, Content, Elem, Expr, ForDirective, ForObject, ForTuple, Form,
     IfDirective, Intro, Label, Link, Member, Operator, Part, Shape, Tail, Template, Term, Tree,
@@ -15,20 +19,39 @@ use hcl_grammar::tree::{
 use plain_tree::{Boxed, Items};
 use std::alloc::{AllocError, Global};
 
-/// An expression.
-#[tactic(auto, unfolding(hcl_grammar::specs::Nodes::expr))]
-pub fn expr(first: usize, past: usize, form: Form) -> Expr
-    ensures { result ≡ nodes.expr first past form }
+/// The numbers of a node's first token and past its last, in 32 bits; `AllocError` past them.
+#[inline]
+fn narrow(first: usize, past: usize) -> Result<(u32, u32), AllocError>
+    ensures ok { IfOk result (λ n. (n.0 ≡ first) × (n.1 ≡ past)) }
+    ensures err { IfErr result (λ _. (2 ^ 32 ≤ first) ⊎ (2 ^ 32 ≤ past)) }
 {
-    Expr { first, past, form }
+    if first <= u32::MAX as usize && past <= u32::MAX as usize {
+        Ok((first as u32, past as u32))
+    } else {
+        Err(AllocError)
+    }
+}
+
+/// An expression.
+#[inline]
+#[tactic(auto, unfolding(hcl_grammar::specs::Nodes::expr))]
+pub fn expr(first: usize, past: usize, form: Form) -> Result<Expr, TokenFault>
+    ensures node { Reads (Ok (nodes.expr first past form, past)) result past }
+    ensures err { IfErr result (λ _. (2 ^ 32 ≤ first) ⊎ (2 ^ 32 ≤ past)) }
+{
+    let (first, past) = narrow(first, past)?;
+    Ok(Expr { first, past, form })
 }
 
 /// A term.
+#[inline]
 #[tactic(auto, unfolding(hcl_grammar::specs::Nodes::term))]
-pub fn term(first: usize, past: usize, shape: Shape) -> Term
-    ensures { result ≡ nodes.term first past shape }
+pub fn term(first: usize, past: usize, shape: Shape) -> Result<Term, TokenFault>
+    ensures node { Reads (Ok (nodes.term first past shape, past)) result past }
+    ensures err { IfErr result (λ _. (2 ^ 32 ≤ first) ⊎ (2 ^ 32 ≤ past)) }
 {
-    Term { first, past, shape }
+    let (first, past) = narrow(first, past)?;
+    Ok(Term { first, past, shape })
 }
 
 /// An operator, and the operand behind it.
@@ -54,27 +77,35 @@ pub fn chain(
     past: usize,
     head: Expr,
     links: Items<Link>,
-) -> Result<Expr, AllocError>
-    ensures ok { IfOk result (λ e. e ≡ nodes.chain first past head links) }
+) -> Result<Expr, TokenFault>
+    ensures node { Reads (Ok (nodes.chain first past head links, past)) result past }
     ensures alone { links ≡ [] → result ≡ Ok head }
 {
     if links.is_empty() {
         Ok(head)
     } else {
-        Ok(expr(first, past, Form::Chain(Boxed::new(alloc, head)?, links)))
+        expr(first, past, Form::Chain(Boxed::new(alloc, head)?, links))
     }
 }
 
 /// A term without tails.
-pub fn plain(first: usize, past: usize, term: Term) -> Expr
-    ensures { result ≡ nodes.tailed first past term [] }
+#[inline]
+pub fn plain(first: usize, past: usize, term: Term) -> Result<Expr, TokenFault>
+    ensures node { Reads (Ok (nodes.tailed first past term [], past)) result past }
+    ensures err { IfErr result (λ _. (2 ^ 32 ≤ first) ⊎ (2 ^ 32 ≤ past)) }
 {
     expr(first, past, Form::Plain(term))
 }
 
 /// A term with the tails behind it; with none, the term alone.
-pub fn tailed(first: usize, past: usize, head: Boxed<Term>, tails: Items<Tail>) -> Expr
-    ensures { result ≡ nodes.tailed first past head tails }
+pub fn tailed(
+    first: usize,
+    past: usize,
+    head: Boxed<Term>,
+    tails: Items<Tail>,
+) -> Result<Expr, TokenFault>
+    ensures node { Reads (Ok (nodes.tailed first past head tails, past)) result past }
+    ensures err { IfErr result (λ _. (2 ^ 32 ≤ first) ⊎ (2 ^ 32 ≤ past)) }
 {
     if tails.is_empty() {
         plain(first, past, head.into_inner())
@@ -164,10 +195,12 @@ pub fn for_object(
 
 /// The parts of a template.
 #[tactic(auto, unfolding(hcl_grammar::specs::Nodes::template))]
-pub fn template(first: usize, past: usize, parts: Items<Part>) -> Template
-    ensures { result ≡ nodes.template first past parts }
+pub fn template(first: usize, past: usize, parts: Items<Part>) -> Result<Template, AllocError>
+    ensures ok { IfOk result (λ t. t ≡ nodes.template first past parts) }
+    ensures err { IfErr result (λ _. (2 ^ 32 ≤ first) ⊎ (2 ^ 32 ≤ past)) }
 {
-    Template { first, past, parts }
+    let (first, past) = narrow(first, past)?;
+    Ok(Template { first, past, parts })
 }
 
 /// An interpolation.
@@ -254,19 +287,6 @@ pub fn label(first: usize, past: usize, name: Option<usize>) -> Label
     Label { first, past, name }
 }
 
-/// The number of a token, in 32 bits; `AllocError` past them, where no list of tokens has room for
-/// so many.
-fn narrow(number: usize) -> Result<u32, AllocError>
-    ensures ok { IfOk result (λ n. n ≡ number) }
-    ensures err { IfErr result (λ _. 2 ^ 32 ≤ number) }
-{
-    if number <= u32::MAX as usize {
-        Ok(number as u32)
-    } else {
-        Err(AllocError)
-    }
-}
-
 /// A block, whose first token is its word.
 #[tactic(auto, unfolding(hcl_grammar::specs::Nodes::block))]
 pub fn block(
@@ -278,8 +298,7 @@ pub fn block(
     ensures ok { IfOk result (λ m. m ≡ nodes.block first past labels content) }
     ensures err { IfErr result (λ _. (2 ^ 32 ≤ first) ⊎ (2 ^ 32 ≤ past)) }
 {
-    let first = narrow(first)?;
-    let past = narrow(past)?;
+    let (first, past) = narrow(first, past)?;
     Ok(Member::Block(Block {
         first,
         past,

@@ -247,12 +247,14 @@ impl<'t> Left<'t> {
 }
 
 fn see_elem(scanned: &Scanned<'_>, elem: &Elem, seen: &mut Seen) {
-    let is_colon = stands(scanned, Kind::Colon, elem.key.past, elem.value.first);
+    let (between, first) = (elem.key.past as usize, elem.value.first as usize);
+    let is_colon = stands(scanned, Kind::Colon, between, first);
     seen.form(if is_colon { "KEY : A" } else { "KEY = A" });
-    let behind = elem.value.past.saturating_add(1);
-    let is_comma = stands(scanned, Kind::Comma, elem.value.past, behind);
+    let past = elem.value.past as usize;
+    let behind = past.saturating_add(1);
+    let is_comma = stands(scanned, Kind::Comma, past, behind);
     seen.form_if(is_comma, "elements behind a comma");
-    let is_end = stands(scanned, Kind::LineEnd, elem.value.past, behind);
+    let is_end = stands(scanned, Kind::LineEnd, past, behind);
     seen.form_if(is_end, "elements behind a line end");
 }
 

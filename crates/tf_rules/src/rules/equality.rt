@@ -89,16 +89,18 @@ fn find_at_link(
         return Ok(());
     }
     let right = &link.operand;
+    let left_past = left.past as usize;
+    let (right_first, right_past) = (right.first as usize, right.past as usize);
     let zero = is_equal(link.operator);
     if is_empty_list(right) {
-        let fixable = is_mendable(finder.scanned, right, left.past, left.past, right.first);
-        let operand = (first, left.past);
-        return add_comparison(finder, first, right.past, fixable, operand, zero, found);
+        let fixable = is_mendable(finder.scanned, right, left_past, left_past, right_first);
+        let operand = (first, left_past);
+        return add_comparison(finder, first, right_past, fixable, operand, zero, found);
     }
     if is_first && is_empty_list(left) {
-        let fixable = is_mendable(finder.scanned, left, right.past, left.past, right.first);
-        let operand = (right.first, right.past);
-        return add_comparison(finder, first, right.past, fixable, operand, zero, found);
+        let fixable = is_mendable(finder.scanned, left, right_past, left_past, right_first);
+        let operand = (right_first, right_past);
+        return add_comparison(finder, first, right_past, fixable, operand, zero, found);
     }
     Ok(())
 }
@@ -190,5 +192,5 @@ pub fn find(finder: &Finder<'_, '_>, e: &Expr, found: &mut Vec<Finding>) -> Resu
     if !finder.rules.has(Rule::EmptyListEquality) {
         return Ok(());
     }
-    find_at_form(finder, e.first, &e.form, found)
+    find_at_form(finder, e.first as usize, &e.form, found)
 }

@@ -108,7 +108,7 @@ fn find_at_term(
 {
     match sole_in(&t.shape) {
         None => Ok(()),
-        Some(e) => find_sole(finder, role, t.first, t.past, e, found),
+        Some(e) => find_sole(finder, role, t.first as usize, t.past as usize, e, found),
     }
 }
 

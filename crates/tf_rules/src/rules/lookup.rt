@@ -76,10 +76,10 @@ fn is_movable(scanned: &Scanned<'_>, first: usize, past: usize, a: &Expr, b: &Ex
     ensures { result ≡ is_movable scanned.now.pairs first past a.now b.now }
 {
     is_indexable(&a.form)
-        && !has_break(scanned, true, a.first, a.past)
-        && !has_trivia(scanned, first, a.first)
-        && !has_trivia(scanned, a.past, b.first)
-        && !has_trivia(scanned, b.past, past)
+        && !has_break(scanned, true, a.first as usize, a.past as usize)
+        && !has_trivia(scanned, first, a.first as usize)
+        && !has_trivia(scanned, a.past as usize, b.first as usize)
+        && !has_trivia(scanned, b.past as usize, past)
 }
 
 fn find_at_term(
@@ -96,7 +96,7 @@ fn find_at_term(
     match &t.shape {
         Shape::Number => Ok(()),
         Shape::Identifier => Ok(()),
-        Shape::Call(c) => find_call(finder, t.first, t.past, c.get(), found),
+        Shape::Call(c) => find_call(finder, t.first as usize, t.past as usize, c.get(), found),
         Shape::Tuple(_) => Ok(()),
         Shape::Object(_) => Ok(()),
         Shape::ForTuple(_) => Ok(()),
@@ -143,13 +143,13 @@ fn find_pair(
 {
     let fixable = is_movable(finder.scanned, first, past, a, b);
     let kept = Kept {
-        from: a.first,
-        to: a.past,
+        from: a.first as usize,
+        to: a.past as usize,
         behind: Insertion::OpenBracket,
     };
     let key = Kept {
-        from: b.first,
-        to: b.past,
+        from: b.first as usize,
+        to: b.past as usize,
         behind: Insertion::CloseBracket,
     };
     let fix = Fix::Tokens {

@@ -81,6 +81,13 @@ rest-returns-in_err-links t c =
     let k = rw (c.in_ok-lower.ensures {u = tt}) at e in
     refused _ 0 _ (search rules) k c.in_err-links.ensures
 
+pub rest-returns : goal.rest-returns
+unfolding rest
+rest-returns t c =
+    let e = one_nests (λ n. spec.rest c.args.self.now n c.args.first c.args.head c.args.at.now) c.args.level (omega arith) in
+    let k = rw (c.in_ok-lower.ensures {u = tt}, c.in_ok-links.ensures {u = tt}) at e in
+    rw k c.chain.ensures.node
+
 -- ---- links
 
 pub links-returns-in_default : goal.links-returns-in_default
@@ -120,7 +127,7 @@ no_tails t (suc n) i none = rw none refl
 pub post-returns-then-not-has_tail : goal.post-returns-then-not-has_tail
 post-returns-then-not-has_tail t c =
     let e = no_tails c.args.self.now (length c.args.self.now.tokens) _ (c.has_tail.ensures c.if-not-has_tail.true) in
-    rw (c.in_ok-head.ensures {u = tt}, e, c.plain.ensures) refl
+    rw (c.in_ok-head.ensures {u = tt}, e) c.plain.ensures.node
 
 pub tails-returns-in_err-tail : goal.tails-returns-in_err-tail
 unfolding tails_from
