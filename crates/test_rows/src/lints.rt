@@ -104,10 +104,10 @@ fn tell_findings(found: &[Finding], scanned: &Scanned<'_>, out: &mut Answer) {
     match scanned.places(out.alloc) {
         Ok(places) => {
             for finding in found {
-                if finding.first >= scanned.len() {
+                if finding.first() >= scanned.len() {
                     return out.put("no such token");
                 }
-                tell_finding(finding, places.of(finding.first), out);
+                tell_finding(finding, places.of(finding.first()), out);
                 out.put("; ");
             }
         }
@@ -117,8 +117,9 @@ fn tell_findings(found: &[Finding], scanned: &Scanned<'_>, out: &mut Answer) {
 
 /// Its place, its rule, its tokens, whether a fix can mend it, what its message names, and its fix.
 fn tell_finding(found: &Finding, place: Place, out: &mut Answer) {
-    let (line, column, rule) = (place.line, place.column, found.rule.name());
-    let (first, past, message, fix) = (found.first, found.past, found.message, found.fix);
+    let (line, column, rule) = (place.line, place.column, found.rule().name());
+    let (first, past, message, fix) =
+        (found.first(), found.past(), found.message(), found.fix());
     let mends = if found.is_fixable() {
         "fixable"
     } else {

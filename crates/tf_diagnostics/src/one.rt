@@ -17,7 +17,7 @@ pub fn of_rule(alloc: Global, found: &[Finding], rule: Rule) -> Result<Vec<Findi
 {
     let mut of_it = Vec::new(alloc);
     for finding in found {
-        if rank(finding.rule) == rank(rule) {
+        if rank(finding.rule()) == rank(rule) {
             of_it.push(*finding)?;
         }
     }

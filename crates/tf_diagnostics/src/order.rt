@@ -18,10 +18,10 @@ pub(crate) fn rank(rule: Rule) -> usize
 fn order(a: &Finding, b: &Finding) -> Ordering
     ensures { result ≡ report_order a.now b.now }
 {
-    a.first
-        .cmp(&b.first)
-        .then(rank(a.rule).cmp(&rank(b.rule)))
-        .then(b.past.cmp(&a.past))
+    a.first()
+        .cmp(&b.first())
+        .then(rank(a.rule()).cmp(&rank(b.rule())))
+        .then(b.past().cmp(&a.past()))
 }
 
 /// Puts findings in the order of a report: by the first token, at one token by rule, and of one

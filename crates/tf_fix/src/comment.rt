@@ -17,7 +17,7 @@ fn comment_edit(alloc: Global, scanned: &Scanned<'_>, one: Finding) -> Result<Ed
     ensures { IfOk result (λ edit. entry edit ≡ comment_edit scanned.now.pairs one) }
 {
     Ok(Edit {
-        at: scanned.item(one.first).start as usize,
+        at: scanned.item(one.first()).start as usize,
         removed: Vec::from_slice(alloc, b"//")?,
         added: Vec::from_slice(alloc, b"#")?,
     })
@@ -38,7 +38,7 @@ pub fn comment_edits(
     for one in findings {
         if is_taken(one, past) {
             edits.push(comment_edit(alloc, scanned, *one)?)?;
-            past = one.past;
+            past = one.past();
         }
     }
     Ok(edits)

@@ -68,16 +68,16 @@ fn push_replacements(
         (λ _. AreComing scanned.now.pairs all.old.items
         → AreComing scanned.now.pairs all.new.items) }
 {
-    match &one.fix {
+    match one.fix() {
         Some(fix) => match fix {
             Fix::Tokens { before, kept } => {
                 push_kept(
                     all,
                     scanned,
-                    Edge::Token(one.first),
-                    *before,
-                    kept,
-                    one.past,
+                    Edge::Token(one.first()),
+                    before,
+                    &kept,
+                    one.past(),
                 )
             }
             // A comment is mended within its token.
@@ -105,7 +105,7 @@ pub fn taken_replacements(
     for one in findings {
         if is_taken(one, past) {
             push_replacements(&mut all, scanned, one)?;
-            past = one.past;
+            past = one.past();
         }
     }
     Ok(all)

@@ -10,7 +10,7 @@ use tf_rule::Finding;
 pub fn is_taken(one: &Finding, past: usize) -> bool
     ensures { result ≡ (is_fixable one.now.fix && not (nat_lt one.now.first past)) }
 {
-    one.is_fixable() && past <= one.first
+    one.is_fixable() && past <= one.first()
 }
 
 /// How many findings one step of a fix takes. They are looked at in order: by their first token, of
@@ -24,7 +24,7 @@ pub fn taken(findings: &[Finding]) -> usize
     for one in findings {
         if is_taken(one, past) {
             count += 1;
-            past = one.past;
+            past = one.past();
         }
     }
     count

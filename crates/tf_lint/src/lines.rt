@@ -44,8 +44,8 @@ pub fn add_line(
         (string_bytes lines.new ≡ string_bytes lines.old
         ++ line_of name.now (report_of scanned.now.pairs finding.now) ++ 10 ∷ []) }
 {
-    add_front(name, place, finding.rule, lines)?;
+    add_front(name, place, finding.rule(), lines)?;
     add_message(scanned, finding, lines)?;
-    add_end(finding.rule, lines)?;
+    add_end(finding.rule(), lines)?;
     lines.push_str("\n")
 }

@@ -82,16 +82,14 @@ fn moved_message(message: Message, from: usize, to: usize) -> Message
 }
 
 /// A finding with such numbers.
-fn moved_finding(finding: Finding, from: usize, to: usize) -> Finding
-    ensures { result ≡ spec.moved_finding from to finding }
+fn moved_finding(finding: &Finding, from: usize, to: usize) -> Result<Finding, AllocError>
+    ensures { IfOk result (λ f. f ≡ spec.moved_finding from to finding.now) }
 {
-    Finding {
-        rule: finding.rule,
-        first: moved(finding.first, from, to),
-        past: moved(finding.past, from, to),
-        message: moved_message(finding.message, from, to),
-        fix: moved_choice(finding.fix, from, to),
-    }
+    let first = moved(finding.first(), from, to);
+    let past = moved(finding.past(), from, to);
+    let message = moved_message(finding.message(), from, to);
+    let fix = moved_choice(finding.fix(), from, to);
+    Finding::new(finding.rule(), first, past, message, fix)
 }
 
 /// The findings in tokens that stood from number `from` on, where they stand from number `to` on.
@@ -105,7 +103,7 @@ pub fn moved_findings(
 {
     let mut all = Vec::with_capacity(alloc, findings.len())?;
     for finding in findings {
-        all.push(moved_finding(*finding, from, to))?;
+        all.push(moved_finding(finding, from, to)?)?;
     }
     Ok(all)
 }

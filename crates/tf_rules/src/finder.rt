@@ -1,11 +1,11 @@
 //! A search for what the rules of a set find in a text.
 
-ghost use Rattle.std.specs.Prelude.{◌≡◌, ◌++◌, length, OnOk, ◌∷◌, []};
-ghost use Rattle.tf_rule.specs.Findings.{sound};
+ghost use Rattle.std.specs.Prelude.{◌≡◌, ◌++◌, length, OnOk};
+ghost use Rattle.tf_rule.specs.Findings.{finding_at, sound};
 
 use hcl_scan::Scanned;
 use std::alloc::AllocError;
-use tf_rule::{Finding, RuleSet, add_finding};
+use tf_rule::{Finding, Fix, Message, Rule, RuleSet, add_finding};
 
 /// The text that is searched, and the rules.
 #[derive(Clone, Copy)]
@@ -15,12 +15,23 @@ pub struct Finder<'s, 't> {
 }
 
 impl<'s, 't> Finder<'s, 't> {
-    /// Adds a finding, if it is sound in the text.
-    pub fn add(&self, finding: Finding, found: &mut Vec<Finding>) -> Result<(), AllocError>
+    /// Adds what a rule finds at the tokens from number `first` up to, not with, number `past`, if
+    /// it is sound in the text.
+    pub fn add(
+        &self,
+        rule: Rule,
+        first: usize,
+        past: usize,
+        message: Message,
+        fix: Option<Fix>,
+        found: &mut Vec<Finding>,
+    ) -> Result<(), AllocError>
         ensures { OnOk result
             (found.new.items ≡ found.old.items
-            ++ sound (length self.now.scanned.now.pairs) (finding ∷ [])) }
+            ++ sound (length self.now.scanned.now.pairs)
+            (finding_at rule first past message fix)) }
     {
+        let finding = Finding::new(rule, first, past, message, fix)?;
         add_finding(found, self.scanned.len(), finding)
     }
 }

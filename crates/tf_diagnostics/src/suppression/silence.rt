@@ -124,11 +124,12 @@ fn unmarked_first(places: &Places<'_>, found: &mut [Finding], marks: &[Mark]) ->
     let mut told = None;
     for i in 0..found.len() {
         let f = found[i];
-        let line = line_at(places, told, f.first);
-        told = Some((f.first, line));
+        let first = f.first();
+        let line = line_at(places, told, first);
+        told = Some((first, line));
         rest = left_at(marks, rest, reached, line);
         reached = line;
-        kept = keep(found, kept, f, is_hit(rest, f.rule, line));
+        kept = keep(found, kept, f, is_hit(rest, f.rule(), line));
     }
     kept
 }

@@ -39,13 +39,8 @@ fn add_comment(
     if !slashed {
         return Ok(());
     }
-    let finding = Finding {
-        rule: Rule::CommentSyntax,
-        first: i,
-        past: i + 1,
-        message: Message::PLAIN,
-        fix: Some(Fix::Slashes),
-    };
+    let fix = Some(Fix::Slashes);
+    let finding = Finding::new(Rule::CommentSyntax, i, i + 1, Message::PLAIN, fix)?;
     add_finding(found, count, finding)
 }
 

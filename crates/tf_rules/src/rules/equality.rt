@@ -122,14 +122,9 @@ fn add_comparison(
         (when fixable (measured operand.0 operand.1 zero)))) }
 {
     let (from, to) = operand;
-    let finding = Finding {
-        rule: Rule::EmptyListEquality,
-        first,
-        past,
-        message: Message::PLAIN,
-        fix: measured(from, to, zero).when(fixable),
-    };
-    finder.add(finding, found)
+    let fix = measured(from, to, zero).when(fixable);
+    let rule = Rule::EmptyListEquality;
+    finder.add(rule, first, past, Message::PLAIN, fix, found)
 }
 
 fn find_in_chain(

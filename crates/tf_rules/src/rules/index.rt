@@ -51,14 +51,8 @@ fn find_legacy(
         before: Insertion::Index(n),
         kept: [None, None],
     };
-    let finding = Finding {
-        rule: Rule::DeprecatedIndex,
-        first: n,
-        past: n + 1,
-        message: Message::PLAIN,
-        fix: fix.when(!splat),
-    };
-    finder.add(finding, found)
+    let fix = fix.when(!splat);
+    finder.add(Rule::DeprecatedIndex, n, n + 1, Message::PLAIN, fix, found)
 }
 
 /// At a tail, if the rule is chosen.

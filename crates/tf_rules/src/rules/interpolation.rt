@@ -82,16 +82,20 @@ fn is_post(e: &Expr) -> bool
     }
 }
 
-fn found_at(first: usize, past: usize, fix: Option<Fix>) -> Finding
-    ensures { result ∷ [] ≡ finding_at DeprecatedInterpolation first past plain fix }
+fn add(
+    finder: &Finder<'_, '_>,
+    first: usize,
+    past: usize,
+    fix: Option<Fix>,
+    found: &mut Vec<Finding>,
+) -> Result<(), AllocError>
+    ensures { OnOk result
+        (found.new.items ≡ found.old.items
+        ++ sound (length finder.now.scanned.now.pairs)
+        (finding_at DeprecatedInterpolation first past plain fix)) }
 {
-    Finding {
-        rule: Rule::DeprecatedInterpolation,
-        first,
-        past,
-        message: Message::PLAIN,
-        fix,
-    }
+    let rule = Rule::DeprecatedInterpolation;
+    finder.add(rule, first, past, Message::PLAIN, fix, found)
 }
 
 fn find_at_term(
@@ -129,7 +133,7 @@ fn find_sole(
         return Ok(());
     }
     if !is_writable(finder, role, first, past, e) {
-        return finder.add(found_at(first, past, None), found);
+        return add(finder, first, past, None, found);
     }
     if past < 2 || first >= past - 2 {
         return Ok(());
@@ -143,7 +147,7 @@ fn find_sole(
         before: Insertion::Nothing,
         kept: [Some(kept), None],
     };
-    finder.add(found_at(first, past, Some(fix)), found)
+    add(finder, first, past, Some(fix), found)
 }
 
 fn is_writable(finder: &Finder<'_, '_>, role: Role, first: usize, past: usize, e: &Expr) -> bool

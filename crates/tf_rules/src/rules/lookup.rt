@@ -156,14 +156,9 @@ fn find_pair(
         before: Insertion::Nothing,
         kept: [Some(kept), Some(key)],
     };
-    let finding = Finding {
-        rule: Rule::DeprecatedLookup,
-        first,
-        past,
-        message: Message::PLAIN,
-        fix: fix.when(fixable),
-    };
-    finder.add(finding, found)
+    let fix = fix.when(fixable);
+    let rule = Rule::DeprecatedLookup;
+    finder.add(rule, first, past, Message::PLAIN, fix, found)
 }
 
 /// At a term, if the rule is chosen.

@@ -35,14 +35,8 @@ fn add_missing(
     if word >= finder.scanned.len() {
         return Ok(());
     }
-    let finding = Finding {
-        rule,
-        first: word,
-        past: word + 1,
-        message: Message { named: None, name },
-        fix: None,
-    };
-    finder.add(finding, found)
+    let message = Message { named: None, name };
+    finder.add(rule, word, word + 1, message, None, found)
 }
 
 fn find_untyped(

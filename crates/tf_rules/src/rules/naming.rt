@@ -55,17 +55,11 @@ fn add_name(
     if is_snake_case(name_at(finder.scanned, name)) {
         return Ok(());
     }
-    let finding = Finding {
-        rule: Rule::NamingConvention,
-        first,
-        past,
-        message: Message {
-            named: Some(named),
-            name,
-        },
-        fix: None,
+    let message = Message {
+        named: Some(named),
+        name,
     };
-    finder.add(finding, found)
+    finder.add(Rule::NamingConvention, first, past, message, None, found)
 }
 
 fn find_label(
