@@ -118,8 +118,7 @@ fn tell_findings(found: &[Finding], scanned: &Scanned<'_>, out: &mut Answer) {
 /// Its place, its rule, its tokens, whether a fix can mend it, what its message names, and its fix.
 fn tell_finding(found: &Finding, place: Place, out: &mut Answer) {
     let (line, column, rule) = (place.line, place.column, found.rule().name());
-    let (first, past, message, fix) =
-        (found.first(), found.past(), found.message(), found.fix());
+    let (first, past, message, fix) = (found.first(), found.past(), found.message(), found.fix());
     let mends = if found.is_fixable() {
         "fixable"
     } else {
