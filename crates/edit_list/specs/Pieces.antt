@@ -1,19 +1,12 @@
 -- Edits, and which texts they turn into which: a text is cut into pieces that are kept and pieces
 -- that change.
-use Rattle.std.specs.Prelude.{◌≡◌, ℕ, ◌+◌, List, [], ◌∷◌, ◌++◌, length, map}
-use Rattle.edit_list.specs.declared.edit.Edit.{Edit}
+use Rattle.std.specs.Prelude.{◌≡◌, ℕ, ◌+◌, List, [], ◌∷◌, ◌++◌, length}
 
--- an edit without where it lies in memory
+-- what clauses see of an edit: at this place of the old text, these bytes become those
 pub record Entry : Type 0 where
   pub at : ℕ
   pub removed : List ℕ
   pub added : List ℕ
-
-abbrev pub entry : Edit → Entry
-entry e = record { at = e.at; removed = e.removed.items; added = e.added.items }
-
-abbrev pub entries : List Edit → List Entry
-entries es = map entry es
 
 -- the edits of texts of this length
 pub record EditList : Type 0 where

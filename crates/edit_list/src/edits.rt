@@ -18,18 +18,18 @@ pub struct Edits {
 }
 
 impl Model for Edits {
-    ghost use Rattle.edit_list.specs.Pieces.{EditList, entries};
+    ghost use Rattle.edit_list.specs.Pieces.{EditList};
     ghost use Rattle.edit_list.specs.Made.{AreEdits};
 
     ghost Value = { EditList };
 
-    ghost view = { λ e. record { old_len = e.old_len; entries = entries e.edits.items } };
+    ghost view = { λ e. record { old_len = e.old_len; entries = e.edits.items } };
 
-    ghost invariant = { λ e. AreEdits e.old_len e.new_len (entries e.edits.items) };
+    ghost invariant = { λ e. AreEdits e.old_len e.new_len e.edits.items };
 }
 
 impl Edits {
-    ghost use Rattle.edit_list.specs.Pieces.{as_list, entries, removed_len, added_len};
+    ghost use Rattle.edit_list.specs.Pieces.{as_list, removed_len, added_len};
     ghost use Rattle.edit_list.specs.Made.{made, AreEdits, new_len};
 
     /// The edits as a list for texts of `old_len` bytes. A text has at most [`MAX_TEXT`] bytes.
@@ -37,7 +37,7 @@ impl Edits {
     /// Refused are, in this order: an old length over that; the first edit that is empty, begins
     /// before the end of the one before, or ends past the text; and a new length over the limit.
     pub fn make(old_len: usize, edits: Vec<Edit>) -> Result<Self, BadEdits>
-        ensures { result ≡ made old_len (entries edits.items) }
+        ensures { result ≡ made old_len edits.items }
     {
         if old_len > MAX_TEXT {
             return Err(BadEdits::TooLong);
@@ -46,18 +46,18 @@ impl Edits {
         let mut removed = 0;
         let mut added = 0usize;
         for (i, edit) in edits.iter().enumerate() {
-            if edit.removed.is_empty() && edit.added.is_empty() {
+            if edit.removed().is_empty() && edit.added().is_empty() {
                 return Err(BadEdits::EmptyEdit(i));
             }
-            if edit.at < from {
+            if edit.at() < from {
                 return Err(BadEdits::OutOfOrder(i));
             }
-            if edit.at > old_len || edit.removed.len() > old_len - edit.at {
+            if edit.at() > old_len || edit.removed().len() > old_len - edit.at() {
                 return Err(BadEdits::PastEnd(i));
             }
-            from = edit.at + edit.removed.len();
-            removed += edit.removed.len();
-            added = added.saturating_add(edit.added.len());
+            from = edit.at() + edit.removed().len();
+            removed += edit.removed().len();
+            added = added.saturating_add(edit.added().len());
         }
         if added > MAX_TEXT - (old_len - removed) {
             return Err(BadEdits::TooLong);
@@ -72,8 +72,8 @@ impl Edits {
 
     /// The edits as a list, where it is known that they are one: nothing is tested again.
     pub fn of_placed(old_len: usize, new_len: usize, edits: Vec<Edit>) -> Self
-        requires { AreEdits old_len new_len (entries edits.items) }
-        ensures { result ≡ as_list old_len (entries edits.items) }
+        requires { AreEdits old_len new_len edits.items }
+        ensures { result ≡ as_list old_len edits.items }
     {
         Edits {
             old_len,
@@ -100,8 +100,8 @@ impl Edits {
 
     /// The edits, in order.
     pub fn edits(&self) -> &[Edit]
-        ensures same { entries result.now ≡ self.now.entries }
-        ensures placed { AreEdits self.now.old_len (new_len self.now) (entries result.now) }
+        ensures same { result.now ≡ self.now.entries }
+        ensures placed { AreEdits self.now.old_len (new_len self.now) result.now }
     {
         self.edits.as_slice()
     }

@@ -1,6 +1,6 @@
 //! One pass over a text and the edits, in either direction.
 ghost use Rattle.std.specs.Prelude.{◌≡◌, IfErr};
-ghost use Rattle.edit_list.specs.Pieces.{as_list, entry, entries};
+ghost use Rattle.edit_list.specs.Pieces.{as_list};
 ghost use Rattle.edit_list.specs.Made.{AreEdits};
 ghost use Rattle.edit_list.specs.Refusals.{Gives, HasLen};
 ghost use Rattle.edit_list.specs.Inner.Walk.{read_bytes, written_bytes, answer};
@@ -12,21 +12,21 @@ use std::alloc::Global;
 
 /// The bytes of an edit on the side that is read.
 fn read_bytes(direction: Direction, edit: &Edit) -> &[u8]
-    ensures { result.now ≡ read_bytes direction (entry edit.now) }
+    ensures { result.now ≡ read_bytes direction edit.now }
 {
     match direction {
-        Direction::Forward => &edit.removed,
-        Direction::Backward => &edit.added,
+        Direction::Forward => edit.removed(),
+        Direction::Backward => edit.added(),
     }
 }
 
 /// The bytes of an edit on the side that is written.
 fn written_bytes(direction: Direction, edit: &Edit) -> &[u8]
-    ensures { result.now ≡ written_bytes direction (entry edit.now) }
+    ensures { result.now ≡ written_bytes direction edit.now }
 {
     match direction {
-        Direction::Forward => &edit.added,
-        Direction::Backward => &edit.removed,
+        Direction::Forward => edit.added(),
+        Direction::Backward => edit.removed(),
     }
 }
 
@@ -43,10 +43,10 @@ pub(crate) fn turned_text(
     edits: &[Edit],
     text: &[u8],
 ) -> Result<Vec<u8>, Refused>
-    requires { AreEdits old_len new_len (entries edits.now) }
-    ensures gives { Gives result (answer direction (as_list old_len (entries edits.now)) text.now) }
+    requires { AreEdits old_len new_len edits.now }
+    ensures gives { Gives result (answer direction (as_list old_len edits.now) text.now) }
     ensures memory { IfErr result
-        (λ e. e ≡ Memory → HasLen direction (as_list old_len (entries edits.now)) text.now) }
+        (λ e. e ≡ Memory → HasLen direction (as_list old_len edits.now) text.now) }
 {
     let (expected, len) = match direction {
         Direction::Forward => (old_len, new_len),
@@ -62,7 +62,7 @@ pub(crate) fn turned_text(
     let mut rest = text;
     let mut old_end = 0;
     for (i, edit) in edits.iter().enumerate() {
-        let (kept, after) = rest.split_at(edit.at - old_end);
+        let (kept, after) = rest.split_at(edit.at() - old_end);
         let read = read_bytes(direction, edit);
         if !after.starts_with(read) {
             return Err(Refused::Differs { step: 0, edit: i });
@@ -70,7 +70,7 @@ pub(crate) fn turned_text(
         out.extend_from_slice(kept)?;
         out.extend_from_slice(written_bytes(direction, edit))?;
         rest = &after[read.len()..];
-        old_end = edit.at + edit.removed.len();
+        old_end = edit.at() + edit.removed().len();
     }
     out.extend_from_slice(rest)?;
     Ok(out)

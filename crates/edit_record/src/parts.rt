@@ -1,7 +1,6 @@
 //! Readers of the parts of a record. Each answers what stands at the front, and the rest of the
 //! text.
 ghost use Rattle.std.specs.Prelude.{◌≡◌, ◌<◌, ◌^◌, ◌*◌, ◌+◌, length, codes, option_map, IfOk, ◌≤◌, false, is_some};
-ghost use Rattle.edit_list.specs.Pieces.{entry, entries};
 ghost use Rattle.edit_record.specs.Inner.Finding.{Gives};
 ghost use Rattle.edit_record.specs.Inner.Growing.{edits_grow, list_grows};
 ghost use Rattle.edit_record.specs.Inner.Reading.{behind, number_at, bytes_at, edit_at, edits_at, list_at, word_of, word_at};
@@ -93,7 +92,7 @@ fn bytes(count: usize, text: &[u8]) -> Result<(&[u8], &[u8]), Stop>
 /// An edit. Its bytes are copied once they are all there, with the line end behind them.
 #[tactic(auto, unfolding(crate::specs::Inner::Reading::edit_at))]
 fn edit(alloc: Global, text: &[u8]) -> Result<(Edit, &[u8]), Stop>
-    ensures { Gives (λ x. (entry x.0, x.1.now)) (is_some (edit_at text.now)) result
+    ensures { Gives (λ x. (x.0, x.1.now)) (is_some (edit_at text.now)) result
         (edit_at text.now) }
 {
     let (at, rest) = number(0, MAX_NUMBER, b' ', text)?;
@@ -102,15 +101,13 @@ fn edit(alloc: Global, text: &[u8]) -> Result<(Edit, &[u8]), Stop>
     let (removed, rest) = bytes(removed, rest)?;
     let (added, rest) = bytes(added, rest)?;
     let rest = piece(b"\n", Kind::End, rest)?;
-    let removed = Vec::from_slice(alloc, removed)?;
-    let added = Vec::from_slice(alloc, added)?;
-    Ok((Edit { at, removed, added }, rest))
+    Ok((Edit::new(alloc, at, removed, added)?, rest))
 }
 
 /// So many edits. No memory is taken before they are there.
 #[tactic(auto, unfolding(crate::specs::Inner::Reading::edits_at))]
 fn edits(alloc: Global, count: usize, text: &[u8]) -> Result<(Vec<Edit>, &[u8]), Stop>
-    ensures { Gives (λ x. (entries x.0.items, x.1.now)) (edits_grow count text.now) result
+    ensures { Gives (λ x. (x.0.items, x.1.now)) (edits_grow count text.now) result
         (edits_at count text.now) }
 {
     let mut edits = Vec::new(alloc);

@@ -1,6 +1,5 @@
 //! Writing a journal.
 ghost use Rattle.std.specs.Prelude.{◌≡◌, ◌+◌, ◌-◌, ◌^◌, ◌≤◌, ◌++◌, List, length, min, decimal, codes, OnOk, IfOk, IfErr, ◌<◌};
-ghost use Rattle.edit_list.specs.Pieces.{entry, entries};
 ghost use Rattle.edit_record.specs.Text.{IsMade, word_text, number_text, edit_text, record_text, journal_text, IsText};
 
 use edit_list::{Edit, Journal, Record, Word};
@@ -17,11 +16,11 @@ fn digits(number: usize) -> usize
 
 /// How many bytes the text of an edit has.
 fn edit_len(edit: &Edit) -> usize
-    ensures { result ≡ min (length (edit_text (entry edit.now))) (2 ^ 64 - 1) }
+    ensures { result ≡ min (length (edit_text edit.now)) (2 ^ 64 - 1) }
 {
-    let removed = edit.removed.len();
-    let added = edit.added.len();
-    let numbers = digits(edit.at) + digits(removed) + digits(added) + 4;
+    let removed = edit.removed().len();
+    let added = edit.added().len();
+    let numbers = digits(edit.at()) + digits(removed) + digits(added) + 4;
     numbers.saturating_add(removed).saturating_add(added)
 }
 
@@ -70,11 +69,11 @@ fn put_numbers(out: &mut Vec<u8>, at: usize, removed: usize, added: usize) -> Re
 }
 
 fn put_edit(out: &mut Vec<u8>, edit: &Edit) -> Result<(), AllocError>
-    ensures { OnOk result (out.new.items ≡ out.old.items ++ edit_text (entry edit.now)) }
+    ensures { OnOk result (out.new.items ≡ out.old.items ++ edit_text edit.now) }
 {
-    let removed = edit.removed.as_slice();
-    let added = edit.added.as_slice();
-    put_numbers(out, edit.at, removed.len(), added.len())?;
+    let removed = edit.removed();
+    let added = edit.added();
+    put_numbers(out, edit.at(), removed.len(), added.len())?;
     out.extend_from_slice(removed)?;
     out.extend_from_slice(added)?;
     out.push(b'\n')?;

@@ -1,12 +1,10 @@
 //! Two lists of edits on the way to one: the state between two steps, and the steps.
 ghost use Rattle.std.specs.Prelude.{◌≡◌, ◌↔◌, ◌+◌, ◌-◌, ◌^◌, ◌<◌, ◌≤◌, length, take, IfOk, OnOk, IsTrue};
-ghost use Rattle.edit_list.specs.Pieces.{entry, entries};
 ghost use Rattle.edit_squash.specs.Inner.Merge.{closed, skipped, with_first, with_second, meeting, met, reaches, gap, Begins, Ready, readied, opened, joins_first, joins_second, first_is_next, took, ReadyFor, start};
 ghost use Rattle.edit_squash.specs.Inner.MergeState.{state};
 
 use edit_list::Edit;
 use std::alloc::{AllocError, Global};
-use std::mem;
 
 /// Two lists of edits on the way to one.
 #[derive(Drop)]
@@ -55,10 +53,10 @@ impl<'a> Merge<'a> {
         ys: &'a [Edit],
         first: bool,
     ) -> Result<(&'a [Edit], &'a [Edit]), AllocError>
-        requires { ReadyFor first (state self.old) (entries xs.now) (entries ys.now) }
+        requires { ReadyFor first (state self.old) xs.now ys.now }
         ensures { IfOk result (λ left.
-            (state self.new, entries left.0.now, entries left.1.now)
-            ≡ took first (state self.old) (entries xs.now) (entries ys.now)) }
+            (state self.new, left.0.now, left.1.now)
+            ≡ took first (state self.old) xs.now ys.now) }
     {
         if first {
             match xs {
@@ -92,10 +90,10 @@ impl<'a> Merge<'a> {
         self.first_left = &[];
         self.second_left = &[];
         if !(self.removed.is_empty() && self.added.is_empty()) {
-            let removed = mem::replace(&mut self.removed, Vec::new(alloc));
-            let added = mem::replace(&mut self.added, Vec::new(alloc));
-            let at = self.at;
-            self.out.push(Edit { at, removed, added })?;
+            let edit = Edit::new(alloc, self.at, &self.removed, &self.added)?;
+            self.out.push(edit)?;
+            self.removed.clear();
+            self.added.clear();
         }
         self.at = self.first_end;
         self.has_first = false;
@@ -122,9 +120,9 @@ impl<'a> Merge<'a> {
         xs: &[Edit],
         ys: &[Edit],
     ) -> Result<bool, AllocError>
-        requires { Ready (state self.old) (entries xs.now) (entries ys.now) }
+        requires { Ready (state self.old) xs.now ys.now }
         ensures { IfOk result (λ first.
-            (first, state self.new) ≡ readied (state self.old) (entries xs.now) (entries ys.now)) }
+            (first, state self.new) ≡ readied (state self.old) xs.now ys.now) }
     {
         if self.joins_first(xs) {
             return Ok(true);
@@ -137,16 +135,16 @@ impl<'a> Merge<'a> {
     }
 
     fn joins_first(&self, xs: &[Edit]) -> bool
-        requires { Begins self.now.first_end (entries xs.now) }
-        ensures { result ≡ joins_first (state self.now) (entries xs.now) }
+        requires { Begins self.now.first_end xs.now }
+        ensures { result ≡ joins_first (state self.now) xs.now }
     {
         self.has_second
             && (self.first_left.is_empty() && reaches(xs, self.first_end, self.second_left))
     }
 
     fn joins_second(&self, ys: &[Edit]) -> bool
-        requires { Begins self.now.second_end (entries ys.now) }
-        ensures { result ≡ joins_second (state self.now) (entries ys.now) }
+        requires { Begins self.now.second_end ys.now }
+        ensures { result ≡ joins_second (state self.now) ys.now }
     {
         self.has_first
             && (self.second_left.is_empty() && reaches(ys, self.second_end, self.first_left))
@@ -154,9 +152,9 @@ impl<'a> Merge<'a> {
 
     /// Begins an edit at the next edit of either list.
     fn open(&mut self, xs: &[Edit], ys: &[Edit]) -> bool
-        requires { Ready (state self.old) (entries xs.now) (entries ys.now) }
+        requires { Ready (state self.old) xs.now ys.now }
         ensures { (result, state self.new)
-            ≡ opened (state self.old) (entries xs.now) (entries ys.now) }
+            ≡ opened (state self.old) xs.now ys.now }
     {
         if self.first_is_next(xs, ys) {
             self.skip(gap(self.first_end, xs));
@@ -168,13 +166,13 @@ impl<'a> Merge<'a> {
     }
 
     fn first_is_next(&self, xs: &[Edit], ys: &[Edit]) -> bool
-        requires { Ready (state self.now) (entries xs.now) (entries ys.now) }
-        ensures { result ≡ first_is_next (state self.now) (entries xs.now) (entries ys.now) }
+        requires { Ready (state self.now) xs.now ys.now }
+        ensures { result ≡ first_is_next (state self.now) xs.now ys.now }
     {
         match (xs, ys) {
             ([], _) => false,
             ([_, ..], []) => true,
-            ([x, ..], [y, ..]) => x.at - self.first_end <= y.at - self.second_end,
+            ([x, ..], [y, ..]) => x.at() - self.first_end <= y.at() - self.second_end,
         }
     }
 
@@ -182,15 +180,15 @@ impl<'a> Merge<'a> {
     fn take_first(&mut self, edit: &'a Edit) -> Result<(), AllocError>
         requires later { self.old.first_end ≤ edit.now.at }
         requires within { edit.now.at - self.old.first_end ≤ length self.old.second_left.now }
-        requires fits { edit.now.at + length edit.now.removed.items < 2 ^ 64 }
-        ensures { OnOk result (state self.new ≡ with_first (entry edit.now) (state self.old)) }
+        requires fits { edit.now.at + length edit.now.removed < 2 ^ 64 }
+        ensures { OnOk result (state self.new ≡ with_first edit.now (state self.old)) }
     {
-        let (kept, left) = self.second_left.split_at(edit.at - self.first_end);
+        let (kept, left) = self.second_left.split_at(edit.at() - self.first_end);
         self.removed.extend_from_slice(kept)?;
-        self.removed.extend_from_slice(&edit.removed)?;
-        self.first_left = &edit.added;
+        self.removed.extend_from_slice(edit.removed())?;
+        self.first_left = edit.added();
         self.second_left = left;
-        self.first_end = edit.at + edit.removed.len();
+        self.first_end = edit.at() + edit.removed().len();
         self.has_first = true;
         Ok(())
     }
@@ -199,15 +197,15 @@ impl<'a> Merge<'a> {
     fn take_second(&mut self, edit: &'a Edit) -> Result<(), AllocError>
         requires later { self.old.second_end ≤ edit.now.at }
         requires within { edit.now.at - self.old.second_end ≤ length self.old.first_left.now }
-        requires fits { edit.now.at + length edit.now.removed.items < 2 ^ 64 }
-        ensures { OnOk result (state self.new ≡ with_second (entry edit.now) (state self.old)) }
+        requires fits { edit.now.at + length edit.now.removed < 2 ^ 64 }
+        ensures { OnOk result (state self.new ≡ with_second edit.now (state self.old)) }
     {
-        let (kept, left) = self.first_left.split_at(edit.at - self.second_end);
+        let (kept, left) = self.first_left.split_at(edit.at() - self.second_end);
         self.added.extend_from_slice(kept)?;
-        self.added.extend_from_slice(&edit.added)?;
+        self.added.extend_from_slice(edit.added())?;
         self.first_left = left;
-        self.second_left = &edit.removed;
-        self.second_end = edit.at + edit.removed.len();
+        self.second_left = edit.removed();
+        self.second_end = edit.at() + edit.removed().len();
         self.has_second = true;
         Ok(())
     }
@@ -233,22 +231,22 @@ impl<'a> Merge<'a> {
 
 /// Whether the next edit begins within these bytes or right behind them.
 fn reaches(edits: &[Edit], from: usize, left: &[u8]) -> bool
-    requires { Begins from (entries edits.now) }
-    ensures { result ≡ reaches (entries edits.now) from (length left.now) }
+    requires { Begins from edits.now }
+    ensures { result ≡ reaches edits.now from (length left.now) }
 {
     match edits {
         [] => false,
-        [edit, ..] => edit.at - from <= left.len(),
+        [edit, ..] => edit.at() - from <= left.len(),
     }
 }
 
 /// How many bytes stand before the next edit.
 fn gap(from: usize, edits: &[Edit]) -> usize
-    requires { Begins from (entries edits.now) }
-    ensures { result ≡ gap from (entries edits.now) }
+    requires { Begins from edits.now }
+    ensures { result ≡ gap from edits.now }
 {
     match edits {
         [] => 0,
-        [edit, ..] => edit.at - from,
+        [edit, ..] => edit.at() - from,
     }
 }

@@ -8,12 +8,10 @@ use Rattle.std.proofs.lemmas.Bool.{and_right}
 use Rattle.std.proofs.lemmas.Bool.Decides.{nat_tests}
 use Rattle.hcl_token.specs.Tokens.{Pair, whole_text}
 use Rattle.hcl_token.specs.CutText.{spelling_of, gap_of}
-use Rattle.edit_list.specs.Pieces.{Entry, entry, entries, Piece, changes_from}
-use Rattle.edit_list.specs.declared.edit.Edit.{Edit}
+use Rattle.edit_list.specs.Pieces.{Entry, Piece, changes_from}
 use Rattle.hcl_token.specs.declared.item.Item.{Item}
 use Rattle.hcl_token.specs.CutText.{item_of, item_behind}
 use Rattle.hcl_gaps.proofs.Narrow.{bytes_joining}
-use Rattle.std.proofs.lemmas.List.{map-append}
 use Rattle.edit_list.specs.Pieces.Piece.{Kept, Changed}
 use Rattle.hcl_gaps.specs.Space.{spaces}
 use Rattle.hcl_gaps.specs.Layout.{gap_piece, pieces}
@@ -171,32 +169,28 @@ one_change at g new h = rw h refl
 no_change : (at : ℕ) (g new : List ℕ) → bytes_eq g new ≡ true → changes_from at (gap_piece g new ∷ []) ≡ []
 no_change at g new h = rw h refl
 
-pub pushed : (old new : List Edit) (e : Edit) (at : ℕ) (g : List ℕ) (n : ℕ) → new ≡ old ++ e ∷ [] → e.at ≡ at → e.removed.items ≡ g → e.added.items ≡ spaces n
-    → bytes_eq g (gap_meant n g) ≡ false → entries new ≡ entries old ++ changes_from at (gap_piece g (gap_meant n g) ∷ [])
-pushed old new e at g n new_is at_is removed_is added_is h =
+pub pushed : (old new : List Entry) (at : ℕ) (g : List ℕ) (n : ℕ) → new ≡ old ++ record { at = at; removed = g; added = spaces n } ∷ []
+    → bytes_eq g (gap_meant n g) ≡ false → new ≡ old ++ changes_from at (gap_piece g (gap_meant n g) ∷ [])
+pushed old new at g n new_is h =
     let meaning = meant_if g n (n == KEPT) refl h in
-    let one : ◌≡◌ {A = Entry} (entry e) (record { at = at; removed = g; added = gap_meant n g }) =
-    ap (λ x. record { at = x; removed = e.removed.items; added = e.added.items }) at_is
-    ∙ ap (λ (x : List ℕ). record { at = at; removed = x; added = e.added.items }) removed_is
-    ∙ ap (λ (x : List ℕ). record { at = at; removed = g; added = x }) (added_is ∙ sym meaning) in
-    ap entries new_is ∙ map-append entry old (e ∷ []) ∙ ap (λ x. entries old ++ x ∷ []) one
-    ∙ ap (λ (es : List Entry). entries old ++ es) (sym (one_change at g (gap_meant n g) h))
+    new_is ∙ ap (λ (x : List ℕ). old ++ record { at = at; removed = g; added = x } ∷ []) (sym meaning)
+    ∙ ap (λ (es : List Entry). old ++ es) (sym (one_change at g (gap_meant n g) h))
 
-pub passed_over : (old : List Edit) (at : ℕ) (g : List ℕ) (n : ℕ) → bytes_eq g (gap_meant n g) ≡ true → entries old ≡ entries old ++ changes_from at (gap_piece g (gap_meant n g) ∷ [])
-passed_over old at g n h = sym (ap (λ (es : List Entry). entries old ++ es) (no_change at g (gap_meant n g) h) ∙ append-nil (entries old))
+pub passed_over : (old : List Entry) (at : ℕ) (g : List ℕ) (n : ℕ) → bytes_eq g (gap_meant n g) ≡ true → old ≡ old ++ changes_from at (gap_piece g (gap_meant n g) ∷ [])
+passed_over old at g n h = sym (ap (λ (es : List Entry). old ++ es) (no_change at g (gap_meant n g) h) ∙ append-nil old)
 
-pub come_push : (ps : List Pair) (ns last : List ℕ) (i : ℕ) (old new : List Edit) (item : Item) (g : List ℕ) → length ns ≡ length ps → i < length ps → Some item ≡ item_of ps i → Some g ≡ gap_of ps i
-    → entries new ≡ entries old ++ changes_from item.gap_at (gap_piece g (gap_meant (get_or ns i 0) g) ∷ [])
-    → entries new ++ to_come ps (with_gaps ns ps) last (i + 1) ≡ entries old ++ to_come ps (with_gaps ns ps) last i
+pub come_push : (ps : List Pair) (ns last : List ℕ) (i : ℕ) (old new : List Entry) (item : Item) (g : List ℕ) → length ns ≡ length ps → i < length ps → Some item ≡ item_of ps i → Some g ≡ gap_of ps i
+    → new ≡ old ++ changes_from item.gap_at (gap_piece g (gap_meant (get_or ns i 0) g) ∷ [])
+    → new ++ to_come ps (with_gaps ns ps) last (i + 1) ≡ old ++ to_come ps (with_gaps ns ps) last i
 come_push ps ns last i old new item g size inside item_is g_is is =
     let t = turn ps i (length ps) inside (omega arith) in
     let at : item.gap_at ≡ length (whole_text (take i ps) []) = let e = item_is ∙ ap (option_map (λ (p : Pair). item_behind (take i ps) p)) t.at in let f : item ≡ item_behind (take i ps) t.pair = cc in ap (λ (x : Item). x.gap_at) f in
     let same = gap_is ps i (length ps) g t g_is in
     let edit : changes_from item.gap_at (gap_piece g (gap_meant (get_or ns i 0) g) ∷ []) ≡ gap_edit ps ns i t.pair =
     ap₂ (λ n (x : List ℕ). changes_from n (gap_piece x (gap_meant (get_or ns i 0) x) ∷ [])) at same in
-    ap (λ (es : List Entry). es ++ to_come ps (with_gaps ns ps) last (i + 1)) (is ∙ ap (λ (es : List Entry). entries old ++ es) edit)
-    ∙ append_assoc (entries old) (gap_edit ps ns i t.pair) (to_come ps (with_gaps ns ps) last (i + 1))
-    ∙ ap (λ (es : List Entry). entries old ++ es) (sym (come_turn ps ns last i t size inside))
+    ap (λ (es : List Entry). es ++ to_come ps (with_gaps ns ps) last (i + 1)) (is ∙ ap (λ (es : List Entry). old ++ es) edit)
+    ∙ append_assoc old (gap_edit ps ns i t.pair) (to_come ps (with_gaps ns ps) last (i + 1))
+    ∙ ap (λ (es : List Entry). old ++ es) (sym (come_turn ps ns last i t size inside))
 
 pub last_at : (ps : List Pair) (last text : List ℕ) → text ≡ whole_text ps last → length text - length last ≡ length (whole_text ps [])
 last_at ps last text is = omega (arith, ap length is, bytes_joining ps last, bytes_joining ps [])

@@ -5,7 +5,7 @@ ghost use Rattle.hcl_scan.specs.Cut.{MAX_TEXT};
 ghost use Rattle.std.specs.Str.{bytes_eq};
 ghost use Rattle.std.specs.Option.{option_map};
 ghost use Rattle.hcl_token.specs.Tokens.{Pair, whole_text};
-ghost use Rattle.edit_list.specs.Pieces.{entries, changes_from};
+ghost use Rattle.edit_list.specs.Pieces.{changes_from};
 ghost use Rattle.hcl_gaps.specs.Space.{spaces};
 ghost use Rattle.hcl_gaps.specs.Layout.{gap_piece, pieces};
 ghost use Rattle.hcl_gaps.specs.Inner.Stages.{unchanged, gap_meant, with_gaps};
@@ -59,18 +59,15 @@ fn push_gap(
     new: u32,
 ) -> Result<(), AllocError>
     ensures { OnOk result
-        (entries edits.new.items
-        ≡ entries edits.old.items
+        (edits.new.items
+        ≡ edits.old.items
         ++ changes_from at (gap_piece gap.now (gap_meant new gap.now) ∷ [])) }
 {
     if stays(gap, new) {
         return Ok(());
     }
-    edits.push(Edit {
-        at,
-        removed: Vec::from_slice(alloc, gap)?,
-        added: spaces(alloc, new)?,
-    })?;
+    let spaces = spaces(alloc, new)?;
+    edits.push(Edit::new(alloc, at, gap, &spaces)?)?;
     Ok(())
 }
 
@@ -82,7 +79,7 @@ pub(crate) fn gap_edits(
 ) -> Result<Vec<Edit>, AllocError>
     requires { length gaps.now ≡ length scanned.now.pairs }
     ensures { IfOk result
-        (λ edits. entries edits.items
+        (λ edits. edits.items
         ≡ changes_from 0 (pieces scanned.now.pairs
         (with_gaps gaps.now scanned.now.pairs) scanned.now.last)) }
 {

@@ -1,7 +1,7 @@
 //! The layout of a text, as edits.
 
 ghost use Rattle.std.specs.Prelude.{◌≡◌, ◌<◌, ◌≤◌, ◌⊎◌, ◌↔◌, [], length, nat_lt, IsTrue, IfOk, IfErr, MatchBool};
-ghost use Rattle.edit_list.specs.Pieces.{Turns, entries};
+ghost use Rattle.edit_list.specs.Pieces.{Turns};
 ghost use Rattle.hcl_token.specs.CutText.{AreUtf8};
 ghost use Rattle.hcl_scan.specs.Cut.{IsCut, MAX_TEXT};
 ghost use Rattle.hcl_gaps.specs.Layout.{laid_out, layout_text, layout_edits, IsLaidOut};
@@ -38,7 +38,7 @@ fn short_gaps(alloc: Global, scanned: &Scanned<'_>) -> Result<Vec<u32>, LayoutFa
 fn edits_of(alloc: Global, scanned: &Scanned<'_>) -> Result<Vec<Edit>, LayoutFault>
     requires cut { IsCut scanned.now.text scanned.now.pairs scanned.now.last }
     requires utf8 { AreUtf8 scanned.now.pairs }
-    ensures ok { IfOk result (λ edits. entries edits.items ≡ (layout_edits scanned.now).entries) }
+    ensures ok { IfOk result (λ edits. edits.items ≡ (layout_edits scanned.now).entries) }
     ensures short { IfOk result (λ edits. length (layout_text scanned.now) ≤ MAX_TEXT) }
     ensures err { IfErr result
         (λ e. (e ≡ Memory) ⊎ ((e ≡ TooLong) × (MAX_TEXT < length (layout_text scanned.now)))) }

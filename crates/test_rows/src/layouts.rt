@@ -61,7 +61,7 @@ fn tell_text(text: &[u8], edits: &Edits, is_laid_out: bool, out: &mut Answer) {
 /// For each edit its place, how many bytes it removes, and how many it adds.
 fn tell_edits(edits: &Edits, out: &mut Answer) {
     for edit in edits.edits() {
-        let (at, removed, added) = (edit.at, edit.removed.len(), edit.added.len());
+        let (at, removed, added) = (edit.at(), edit.removed().len(), edit.added().len());
         let _ = write!(out, "{at}-{removed}+{added} ");
     }
 }

@@ -1,7 +1,6 @@
 //! The edits that mend comments: `//` becomes `#`.
 
 ghost use Rattle.std.specs.Prelude.{◌≡◌, ◌<◌, length, map, IfOk};
-ghost use Rattle.edit_list.specs.Pieces.{entry, entries};
 ghost use Rattle.tf_fix.specs.Comments.{comment_edit};
 ghost use Rattle.tf_rule.specs.Findings.{AreSound};
 ghost use Rattle.tf_fix.specs.Taking.{taken};
@@ -14,13 +13,10 @@ use tf_rule::Finding;
 
 fn comment_edit(alloc: Global, scanned: &Scanned<'_>, one: Finding) -> Result<Edit, AllocError>
     requires { one.first < length scanned.now.pairs }
-    ensures { IfOk result (λ edit. entry edit ≡ comment_edit scanned.now.pairs one) }
+    ensures { IfOk result (λ edit. edit ≡ comment_edit scanned.now.pairs one) }
 {
-    Ok(Edit {
-        at: scanned.item(one.first()).start as usize,
-        removed: Vec::from_slice(alloc, b"//")?,
-        added: Vec::from_slice(alloc, b"#")?,
-    })
+    let at = scanned.item(one.first()).start as usize;
+    Edit::new(alloc, at, b"//", b"#")
 }
 
 /// The edits that mend the comments which one step takes, in the order of the text.
@@ -31,7 +27,7 @@ pub fn comment_edits(
 ) -> Result<Vec<Edit>, AllocError>
     requires { AreSound (length scanned.now.pairs) findings.now }
     ensures { IfOk result
-        (λ edits. entries edits.items ≡ map (comment_edit scanned.now.pairs) (taken findings.now)) }
+        (λ edits. edits.items ≡ map (comment_edit scanned.now.pairs) (taken findings.now)) }
 {
     let mut edits = Vec::new(alloc);
     let mut past = 0;

@@ -1,7 +1,7 @@
 //! One step of a fix.
 
 ghost use Rattle.std.specs.Prelude.{◌≡◌, ◌<◌, ◌≤◌, ◌⊎◌, length, IfOk, IfErr};
-ghost use Rattle.edit_list.specs.Pieces.{Turns, entries};
+ghost use Rattle.edit_list.specs.Pieces.{Turns};
 ghost use Rattle.hcl_scan.specs.Cut.{MAX_TEXT};
 ghost use Rattle.hcl_scan.specs.Follows.{AreApart};
 ghost use Rattle.tf_rule.specs.Findings.{AreSound};
@@ -37,7 +37,7 @@ fn step_edits(
     requires filled { AreFilled scanned.now.pairs }
     requires sound { AreSound (length scanned.now.pairs) findings.items }
     ensures ok { IfOk result
-        (λ edits. entries edits.items ≡ step_entries rule scanned.now findings.items) }
+        (λ edits. edits.items ≡ step_entries rule scanned.now findings.items) }
     ensures err { IfErr result (λ e. e ≡ Memory) }
 {
     if is_comment_rule(rule) {

@@ -1,7 +1,7 @@
 //! The edits of replacements, in one pass over these.
 
 ghost use Rattle.std.specs.Prelude.{◌≡◌, ◌≤◌, ◌+◌, ◌*◌, length, take, slice_range, IfOk};
-ghost use Rattle.edit_list.specs.Pieces.{entry, entries, changes_from};
+ghost use Rattle.edit_list.specs.Pieces.{changes_from};
 ghost use Rattle.tf_fix.specs.Parts.{parts, written};
 ghost use Rattle.tf_fix.specs.Mending.{body, inserted};
 ghost use Rattle.tf_fix.specs.Replacements.{AreInOrder, added, replaced_pieces};
@@ -74,19 +74,17 @@ fn one_edit(
     ensures at { IfOk result
         (λ edit. edit.at ≡ length (written (take (place_of one.from) (parts scanned.now)))) }
     ensures removed { IfOk result
-        (λ edit. edit.removed.items
+        (λ edit. edit.removed
         ≡ written (slice_range (parts scanned.now) (place_of one.from) (place_of one.to))) }
     ensures added { IfOk result
-        (λ edit. edit.added.items
+        (λ edit. edit.added
         ≡ added (near_view near.entry)
         (coming_parts scanned.now.pairs one.from one.to one.coming)
         (slice_range (parts scanned.now) (place_of one.to) (place_of end))) }
 {
-    Ok(Edit {
-        at: offset(scanned, one.from),
-        removed: Vec::from_slice(alloc, between(scanned, one.from, one.to))?,
-        added: settled_text(alloc, scanned, near, one.coming, one.to, end)?,
-    })
+    let added = settled_text(alloc, scanned, near, one.coming, one.to, end)?;
+    let removed = between(scanned, one.from, one.to);
+    Edit::new(alloc, offset(scanned, one.from), removed, &added)
 }
 
 /// The edits that make the replacements.
@@ -99,7 +97,7 @@ pub fn replacement_edits(
         (2 * length scanned.now.pairs) }
     requires coming { AreComing scanned.now.pairs all.now }
     ensures { IfOk result
-        (λ edits. entries edits.items
+        (λ edits. edits.items
         ≡ changes_from 0 (replaced_pieces (parts scanned.now)
         (replacements scanned.now.pairs all.now))) }
 {

@@ -52,9 +52,9 @@ pub fn replaced_by(alloc: Global, edits: &Edits) -> Result<Vec<Replaced>, AllocE
     let mut pieces = Vec::with_capacity(alloc, edits.len())?;
     for edit in edits {
         pieces.push(Replaced {
-            at: edit.at as u32,
-            removed: edit.removed.len() as u32,
-            added: edit.added.len() as u32,
+            at: edit.at() as u32,
+            removed: edit.removed().len() as u32,
+            added: edit.added().len() as u32,
         })?;
     }
     Ok(pieces)

@@ -1,11 +1,10 @@
 -- The state in the code.
 use Rattle.edit_squash.specs.declared.merge.Merge.{Merge}
-use Rattle.edit_list.specs.Pieces.{entries}
 use Rattle.edit_squash.specs.Inner.Merge.{State}
 
 abbrev pub state : Merge → State
 state m = record {
-  out = entries m.out.items;
+  out = m.out.items;
   at = m.at;
   removed = m.removed.items;
   added = m.added.items;

@@ -88,6 +88,6 @@ fn is_moved(record: &Record, was: &Record, in_place: bool) -> bool {
 }
 
 fn is_same(edit: &Edit, old: &Edit, in_place: bool) -> bool {
-    let sides = edit.removed == old.removed && edit.added == old.added;
-    sides && (!in_place || edit.at == old.at)
+    let sides = edit.removed() == old.removed() && edit.added() == old.added();
+    sides && (!in_place || edit.at() == old.at())
 }

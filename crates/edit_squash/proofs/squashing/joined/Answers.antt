@@ -1,7 +1,7 @@
 use Rattle.std.proofs.Common.{◌≡◌, ℕ, ◌+◌, ◌<◌, List, [], length, sym, ◌∙◌, ap, subst, arith}
 use Rattle.std.proofs.lemmas.List.{nil_from_length}
 use Rattle.std.proofs.lemmas.Bool.{false≢true}
-use Rattle.edit_list.specs.Pieces.{Entry, EditList, as_list, entries}
+use Rattle.edit_list.specs.Pieces.{Entry, EditList, as_list}
 use Rattle.edit_list.specs.Made.{AreEdits, new_len}
 use Rattle.edit_squash.specs.Squash.{IsSquash}
 use Rattle.edit_squash.specs.Inner.Merge.{start}
@@ -26,6 +26,6 @@ returns-then-not-more-clause-merges c =
     let p = subst (λ (es : List Entry). AreEdits a.old_len (new_len a) es) c.edits.ensures.same c.edits.ensures.placed in
     let q = subst (λ (es : List Entry). AreEdits b.old_len (new_len b) es) c.edits-2.ensures.same c.edits-2.ensures.placed in
     let none : 0 < length c.edits.result.now + length c.edits-2.result.now → ⊥ = λ l. false≢true (sym c.if-not-more.true ∙ c.more.ensures.1 l) in
-    let x = sym c.edits.ensures.same ∙ ap entries (nil_from_length c.edits.result.now (omega arith)) in
-    let y = sym c.edits-2.ensures.same ∙ ap entries (nil_from_length c.edits-2.result.now (omega arith)) in
-    none_joined a b (entries c.new.result.items) p q x y (ap entries c.new.ensures.items) c.requires
+    let x = sym c.edits.ensures.same ∙ nil_from_length c.edits.result.now (omega arith) in
+    let y = sym c.edits-2.ensures.same ∙ nil_from_length c.edits-2.result.now (omega arith) in
+    none_joined a b c.new.result.items p q x y c.new.ensures.items c.requires

@@ -1,8 +1,7 @@
 use Rattle.std.proofs.Common.{◌≡◌, ℕ, ◌+◌, ◌-◌, ◌<◌, List, Bool, length, take, arith, sym, ap, ◌∙◌, refl, subst}
-use Rattle.std.proofs.lemmas.List.{length-map, nil_from_length}
+use Rattle.std.proofs.lemmas.List.{nil_from_length}
 use Rattle.std.proofs.lemmas.Bool.{false≢true}
-use Rattle.edit_list.specs.declared.edit.Edit.{Edit}
-use Rattle.edit_list.specs.Pieces.{Entry, EditList, entry, entries}
+use Rattle.edit_list.specs.Pieces.{Entry, EditList}
 use Rattle.edit_list.specs.Made.{AreEdits, new_len}
 use Rattle.edit_squash.specs.Squash.{Contradiction}
 use Rattle.edit_squash.specs.Inner.MergeState.{state}
@@ -15,22 +14,18 @@ are_edits : (old_len new new' : ℕ) (es es' : List Entry) → AreEdits old_len 
 are_edits old_len new new' es es' h n e = rw (← n, ← e) h
 
 -- a step of the loop takes an edit
-step : (la lb : ℕ) (a b : List Entry) (s s' : State) (xs ys : List Edit) (is_first : Bool) (q : State × List Entry × List Entry) → 0 < length xs + length ys → Progress la lb a b s (entries xs) (entries ys) → (is_first, s') ≡ readied s (entries xs) (entries ys) → q ≡ took is_first s' (entries xs) (entries ys)
+step : (la lb : ℕ) (a b : List Entry) (s s' : State) (xs ys : List Entry) (is_first : Bool) (q : State × List Entry × List Entry) → 0 < length xs + length ys → Progress la lb a b s xs ys → (is_first, s') ≡ readied s xs ys → q ≡ took is_first s' xs ys
     → Kept la lb a b q.0 q.1 q.2 × (length q.1 + length q.2 < length xs + length ys)
 step la lb a b s s' xs ys is_first q more p e f =
-    let l = length-map xs entry in
-    let m = length-map ys entry in
-    let k = takes_one la lb a b s s' (entries xs) (entries ys) is_first q (omega arith) p e f in
+    let k = takes_one la lb a b s s' xs ys is_first q (omega arith) p e f in
     let less = k.1 in
     (k.0, omega arith)
 
 -- the number of the edit that was taken last, by the slices
-at_edit : (a b : EditList) (es ys : List Edit) → entries es ≡ b.entries → Contradiction a b (length b.entries - length (entries ys) - 1) → Contradiction a b (length es - length ys - 1)
+at_edit : (a b : EditList) (es ys : List Entry) → es ≡ b.entries → Contradiction a b (length b.entries - length ys - 1) → Contradiction a b (length es - length ys - 1)
 at_edit a b es ys same h =
-    let l = length-map es entry in
-    let m = length-map ys entry in
     let n = ap length same in
-    let k : length b.entries - length (entries ys) - 1 ≡ length es - length ys - 1 = omega arith in
+    let k : length b.entries - length ys - 1 ≡ length es - length ys - 1 = omega arith in
     subst (Contradiction a b) k h
 
 pub edits-init : goal.edits-init
@@ -39,62 +34,56 @@ edits-init c =
     let second = c.edits-seconds.ensures in
     let a = c.args.first.now in
     let b = c.args.second.now in
-    rw (c.new-merge.ensures, first.same, second.same) (progress_start a.old_len b.old_len (new_len b) a.entries b.entries (are_edits a.old_len (new_len a) b.old_len (entries c.edits-xs.result.now) a.entries first.placed c.requires first.same)
-    (are_edits b.old_len (new_len b) (new_len b) (entries c.edits-seconds.result.now) b.entries second.placed refl second.same))
+    rw (c.new-merge.ensures, first.same, second.same) (progress_start a.old_len b.old_len (new_len b) a.entries b.entries (are_edits a.old_len (new_len a) b.old_len c.edits-xs.result.now a.entries first.placed c.requires first.same)
+    (are_edits b.old_len (new_len b) (new_len b) c.edits-seconds.result.now b.entries second.placed refl second.same))
 
 pub take-requires : goal.take-requires
-take-requires c = ready_for c.args.first.now.old_len c.args.second.now.old_len c.args.first.now.entries c.args.second.now.entries (state c.edits.merge) (entries c.edits.xs.now) (entries c.edits.ys.now) (c.in_ok-is_first.is_first, state c.ready.new.self) c.edits.invariant c.in_ok-is_first.ensures
+take-requires c = ready_for c.args.first.now.old_len c.args.second.now.old_len c.args.first.now.entries c.args.second.now.entries (state c.edits.merge) c.edits.xs.now c.edits.ys.now (c.in_ok-is_first.is_first, state c.ready.new.self) c.edits.invariant c.in_ok-is_first.ensures
 
 pub overflow_sub-result : goal.overflow_sub-result
 overflow_sub-result c =
-    let k = step c.args.first.now.old_len c.args.second.now.old_len c.args.first.now.entries c.args.second.now.entries (state c.edits.merge) (state c.ready.new.self) c.edits.xs.now c.edits.ys.now c.in_ok-is_first.is_first (state c.take.new.self, entries c.in_ok-xs.field-0-0.now, entries c.in_ok-xs.field-0-1.now) (c.more.ensures.0 c.edits-test.true) c.edits.invariant c.in_ok-is_first.ensures c.in_ok-xs.ensures in
+    let k = step c.args.first.now.old_len c.args.second.now.old_len c.args.first.now.entries c.args.second.now.entries (state c.edits.merge) (state c.ready.new.self) c.edits.xs.now c.edits.ys.now c.in_ok-is_first.is_first (state c.take.new.self, c.in_ok-xs.field-0-0.now, c.in_ok-xs.field-0-1.now) (c.more.ensures.0 c.edits-test.true) c.edits.invariant c.in_ok-is_first.ensures c.in_ok-xs.ensures in
     let differ : take (meeting (state c.take.new.self)) c.take.new.self.first_left.now ≡ take (meeting (state c.take.new.self)) c.take.new.self.second_left.now → ⊥ = λ e. false≢true (sym c.if-not-meet.true ∙ c.meet.ensures.same.1 e) in
-    let o = one_taken c.args.first.now.old_len c.args.second.now.old_len c.args.first.now.entries c.args.second.now.entries (state c.take.new.self) (entries c.in_ok-xs.field-0-0.now) (entries c.in_ok-xs.field-0-1.now) k.0 differ in
-    let l = length-map c.edits-seconds.result.now entry in
+    let o = one_taken c.args.first.now.old_len c.args.second.now.old_len c.args.first.now.entries c.args.second.now.entries (state c.take.new.self) c.in_ok-xs.field-0-0.now c.in_ok-xs.field-0-1.now k.0 differ in
     let same = ap length c.edits-seconds.ensures.same in
-    let m = length-map c.in_ok-xs.field-0-1.now entry in
     omega arith
 
 pub overflow_sub-result-then-not-meet : goal.overflow_sub-result-then-not-meet
 overflow_sub-result-then-not-meet c =
-    let k = step c.args.first.now.old_len c.args.second.now.old_len c.args.first.now.entries c.args.second.now.entries (state c.edits.merge) (state c.ready.new.self) c.edits.xs.now c.edits.ys.now c.in_ok-is_first.is_first (state c.take.new.self, entries c.in_ok-xs.field-0-0.now, entries c.in_ok-xs.field-0-1.now) (c.more.ensures.0 c.edits-test.true) c.edits.invariant c.in_ok-is_first.ensures c.in_ok-xs.ensures in
+    let k = step c.args.first.now.old_len c.args.second.now.old_len c.args.first.now.entries c.args.second.now.entries (state c.edits.merge) (state c.ready.new.self) c.edits.xs.now c.edits.ys.now c.in_ok-is_first.is_first (state c.take.new.self, c.in_ok-xs.field-0-0.now, c.in_ok-xs.field-0-1.now) (c.more.ensures.0 c.edits-test.true) c.edits.invariant c.in_ok-is_first.ensures c.in_ok-xs.ensures in
     let differ : take (meeting (state c.take.new.self)) c.take.new.self.first_left.now ≡ take (meeting (state c.take.new.self)) c.take.new.self.second_left.now → ⊥ = λ e. false≢true (sym c.if-not-meet.true ∙ c.meet.ensures.same.1 e) in
-    let o = one_taken c.args.first.now.old_len c.args.second.now.old_len c.args.first.now.entries c.args.second.now.entries (state c.take.new.self) (entries c.in_ok-xs.field-0-0.now) (entries c.in_ok-xs.field-0-1.now) k.0 differ in
-    let l = length-map c.edits-seconds.result.now entry in
+    let o = one_taken c.args.first.now.old_len c.args.second.now.old_len c.args.first.now.entries c.args.second.now.entries (state c.take.new.self) c.in_ok-xs.field-0-0.now c.in_ok-xs.field-0-1.now k.0 differ in
     let same = ap length c.edits-seconds.ensures.same in
-    let m = length-map c.in_ok-xs.field-0-1.now entry in
     omega arith
 
 pub returns-then-not-meet : goal.returns-then-not-meet
 returns-then-not-meet c =
-    let k = step c.args.first.now.old_len c.args.second.now.old_len c.args.first.now.entries c.args.second.now.entries (state c.edits.merge) (state c.ready.new.self) c.edits.xs.now c.edits.ys.now c.in_ok-is_first.is_first (state c.take.new.self, entries c.in_ok-xs.field-0-0.now, entries c.in_ok-xs.field-0-1.now) (c.more.ensures.0 c.edits-test.true) c.edits.invariant c.in_ok-is_first.ensures c.in_ok-xs.ensures in
+    let k = step c.args.first.now.old_len c.args.second.now.old_len c.args.first.now.entries c.args.second.now.entries (state c.edits.merge) (state c.ready.new.self) c.edits.xs.now c.edits.ys.now c.in_ok-is_first.is_first (state c.take.new.self, c.in_ok-xs.field-0-0.now, c.in_ok-xs.field-0-1.now) (c.more.ensures.0 c.edits-test.true) c.edits.invariant c.in_ok-is_first.ensures c.in_ok-xs.ensures in
     let differ : take (meeting (state c.take.new.self)) c.take.new.self.first_left.now ≡ take (meeting (state c.take.new.self)) c.take.new.self.second_left.now → ⊥ = λ e. false≢true (sym c.if-not-meet.true ∙ c.meet.ensures.same.1 e) in
-    let h = contradicts c.args.first.now.old_len c.args.second.now.old_len c.args.first.now.entries c.args.second.now.entries (state c.take.new.self) (entries c.in_ok-xs.field-0-0.now) (entries c.in_ok-xs.field-0-1.now) k.0 differ in
+    let h = contradicts c.args.first.now.old_len c.args.second.now.old_len c.args.first.now.entries c.args.second.now.entries (state c.take.new.self) c.in_ok-xs.field-0-0.now c.in_ok-xs.field-0-1.now k.0 differ in
     at_edit c.args.first.now c.args.second.now c.edits-seconds.result.now c.in_ok-xs.field-0-1.now c.edits-seconds.ensures.same h
 
 pub edits-smaller : goal.edits-smaller
 edits-smaller c =
-    let k = step c.args.first.now.old_len c.args.second.now.old_len c.args.first.now.entries c.args.second.now.entries (state c.edits.merge) (state c.ready.new.self) c.edits.xs.now c.edits.ys.now c.in_ok-is_first.is_first (state c.take.new.self, entries c.in_ok-xs.field-0-0.now, entries c.in_ok-xs.field-0-1.now) (c.more.ensures.0 c.edits-test.true) c.edits.invariant c.in_ok-is_first.ensures c.in_ok-xs.ensures in
+    let k = step c.args.first.now.old_len c.args.second.now.old_len c.args.first.now.entries c.args.second.now.entries (state c.edits.merge) (state c.ready.new.self) c.edits.xs.now c.edits.ys.now c.in_ok-is_first.is_first (state c.take.new.self, c.in_ok-xs.field-0-0.now, c.in_ok-xs.field-0-1.now) (c.more.ensures.0 c.edits-test.true) c.edits.invariant c.in_ok-is_first.ensures c.in_ok-xs.ensures in
     let less = k.1 in
-    let d = length-map c.in_ok-xs.field-0-0.now entry in
-    let e = length-map c.in_ok-xs.field-0-1.now entry in
     omega arith
 
 pub edits-preserved : goal.edits-preserved
 edits-preserved c =
-    let k = step c.args.first.now.old_len c.args.second.now.old_len c.args.first.now.entries c.args.second.now.entries (state c.edits.merge) (state c.ready.new.self) c.edits.xs.now c.edits.ys.now c.in_ok-is_first.is_first (state c.take.new.self, entries c.in_ok-xs.field-0-0.now, entries c.in_ok-xs.field-0-1.now) (c.more.ensures.0 c.edits-test.true) c.edits.invariant c.in_ok-is_first.ensures c.in_ok-xs.ensures in
-    goes_on c.args.first.now.old_len c.args.second.now.old_len c.args.first.now.entries c.args.second.now.entries (state c.take.new.self) (state c.meet.new.self) (entries c.in_ok-xs.field-0-0.now) (entries c.in_ok-xs.field-0-1.now) k.0 (c.meet.ensures.same.0 c.if-not-meet.false) (c.meet.ensures.passed c.if-not-meet.false)
+    let k = step c.args.first.now.old_len c.args.second.now.old_len c.args.first.now.entries c.args.second.now.entries (state c.edits.merge) (state c.ready.new.self) c.edits.xs.now c.edits.ys.now c.in_ok-is_first.is_first (state c.take.new.self, c.in_ok-xs.field-0-0.now, c.in_ok-xs.field-0-1.now) (c.more.ensures.0 c.edits-test.true) c.edits.invariant c.in_ok-is_first.ensures c.in_ok-xs.ensures in
+    goes_on c.args.first.now.old_len c.args.second.now.old_len c.args.first.now.entries c.args.second.now.entries (state c.take.new.self) (state c.meet.new.self) c.in_ok-xs.field-0-0.now c.in_ok-xs.field-0-1.now k.0 (c.meet.ensures.same.0 c.if-not-meet.false) (c.meet.ensures.passed c.if-not-meet.false)
 
 pub returns : goal.returns
 returns c =
     let none : 0 < length c.edits.xs.now + length c.edits.ys.now → ⊥ = λ l. false≢true (sym c.edits-test.false ∙ c.more.ensures.1 l) in
-    let x = ap entries (nil_from_length c.edits.xs.now (omega arith)) in
-    let y = ap entries (nil_from_length c.edits.ys.now (omega arith)) in
+    let x = nil_from_length c.edits.xs.now (omega arith) in
+    let y = nil_from_length c.edits.ys.now (omega arith) in
     let p = rw (x, y) at c.edits.invariant in
     let first = c.edits-xs.ensures in
     let second = c.edits-seconds.ensures in
     let a = c.args.first.now in
     let b = c.args.second.now in
-    ends_well a.old_len b.old_len (new_len b) a.entries b.entries (entries c.into_edits.result.items) (state c.edits.merge) (are_edits a.old_len (new_len a) b.old_len (entries c.edits-xs.result.now) a.entries first.placed c.requires first.same)
-    (are_edits b.old_len (new_len b) (new_len b) (entries c.edits-seconds.result.now) b.entries second.placed refl second.same) p
-    (ap entries c.into_edits.ensures ∙ ap (λ (s : State). s.out) c.in_ok-close.ensures) c.requires
+    ends_well a.old_len b.old_len (new_len b) a.entries b.entries c.into_edits.result.items (state c.edits.merge) (are_edits a.old_len (new_len a) b.old_len c.edits-xs.result.now a.entries first.placed c.requires first.same)
+    (are_edits b.old_len (new_len b) (new_len b) c.edits-seconds.result.now b.entries second.placed refl second.same) p
+    (c.into_edits.ensures ∙ ap (λ (s : State). s.out) c.in_ok-close.ensures) c.requires

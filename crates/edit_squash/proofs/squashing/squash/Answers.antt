@@ -1,5 +1,5 @@
 use Rattle.std.proofs.Common.{◌≡◌, ℕ, List, Ok}
-use Rattle.edit_list.specs.Pieces.{Entry, EditList, as_list, entries}
+use Rattle.edit_list.specs.Pieces.{Entry, EditList, as_list}
 use Rattle.edit_squash.specs.Squash.{IsSquash, Squashes}
 use Rattle.edit_squash.proofs.squashing.squash.Goals as goal
 
@@ -7,4 +7,4 @@ answered : (a b c : EditList) (old_len : ℕ) (es : List Entry) → c ≡ as_lis
 answered a b c old_len es c_is old_is h = rw (c_is, old_is) h
 
 pub returns : goal.returns
-returns c = answered c.args.first.now c.args.second.now c.of_placed.result c.old_len-2.result (entries c.in_ok-edits.edits.items) c.of_placed.ensures c.old_len-2.ensures c.in_ok-edits.ensures.merges.1
+returns c = answered c.args.first.now c.args.second.now c.of_placed.result c.old_len-2.result c.in_ok-edits.edits.items c.of_placed.ensures c.old_len-2.ensures c.in_ok-edits.ensures.merges.1

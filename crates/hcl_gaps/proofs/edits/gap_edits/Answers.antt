@@ -1,5 +1,5 @@
 use Rattle.std.proofs.Common.{◌≡◌, ℕ, ◌-◌, ◌++◌, List, [], ◌∷◌, length, sym, ap, ap₂, ◌∙◌, arith}
-use Rattle.edit_list.specs.Pieces.{Entry, entries, changes_from}
+use Rattle.edit_list.specs.Pieces.{Entry, changes_from}
 use Rattle.hcl_token.specs.Tokens.{whole_text}
 use Rattle.hcl_gaps.specs.Layout.{gap_piece}
 use Rattle.hcl_gaps.specs.Inner.Stages.{with_gaps}
@@ -24,6 +24,6 @@ returns c =
     omega (arith, last_at ps last c.args.scanned.now.text c.text.ensures.cut.cuts.text_is, ap length c.text.ensures.text, ap length c.last_gap-last.ensures) in
     let edit = ap₂ (λ n (g : List ℕ). changes_from n (gap_piece g [] ∷ [])) at c.last_gap-last.ensures in
     c.in_ok-push_gap-2.ensures
-    ∙ ap (λ (es : List Entry). entries c.loop-i.edits.items ++ es) (edit ∙ sym (come_last ps c.args.gaps.now last c.loop-i.i c.requires (omega (arith, c.loop-i-test.false, c.len-i-end.ensures.value))))
+    ∙ ap (λ (es : List Entry). c.loop-i.edits.items ++ es) (edit ∙ sym (come_last ps c.args.gaps.now last c.loop-i.i c.requires (omega (arith, c.loop-i-test.false, c.len-i-end.ensures.value))))
     ∙ c.loop-i.invariant
     ∙ come_first ps (with_gaps c.args.gaps.now ps) last

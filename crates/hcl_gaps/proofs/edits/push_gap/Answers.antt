@@ -1,4 +1,4 @@
-use Rattle.std.proofs.Common.{refl, sym, ◌∙◌}
+use Rattle.std.proofs.Common.{sym, ◌∙◌}
 use Rattle.hcl_gaps.proofs.EditLemmas.{pushed, passed_over}
 use Rattle.hcl_gaps.proofs.edits.push_gap.Goals as goal
 
@@ -7,4 +7,6 @@ returns-then-stays c = passed_over c.args.edits.now.items c.args.at c.args.gap.n
 
 pub returns : goal.returns
 returns c =
-    pushed c.args.edits.now.items c.push.new.self.items _ c.args.at c.args.gap.now c.args.new c.in_ok-push.ensures.items refl c.in_ok-from_slice.ensures.items c.in_ok-spaces.ensures (sym c.stays.ensures ∙ c.if-stays.false)
+    let text = c.deref.ensures.value ∙ c.in_ok-spaces.ensures in
+    let edit = rw text at c.in_ok-new.ensures in
+    pushed c.args.edits.now.items c.push.new.self.items c.args.at c.args.gap.now c.args.new (rw edit at c.in_ok-push.ensures.items) (sym c.stays.ensures ∙ c.if-stays.false)

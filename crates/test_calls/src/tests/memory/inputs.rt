@@ -135,12 +135,8 @@ pub type Row = (usize, &'static str, &'static str);
 pub fn edits_of(rt: &impl Host, old_len: usize, rows: &[Row]) -> Edits {
     let mut edits = Vec::new(rt.alloc());
     for (at, removed, added) in rows {
-        let edit = Edit {
-            at: *at,
-            removed: bytes_of(rt, removed.as_bytes()),
-            added: bytes_of(rt, added.as_bytes()),
-        };
-        given(rt, edits.push(edit));
+        let edit = Edit::new(rt.alloc(), *at, removed.as_bytes(), added.as_bytes());
+        given(rt, edits.push(given(rt, edit)));
     }
     given(rt, Edits::make(old_len, edits))
 }

@@ -99,11 +99,7 @@ fn no_memory_rules(rt: HostRuntime) {
 }
 
 fn one_edit(rt: &impl Host) -> Vec<Edit> {
-    let edit = Edit {
-        at: 1,
-        removed: bytes_of(rt, b"b"),
-        added: bytes_of(rt, b"xyz"),
-    };
+    let edit = given(rt, Edit::new(rt.alloc(), 1, b"b", b"xyz"));
     given(rt, vec![in rt.alloc(); edit])
 }
 
@@ -211,12 +207,10 @@ fn no_memory_told(rt: HostRuntime) {
 #[test]
 fn no_memory_journal_text(rt: HostRuntime) {
     let mut journal = Journal::empty(rt.alloc());
+    let removed = given(&rt, vec![in rt.alloc(); 0u8; MAX_TEXT]);
+    let added = given(&rt, vec![in rt.alloc(); 1u8; MAX_TEXT]);
     for _ in 0..8 {
-        let edit = Edit {
-            at: 0,
-            removed: given(&rt, vec![in rt.alloc(); 0u8; MAX_TEXT]),
-            added: given(&rt, vec![in rt.alloc(); 1u8; MAX_TEXT]),
-        };
+        let edit = given(&rt, Edit::new(rt.alloc(), 0, &removed, &added));
         let edits = given(&rt, vec![in rt.alloc(); edit]);
         let edits = given(&rt, Edits::make(MAX_TEXT, edits));
         given(&rt, journal.push(Record::make(Word::Fix, edits)));

@@ -27,11 +27,7 @@ fn long_record(rt: &impl Host, alloc: Global) -> Record {
     for _ in 0..len {
         given(rt, removed.push(b'#'));
     }
-    let edit = Edit {
-        at: 0,
-        removed,
-        added: Vec::new(alloc),
-    };
+    let edit = given(rt, Edit::new(alloc, 0, &removed, b""));
     let edits = given(rt, vec![in alloc; edit]);
     Record::make(Word::Fix, given(rt, Edits::make(len, edits)))
 }

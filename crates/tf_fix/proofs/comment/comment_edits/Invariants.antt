@@ -1,5 +1,4 @@
 use Rattle.std.proofs.Common.{◌≡◌, ◌++◌, length, drop, map}
-use Rattle.edit_list.specs.Pieces.{entries}
 use Rattle.tf_fix.specs.Comments.{comment_edit}
 use Rattle.tf_rule.specs.Findings.{AreSound}
 use Rattle.tf_fix.specs.Taking.{taken_from, taken}
@@ -8,5 +7,5 @@ use Rattle.tf_fix.proofs.comment.comment_edits.Given as goal
 -- the edits so far, with those of the findings that are left, are all
 abbrev pub invariant-loop-one : goal.invariant-loop-one
 invariant-loop-one l =
-    (entries l.edits.items ++ map (comment_edit l.scanned.pairs) (taken_from l.past (drop l.one-index l.findings)) ≡ map (comment_edit l.scanned.pairs) (taken l.findings))
+    (l.edits.items ++ map (comment_edit l.scanned.pairs) (taken_from l.past (drop l.one-index l.findings)) ≡ map (comment_edit l.scanned.pairs) (taken l.findings))
     × AreSound (length l.scanned.pairs) (drop l.one-index l.findings)

@@ -1,6 +1,5 @@
-use Rattle.std.proofs.Common.{◌≡◌, ◌-◌, ◌*◌, ◌∷◌, ◌++◌, [], List, length, take, drop, slice_index_or, subst, arith, refl, sym, ap, ◌∙◌}
-use Rattle.std.proofs.lemmas.List.{map_push}
-use Rattle.edit_list.specs.Pieces.{Entry, entry, entries, changes_from}
+use Rattle.std.proofs.Common.{◌≡◌, ◌-◌, ◌*◌, ◌∷◌, ◌++◌, [], List, length, take, drop, slice_index_or, subst, arith, refl, sym, ◌∙◌}
+use Rattle.edit_list.specs.Pieces.{Entry, changes_from}
 use Rattle.tf_fix.specs.Replacements.{replaced_pieces}
 use Rattle.tf_fix.specs.Settled.{Neighbour}
 use Rattle.tf_fix.specs.Parts.{parts}
@@ -22,7 +21,7 @@ near_behind-near-requires-clause-within c =
     let whole = changes_from 0 (replaced_pieces (parts c.args.scanned.now) (replacements pairs c.args.all.now)) in
     let left = c.loop-left.left.now in
     let rest = take (length left - 1) (drop 1 left) in
-    let told = subst (λ (rs : List Replacement). IsTold pairs c.args.scanned.now.last whole (entries c.loop-left.edits.items) (near_view c.loop-left.near) (place_of c.loop-left.at) rs)
+    let told = subst (λ (rs : List Replacement). IsTold pairs c.args.scanned.now.last whole c.loop-left.edits.items (near_view c.loop-left.near) (place_of c.loop-left.at) rs)
     (split_first left none c.in-len1-up.len_at_least) c.loop-left.invariant in
     omega (arith, told.1.1, order_le _ (replacements pairs (rest)) (2 * length pairs) told.1.2)
 
@@ -32,7 +31,7 @@ one_edit-requires-clause-within c =
     let whole = changes_from 0 (replaced_pieces (parts c.args.scanned.now) (replacements pairs c.args.all.now)) in
     let left = c.loop-left.left.now in
     let rest = take (length left - 1) (drop 1 left) in
-    let told = subst (λ (rs : List Replacement). IsTold pairs c.args.scanned.now.last whole (entries c.loop-left.edits.items) (near_view c.loop-left.near) (place_of c.loop-left.at) rs)
+    let told = subst (λ (rs : List Replacement). IsTold pairs c.args.scanned.now.last whole c.loop-left.edits.items (near_view c.loop-left.near) (place_of c.loop-left.at) rs)
     (split_first left none c.in-len1-up.len_at_least) c.loop-left.invariant in
     order_le _ (replacements pairs (rest)) (2 * length pairs) told.1.2
 
@@ -42,7 +41,7 @@ one_edit-requires-clause-end c =
     let whole = changes_from 0 (replaced_pieces (parts c.args.scanned.now) (replacements pairs c.args.all.now)) in
     let left = c.loop-left.left.now in
     let rest = take (length left - 1) (drop 1 left) in
-    let told = subst (λ (rs : List Replacement). IsTold pairs c.args.scanned.now.last whole (entries c.loop-left.edits.items) (near_view c.loop-left.near) (place_of c.loop-left.at) rs)
+    let told = subst (λ (rs : List Replacement). IsTold pairs c.args.scanned.now.last whole c.loop-left.edits.items (near_view c.loop-left.near) (place_of c.loop-left.at) rs)
     (split_first left none c.in-len1-up.len_at_least) c.loop-left.invariant in
     let next = order_next _ (replacements pairs (rest)) (2 * length pairs) told.1.2 in
     let said = c.next_edge.ensures in
@@ -55,13 +54,13 @@ loop-left-preserved c =
     let left = c.loop-left.left.now in
     let rest = take (length left - 1) (drop 1 left) in
     let whole = changes_from 0 (replaced_pieces (parts c.args.scanned.now) (replacements pairs c.args.all.now)) in
-    let told = subst (λ (rs : List Replacement). IsTold pairs last whole (entries c.loop-left.edits.items) (near_view c.loop-left.near) (place_of c.loop-left.at) rs)
+    let told = subst (λ (rs : List Replacement). IsTold pairs last whole c.loop-left.edits.items (near_view c.loop-left.near) (place_of c.loop-left.at) rs)
     (split_first left none c.in-len1-up.len_at_least) c.loop-left.invariant in
-    let pushed : entries c.push.new.self.items ≡ entries c.loop-left.edits.items ++ entry c.in_ok-one_edit.field-0 ∷ [] =
-    ap entries c.in_ok-push.ensures.items ∙ map_push entry c.loop-left.edits.items c.in_ok-one_edit.field-0 in
-    let e_is : entry c.in_ok-one_edit.field-0 ≡ _ = rw (c.in_ok-one_edit.ensures.at, c.in_ok-one_edit.ensures.removed, c.in_ok-one_edit.ensures.added, c.next_edge.ensures) refl in
-    let next = turn pairs last whole (entries c.loop-left.edits.items) (entry c.in_ok-one_edit.field-0) (near_view c.loop-left.near) (near_view c.near_behind-near.result) (place_of c.loop-left.at)
+    let pushed : c.push.new.self.items ≡ c.loop-left.edits.items ++ c.in_ok-one_edit.field-0 ∷ [] =
+    c.in_ok-push.ensures.items in
+    let e_is : c.in_ok-one_edit.field-0 ≡ _ = rw (c.in_ok-one_edit.ensures.at, c.in_ok-one_edit.ensures.removed, c.in_ok-one_edit.ensures.added, c.next_edge.ensures) refl in
+    let next = turn pairs last whole c.loop-left.edits.items c.in_ok-one_edit.field-0 (near_view c.loop-left.near) (near_view c.near_behind-near.result) (place_of c.loop-left.at)
     (slice_index_or left 0 none) (rest) told c.near_behind-near.ensures e_is in
     let one = slice_index_or left 0 none in
     let P : List Entry → Neighbour → Type 0 = λ es near. IsTold pairs last whole es near (place_of (slice_index_or left 0 none).to) (rest) in
-    subst (λ es. P es (near_view c.near_coming-near.result)) (sym pushed) (subst (λ near. P (entries c.loop-left.edits.items ++ entry c.in_ok-one_edit.field-0 ∷ []) near) (sym (c.near_coming-near.ensures pairs ∙ sym (coming_after pairs (near_view c.near_behind-near.result) one.from one.to one.coming))) next)
+    subst (λ es. P es (near_view c.near_coming-near.result)) (sym pushed) (subst (λ near. P (c.loop-left.edits.items ++ c.in_ok-one_edit.field-0 ∷ []) near) (sym (c.near_coming-near.ensures pairs ∙ sym (coming_after pairs (near_view c.near_behind-near.result) one.from one.to one.coming))) next)

@@ -1,5 +1,5 @@
 use Rattle.std.proofs.Common.{length}
-use Rattle.edit_list.specs.Pieces.{entries, changes_from}
+use Rattle.edit_list.specs.Pieces.{changes_from}
 use Rattle.tf_fix.specs.Replacements.{replaced_pieces}
 use Rattle.tf_fix.specs.Parts.{parts}
 use Rattle.tf_fix.specs.Inner.Views.{place_of, near_view, replacements}
@@ -9,7 +9,7 @@ use Rattle.tf_fix.proofs.replacing.replacement_edits.Given as goal
 -- the edits so far, with those of the replacements that are left, are all
 abbrev pub invariant-loop-left : goal.invariant-loop-left
 invariant-loop-left l =
-    IsTold l.scanned.pairs l.scanned.last (changes_from 0 (replaced_pieces (parts l.scanned) (replacements l.scanned.pairs l.all))) (entries l.edits.items) (near_view l.near) (place_of l.at) l.left
+    IsTold l.scanned.pairs l.scanned.last (changes_from 0 (replaced_pieces (parts l.scanned) (replacements l.scanned.pairs l.all))) l.edits.items (near_view l.near) (place_of l.at) l.left
 
 abbrev pub decreases-loop-left : goal.decreases-loop-left
 decreases-loop-left l = length l.left

@@ -1,12 +1,11 @@
 use Rattle.std.proofs.Common.{◌≡◌, ℕ, ◌+◌, ◌-◌, ◌≤◌, ◌^◌, List, [], ◌++◌, length, take, drop, min, arith}
 use Rattle.std.proofs.lemmas.List.{append-nil, take_all, drop_all}
-use Rattle.edit_list.specs.declared.edit.Edit.{Edit}
 use Rattle.edit_list.specs.declared.edits.TheConstants.{MAX_TEXT}
-use Rattle.edit_list.specs.Pieces.{Entry, entries, removed_len, added_len}
+use Rattle.edit_list.specs.Pieces.{Entry, removed_len, added_len}
 use Rattle.edit_list.specs.Made.{ArePlaced, AreEdits}
 use Rattle.edit_list.proofs.edits.Edits.make.Goals as goal
 
-at_end : (xs : List Edit) (i old_len from removed added : ℕ) → length xs ≤ i → ((tail : List Entry) → ArePlaced old_len from tail → ArePlaced old_len 0 (entries (take i xs) ++ tail)) → removed + removed_len (entries (drop i xs)) ≡ removed_len (entries xs) → min (added + added_len (entries (drop i xs))) (2 ^ 64 - 1) ≡ min (added_len (entries xs)) (2 ^ 64 - 1) → from ≤ old_len → removed ≤ from → old_len ≤ MAX_TEXT → added ≤ MAX_TEXT - (old_len - removed) → AreEdits old_len (old_len - removed + added) (entries xs)
+at_end : (xs : List Entry) (i old_len from removed added : ℕ) → length xs ≤ i → ((tail : List Entry) → ArePlaced old_len from tail → ArePlaced old_len 0 ((take i xs) ++ tail)) → removed + removed_len (drop i xs) ≡ removed_len xs → min (added + added_len (drop i xs)) (2 ^ 64 - 1) ≡ min (added_len xs) (2 ^ 64 - 1) → from ≤ old_len → removed ≤ from → old_len ≤ MAX_TEXT → added ≤ MAX_TEXT - (old_len - removed) → AreEdits old_len (old_len - removed + added) xs
 at_end xs i old_len from removed added done placed removed_is added_is within fewer fits room =
     let e = take_all i xs done in
     let f = drop_all i xs done in

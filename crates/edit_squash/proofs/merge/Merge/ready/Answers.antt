@@ -1,5 +1,4 @@
 use Rattle.std.proofs.Common.{sym, ◌∙◌, ap, length, min}
-use Rattle.edit_list.specs.Pieces.{entries}
 use Rattle.edit_squash.specs.Inner.Merge.{State}
 use Rattle.edit_squash.specs.Inner.MergeState.{state}
 use Rattle.edit_squash.proofs.Soundness.{apart_first, apart_second, sound_closed}
@@ -9,8 +8,8 @@ pub open-requires : goal.open-requires
 open-requires c =
     let r = c.requires in
     let s = state c.args.self.now in
-    let xs = entries c.args.xs.now in
-    let ys = entries c.args.ys.now in
+    let xs = c.args.xs.now in
+    let ys = c.args.ys.now in
     let p = apart_first r.0 r.1 s xs ys r.2 r.3 (sym c.joins_first.ensures ∙ c.if-joins_first.false) in
     let q = apart_second r.0 r.1 s xs ys r.2 r.3 (sym c.joins_second.ensures ∙ c.if-joins_second.false) in
     let e = c.in_ok-close.ensures in
