@@ -68,13 +68,22 @@ fn take_member(body: &mut Gathered, x: SeenMember) -> Result<(), AllocError>
     add_all(&mut body.blocks, x.blocks)
 }
 
+/// In a member that is kept no more is found than this.
+const FEW: usize = 4096;
+
+/// Whether a member is worth keeping. Where very much is found in one, a fix changes it in nearly
+/// each step, so that it is read again; and a second list of that would be most of the memory.
+fn is_light(x: &SeenMember) -> bool {
+    x.nodes.len() <= FEW && x.blocks.len() <= FEW
+}
+
 /// Adds a member that may be kept.
 fn add_member(body: &mut Gathered, x: SeenMember, keep: bool) -> Result<(), AllocError>
     ensures { (rules : RuleSet) (pairs : List Pair) (ms : List Member)
         → AreOf rules pairs ms body.old → (is : IsSeen rules pairs x)
         → OnOk result (AreOf rules pairs (ms ++ is.member ∷ []) body.new) }
 {
-    if keep {
+    if keep && is_light(&x) {
         keep_member(body, x)
     } else {
         take_member(body, x)
