@@ -25,12 +25,16 @@ fn kept(text: &[u8], out: &mut Answer) {
     }
 }
 
+fn narrow(number: usize) -> u32 {
+    u32::try_from(number).unwrap_or(u32::MAX)
+}
+
 /// The cut of a text from that of an old one, of which a piece was replaced.
 fn again(row: &Row, out: &mut Answer) {
     let piece = Replaced {
-        at: row.number(3) as u32,
-        removed: row.number(4) as u32,
-        added: row.number(5) as u32,
+        at: narrow(row.number(3)),
+        removed: narrow(row.number(4)),
+        added: narrow(row.number(5)),
     };
     match scan(out.alloc, row.text(1)) {
         Ok(old) => cut_again(&old, row.text(2), piece, out),

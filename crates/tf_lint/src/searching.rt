@@ -46,15 +46,20 @@ pub fn search_text<'t>(
     }
 }
 
+/// A number of bytes of a text, in 32 bits, which hold each.
+fn narrow(number: usize) -> u32 {
+    u32::try_from(number).unwrap_or(u32::MAX)
+}
+
 /// The pieces of a text that edits replace, for `scan_again`.
 pub fn replaced_by(alloc: Global, edits: &Edits) -> Result<Vec<Replaced>, AllocError> {
     let edits = edits.edits();
     let mut pieces = Vec::with_capacity(alloc, edits.len())?;
     for edit in edits {
         pieces.push(Replaced {
-            at: edit.at() as u32,
-            removed: edit.removed().len() as u32,
-            added: edit.added().len() as u32,
+            at: narrow(edit.at()),
+            removed: narrow(edit.removed().len()),
+            added: narrow(edit.added().len()),
         })?;
     }
     Ok(pieces)
