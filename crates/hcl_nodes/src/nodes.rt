@@ -33,7 +33,7 @@ fn narrow(first: usize, past: usize) -> Result<(u32, u32), AllocError>
 }
 
 /// An expression.
-#[inline]
+#[inline(always)]
 #[tactic(auto, unfolding(hcl_grammar::specs::Nodes::expr))]
 pub fn expr(first: usize, past: usize, form: Form) -> Result<Expr, TokenFault>
     ensures node { Reads (Ok (nodes.expr first past form, past)) result past }
@@ -44,7 +44,7 @@ pub fn expr(first: usize, past: usize, form: Form) -> Result<Expr, TokenFault>
 }
 
 /// A term.
-#[inline]
+#[inline(always)]
 #[tactic(auto, unfolding(hcl_grammar::specs::Nodes::term))]
 pub fn term(first: usize, past: usize, shape: Shape) -> Result<Term, TokenFault>
     ensures node { Reads (Ok (nodes.term first past shape, past)) result past }

@@ -1,5 +1,6 @@
 -- The fix is done; there are its lines, or a growth was refused.
 use Rattle.std.proofs.Common.{◌≡◌, ◌∙◌, Err, List, ap, rules}
+use Rattle.std.specs.Prelude.{string_bytes}
 use Rattle.tf_lint.specs.declared.issue.Issue.{Issue}
 use Rattle.tf_lint.specs.Issues.{reports}
 use Rattle.tf_commands.specs.declared.fault.RunFault.{RunFault}
@@ -15,5 +16,6 @@ returns-in_err-lines-clause-fault c =
 
 pub returns-clause-done : goal.returns-clause-done
 returns-clause-done c =
-    let lines = c.in_ok-lines.ensures ∙ ap (λ (xs : List Issue). lines_of c.args.name.now (reports xs)) c.deref.ensures.value in
-    (c.in_ok-done.ensures.done, c.in_ok-done.left.items, c.in_ok-done.ensures.left, lines)
+    let bytes : c.into_bytes.result.items ≡ string_bytes c.in_ok-lines.lines = search rules in
+    let lines = c.in_ok-lines.ensures.lines ∙ ap (λ (xs : List Issue). lines_of c.args.name.now (reports xs)) c.deref.ensures.value in
+    (c.in_ok-done.ensures.done, c.in_ok-done.left.items, c.in_ok-done.ensures.left, bytes ∙ lines)
