@@ -4,9 +4,7 @@ use edit_record::{Edit, Edits, Record};
 use tf_session::Session;
 
 fn is_same_edit(one: &Edit, other: &Edit) -> bool {
-    one.at() == other.at()
-        && one.removed() == other.removed()
-        && one.added() == other.added()
+    one.at() == other.at() && one.removed() == other.removed() && one.added() == other.added()
 }
 
 /// Whether these are the same edits.
