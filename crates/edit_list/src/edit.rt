@@ -1,4 +1,4 @@
-ghost use Rattle.std.specs.Prelude.{◌≡◌, ◌+◌, ◌≤◌, length, IfOk};
+ghost use Rattle.std.specs.Prelude.{◌≡◌, ◌+◌, ◌≤◌, ◌<◌, length, IfOk, IfErr};
 ghost use Rattle.edit_list.specs.Inner.Texts.{removed_of, added_of, IsCut};
 ghost use Rattle.edit_list.specs.declared.edit.TheConstants.{SHORT};
 
@@ -46,7 +46,8 @@ impl Model for Edit {
 
     ghost Value = { Entry };
 
-    ghost view = { λ e. record { at = e.at; removed = removed_of e.texts; added = added_of e.texts } };
+    ghost view = { λ e.
+        record { at = e.at; removed = removed_of e.texts; added = added_of e.texts } };
 
     ghost invariant = { λ e. IsCut e.texts };
 }
@@ -54,8 +55,9 @@ impl Model for Edit {
 impl Edit {
     /// The edit that removes `removed` at `at`, and adds `added` there.
     pub fn new(alloc: Global, at: usize, removed: &[u8], added: &[u8]) -> Result<Self, AllocError>
-        ensures { IfOk result
+        ensures edit { IfOk result
             (λ e. e ≡ record { at = at; removed = removed.now; added = added.now }) }
+        ensures asked { IfErr result (λ _. SHORT < length removed.now + length added.now) }
     {
         let texts = if removed.len() <= SHORT && added.len() <= SHORT - removed.len() {
             few(removed, added)

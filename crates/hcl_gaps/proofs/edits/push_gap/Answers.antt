@@ -8,5 +8,5 @@ returns-then-stays c = passed_over c.args.edits.now.items c.args.at c.args.gap.n
 pub returns : goal.returns
 returns c =
     let text = c.deref.ensures.value ∙ c.in_ok-spaces.ensures in
-    let edit = rw text at c.in_ok-new.ensures in
+    let edit = rw text at c.in_ok-new.ensures.edit in
     pushed c.args.edits.now.items c.push.new.self.items c.args.at c.args.gap.now c.args.new (rw edit at c.in_ok-push.ensures.items) (sym c.stays.ensures ∙ c.if-stays.false)
