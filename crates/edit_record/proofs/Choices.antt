@@ -21,10 +21,6 @@ both_true false b e = absurd cc
 pub some_is : {A : Type 0} (x y : A) → Some x ≡ Some y → x ≡ y
 some_is x y e = cc
 
-pub bind_some : {A B : Type 0} (r : Option A) (f : A → Option B) (y : B) → (r >>= f) ≡ Some y → (x : A) × (r ≡ Some x) × (f x ≡ Some y)
-bind_some (Some x) f y e = (x, refl, e)
-bind_some None f y e = absurd cc
-
 -- what a chain that answers something went through
 pub through : {A B P : Type 0} (r : Option (A × List ℕ)) (f : A × List ℕ → Option B) (y : B) → (r >>= f) ≡ Some y → ((a : A) (rest : List ℕ) → r ≡ Some (a, rest) → f (a, rest) ≡ Some y → P) → P
 through (Some x) f y e k = k x.0 x.1 refl e

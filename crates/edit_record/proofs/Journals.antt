@@ -96,9 +96,6 @@ record_shorter old t r rest h =
 abbrev pub Begins : Bool → List ℕ → List Entered → List ℕ → Type 0
 Begins old text front rest = (ss : List Entered) → RecordsAt old text ss ↔ ((rs : List Entered) × (ss ≡ front ++ rs) × RecordsAt old rest rs)
 
-pub begins_so : (old : Bool) (text : List ℕ) → Begins old text [] text
-begins_so old text ss = (λ h. (ss, refl, h), λ h. subst (λ (x : List Entered). RecordsAt old text x) (sym h.1) h.2)
-
 next_of : (old : Bool) (front : List Entered) (rest after : List ℕ) (r : Entered) → RecordAt old rest r after → (ss rs : List Entered) → ss ≡ front ++ rs → RecordsAt old rest rs
     → (more : List Entered) × (ss ≡ (front ++ r ∷ []) ++ more) × RecordsAt old after more
 next_of old front rest after r h ss [] e k = absurd (omega (arith, record_shorter old rest r after h, ap length k))

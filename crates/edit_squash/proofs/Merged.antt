@@ -171,9 +171,6 @@ module _ (la lb : ℕ) where
       let g = goes_last 0 s.out (λ p. EditStep Forward p (edit s.at s.removed s.added) (Rest la lb s xs ys)) t v h in
       differ (both_meet s xs ys g.3.t_rest g.3.u_rest g.3.rest)
 
-  take_front : (front ys : List Entry) (n : ℕ) → length front ≡ n → take n (front ++ ys) ≡ front
-  take_front front ys n e = take_at front ys n e
-
   blocked : (a b : List Entry) (s : State) (xs ys : List Entry) → Kept a b s xs ys → (take (meeting s) s.first_left ≡ take (meeting s) s.second_left → ⊥) → (tail : List Entry) → ArePlaced lb s.second_end tail → (b' : List Entry) → (k : Kept a b s xs ys) → b' ≡ k.taken ++ tail → CanFollow (as_list la a) (as_list lb b') → ⊥
   blocked a b s xs ys h differ tail p b' k e c =
       let both = both_from_turns la lb a b' c.0 c.1 c.2 c.3 c.4 in

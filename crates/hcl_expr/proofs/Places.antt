@@ -3,7 +3,7 @@ use Rattle.std.proofs.Common.{◌≡◌, ℕ, zero, suc, ◌+◌, ◌<◌, ◌�
 use Rattle.std.proofs.lemmas.List.Sums.{prefix_len-drop_all, prefix_len-drop_no, prefix_len-drop_yes}
 use Rattle.std.proofs.lemmas.Option.{slice_get_past}
 use Rattle.hcl_token.specs.declared.kind.Kind.{Kind}
-use Rattle.hcl_token.specs.CutText.{kind_of, spelling_of}
+use Rattle.hcl_token.specs.CutText.{kind_of}
 use Rattle.hcl_token.specs.Tokens.{Pair}
 use Rattle.hcl_scan.specs.Follows.{tokens_of}
 use Rattle.hcl_grammar.specs.Pure.Reading.{reads}
@@ -14,12 +14,6 @@ use Rattle.hcl_grammar.specs.Tokens.{Token, is_dropped, is_word, start, token, n
 pub length-tokens : (pairs : List Pair) → length (tokens_of pairs) ≡ length pairs
 length-tokens [] = refl
 length-tokens (p ∷ ps) = ap suc (length-tokens ps)
-
--- token i, by its kind and its spelling
-pub token-parts : (pairs : List Pair) (i : ℕ) (k : Kind) (w : List ℕ) → Some k ≡ kind_of pairs i → Some w ≡ spelling_of pairs i → slice_get (tokens_of pairs) i ≡ Some (k, w)
-token-parts [] i k w h g = absurd (cc)
-token-parts (p ∷ ps) zero k w h g = cc
-token-parts (p ∷ ps) (suc i) k w h g = token-parts ps i k w h g
 
 pub token-kind : (pairs : List Pair) (i : ℕ) → option_map (λ (t : Token). t.0) (slice_get (tokens_of pairs) i) ≡ kind_of pairs i
 token-kind [] i = refl

@@ -1,9 +1,7 @@
 -- A loop that counts up, beside a recursion on the turns that are left; and what a step that was refused answers.
-use Rattle.std.proofs.Common.{◌≡◌, ℕ, zero, suc, ◌+◌, ◌-◌, ◌<◌, ◌≤◌, List, Result, Err, refl, ap, sym, subst, ◌∙◌, arith}
+use Rattle.std.proofs.Common.{◌≡◌, ℕ, suc, ◌+◌, ◌-◌, ◌<◌, ◌≤◌, Result, Err, ap, sym, subst, ◌∙◌, arith}
 use Rattle.hcl_grammar.specs.declared.fault.TokenFault.{TokenFault}
-use Rattle.hcl_grammar.specs.Pure.BodyParser.{one_less}
 use Rattle.hcl_grammar.specs.Pure.Reading.{Outcome, Step, go_on, Gives, Reads}
-use Rattle.hcl_grammar.specs.Tokens.{Token}
 
 -- in a turn, one more is left
 pub turn_left : {X : Type 0} {r : X} (left : ℕ → X) {turns turn : ℕ} → turn < turns → r ≡ left (turns - turn) → r ≡ left (suc (turns - (turn + 1)))
@@ -16,10 +14,6 @@ none_left left {turns} {turn} over e = let count : turns - turn ≡ 0 = omega (a
 -- what is left to nest, as one more than the rest
 pub one_nests : {X : Type 0} (f : ℕ → X) (n : ℕ) → 0 < n → f n ≡ f (suc (n - 1))
 one_nests f n some = let e : n ≡ suc (n - 1) = omega (arith, some) in ap f e
-
-pub one_less_is : (ts : List Token) (d : ℕ) → one_less ts d ≡ d - 1
-one_less_is ts zero = refl
-one_less_is ts (suc d) = omega arith
 
 -- a first step that is refused is the fault of all
 pub refused : {A B : Type 0} {p : Outcome A} {q : Outcome B} {e : TokenFault} {r : Result B TokenFault} (f : A → Step B) (at new : ℕ) → r ≡ Err e → q ≡ go_on p f → Reads p (Err e) at → Reads q r new

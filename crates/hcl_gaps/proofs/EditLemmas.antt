@@ -45,23 +45,7 @@ gap_ends g i h = let none : length g - i ≡ 0 = omega arith in ap₂ (λ (t : L
 pub stays_kept : (g : List ℕ) (n : ℕ) → n ≡ KEPT → bytes_eq g (gap_meant n g) ≡ true
 stays_kept g n h = let test : (n == KEPT) ≡ true = grind (arith, nat_tests) in rw test (same_self_bytes g)
 
-pub stays_spaces : (g : List ℕ) (n : ℕ) → (n ≡ KEPT → ⊥) → bytes_eq g (gap_meant n g) ≡ bytes_eq g (spaces n)
-stays_spaces g n h = let test : (n == KEPT) ≡ false = grind (arith, nat_tests, h) in rw test refl
-
 -- ---- the length of the text
-
-pub length_turn : (ns : List ℕ) (ps : List Pair) (i k : ℕ) (s : List ℕ) → length ns ≡ length ps → i < length ps
-    → Some k ≡ option_map (λ (p : Pair). length p.gap) (slice_get (with_gaps ns ps) i) → Some s ≡ spelling_of ps i
-    → length (whole_text (drop i (with_gaps ns ps)) []) ≡ (k + length s) + length (whole_text (drop (i + 1) (with_gaps ns ps)) [])
-length_turn ns ps i k s size inside k_is s_is =
-    let t = turn ps i (length ps) inside (omega arith) in
-    let all = gaps_length ns ps size in
-    let u = turn (with_gaps ns ps) i (length (with_gaps ns ps)) (omega (arith, all)) (omega arith) in
-    let same : u.pair ≡ record t.pair { gap = gap_meant (get_or ns i 0) t.pair.gap } = let e = sym u.at ∙ gapped ns ps i t.pair size t.at in cc in
-    let k_same : k ≡ length u.pair.gap = let e = k_is ∙ ap (option_map (λ (p : Pair). length p.gap)) u.at in cc in
-    let s_same : s ≡ u.pair.spelling = spelling_is ps i (length ps) s t s_is ∙ sym (ap (λ (p : Pair). p.spelling) same) in
-    let split = ap (λ qs. length (whole_text qs [])) u.rest in
-    omega (arith, split, length-append u.pair.gap (u.pair.spelling ++ whole_text (drop (i + 1) (with_gaps ns ps)) []), length-append u.pair.spelling (whole_text (drop (i + 1) (with_gaps ns ps)) []), k_same, ap length s_same)
 
 pub length_end : (ns : List ℕ) (ps : List Pair) (i : ℕ) → length ns ≡ length ps → length ps ≤ i → length (whole_text (drop i (with_gaps ns ps)) []) ≡ 0
 length_end ns ps i size h = ap (λ qs. length (whole_text qs [])) (drop_all i (with_gaps ns ps) (omega (arith, gaps_length ns ps size)))
@@ -79,22 +63,6 @@ text_turn ns ps i g s size inside g_is s_is =
     let word : u.pair.spelling ≡ s = ap (λ (p : Pair). p.spelling) same ∙ sym (spelling_is ps i (length ps) s t s_is) in
     ap (λ (qs : List Pair). whole_text qs []) u.rest
     ∙ ap₂ (λ (x y : List ℕ). x ++ (y ++ whole_text (drop (i + 1) (with_gaps ns ps)) [])) gap word
-
--- one gap and one token more
-pub written : (ns : List ℕ) (ps : List Pair) (i : ℕ) (old with_gap new g s : List ℕ) → length ns ≡ length ps → i < length ps → Some g ≡ gap_of ps i → Some s ≡ spelling_of ps i
-    → with_gap ≡ old ++ gap_meant (get_or ns i 0) g → new ≡ with_gap ++ s
-    → new ++ whole_text (drop (i + 1) (with_gaps ns ps)) [] ≡ old ++ whole_text (drop i (with_gaps ns ps)) []
-written ns ps i old with_gap new g s size inside g_is s_is first second =
-    let rest : List ℕ = whole_text (drop (i + 1) (with_gaps ns ps)) [] in
-    ap (λ (x : List ℕ). x ++ rest) (second ∙ ap (λ (x : List ℕ). x ++ s) first)
-    ∙ append_assoc (old ++ gap_meant (get_or ns i 0) g) s rest
-    ∙ append_assoc old (gap_meant (get_or ns i 0) g) (s ++ rest)
-    ∙ ap (λ (x : List ℕ). old ++ x) (sym (text_turn ns ps i g s size inside g_is s_is))
-
-pub all_written : (ns : List ℕ) (ps : List Pair) (i : ℕ) (text whole : List ℕ) → length ns ≡ length ps → length ps ≤ i → text ++ whole_text (drop i (with_gaps ns ps)) [] ≡ whole → text ≡ whole
-all_written ns ps i text whole size h so_far =
-    let none : whole_text (drop i (with_gaps ns ps)) [] ≡ [] = ap (λ (qs : List Pair). whole_text qs []) (drop_all i (with_gaps ns ps) (omega (arith, gaps_length ns ps size))) in
-    sym (append-nil text) ∙ ap (λ (x : List ℕ). text ++ x) (sym none) ∙ so_far
 
 -- ---- edits
 

@@ -116,26 +116,6 @@ nearest_there ps first to past k some less within is h same = record {
       sym same ∙ passed_last ps first past k some (omega arith) is ∙ rw (h, e) refl;
 }
 
-pub nearest_none : (ps : List Pair) (first to past : ℕ) → first ≤ past → past ≤ to → past ≤ first → passed_all (slice_range ps first past) [] ≡ passed_all (slice_range ps first to) [] → IsPastNearest ps first to past
-nearest_none ps first to past h g f same = record {
-  behind = h;
-  before = g;
-  none = λ e. sym same ∙ ap (λ (qs : List Pair). passed_all qs []) (ap (slice_range ps first) e ∙ none_there ps first);
-  some = λ some j j_is. absurd (omega arith);
-}
-
-pub no_token : (ps : List Pair) (first to past : ℕ) → IsPastNearest ps first to past → past ≡ first → [] ≡ take 2 (passed_all (slice_range ps first to) [])
-no_token ps first to past n e = ap (take 2) (sym (n.none e))
-
-pub one_token : (ps : List Pair) (first to past second : ℕ) (k : Kind) → IsPastNearest ps first to past → first < past → Some k ≡ kind_of ps (past - 1) → IsPastNearest ps first (past - 1) second → second ≡ first
-    → k ∷ [] ≡ take 2 (passed_all (slice_range ps first to) [])
-one_token ps first to past second k n some is m e = sym (ap (take 2) (n.some some k is ∙ ap (λ (ks : List Kind). k ∷ ks) (m.none e)))
-
-pub two_tokens : (ps : List Pair) (first to past second : ℕ) (k j : Kind) → IsPastNearest ps first to past → first < past → Some k ≡ kind_of ps (past - 1) → IsPastNearest ps first (past - 1) second → first < second → Some j ≡ kind_of ps (second - 1)
-    → k ∷ j ∷ [] ≡ take 2 (passed_all (slice_range ps first to) [])
-two_tokens ps first to past second k j n some is m more j_is =
-    sym (ap (take 2) (n.some some k is ∙ ap (λ (ks : List Kind). k ∷ ks) (m.some more j j_is)))
-
 -- ---- the turns of loops
 
 pub begin_line : (pairs : List Pair) (first at past m : ℕ) (k : Kind) (n deep : ℕ) (old new : List ℕ) → at < past → past ≤ length pairs → m ≡ at → Some k ≡ kind_of pairs at

@@ -173,9 +173,6 @@ module _ (ts : List Token) where
 
   -- ---- steps
 
-  fine : (n : ℕ) (a : Token) → slice_get ts n ≡ Some a → harmless a.0 ≡ true → Fine ts n
-  fine n a e h = record { each = λ x y p q. glues-harmless x.0 y.0 y.1 (ap (λ (t : Token). harmless t.0) (same_token (sym p ∙ e)) ∙ h) }
-
   split : (n j : ℕ) (A : Type 0) → (n < j → A) → (j ≤ n → A) → A
   split n j A f g = go (nat_lt n j) refl
     where

@@ -191,10 +191,6 @@ unmarked pairs last kind f e other = at_front f.front
         let first : Some kind ≡ Some Mark = e ∙ ap (λ (x : List Pair). kind_of x 0) same in
         absurd (other (cc))
 
-pub no_tokens : (pairs : List Pair) (last : List ℕ) → length pairs ≡ 0 → FollowsFrom [] pairs last []
-no_tokens [] last e = refl
-no_tokens (p ∷ ps) last e = absurd (omega arith)
-
 -- the line that ends with this token, and what stands behind it
 pub next_line : (cut : CutText) (from at i : ℕ) (p : Pair) → IsFront cut from at → from ≤ i → i < length cut.pairs → slice_get cut.pairs i ≡ Some p → p.kind ≡ LineEnd
     → modes_behind [] (slice_range cut.pairs from i) ≡ []
@@ -521,10 +517,6 @@ pub lines_fit : (text bytes : List ℕ) (at : ℕ) (cut : CutText) (from front t
     → drop at text ≡ bytes ++ drop (at + length bytes) text → at ≤ length text → length text ≤ MAX_TEXT → at + length (whole_text (slice_range cut.pairs from to) []) ≤ MAX_TEXT
 lines_fit text bytes at cut from front to end t e stands within short =
     omega (arith, ap length (e ∙ t.bytes), ap length stands, length-append bytes (drop (at + length bytes) text), length-drop {A = ℕ} at text)
-
--- a text by itself begins with a front
-pub first_front : (cut : CutText) → AreLast cut.pairs cut.last → IsFront cut 0 0
-first_front cut a = record { within = omega arith; place = refl; rest = a }
 
 all_range : (ps : List Pair) → slice_range ps 0 (length ps) ≡ ps
 all_range ps = ap (λ n. take n ps) (omega arith) ∙ take_all (length ps) ps (omega arith)

@@ -1,7 +1,6 @@
 -- Runs: what one unit more adds, that the longest run at the front is what run_length tells, and that it is a run.
 use Rattle.std.proofs.Common.{◌≡◌, ℕ, zero, suc, ◌+◌, ◌-◌, ◌<◌, ◌≤◌, Bool, false, ◌==◌, List, [], ◌∷◌, ◌++◌, length, take, drop, slice_index, refl, sym, ap, ap₂, subst, ◌∙◌, arith, append_assoc, length-append, length-drop, take_at, drop_at, length-take-le, take-append-drop, drop-drop, get_or-drop}
 use Rattle.std.proofs.lemmas.Bool.Decides.{nat_tests}
-use Rattle.std.proofs.lemmas.List.{at_drop_more}
 use Rattle.std.specs.List.{concat}
 use Rattle.hcl_scan.specs.Runs.{UnitLength, line_behind, AreUnits, IsRun}
 use Rattle.hcl_scan.specs.Inner.RunLength.{run_from, run_length}
@@ -53,15 +52,6 @@ module _ (unit : UnitLength) where
       let flag : line_behind fresh (take (suc n) (drop at text)) ≡ (slice_index text (at + suc n - 1) == 10) =
       line_behind-last fresh (drop at text) n (omega arith) ∙ ap (λ b. b == 10) (get_or-drop at text n 0 ∙ ap (slice_index text) last) in
       step ∙ ap (λ r. suc n + r) (ap₂ (λ f (t : List ℕ). run_length unit f t) flag (drop-drop (suc n) at text))
-
-  -- a byte that is a unit where no line begins, and that ends no line
-  pub run_length-plain : (text : List ℕ) (at : ℕ) → at < length text → ((t : List ℕ) → unit false (slice_index text at ∷ t) ≡ 1) → (slice_index text at == 10) ≡ false
-      → run_length unit false (drop at text) ≡ 1 + run_length unit false (drop (at + 1) text)
-  run_length-plain text at h one line =
-      let is : unit false (drop at text) ≡ 1 = at_drop_more (unit false) text at 0 h ∙ one (drop (at + 1) text) in
-      let flag : (slice_index text (at + 1 - 1) == 10) ≡ false = ap (λ n. slice_index text n == 10) (omega arith) ∙ line in
-      run_length-on false text at 1 is (omega arith) (omega arith)
-      ∙ ap (λ f. 1 + run_length unit f (drop (at + 1) text)) flag
 
   -- the longest run at the front of a run and what stands behind it
   pub run-adds : (fresh : Bool) (us : List (List ℕ)) (rest : List ℕ) → AreUnits unit fresh us rest
@@ -135,9 +125,3 @@ module _ (unit : UnitLength) where
 
     pub run-split : (fresh : Bool) (t : List ℕ) → RunSplit fresh t
     run-split fresh t = split_by (length t) fresh t (omega arith)
-
-  -- where units are the same whether a line begins or not, so are runs
-  module _ (same : (fresh : Bool) (t : List ℕ) → unit fresh t ≡ unit false t) where
-    pub run_length-any : (fresh : Bool) (t : List ℕ) → run_length unit fresh t ≡ run_length unit false t
-    run_length-any fresh [] = refl
-    run_length-any fresh (b ∷ t) = rw (same fresh (b ∷ t)) refl

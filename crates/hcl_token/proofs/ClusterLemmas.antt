@@ -5,7 +5,6 @@ use Rattle.std.proofs.lemmas.List.{length-map, get_or_past}
 use Rattle.std.proofs.lemmas.Str.{chars-IsAscii}
 use Rattle.std.specs.Option.{unwrap_or}
 use Rattle.std.specs.Str.{chars, IsAscii}
-use Rattle.std.proofs.lemmas.Str.{IsUtf8-from_ascii}
 use Rattle.std.proofs.lemmas.List.Folds.{list_all-append}
 use Rattle.ucd_table.proofs.Facts.{Stepped-below}
 use Rattle.ucd_breaks.specs.GraphemeClusterBreak.{grapheme_cluster_break}
@@ -95,9 +94,6 @@ clusters-plain t plain =
 
 pub clusters-le : (t : List ℕ) → IsUtf8 t → clusters t ≤ length t
 clusters-le t u = length-segments (is_grapheme_break true) t u
-
-pub plain_utf8 : (t : List ℕ) → is_plain t ≡ true → IsUtf8 t
-plain_utf8 t plain = IsUtf8-from_ascii t (plain_ascii t plain)
 
 pub plain-append : (s t : List ℕ) → is_plain (s ++ t) ≡ (is_plain s && is_plain t)
 plain-append s t = list_all-append (λ b. nat_lt b 128 && not (b == 13)) s t

@@ -52,9 +52,6 @@ passed rule line m ms h = rw (near_past line m.line h) refl
 pub past_is : (a b : ℕ) → nat_lt a b ≡ true → a < b
 past_is a b e = grind (arith, nat_tests)
 
-pub past_not : (a b : ℕ) → nat_lt a b ≡ false → b ≤ a
-past_not a b e = grind (arith, nat_tests)
-
 pub or_assoc : (a b c : Bool) → ((a || b) || c) ≡ (a || (b || c))
 or_assoc true b c = refl
 or_assoc false b c = refl

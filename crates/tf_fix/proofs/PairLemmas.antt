@@ -140,9 +140,6 @@ gap_twice pairs gap a b rest lt within =
     let side : slice_range pairs a b ≡ p ∷ take (b - a - 1) (drop (a + 1) pairs) = ap (λ n. take n (drop a pairs)) count ∙ ap (λ t. take (suc (b - a - 1)) t) front in
     rw side refl
 
-front_one : (gap : List ℕ) (p : Pair) (ps : List Pair) (tail : List Part) → Gap gap ∷ come 1 (p ∷ ps) tail ≡ body (with_gap gap (p ∷ ps)) ++ tail
-front_one gap p ps tail = refl
-
 -- what is written first
 data Written (pairs : List Pair) (w : Insertion) : Type 0 where
   not_written : w ≡ Nothing → Written pairs w

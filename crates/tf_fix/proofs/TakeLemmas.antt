@@ -1,5 +1,5 @@
 -- Taking findings, and what each of them is replaced by.
-use Rattle.std.proofs.Common.{◌≡◌, ℕ, ◌+◌, ◌*◌, ◌≤◌, ◌<◌, ◌&&◌, not, nat_lt, Bool, true, false, List, [], ◌∷◌, ◌++◌, length, drop, get_or, Option, Some, None, if◌then◌else◌, refl, ap, subst, ◌∙◌, arith}
+use Rattle.std.proofs.Common.{◌≡◌, ℕ, ◌+◌, ◌*◌, ◌≤◌, ◌<◌, ◌&&◌, not, nat_lt, Bool, true, false, List, [], ◌∷◌, ◌++◌, length, drop, get_or, Option, Some, None, if◌then◌else◌, refl, subst, arith}
 use Rattle.std.specs.List.{flat_map}
 use Rattle.std.proofs.lemmas.List.{drop_more}
 use Rattle.std.proofs.lemmas.Bool.{and_parts, ltb-false}
@@ -34,16 +34,6 @@ mendable first past (Some fix) e fits = fits
 pub is_sound : (pairs : List Pair) (findings : List Finding) (i : ℕ) (d : Finding) → i < length findings → AreSound (length pairs) (drop i findings)
     → (is_fixable (get_or findings i d).fix ≡ true → Fits (length pairs) (get_or findings i d)) × AreSound (length pairs) (drop (i + 1) findings)
 is_sound pairs findings i d lt are = let both = subst (AreSound (length pairs)) (drop_more findings i d lt) are in (λ fixable. (both.0.1, mendable _ _ _ fixable both.0.2, both.0.0), both.1)
-
-pub one_taken : (findings : List Finding) (i past : ℕ) (d : Finding) → i < length findings
-    → (is_fixable (get_or findings i d).fix && not (nat_lt (get_or findings i d).first past)) ≡ true
-    → taken_from past (drop i findings) ≡ get_or findings i d ∷ taken_from (get_or findings i d).past (drop (i + 1) findings)
-one_taken findings i past d lt test = ap (taken_from past) (drop_more findings i d lt) ∙ rw test refl
-
-pub one_left : (findings : List Finding) (i past : ℕ) (d : Finding) → i < length findings
-    → (is_fixable (get_or findings i d).fix && not (nat_lt (get_or findings i d).first past)) ≡ false
-    → taken_from past (drop i findings) ≡ taken_from past (drop (i + 1) findings)
-one_left findings i past d lt test = ap (taken_from past) (drop_more findings i d lt) ∙ rw test refl
 
 -- ---- what is taken
 

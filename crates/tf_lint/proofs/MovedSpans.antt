@@ -23,9 +23,6 @@ lt_test from to a b = grind arith
 le_test : (from to a b : ℕ) → nat_le (to + a) (to + b) ≡ nat_le (from + a) (from + b)
 le_test from to a b = grind arith
 
-le_test_by : (from to a b k : ℕ) → nat_le (to + a + k) (to + b) ≡ nat_le (from + a + k) (from + b)
-le_test_by from to a b k = grind arith
-
 eq_test : (from to a b k : ℕ) → (to + b == to + a + k) ≡ (from + b == from + a + k)
 eq_test from to a b k = grind arith
 
@@ -119,9 +116,6 @@ module _ (old new : List Pair) {from to count : ℕ} (w : SameTokens (tokens_of 
 
   pub le_moved : {i i' j j' : ℕ} → Here w i i' → Here w j j' → nat_le i' j' ≡ nat_le i j
   le_moved h g = rw (h.in_old, h.in_new, g.in_old, g.in_new) (le_test from to h.before g.before)
-
-  pub le_moved_by : {i i' j j' : ℕ} (k : ℕ) → Here w i i' → Here w j j' → nat_le (i' + k) j' ≡ nat_le (i + k) j
-  le_moved_by k h g = rw (h.in_old, h.in_new, g.in_old, g.in_new) (le_test_by from to h.before g.before k)
 
   pub eq_moved : {i i' j j' : ℕ} (k : ℕ) → Here w i i' → Here w j j' → (j' == i' + k) ≡ (j == i + k)
   eq_moved k h g = rw (h.in_old, h.in_new, g.in_old, g.in_new) (eq_test from to h.before g.before k)

@@ -1,26 +1,14 @@
 -- Tokens of two texts, one by one.
-use Rattle.std.proofs.Common.{◌≡◌, ℕ, zero, suc, ◌+◌, List, [], ◌∷◌, take, drop, slice_get, Option, Some, None, refl, sym, ap, ◌∙◌, arith}
-use Rattle.std.proofs.lemmas.Option.{slice_get-map}
-use Rattle.std.specs.Option.{option_map}
+use Rattle.std.proofs.Common.{◌≡◌, ℕ, zero, suc, ◌+◌, List, [], ◌∷◌, take, drop, slice_get, refl, sym, ap, ◌∙◌, arith}
 use Rattle.hcl_grammar.specs.Tokens.{Token}
 use Rattle.hcl_scan.specs.Follows.{tokens_of}
-use Rattle.hcl_token.specs.CutText.{kind_of, spelling_of, stretch_of, without_first_gap}
+use Rattle.hcl_token.specs.CutText.{stretch_of, without_first_gap}
 use Rattle.hcl_token.specs.Tokens.{Pair}
-use Rattle.hcl_token.specs.declared.kind.Kind.{Kind}
 use Rattle.tf_lint.proofs.Window.{get_drop}
 
 -- the token of a pair
 abbrev pub token_of : Pair → Token
 token_of p = (p.kind, p.spelling)
-
-told : (o : Option Pair) (k : Kind) (s : List ℕ) → Some k ≡ option_map (λ (p : Pair). p.kind) o → Some s ≡ option_map (λ (p : Pair). p.spelling) o
-    → option_map token_of o ≡ Some (k, s)
-told None k s a b = absurd (cc)
-told (Some p) k s a b = cc
-
--- a token by its kind and its spelling
-pub token_is : (pairs : List Pair) (i : ℕ) (k : Kind) (s : List ℕ) → Some k ≡ kind_of pairs i → Some s ≡ spelling_of pairs i → slice_get (tokens_of pairs) i ≡ Some (k, s)
-token_is pairs i k s a b = slice_get-map token_of pairs i ∙ told (slice_get pairs i) k s a b
 
 -- fronts that are the same, and one more that is
 front_more : (xs ys : List Token) (k : ℕ) → take k xs ≡ take k ys → slice_get xs k ≡ slice_get ys k → take (suc k) xs ≡ take (suc k) ys

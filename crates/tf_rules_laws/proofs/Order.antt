@@ -1,5 +1,5 @@
 -- The tokens of what the rules name in a derived node stand in order, within the text.
-use Rattle.std.proofs.Common.{◌≡◌, ℕ, suc, ◌+◌, ◌<◌, ◌≤◌, Bool, true, false, List, [], ◌∷◌, length, slice_get, Option, Some, None, sym, ap, ◌∙◌, subst, arith}
+use Rattle.std.proofs.Common.{◌≡◌, ℕ, suc, ◌+◌, ◌<◌, ◌≤◌, Bool, true, false, List, [], ◌∷◌, length, slice_get, Option, Some, sym, ap, ◌∙◌, subst, arith}
 use Rattle.hcl_token.specs.declared.kind.Kind.TheVariants as k
 use Rattle.hcl_grammar.specs.declared.tree.Attribute.{Attribute}
 use Rattle.hcl_grammar.specs.declared.tree.Block.{Block}
@@ -86,19 +86,6 @@ rolled_if first past c met unmet = roll-IfDirective (record { first = first; pas
 
 abbrev rolled_for : ℕ → ℕ → Intro → Template → ForDirective
 rolled_for first past i body = roll-ForDirective (record { first = first; past = past; intro = i; body = body })
-
-pair_left : Expr → Option (Expr × Expr) → Expr
-pair_left e None = e
-pair_left e (Some (a, b)) = a
-
-pair_right : Expr → Option (Expr × Expr) → Expr
-pair_right e None = e
-pair_right e (Some (a, b)) = b
-
--- the two of a list of two
-both_same : {e f a b : Expr} → two (e ∷ f ∷ []) ≡ Some (a, b) → (e ≡ a) × (f ≡ b)
-unfolding pair_left pair_right
-both_same {e} h = (ap (pair_left e) h, ap (pair_right e) h)
 
 ordered : (i n : ℕ) (e f a b : Expr) → two (e ∷ f ∷ []) ≡ Some (a, b) → Ordered i n e f → Ordered i n a b
 ordered i n e f a b h o =
