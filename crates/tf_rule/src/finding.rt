@@ -3,7 +3,7 @@
 ghost use Rattle.std.specs.Prelude.{◌≡◌, ◌++◌, ℕ, true, false, IfOk, IfErr, OnOk, OnErr, filter, List, ◌∷◌, []};
 ghost use Rattle.tf_rule.specs.declared.finding.Finding.{Finding};
 ghost use Rattle.tf_rule.specs.Findings.{is_fitting, is_fixable, is_sound, IsSound};
-ghost use Rattle.tf_rule.specs.Stored.{has_room};
+ghost use Rattle.tf_rule.specs.Room.{has_room};
 
 use crate::fix::Fix;
 use crate::rule::Rule;
@@ -59,7 +59,7 @@ impl Model for Finding {
     ghost Value = { Found };
 
     ghost use Rattle.std.specs.Prelude.{refl};
-    ghost use Rattle.tf_rule.specs.Stored.{fix_at, name_at, IsName, IsTidy};
+    ghost use Rattle.tf_rule.specs.Inner.Stored.{fix_at, name_at, IsName, IsTidy};
     ghost use Rattle.tf_rule.specs.Inner.StoredBack.{mend_of, is_name, number_of, mend_back, name_back, is_name_back};
 
     ghost view = { λ f. record {

@@ -5,7 +5,9 @@ ghost use Rattle.std.specs.Prelude.{◌≡◌, ℕ, ◌&&◌, false, Some, IfOk,
 ghost use Rattle.std.specs.Option.{option_map};
 ghost use Rattle.tf_rule.specs.declared.fix.Fix.TheVariants.{Tokens};
 ghost use Rattle.tf_rule.specs.Findings.{is_fixable};
-ghost use Rattle.tf_rule.specs.Stored.{insertion_at, kept_at, fix_at, name_at, IsUsed, IsTidy, IsName, fits, fits_insertion, fits_kept, fits_fix, fits_name};
+ghost use Rattle.tf_rule.specs.Room.{fits, fits_insertion, fits_kept, fits_fix, fits_name};
+ghost use Rattle.tf_rule.specs.Inner.Stored.{insertion_at, kept_at, fix_at, name_at};
+ghost use Rattle.tf_rule.specs.Inner.Stored.{IsUsed, IsTidy, IsName};
 
 use crate::fix::{Fix, Insertion, Kept};
 use std::alloc::AllocError;

@@ -13,7 +13,7 @@ use Rattle.tf_rule.specs.declared.stored.Outline.TheVariants as outline
 use Rattle.tf_rule.specs.declared.stored.Stretch.{Stretch}
 use Rattle.tf_rule.specs.declared.stored.Written.{Written}
 use Rattle.tf_rule.specs.declared.stored.Written.TheVariants as written
-use Rattle.tf_rule.specs.Stored.{insertion_at, kept_at, outlined, fix_at, name_at, IsUsed, AreUsed, IsTidy, IsName}
+use Rattle.tf_rule.specs.Inner.Stored.{insertion_at, kept_at, outlined, fix_at, name_at, IsUsed, AreUsed, IsTidy, IsName}
 
 abbrev pub written_of : Insertion → Written
 written_of insertion.Nothing = written.Nothing

@@ -1,8 +1,6 @@
--- What a finding holds of its fix and its message.
-use Rattle.std.specs.Prelude.{◌≡◌, ℕ, ◌^◌, nat_lt, ◌==◌, ◌&&◌, Bool, true, false, [], ◌∷◌, Option, Some, None, if◌then◌else◌, ⊤}
-use Rattle.std.specs.List.{list_all}
+-- What a finding holds of its fix and of its message, and what that stands for.
+use Rattle.std.specs.Prelude.{◌≡◌, ℕ, Bool, true, false, [], ◌∷◌, Option, Some, None, if◌then◌else◌, ⊤}
 use Rattle.std.specs.Option.{option_map}
-use Rattle.tf_rule.specs.declared.finding.Message.{Message}
 use Rattle.tf_rule.specs.declared.fix.Fix.{Fix}
 use Rattle.tf_rule.specs.declared.fix.Fix.TheVariants.{Slashes, Tokens}
 use Rattle.tf_rule.specs.declared.fix.Insertion.{Insertion}
@@ -30,6 +28,7 @@ abbrev pub kept_at : ℕ → Stretch → Written → Kept
 kept_at first s behind =
     record { from = s.from; to = s.to; behind = insertion_at first behind }
 
+-- the fix of a finding that begins with token first, by what it does and the tokens that it keeps
 abbrev pub outlined : ℕ → Outline → Stretch → Stretch → Option Fix
 outlined first outline.Nothing one two = None
 outlined first outline.Slashes one two = Some Slashes
@@ -37,6 +36,7 @@ outlined first (outline.Tokens before b c) one two =
     Some (Tokens (insertion_at first before)
     (option_map (kept_at first one) b ∷ option_map (kept_at first two) c ∷ []))
 
+-- the same by all that is held of it
 abbrev pub fix_at : ℕ → Mend → Option Fix
 fix_at first m = outlined first m.outline m.one m.two
 
@@ -44,45 +44,21 @@ fix_at first m = outlined first m.outline m.one m.two
 abbrev pub name_at : Bool → ℕ → Option ℕ
 name_at has_name n = if has_name then Some n else None
 
--- what stands for nothing is 0
+-- the numbers of tokens that are kept are 0 where none are
 abbrev pub IsUsed : Option Written → Stretch → Type 0
 IsUsed None s = (s.from ≡ 0) × (s.to ≡ 0)
 IsUsed (Some behind) s = ⊤
 
+-- so it is with both stretches of a fix
 abbrev pub AreUsed : Outline → Stretch → Stretch → Type 0
 AreUsed (outline.Tokens before b c) one two = IsUsed b one × IsUsed c two
 AreUsed _ one two = IsUsed None one × IsUsed None two
 
+-- each fix is held in one form alone: what stands for nothing is 0
 abbrev pub IsTidy : Mend → Type 0
 IsTidy m = AreUsed m.outline m.one m.two
 
+-- the number of a token that is named is 0 where none is
 abbrev pub IsName : Bool → ℕ → Type 0
 IsName true n = ⊤
 IsName false n = n ≡ 0
-
--- a finding has room for numbers of 32 bits
-abbrev pub fits : ℕ → Bool
-fits n = nat_lt n (2 ^ 32)
-
--- and none for the number of an index: it is that of its first token
-abbrev pub fits_insertion : ℕ → Insertion → Bool
-fits_insertion first (insertion.Index n) = n == first
-fits_insertion first _ = true
-
-abbrev pub fits_kept : ℕ → Option Kept → Bool
-fits_kept first None = true
-fits_kept first (Some k) = fits k.from && (fits k.to && fits_insertion first k.behind)
-
-abbrev pub fits_fix : ℕ → Option Fix → Bool
-fits_fix first (Some (Tokens before kept)) =
-    fits_insertion first before && list_all (fits_kept first) kept
-fits_fix first _ = true
-
-abbrev pub fits_name : Option ℕ → Bool
-fits_name None = true
-fits_name (Some n) = fits n
-
--- whether there is a finding of these tokens with this message and this fix
-abbrev pub has_room : ℕ → ℕ → Message → Option Fix → Bool
-has_room first past message fix =
-    fits first && (fits past && (fits_name message.name && fits_fix first fix))
