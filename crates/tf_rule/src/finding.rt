@@ -1,6 +1,7 @@
 //! What a rule finds.
 
-ghost use Rattle.std.specs.Prelude.{◌≡◌, ◌++◌, ℕ, true, false, IfOk, IfErr, OnOk, OnErr, filter, List, ◌∷◌, []};
+ghost use Rattle.std.specs.Prelude.{◌≡◌, ◌++◌, ℕ, true, false, IfOk, IfErr, OnOk, OnErr};
+ghost use Rattle.std.specs.Prelude.{filter, List, ◌∷◌, []};
 ghost use Rattle.tf_rule.specs.declared.finding.Finding.{Finding};
 ghost use Rattle.tf_rule.specs.Findings.{is_fitting, is_fixable, is_sound, IsSound};
 ghost use Rattle.tf_rule.specs.Room.{has_room};
@@ -60,7 +61,8 @@ impl Model for Finding {
 
     ghost use Rattle.std.specs.Prelude.{refl};
     ghost use Rattle.tf_rule.specs.Inner.Stored.{fix_at, name_at, IsName, IsTidy};
-    ghost use Rattle.tf_rule.specs.Inner.StoredBack.{mend_of, is_name, number_of, mend_back, name_back, is_name_back};
+    ghost use Rattle.tf_rule.specs.Inner.StoredBack.{mend_of, is_name, number_of};
+    ghost use Rattle.tf_rule.specs.Inner.StoredBack.{mend_back, name_back, is_name_back};
 
     ghost view = { λ f. record {
       rule = f.rule;

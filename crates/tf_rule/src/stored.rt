@@ -175,7 +175,8 @@ fn tokens(before: Insertion, kept: [Option<Kept>; 2], first: usize) -> Result<Me
 }
 
 impl Mend {
-    /// What mends a finding that begins with token `first`; `AllocError` where a number has no room.
+    /// What mends a finding that begins with token `first`; `AllocError` where a number has no
+    /// room.
     pub fn of(fix: Option<Fix>, first: usize) -> Result<Mend, AllocError>
         ensures ok { IfOk result (λ mend. (fix_at first mend ≡ fix) × IsTidy mend) }
         ensures err { IfErr result (λ _. fits_fix first fix ≡ false) }
