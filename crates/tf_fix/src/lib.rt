@@ -12,6 +12,7 @@ mod fault;
 pub mod laws;
 mod mending;
 mod near;
+mod packed;
 mod parsed;
 mod replaced;
 mod replacing;

@@ -7,6 +7,7 @@ ghost use Rattle.tf_fix.specs.Inner.Filled.{AreFilled, Fits};
 ghost use Rattle.tf_fix.specs.Inner.Views.{place_of, skip_of, replacements, AreComing, AreKeptComing};
 
 use crate::edge::Edge;
+use crate::packed::{Packed, push};
 use crate::replacing::Replacement;
 use crate::taking::is_taken;
 use hcl_scan::Scanned;
@@ -15,7 +16,7 @@ use tf_rule::{Finding, Fix, Insertion, Kept};
 
 /// What is replaced from a place on, where this is written first, and then so much is kept.
 fn push_kept(
-    all: &mut Vec<Replacement>,
+    all: &mut Vec<Packed>,
     scanned: &Scanned<'_>,
     from: Edge,
     written: Insertion,
@@ -33,20 +34,21 @@ fn push_kept(
 {
     match kept {
         [] => {
-            all.push(Replacement {
+            let one = Replacement {
                 from,
                 to: Edge::Gap(past),
                 coming: written,
-            })?;
-            Ok(())
+            };
+            push(all, one)
         }
         [None, rest @ ..] => push_kept(all, scanned, from, written, rest, past),
         [Some(one), rest @ ..] => {
-            all.push(Replacement {
+            let first = Replacement {
                 from,
                 to: Edge::Token(one.from),
                 coming: written,
-            })?;
+            };
+            push(all, first)?;
             push_kept(all, scanned, Edge::Gap(one.to), one.behind, rest, past)
         }
     }
@@ -54,7 +56,7 @@ fn push_kept(
 
 /// What is replaced to mend the finding, behind what is replaced before it.
 fn push_replacements(
-    all: &mut Vec<Replacement>,
+    all: &mut Vec<Packed>,
     scanned: &Scanned<'_>,
     one: &Finding,
 ) -> Result<(), AllocError>
@@ -92,7 +94,7 @@ pub fn taken_replacements(
     alloc: Global,
     scanned: &Scanned<'_>,
     findings: &[Finding],
-) -> Result<Vec<Replacement>, AllocError>
+) -> Result<Vec<Packed>, AllocError>
     requires filled { AreFilled scanned.now.pairs }
     requires sound { AreSound (length scanned.now.pairs) findings.now }
     ensures items { IfOk result

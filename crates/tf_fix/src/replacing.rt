@@ -10,6 +10,7 @@ ghost use Rattle.tf_fix.specs.Inner.Views.{place_of, next_place, near_view, comi
 use crate::coming::{added_text, near_coming};
 use crate::edge::{Edge, between, offset};
 use crate::near::{Near, is_glued, near_behind};
+use crate::packed::Packed;
 use edit_list::Edit;
 use hcl_scan::Scanned;
 use std::alloc::{AllocError, Global};
@@ -24,12 +25,12 @@ pub struct Replacement {
 }
 
 /// Where the next replacement begins, or the end of the text.
-fn next_edge(scanned: &Scanned<'_>, rest: &[Replacement]) -> Edge
+fn next_edge(scanned: &Scanned<'_>, rest: &[Packed]) -> Edge
     ensures { place_of result
         ≡ next_place (2 * length scanned.now.pairs + 1) (replacements scanned.now.pairs rest.now) }
 {
     match rest.first() {
-        Some(next) => next.from,
+        Some(next) => next.get().from,
         None => Edge::Token(scanned.len()),
     }
 }
@@ -91,7 +92,7 @@ fn one_edit(
 pub fn replacement_edits(
     alloc: Global,
     scanned: &Scanned<'_>,
-    all: &[Replacement],
+    all: &[Packed],
 ) -> Result<Vec<Edit>, AllocError>
     requires order { AreInOrder 0 (replacements scanned.now.pairs all.now)
         (2 * length scanned.now.pairs) }
@@ -105,9 +106,10 @@ pub fn replacement_edits(
     let mut near = Near::Nothing;
     let mut at = Edge::Gap(0);
     let mut left = all;
-    while let [one, rest @ ..] = left {
+    while let [first, rest @ ..] = left {
+        let one = first.get();
         near = near_behind(scanned, near, at, one.from);
-        edits.push(one_edit(alloc, scanned, near, *one, next_edge(scanned, rest))?)?;
+        edits.push(one_edit(alloc, scanned, near, one, next_edge(scanned, rest))?)?;
         near = near_coming(near, one.coming);
         at = one.to;
         left = rest;
