@@ -1,14 +1,11 @@
 -- The run of several steps, from one step to the next.
-use Rattle.std.proofs.Common.{◌≡◌, ℕ, ◌+◌, ◌-◌, ◌≤◌, ◌<◌, ◌⊎◌, ◌&&◌, Bool, MatchBool, cond, filter, true, false, List, [], ◌∷◌, length, take, drop, slice_index_or, Some, None, Result, Ok, Err, Bor, refl, sym, ap, subst, ◌∙◌, arith, inl, inr}
-use Rattle.std.proofs.lemmas.List.{length-map, take_all}
+use Rattle.std.proofs.Common.{◌≡◌, ℕ, ◌+◌, ◌-◌, ◌≤◌, ◌<◌, ◌⊎◌, ◌&&◌, Bool, MatchBool, cond, filter, true, false, List, [], ◌∷◌, length, take, drop, slice_index_or, Some, None, Result, Ok, Err, Bor, refl, sym, ap, subst, arith, inl, inr}
+use Rattle.std.proofs.lemmas.List.{take_all}
 use Rattle.std.proofs.lemmas.Slice.Eq.{bytes_eq-Decides}
-use Rattle.std.specs.Global.{Vec}
 use Rattle.std.specs.Prelude.{IfOk, IfErr}
 use Rattle.std.specs.Result.{IsErr, IsErrAnd}
 use Rattle.edit_list.specs.Pieces.{EditList, Turns}
 use Rattle.edit_squash.specs.Squash.{IsSquash}
-use Rattle.tf_lint.specs.declared.issue.Issue.{Issue}
-use Rattle.tf_lint.specs.Reports.{report, report_of}
 use Rattle.tf_rule.specs.declared.finding.Finding.{Finding}
 use Rattle.tf_rule.specs.declared.rule.Rule.{Rule}
 use Rattle.tf_rule.specs.declared.rule_set.RuleSet.{RuleSet}
@@ -23,8 +20,8 @@ use Rattle.tf_lint.specs.declared.steps.Passed.{Passed}
 use Rattle.tf_lint.specs.declared.steps.Passed.TheVariants.{Same, Changed}
 use Rattle.tf_fix.specs.Reading.{Reads}
 use Rattle.tf_lint.specs.Reading.{IsUnread, IsText, NotRead}
-use Rattle.tf_fix.specs.OneStep.{fixed_text}
-use Rattle.tf_lint.specs.Steps.{AreLeft, Reports, differ, Steps, FoundThen, StepThen, RunSteps, Made, Fixes, Refuses}
+use Rattle.tf_fix.specs.OneStep.{Finds, fixed_text}
+use Rattle.tf_lint.specs.Steps.{differ, Steps, FoundThen, StepThen, RunSteps, Made, Fixes, Refuses}
 use Rattle.tf_lint.specs.Inner.Passing.{has_step, RunFixed, IsChange, IsStep, Passes, FixesFrom, RefusesFrom}
 
 pub split_first : {X : Type 0} (xs : List X) (d : X) → 1 ≤ length xs → xs ≡ slice_index_or xs 0 d ∷ take (length xs - 1) (drop 1 xs)
@@ -55,7 +52,7 @@ same_text t u e = rw ((bytes_eq-Decides t u).1 e) refl
 
 pub skipped_pass : (rules : RuleSet) (rule : Rule) (order : List Rule) (p : Parsed) (count : ℕ) (passed : Passed) → has_step rules rule ≡ false
     → Passes rules order p count passed → Passes rules (rule ∷ order) p count passed
-skipped_pass rules rule order p count (Same fixed left) not_in (n, number, counted, runs) = (n, number, counted, rw not_in runs)
+skipped_pass rules rule order p count (Same fixed) not_in (n, number, runs) = (n, number, rw not_in runs)
 skipped_pass rules rule order p count (Changed fixed change by rest) not_in (n, number, few, shorter, turns, on, off, gone) = (
   n,
   number,
@@ -69,13 +66,12 @@ skipped_pass rules rule order p count (Changed fixed change by rest) not_in (n, 
 
 pub stayed_pass : (rules : RuleSet) (rule : Rule) (order : List Rule) (p : Parsed) (count : ℕ) (passed : Passed) (step : Step) → has_step rules rule ≡ true → Reads p.scanned.text p
     → IsStep rule p step → step.change ≡ None → Passes rules order p (count + step.count) passed → Passes rules (rule ∷ order) p count passed
-stayed_pass rules rule order p count (Same fixed left) step chosen reads s none (n, number, counted, runs) =
+stayed_pass rules rule order p count (Same fixed) step chosen reads s none (n, number, runs) =
     let stays : fixed_text p s.found ≡ p.scanned.text = subst (IsChange rule p s.found) none s.change in
     let same = same_text p.scanned.text (fixed_text p s.found) (sym stays) in
     let taken = s.count in (
       step.count + n,
       omega (arith, number),
-      counted,
       rw chosen (s.found, s.finds, (s.short, p, record { text = p.scanned.text; lists = []; fixed = n }, subst (λ (t : List ℕ). Reads t p) (sym stays) reads, runs, rw (same, taken) refl)),
     )
 stayed_pass rules rule order p count (Changed fixed change by rest) step chosen reads s none (n, number, few, shorter, turns, on, off, gone) =
@@ -118,13 +114,9 @@ changed_pass rules rule order p step change chosen s some =
 
 -- ---- from what was passed on
 
--- one issue is reported for each finding
-one_each : (rules : RuleSet) (p : Parsed) (issues : List Issue) → Reports rules p issues → AreLeft rules p (length issues)
-one_each rules p issues (found, finds, told) = (found, finds, sym (length-map issues report) ∙ ap length told ∙ length-map found (report_of p.scanned.pairs))
-
-pub no_more : (rules : RuleSet) (order : List Rule) (text : List ℕ) (p : Parsed) (done : EditList) (count fixed : ℕ) (left : Vec Issue) → Reads text p → Passes rules order p count (Same fixed left)
-    → FixesFrom rules order text done count (record { text = text; edits = done; fixed = fixed; left = length left.items })
-no_more rules order text p done count fixed left reads (n, number, reported, runs) = record {
+pub no_more : (rules : RuleSet) (order : List Rule) (text : List ℕ) (p : Parsed) (done : EditList) (count fixed : ℕ) (found : List Finding) → Reads text p → Finds rules p found → Passes rules order p count (Same fixed)
+    → FixesFrom rules order text done count (record { text = text; edits = done; fixed = fixed; left = length found })
+no_more rules order text p done count fixed found reads finds (n, number, runs) = record {
   parsed = p;
   reads = reads;
   steps = record { text = p.scanned.text; lists = []; fixed = n };
@@ -134,7 +126,7 @@ no_more rules order text p done count fixed left reads (n, number, reported, run
   fixed_is = number;
   new_parsed = p;
   new_reads = reads;
-  left_is = one_each rules p left.items reported;
+  left_is = (found, finds, refl);
 }
 
 pub and_more : (rules : RuleSet) (order : List Rule) (text : List ℕ) (p : Parsed) (done both : EditList) (count fixed : ℕ) (change : NewText) (by : Rule) (rest : Bor (List Rule)) (made : Made)
@@ -188,9 +180,9 @@ run_is : (rules : RuleSet) (order : List Rule) (p : Parsed) (answer : Result Ste
 run_is rules [] p answer h = h
 run_is rules (rule ∷ order) p answer h = at_rule rules rule order p answer (is_fixed rule) (has_rule rules rule) refl (run_is rules order) h
 
-pub none_changed : (rules : RuleSet) (text : List ℕ) (p : Parsed) (fixed : ℕ) (left : Vec Issue) → Reads text p → Passes rules all_rules p 0 (Same fixed left)
-    → Fixes rules text (record { text = text; edits = record { old_len = length text; entries = [] }; fixed = fixed; left = length left.items })
-none_changed rules text p fixed left reads (n, number, reported, runs) =
+pub none_changed : (rules : RuleSet) (text : List ℕ) (p : Parsed) (fixed : ℕ) (found : List Finding) → Reads text p → Finds rules p found → Passes rules all_rules p 0 (Same fixed)
+    → Fixes rules text (record { text = text; edits = record { old_len = length text; entries = [] }; fixed = fixed; left = length found })
+none_changed rules text p fixed found reads finds (n, number, runs) =
     let steps : Steps = record { text = p.scanned.text; lists = []; fixed = n } in
     record {
       parsed = p;
@@ -202,7 +194,7 @@ none_changed rules text p fixed left reads (n, number, reported, runs) =
       fixed_is = omega (arith, number);
       new_parsed = p;
       new_reads = reads;
-      left_is = one_each rules p left.items reported;
+      left_is = (found, finds, refl);
     }
 
 pub all_fixed : (rules : RuleSet) (text : List ℕ) (p : Parsed) (fixed : ℕ) (change : NewText) (by : Rule) (rest : Bor (List Rule)) (made : Made)

@@ -1,10 +1,14 @@
 -- A text that was searched.
-use Rattle.std.proofs.Common.{◌≡◌, ◌⊎◌, ℕ, List, length, refl, sym, subst, inl, inr}
+use Rattle.std.proofs.Common.{◌≡◌, ◌≤◌, ◌⊎◌, ℕ, List, length, refl, sym, subst, inl, inr}
+use Rattle.std.specs.Prelude.{IsUtf8}
 use Rattle.hcl_grammar.specs.Bodies.{IsFile}
 use Rattle.hcl_grammar.specs.declared.tree.Tree.{Tree}
 use Rattle.hcl_grammar.specs.declared.bounds.TheConstants.{MAX_NESTING}
 use Rattle.hcl_text_laws.specs.Parses.{Parses}
-use Rattle.hcl_scan.specs.Cut.{IsCut}
+use Rattle.hcl_scan.specs.Cut.{MAX_TEXT, IsCut}
+use Rattle.hcl_scan.specs.Fault.{IsFault}
+use Rattle.hcl_scan.specs.declared.fault.ScanFault.{ScanFault}
+use Rattle.hcl_scan.specs.declared.fault.ScanFault.TheVariants as scan
 use Rattle.hcl_scan.specs.Follows.{tokens_of}
 use Rattle.hcl_tree.specs.Faults.{IsMemory, IsMemoryOrDeep}
 use Rattle.hcl_tree.specs.declared.fault.ParseFault.{ParseFault}
@@ -13,7 +17,7 @@ use Rattle.tf_diagnostics.specs.Findings.{AreFindings}
 use Rattle.tf_lint.specs.Seen.{AreSeen}
 use Rattle.tf_rule.specs.Findings.{AreSound}
 use Rattle.tf_lint.proofs.Unread.{not_parsed}
-use Rattle.tf_lint.specs.Faults.{fault_of_parse, fault_of_lint}
+use Rattle.tf_lint.specs.Faults.{fault_of_scan, fault_of_parse, fault_of_lint}
 use Rattle.tf_fix.specs.OneStep.{Finds, IsFound, IsTooLong}
 use Rattle.tf_fix.specs.Reading.{Reads}
 use Rattle.tf_lint.specs.Reading.{NotRead}
@@ -36,6 +40,17 @@ read_whole text s same cut read seen sound =
     let p : Parsed = record { scanned = s.scanned; tree = read.0 } in
     let own = subst (λ (t : List ℕ). IsCut t s.scanned.pairs s.scanned.last) (sym same) cut in
     (p, (same, own, read.1), record { same = refl; reads = (refl, own, read.1); finds = read.2; sound = sound; seen = seen })
+
+-- a text that is not cut
+is_fault : (text : List ℕ) (why : ScanFault) → IsFault text why → NotRead text (fault_of_scan why)
+is_fault text scan.Memory (inl long) = absurd (cc long.0)
+is_fault text scan.Memory (inr (inl narrow)) = absurd (cc narrow.1)
+is_fault text scan.Memory (inr (inr stops)) = (stops.0, stops.1)
+is_fault text _ fault = fault
+
+pub not_cut : (text : List ℕ) (why : ScanFault) → ((why ≡ scan.Memory) × (length text ≤ MAX_TEXT) × IsUtf8 text) ⊎ IsFault text why → NotRead text (fault_of_scan why)
+not_cut text why (inl wanted) = subst (λ (f : ScanFault). NotRead text (fault_of_scan f)) (sym wanted.0) (wanted.1, wanted.2)
+not_cut text why (inr fault) = is_fault text why fault
 
 -- a text that was scanned, and does not parse
 pub not_whole : (text : List ℕ) (cut : CutText) (why : ParseFault) (fault : FixFault) → cut.text ≡ text → IsCut text cut.pairs cut.last → fault ≡ fault_of_parse why

@@ -3,6 +3,7 @@ use Rattle.std.specs.Prelude.{ℕ, List, [], length, Option, Some, None}
 use Rattle.edit_list.specs.Pieces.{EditList, as_list}
 use Rattle.tf_lint.specs.declared.step.NewText.{NewText}
 use Rattle.tf_lint.specs.declared.steps.Fixed.{Fixed}
+use Rattle.tf_lint.specs.Remaining.{number_left}
 use Rattle.tf_lint.specs.Steps.{Made}
 
 abbrev pub text_after : List ℕ → Option NewText → List ℕ
@@ -20,5 +21,5 @@ made_of text f = record {
   text = text_after text f.change;
   edits = edits_after text f.change;
   fixed = f.fixed;
-  left = length f.left.items;
+  left = number_left f.left;
 }

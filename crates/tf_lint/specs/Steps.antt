@@ -10,8 +10,8 @@ use Rattle.tf_rule.specs.declared.rule.Rule.{Rule}
 use Rattle.tf_rule.specs.declared.rule_set.RuleSet.{RuleSet}
 use Rattle.tf_rule.specs.RuleSets.{has_rule}
 use Rattle.tf_rule.specs.Rules.{all_rules, is_fixed}
-use Rattle.tf_lint.specs.Issues.{AreIssues}
-use Rattle.tf_lint.specs.declared.issue.Issue.{Issue}
+use Rattle.tf_lint.specs.Issues.{AreReports}
+use Rattle.tf_lint.specs.Reports.{Report}
 use Rattle.tf_lint.specs.declared.fault.FixFault.{FixFault}
 use Rattle.tf_lint.specs.declared.fault.FixFault.TheVariants.{Scan, Parse, FixBroken, TooLong, Memory}
 use Rattle.tf_fix.specs.declared.parsed.Parsed.{Parsed}
@@ -24,13 +24,10 @@ use Rattle.tf_lint.specs.Reading.{IsUnread, NotRead}
 abbrev pub AreLeft : RuleSet → Parsed → ℕ → Type 0
 AreLeft rules p count = (found : List Finding) × Finds rules p found × (count ≡ length found)
 
--- what the rules of the set report of the text
-abbrev pub Reports : RuleSet → Parsed → List Issue → Type 0
-Reports rules p issues = AreIssues rules p.scanned.pairs p.tree.body.members issues
-
 -- the text parses, and this is what the rules of the set report of it
-abbrev pub IsReport : RuleSet → List ℕ → List Issue → Type 0
-IsReport rules text issues = (p : Parsed) × Reads text p × Reports rules p issues
+abbrev pub IsReport : RuleSet → List ℕ → List Report → Type 0
+IsReport rules text told =
+    (p : Parsed) × Reads text p × AreReports rules p.scanned.pairs p.tree.body.members told
 
 -- ---- several steps
 

@@ -1,9 +1,9 @@
 //! A text with what the rules find in it.
 
-ghost use Rattle.std.specs.Prelude.{◌≡◌, ◌≢◌, ◌⊎◌, IfOk, IfErr};
+ghost use Rattle.std.specs.Prelude.{◌≡◌, ◌≢◌, ◌⊎◌, ℕ, List, IfOk, IfErr};
 ghost use Rattle.tf_fix.specs.Reading.{Reads};
 ghost use Rattle.tf_lint.specs.Reading.{IsUnread, NotRead};
-ghost use Rattle.hcl_scan.specs.Follows.{AreApart};
+ghost use Rattle.hcl_scan.specs.Cut.{IsCut};
 ghost use Rattle.tf_lint.specs.Searching.{IsBefore, IsOf};
 ghost use Rattle.tf_lint.specs.Seen.{AreSeen};
 ghost use Rattle.tf_lint.specs.declared.fault.FixFault.{FixFault};
@@ -18,7 +18,7 @@ use hcl_scan::laws::{no_cut_with_fault, one_cut};
 use hcl_scan::{Replaced, Scanned, Token, scan, scan_again};
 use hcl_text_laws::laws::parsed_apart;
 use std::alloc::{AllocError, Global};
-use tf_rule::{Rule, RuleSet};
+use tf_rule::{Finding, Rule, RuleSet};
 
 /// The tokens of a text, if it parses, and what the rules of the set find in it.
 ///
@@ -35,6 +35,23 @@ pub fn search_text<'t>(
     ensures fault { IfErr result (λ fault. NotRead text.now fault) }
 {
     let scanned = scan(alloc, text)?;
+    search_cut(alloc, scanned, rules, keep)
+}
+
+/// The same of a text that was cut.
+fn search_cut<'t>(
+    alloc: Global,
+    scanned: Scanned<'t>,
+    rules: RuleSet,
+    keep: bool,
+) -> Result<Searched<'t>, FixFault>
+    requires { IsCut scanned.text scanned.pairs scanned.last }
+    ensures searched { (text : List ℕ) → scanned.entry.text ≡ text
+        → IfOk result (λ searched. (p : Parsed) × Reads text p × IsOf p searched) }
+    ensures rules { IfOk result (λ searched. searched.rules ≡ rules) }
+    ensures fault { (text : List ℕ) → scanned.entry.text ≡ text
+        → IfErr result (λ fault. NotRead text fault) }
+{
     match findings(alloc, &scanned, rules, &scanned, &[], keep) {
         Ok(seen) => Ok(Searched {
             scanned,
@@ -65,25 +82,23 @@ pub fn replaced_by(alloc: Global, edits: &Edits) -> Result<Vec<Replaced>, AllocE
     Ok(pieces)
 }
 
-/// The same of a text that came from one that was searched, in which these pieces were replaced:
-/// what stayed as it was is not read again. Its tokens come into a list that has room.
-fn search_again<'t>(
+/// The same of one that came from a text that was searched: a member that stayed as it was is not
+/// read again.
+fn search_beside<'t>(
     alloc: Global,
-    text: &'t [u8],
+    scanned: Scanned<'t>,
     rules: RuleSet,
     old: &Scanned<'_>,
     members: &[SeenMember],
-    room: Vec<Token>,
-    replaced: Vec<Replaced>,
 ) -> Result<Searched<'t>, FixFault>
-    requires apart { AreApart old.now.pairs }
+    requires cut { IsCut scanned.text scanned.pairs scanned.last }
     requires seen { AreSeen rules old.now.pairs members.now }
-    ensures searched { IfOk result (λ searched. (p : Parsed) × Reads text.now p × IsOf p searched) }
+    ensures searched { (text : List ℕ) → scanned.entry.text ≡ text
+        → IfOk result (λ searched. (p : Parsed) × Reads text p × IsOf p searched) }
     ensures rules { IfOk result (λ searched. searched.rules ≡ rules) }
-    ensures fault { IfErr result (λ fault. NotRead text.now fault) }
+    ensures fault { (text : List ℕ) → scanned.entry.text ≡ text
+        → IfErr result (λ fault. NotRead text fault) }
 {
-    let scanned = scan_again(alloc, room, text, old, &replaced)?;
-    drop(replaced);
     match findings(alloc, &scanned, rules, old, members, true) {
         Ok(seen) => Ok(Searched {
             scanned,
@@ -95,14 +110,17 @@ fn search_again<'t>(
     }
 }
 
-/// A text that was searched, and the memory of the tokens of the one before it.
+/// A text that was searched, and the memory of the tokens of the one before it, as far as there
+/// still is any.
 #[derive(Drop)]
 pub struct Made<'t> {
     pub searched: Searched<'t>,
     pub room: Vec<Token>,
 }
 
-/// The same of a text behind another, of which nothing is kept but the memory of its tokens.
+/// The same of a text behind another, in which these pieces were replaced. Its tokens come into a
+/// list that has room. Of the text before nothing is kept but the memory of its tokens; where none
+/// of its members was kept, they go before this one is read.
 fn search_behind<'t>(
     alloc: Global,
     text: &'t [u8],
@@ -124,7 +142,15 @@ fn search_behind<'t>(
         members,
     } = before;
     let old = Scanned::over(old_text, tokens);
-    let searched = search_again(alloc, text, rules, &old, &members, room, replaced)?;
+    let scanned = scan_again(alloc, room, text, &old, &replaced)?;
+    drop(replaced);
+    if members.is_empty() {
+        drop(old);
+        let searched = search_cut(alloc, scanned, rules, true)?;
+        let room = Vec::new(alloc);
+        return Ok(Made { searched, room });
+    }
+    let searched = search_beside(alloc, scanned, rules, &old, &members)?;
     drop(members);
     Ok(Made {
         searched,
@@ -169,14 +195,16 @@ pub fn search_made<'t>(
     }
 }
 
-/// What the search of the next text asks of this one. What was found in it goes.
-pub fn before_next(searched: Searched<'_>) -> Before
-    ensures before { (p : Parsed) → IsOf p searched.entry → IsBefore p result }
-    ensures rules { result.rules ≡ searched.entry.rules }
+/// What the search of the next text asks of this one, and what was found in it.
+pub fn before_next(searched: Searched<'_>) -> (Before, Vec<Finding>)
+    ensures before { (p : Parsed) → IsOf p searched.entry → IsBefore p result.0 }
+    ensures rules { result.0.rules ≡ searched.entry.rules }
+    ensures found { result.1.items ≡ searched.entry.found.items }
 {
-    Before {
+    let before = Before {
         tokens: searched.scanned.without_text(),
         rules: searched.rules,
         members: searched.members,
-    }
+    };
+    (before, searched.found)
 }

@@ -1,21 +1,20 @@
 //! The steps of several rules, one after another.
 
-ghost use Rattle.std.specs.Prelude.{◌≡◌, ◌≤◌, ◌⊎◌, ◌+◌, ◌*◌, ℕ, List, length, Err, IfOk, IfErr, IfSome};
+ghost use Rattle.std.specs.Prelude.{◌≡◌, ◌≤◌, ◌⊎◌, ◌+◌, ◌*◌, ℕ, List, Err, IfOk, IfErr, IfSome};
 ghost use Rattle.edit_list.specs.Pieces.{Turns};
 ghost use Rattle.edit_squash.specs.Squash.{CanFollow, IsSquash};
 ghost use Rattle.tf_lint.specs.Fixed.{made_of, text_after};
 ghost use Rattle.hcl_scan.specs.Cut.{MAX_TEXT};
-ghost use Rattle.tf_fix.specs.Reading.{Reads};
 ghost use Rattle.tf_lint.specs.Searching.{IsBefore, IsOf};
 ghost use Rattle.tf_lint.specs.Inner.Turning.{IsTurned};
-ghost use Rattle.tf_lint.specs.Steps.{Reports, IsReport, Fixes, Refuses};
+ghost use Rattle.tf_lint.specs.Remaining.{IsRemaining};
+ghost use Rattle.tf_lint.specs.Steps.{Fixes, Refuses};
 ghost use Rattle.tf_lint.specs.Inner.Passing.{has_step, RunFixed, room, Passes, FixesFrom, RefusesFrom, made_by};
 ghost use Rattle.tf_lint.specs.declared.fault.FixFault.{FixFault};
 ghost use Rattle.tf_fix.specs.declared.parsed.Parsed.{Parsed};
 
 use crate::fault::FixFault;
-use crate::issue::Issue;
-use crate::listing::issues_of;
+use crate::remaining::Remaining;
 use crate::searched::{Before, Searched};
 use crate::searching::{before_next, replaced_by, search_made, search_text};
 use crate::step::{NewText, Step, one_step};
@@ -24,7 +23,7 @@ use edit_list::laws::turned_texts_have_the_lengths;
 use edit_squash::{Unmet, squash};
 use hcl_scan::{Replaced, Token};
 use std::alloc::Global;
-use tf_rule::{Rule, RuleSet};
+use tf_rule::{Finding, Rule, RuleSet};
 
 /// What a fix made of a text.
 #[derive(Drop)]
@@ -33,8 +32,8 @@ pub struct Fixed {
     pub change: Option<NewText>,
     /// How many findings were mended.
     pub fixed: usize,
-    /// What the chosen rules report of the new text.
-    pub left: Vec<Issue>,
+    /// What the chosen rules find in the new text.
+    pub left: Remaining,
 }
 
 /// What the rules up to the first that changes the text did.
@@ -43,7 +42,6 @@ enum Passed<'o> {
     /// None changes the text.
     Same {
         fixed: usize,
-        left: Vec<Issue>,
     },
     /// This rule is the first that does, and those of the rest come behind it.
     Changed {
@@ -67,18 +65,6 @@ fn gather(alloc: Global, done: &Edits, edits: &Edits) -> Result<Edits, FixFault>
             prove!(matches!(unmet, Unmet::Memory));
             Err(FixFault::Memory)
         }
-    }
-}
-
-fn reported(alloc: Global, searched: &Searched<'_>) -> Result<Vec<Issue>, FixFault>
-    requires { (p : Parsed) × IsOf p searched.now }
-    ensures issues { (p : Parsed) → IsOf p searched.now
-        → IfOk result (λ issues. Reports searched.now.rules p issues.items) }
-    ensures fault { IfErr result (λ fault. fault ≡ FixFault.Memory) }
-{
-    match issues_of(alloc, &searched.scanned, searched.found.as_slice()) {
-        Ok(issues) => Ok(issues),
-        Err(fault) => Err(FixFault::from(fault)),
     }
 }
 
@@ -123,8 +109,7 @@ fn first_change<'o>(
             }),
         }
     } else {
-        let left = reported(alloc, searched)?;
-        Ok(Passed::Same { fixed: count, left })
+        Ok(Passed::Same { fixed: count })
     }
 }
 
@@ -134,6 +119,8 @@ fn first_change<'o>(
 struct Turned<'o> {
     done: NewText,
     before: Before,
+    /// What was found in it.
+    found: Vec<Finding>,
     /// The memory of the tokens of the text before.
     spare: Vec<Token>,
     passed: Passed<'o>,
@@ -163,10 +150,11 @@ fn turn<'o>(
     let made = search_made(alloc, &done.text, old_text, before, spare, replaced, by)?;
     let spare = made.room;
     let passed = first_change(alloc, &made.searched, order, count)?;
-    let before = before_next(made.searched);
+    let (before, found) = before_next(made.searched);
     Ok(Turned {
         done,
         before,
+        found,
         spare,
         passed,
     })
@@ -177,12 +165,12 @@ fn turn<'o>(
 struct Ended {
     change: NewText,
     fixed: usize,
-    left: Vec<Issue>,
+    left: Remaining,
 }
 
 /// The other steps, behind one that was made. The text before the last step is not held: the tokens
-/// of the next one come into the memory of its tokens, and the rest goes before the next step takes
-/// more.
+/// of the next one come into the memory of its tokens, and the rest, what was found first of all,
+/// goes before the next step takes more.
 fn run(alloc: Global, turned: Turned<'_>) -> Result<Ended, FixFault>
     requires turned { (order : List Rule) × (count : ℕ) × (p : Parsed)
         × IsTurned order count p turned }
@@ -194,7 +182,7 @@ fn run(alloc: Global, turned: Turned<'_>) -> Result<Ended, FixFault>
     ensures turns { (old : List ℕ) → Turns turned.entry.done.edits old turned.entry.done.text.items
         → IfOk result (λ ended. Turns ended.change.edits old ended.change.text.items) }
     ensures left { IfOk result
-        (λ ended. IsReport turned.entry.before.rules ended.change.text.items ended.left.items) }
+        (λ ended. IsRemaining turned.entry.before.rules ended.change.text.items ended.left) }
     ensures fault { (order : List Rule) (count : ℕ) (p : Parsed) (by : Rule)
         → IsTurned order count p turned.entry
         → IfErr result
@@ -203,14 +191,18 @@ fn run(alloc: Global, turned: Turned<'_>) -> Result<Ended, FixFault>
     let Turned {
         done,
         before,
+        found,
         spare,
         passed,
     } = turned;
     match passed {
-        Passed::Same { fixed, left } => Ok(Ended {
+        Passed::Same { fixed } => Ok(Ended {
             change: done,
             fixed,
-            left,
+            left: Remaining {
+                tokens: before.tokens,
+                found,
+            },
         }),
         Passed::Changed {
             fixed,
@@ -218,6 +210,7 @@ fn run(alloc: Global, turned: Turned<'_>) -> Result<Ended, FixFault>
             by,
             rest,
         } => {
+            drop(found);
             let NewText { text: old, edits } = done;
             let both = gather(alloc, &edits, &change.edits)?;
             drop(edits);
@@ -244,25 +237,32 @@ pub fn fix_text(alloc: Global, text: &[u8], rules: RuleSet) -> Result<Fixed, Fix
     ensures turns { IfOk result
         (λ fixed. IfSome fixed.change (λ change. Turns change.edits text.now change.text.items)) }
     ensures left { IfOk result
-        (λ fixed. IsReport rules (text_after text.now fixed.change) fixed.left.items) }
+        (λ fixed. IsRemaining rules (text_after text.now fixed.change) fixed.left) }
     ensures fault { IfErr result (λ fault. Refuses rules text.now fault) }
 {
     let searched = search_text(alloc, text, rules, true)?;
     let passed = first_change(alloc, &searched, &Rule::ALL, 0)?;
     match passed {
-        Passed::Same { fixed, left } => Ok(Fixed {
-            change: None,
-            fixed,
-            left,
-        }),
+        Passed::Same { fixed } => {
+            let (before, found) = before_next(searched);
+            Ok(Fixed {
+                change: None,
+                fixed,
+                left: Remaining {
+                    tokens: before.tokens,
+                    found,
+                },
+            })
+        }
         Passed::Changed {
             fixed,
             change,
             by,
             rest,
         } => {
+            let (before, old_found) = before_next(searched);
+            drop(old_found);
             let replaced = replaced_by(alloc, &change.edits)?;
-            let before = before_next(searched);
             let spare = Vec::new(alloc);
             let first = turn(
                 alloc, text, before, spare, change, replaced, rest, by, fixed,

@@ -16,11 +16,12 @@ use Rattle.tf_lint.specs.declared.steps.Passed.{Passed}
 use Rattle.tf_lint.specs.declared.steps.Passed.TheVariants.{Same, Changed}
 use Rattle.tf_fix.specs.Reading.{Reads}
 use Rattle.tf_lint.specs.Reading.{IsUnread}
+use Rattle.tf_lint.specs.Remaining.{number_left}
 use Rattle.tf_rule.specs.OneRule.{only}
 use Rattle.tf_rule.specs.RuleSets.{has_rule}
 use Rattle.tf_rule.specs.Rules.{is_fixed}
 use Rattle.tf_fix.specs.OneStep.{Finds, fixed_text, fix_edits, fix_count}
-use Rattle.tf_lint.specs.Steps.{AreLeft, Reports, differ, Steps, no_steps, StepThen, Made}
+use Rattle.tf_lint.specs.Steps.{AreLeft, differ, Steps, no_steps, StepThen, Made}
 
 -- ---- one step
 
@@ -59,8 +60,8 @@ room order = MAX_TEXT * length order
 
 -- what is known of the steps from here on, where so many findings were mended before
 abbrev pub Passes : RuleSet → List Rule → Parsed → ℕ → Passed → Type 0
-Passes rules order p count (Same fixed left) =
-    (n : ℕ) × (fixed ≡ count + n) × Reports rules p left.items
+Passes rules order p count (Same fixed) =
+    (n : ℕ) × (fixed ≡ count + n)
     × RunFixed rules order p (Ok (record { text = p.scanned.text; lists = []; fixed = n }))
 Passes rules order p count (Changed fixed change by rest) =
     (n : ℕ) × (fixed ≡ count + n) × (fixed + room rest.now ≤ MAX_TEXT * 16)
@@ -106,5 +107,5 @@ made_by e = record {
   text = e.change.text.items;
   edits = e.change.edits;
   fixed = e.fixed;
-  left = length e.left.items;
+  left = number_left e.left;
 }

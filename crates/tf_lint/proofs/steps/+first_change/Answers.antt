@@ -57,8 +57,8 @@ returns-in-Some-clause-passes n c = λ p h.
     (changed_pass c.args.searched.now.rules rule rest p step c.in-Some.change chosen (c.in_ok-taken.ensures.step p h) c.in-Some.is) in
     (step.count, refl, omega (arith, shorter, few, room), omega (arith, shorter), changed_turns rule p step c.in-Some.change (c.in_ok-taken.ensures.step p h) c.in-Some.is, on.0, on.1, on.2)
 
-pub returns-in_ok-left-clause-passes : goal.returns-in_ok-left-clause-passes
-returns-in_ok-left-clause-passes n c = λ p h. (0, omega arith, c.in_ok-left.ensures.issues p h, rw (no_rules c.args.order.now c.in_default.len_below) refl)
+pub returns-in_default-clause-passes : goal.returns-in_default-clause-passes
+returns-in_default-clause-passes n c = λ p h. (0, omega arith, rw (no_rules c.args.order.now c.in_default.len_below) refl)
 
 pub returns-in-None-clause-fault : goal.returns-in-None-clause-fault
 returns-in-None-clause-fault n c = λ p h.

@@ -4,7 +4,7 @@ use Rattle.edit_list.specs.Pieces.{Turns}
 use Rattle.tf_rule.specs.declared.rule.Rule.{Rule}
 use Rattle.tf_rule.specs.declared.rule_set.RuleSet.{RuleSet}
 use Rattle.tf_fix.specs.declared.parsed.Parsed.{Parsed}
-use Rattle.tf_lint.specs.Steps.{IsReport}
+use Rattle.tf_lint.specs.Remaining.{IsRemaining}
 use Rattle.tf_lint.specs.Inner.Passing.{Passes, FixesFrom, RefusesFrom, made_by}
 use Rattle.tf_lint.specs.declared.step.NewText.{NewText}
 use Rattle.tf_lint.specs.declared.steps.Passed.{Passed}
@@ -15,7 +15,7 @@ use Rattle.tf_lint.proofs.steps.+run.Goals as goal
 
 -- a rule that changed the text is none of those that are left
 fewer : (rules : RuleSet) (order : List Rule) (p : Parsed) (count : ℕ) (passed : Passed) → Passes rules order p count passed → left passed ≤ length order
-fewer rules order p count (Same fixed issues) told = omega arith
+fewer rules order p count (Same fixed) told = omega arith
 fewer rules order p count (Changed fixed change by rest) (n, number, few, shorter, turns, on, off, gone) = omega (arith, shorter)
 
 pub run-requires : goal.run-requires
@@ -37,13 +37,11 @@ run-requires n c =
 pub returns-in-Same-clause-made : goal.returns-in-Same-clause-made
 returns-in-Same-clause-made n c = λ order count p is.
     let rules = c.args.turned.before.rules in
-    no_more rules order c.args.turned.done.text.items p c.args.turned.done.edits count c.in-Same.fixed c.in-Same.left is.reads (subst (Passes rules order p count) c.in-Same.is is.passes)
+    no_more rules order c.args.turned.done.text.items p c.args.turned.done.edits count c.in-Same.fixed c.args.turned.found.items is.reads is.finds (subst (Passes rules order p count) c.in-Same.is is.passes)
 
 pub returns-in-Same-clause-left : goal.returns-in-Same-clause-left
 returns-in-Same-clause-left n c =
-    let (order, count, p, is) = c.requires.turned in
-    let told = subst (Passes c.args.turned.before.rules order p count) c.in-Same.is is.passes in
-    (p, is.reads, told.2)
+    let (order, count, p, is) = c.requires.turned in (p, is.reads, is.before.tokens, is.finds, is.sound)
 
 pub returns-in_err-next-in-Changed-clause-fault : goal.returns-in_err-next-in-Changed-clause-fault
 returns-in_err-next-in-Changed-clause-fault n c = λ order count p by is.
@@ -81,7 +79,7 @@ returns-in_ok-next-in-Changed-clause-turns n c = λ old before.
 
 pub returns-in_ok-next-in-Changed-clause-left : goal.returns-in_ok-next-in-Changed-clause-left
 returns-in_ok-next-in-Changed-clause-left n c =
-    subst (λ (r : RuleSet). IfOk c.run.result (λ e. IsReport r e.change.text.items e.left.items)) c.in_ok-next-in-Changed.ensures.rules c.run.ensures.left
+    subst (λ (r : RuleSet). IfOk c.run.result (λ e. IsRemaining r e.change.text.items e.left)) c.in_ok-next-in-Changed.ensures.rules c.run.ensures.left
 
 pub returns-in_ok-next-in-Changed-clause-fault : goal.returns-in_ok-next-in-Changed-clause-fault
 returns-in_ok-next-in-Changed-clause-fault n c = λ order count p by is.

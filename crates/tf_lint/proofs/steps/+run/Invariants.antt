@@ -5,7 +5,7 @@ use Rattle.tf_lint.proofs.steps.+run.Given as goal
 
 -- how many rules may still take a step
 abbrev pub left : Passed → ℕ
-left (Same fixed issues) = 0
+left (Same fixed) = 0
 left (Changed fixed change by rest) = suc (length rest.now)
 
 abbrev pub decreases-run : goal.decreases-run

@@ -1,4 +1,6 @@
-use Rattle.std.proofs.Common.{ℕ, List, ◌∙◌, sym, subst, inl, inr}
+use Rattle.std.proofs.Common.{ℕ, List, ◌∙◌, length, sym, subst, inl, inr}
+use Rattle.tf_rule.specs.Findings.{AreSound}
+use Rattle.tf_fix.specs.OneStep.{Finds}
 use Rattle.tf_rule.specs.declared.rule_set.RuleSet.{RuleSet}
 use Rattle.tf_fix.specs.Reading.{Reads}
 use Rattle.tf_lint.specs.Inner.Passing.{Passes, RefusesFrom}
@@ -16,11 +18,15 @@ returns-in_err-made-clause-fault c =
 
 pub returns-clause-turned : goal.returns-clause-turned
 returns-clause-turned c =
-    let (p, reads, is) = c.in_ok-made.ensures.searched in (
+    let (p, reads, is) = c.in_ok-made.ensures.searched in
+    let made = c.in_ok-made.made in
+    let found = c.before_next-before.result.1.items in (
       p,
       record {
         reads = subst (λ (t : List ℕ). Reads t p) c.deref.ensures.value reads;
         before = c.before_next-before.ensures.before p is;
+        finds = subst (λ (r : RuleSet). Finds r p found) (sym c.before_next-before.ensures.rules) (subst (Finds made.searched.rules p) (sym c.before_next-before.ensures.found) is.finds);
+        sound = subst (AreSound (length p.scanned.pairs)) (sym c.before_next-before.ensures.found) is.sound;
         passes = subst (λ (r : RuleSet). Passes r c.args.order.now p c.args.count c.in_ok-passed.passed) (sym c.before_next-before.ensures.rules) (c.in_ok-passed.ensures.passes p is);
       },
     )

@@ -1,0 +1,60 @@
+//! What a fix leaves.
+
+ghost use Rattle.std.specs.Prelude.{◌≡◌, ◌<◌, List, IfOk, IfErr, string_bytes};
+ghost use Rattle.tf_fix.specs.declared.fault.LintFault.TheVariants.{Memory};
+ghost use Rattle.tf_lint.specs.Issues.{reports};
+ghost use Rattle.tf_lint.specs.Remaining.{number_left, IsRemaining};
+ghost use Rattle.tf_lint.specs.Reports.{Report, lines_of};
+ghost use Rattle.tf_lint.specs.Steps.{IsReport};
+ghost use Rattle.tf_rule.specs.declared.rule_set.RuleSet.{RuleSet};
+
+use crate::issue::Issue;
+use crate::listing::{issues_of, lines_of_findings};
+use hcl_scan::{Scanned, TokenList};
+use std::alloc::{AllocError, Global};
+use tf_fix::LintFault;
+use tf_rule::Finding;
+
+/// What the rules of a fix still find in the text that it left. Lines and issues are made of it
+/// only where they are asked for.
+#[derive(Drop)]
+pub struct Remaining {
+    pub(crate) tokens: TokenList,
+    /// In the order of a report, without what comments silence.
+    pub(crate) found: Vec<Finding>,
+}
+
+impl Remaining {
+    /// How many issues are left.
+    pub fn len(&self) -> usize
+        ensures { result ≡ number_left self.now }
+    {
+        self.found.len()
+    }
+
+    /// The line of each issue that is left, in a report on the file of this name, each followed by
+    /// LF. The text is the one that the fix left. Where nothing is left, no memory is asked for.
+    pub fn lines(self, alloc: Global, name: &str, text: &[u8]) -> Result<String, AllocError>
+        requires { (rules : RuleSet) × IsRemaining rules text.now self }
+        ensures lines { (rules : RuleSet) → IsRemaining rules text.now self
+            → IfOk result (λ lines. (told : List Report) × IsReport rules text.now told
+            × (string_bytes lines ≡ lines_of name.now told)) }
+        ensures asked { IfErr result (λ _. 0 < number_left self) }
+    {
+        let scanned = Scanned::over(text, self.tokens);
+        lines_of_findings(alloc, name, &scanned, &self.found)
+    }
+
+    /// The issues that are left, in the order of a report. The text is the one that the fix left.
+    /// The only refusal is `Memory`; where nothing is left, none is asked for.
+    pub fn issues(self, alloc: Global, text: &[u8]) -> Result<Vec<Issue>, LintFault>
+        requires { (rules : RuleSet) × IsRemaining rules text.now self }
+        ensures issues { (rules : RuleSet) → IsRemaining rules text.now self
+            → IfOk result (λ issues. IsReport rules text.now (reports issues.items)) }
+        ensures fault { IfErr result (λ fault. fault ≡ Memory) }
+        ensures asked { IfErr result (λ _. 0 < number_left self) }
+    {
+        let scanned = Scanned::over(text, self.tokens);
+        issues_of(alloc, &scanned, &self.found)
+    }
+}
