@@ -5,7 +5,7 @@ ghost use Rattle.edit_list.specs.Pieces.{Turns};
 ghost use Rattle.tf_commands.specs.Makes.{Makes, RefusesText};
 ghost use Rattle.tf_commands.specs.declared.command.Command.TheVariants.{Fix};
 ghost use Rattle.tf_lint.specs.Fixed.{made_of, text_after};
-ghost use Rattle.tf_lint.specs.Steps.{IsReport};
+ghost use Rattle.tf_lint.specs.Remaining.{IsRemaining};
 
 use crate::command::Fault;
 use std::alloc::Global;
@@ -18,7 +18,7 @@ pub fn fix_text(alloc: Global, text: &[u8], rules: RuleSet) -> Result<Fixed, Fau
     ensures change { IfOk result
         (λ fixed. IfSome fixed.change (λ change. Turns change.edits text.now change.text.items)) }
     ensures left { IfOk result
-        (λ fixed. IsReport rules (text_after text.now fixed.change) fixed.left.items) }
+        (λ fixed. IsRemaining rules (text_after text.now fixed.change) fixed.left) }
     ensures fault { IfErr result (λ fault. RefusesText (Fix rules) text.now fault) }
 {
     match tf_lint::fix_text(alloc, text, rules) {

@@ -28,5 +28,5 @@ pub use running::run;
 pub use session::Session;
 pub use streaming::{check_stream, fix_through, format_stream, step_stream};
 pub use texts::{put_journal, put_text, take_text};
-pub use tf_lint::{Issue, Rule, RuleSet};
+pub use tf_lint::{Issue, Remaining, Rule, RuleSet};
 pub use tf_stream::Told;

@@ -1,7 +1,8 @@
 //! A text with the journal of what changed it.
 
 ghost use Rattle.std.specs.Prelude.{◌≡◌, true, IfOk, IfErr, IfSome, OnErr};
-ghost use Rattle.tf_lint.specs.Steps.{differ, IsReport};
+ghost use Rattle.tf_lint.specs.Remaining.{IsRemaining};
+ghost use Rattle.tf_lint.specs.Steps.{differ};
 ghost use Rattle.tf_commands.specs.declared.command.Command.TheVariants.{Fix};
 ghost use Rattle.tf_commands.specs.Machine.{done};
 ghost use Rattle.tf_lint.specs.Fixed.{text_after, edits_after};
@@ -16,7 +17,7 @@ use crate::removing::{Remainder, without};
 use edit_list::laws::undo_is_exact;
 use edit_list::{Change as _, Journal, Record, Word};
 use std::alloc::Global;
-use tf_lint::{Fixed, Issue, NewText, RuleSet};
+use tf_lint::{Fixed, NewText, Remaining, RuleSet};
 
 /// A text, and the journal of the commands that changed it.
 #[derive(Drop)]
@@ -72,13 +73,13 @@ impl Session {
         }
     }
 
-    /// A fix by the rules of the set, and what they report of the text behind it. A refused one
+    /// A fix by the rules of the set, and what they find in the text behind it. A refused one
     /// changes nothing.
-    pub fn fix(&mut self, alloc: Global, rules: RuleSet) -> Result<(Done, Vec<Issue>), Fault>
+    pub fn fix(&mut self, alloc: Global, rules: RuleSet) -> Result<(Done, Remaining), Fault>
         ensures done { IfOk result
             (λ r. DoesStep (Fix rules) (text_of self.old) (records_of self.old) r.0
             (text_of self.new) (records_of self.new)) }
-        ensures left { IfOk result (λ r. IsReport rules (text_of self.new) r.1.items) }
+        ensures left { IfOk result (λ r. IsRemaining rules (text_of self.new) r.1) }
         ensures refused { IfErr result
             (λ fault. RefusesStep (Fix rules) (text_of self.old) (records_of self.old) fault) }
         ensures text { OnErr result (text_of self.new ≡ text_of self.old) }

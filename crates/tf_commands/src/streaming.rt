@@ -6,7 +6,7 @@ ghost use Rattle.tf_stream.specs.Streams.{from, into};
 ghost use Rattle.tf_commands.specs.Session.{text_of, records_of};
 ghost use Rattle.tf_commands.specs.Streams.{is_write};
 ghost use Rattle.tf_commands.specs.declared.command.Command.TheVariants.{Fmt, Fix};
-ghost use Rattle.tf_lint.specs.Steps.{IsReport};
+ghost use Rattle.tf_lint.specs.Remaining.{IsRemaining};
 ghost use Rattle.tf_commands.specs.Streaming.{StepsThrough, StepsAtFault, FormatsThrough, Checks, ChecksAtFault};
 
 use crate::command::{Command, Done};
@@ -17,7 +17,7 @@ use crate::texts::{put_text, take_text};
 use edit_list::Journal;
 use std::alloc::Global;
 use std::io::{Read, Write};
-use tf_lint::{Issue, RuleSet};
+use tf_lint::{Remaining, RuleSet};
 use tf_stream::Told;
 
 /// One command over the whole text of a reader, with no journal. The new text, changed or not, goes
@@ -54,20 +54,20 @@ pub fn step_stream<R: Read, W: Write>(
 /// A fix by the rules of the set over the whole text of a reader, with no journal. The new text,
 /// changed or not, goes to the writer.
 ///
-/// Answers the session after it, what it did, and what the rules report of the new text. Nothing is
+/// Answers the session after it, what it did, and what the rules find in the new text. Nothing is
 /// written at any fault but `Write`.
 pub fn fix_through<R: Read, W: Write>(
     alloc: Global,
     rules: RuleSet,
     text: &mut Told<R>,
     out: &mut Told<W>,
-) -> Result<(Session, Done, Vec<Issue>), RunFault>
+) -> Result<(Session, Done, Remaining), RunFault>
     requires text_fresh { has_failed text.old ≡ false }
     requires out_fresh { has_failed out.old ≡ false }
     ensures done { IfOk result
         (λ made. StepsThrough (Fix rules) made.1 (text_of made.0) (records_of made.0)
         (from R.remaining text.old text.new) (into W.contents out.old out.new)) }
-    ensures left { IfOk result (λ made. IsReport rules (text_of made.0) made.2.items) }
+    ensures left { IfOk result (λ made. IsRemaining rules (text_of made.0) made.2) }
     ensures fault { IfErr result
         (λ fault. StepsAtFault (Fix rules) fault (from R.remaining text.old text.new)
         (into W.contents out.old out.new)) }

@@ -1,5 +1,5 @@
--- What was made is put on, and what is left is reported of the text that was put on.
-use Rattle.std.proofs.Common.{◌≡◌, List, ℕ, Result, length, sym, subst, rules, IfOk}
+-- What was made is put on, and what is left is found in the text that was put on.
+use Rattle.std.proofs.Common.{◌≡◌, List, ℕ, Result, sym, subst, rules, IfOk}
 use Rattle.tf_commands.specs.declared.command.Command.TheVariants.{Fix}
 use Rattle.tf_commands.specs.declared.command.Done.{Done}
 use Rattle.tf_commands.specs.declared.command.Fault.{Fault}
@@ -7,13 +7,13 @@ use Rattle.tf_commands.specs.Records.{DoesStep}
 use Rattle.tf_commands.specs.Session.{text_of, records_of}
 use Rattle.tf_commands.proofs.Putting.{MakesOf, put_fix}
 use Rattle.tf_lint.specs.Fixed.{text_after}
-use Rattle.tf_lint.specs.Steps.{IsReport}
+use Rattle.tf_lint.specs.Remaining.{number_left, IsRemaining}
 use Rattle.tf_commands.proofs.session.Session.fix.Goals as goal
 
 pub returns-in-Ok-clause-done : goal.returns-in-Ok-clause-done
 returns-in-Ok-clause-done c =
     let made = c.in_ok-change.field-0 in
-    let counted : c.len.result ≡ length made.left.items = search rules in
+    let counted : c.len.result ≡ number_left made.left = search rules in
     let makes = subst (MakesOf (Fix c.args.rules) c.as_slice.result.now made.change made.fixed) (sym counted) c.in_ok-change.ensures.made in
     let does = put_fix c.args.rules c.as_slice.result.now (text_of c.args.self.now) (records_of c.args.self.now) made.change made.fixed c.len.result c.put_on.result (text_of c.put_on.new.self) (records_of c.put_on.new.self)
     c.as_slice.ensures.value makes c.in_ok-change.ensures.change c.put_on.ensures.replied c.put_on.ensures.put c.put_on.ensures.added in
@@ -22,5 +22,5 @@ returns-in-Ok-clause-done c =
 pub returns-in-Ok-clause-left : goal.returns-in-Ok-clause-left
 returns-in-Ok-clause-left c =
     let made = c.in_ok-change.field-0 in
-    let report = subst (λ (t : List ℕ). IsReport c.args.rules (text_after t made.change) made.left.items) c.as_slice.ensures.value c.in_ok-change.ensures.left in
-    subst (λ (t : List ℕ). IsReport c.args.rules t made.left.items) (sym c.in-Ok.ensures.put) report
+    let remains = subst (λ (t : List ℕ). IsRemaining c.args.rules (text_after t made.change) made.left) c.as_slice.ensures.value c.in_ok-change.ensures.left in
+    subst (λ (t : List ℕ). IsRemaining c.args.rules t made.left) (sym c.in-Ok.ensures.put) remains
