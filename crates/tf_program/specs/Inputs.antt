@@ -2,9 +2,7 @@
 use Rattle.std.specs.Prelude.{◌≡◌, ◌<◌, ◌⊎◌, ℕ, true, false, List, []}
 use Rattle.edit_list.specs.Journal.{Entered}
 use Rattle.tf_rule.specs.declared.rule_set.RuleSet.{RuleSet}
-use Rattle.tf_lint.specs.declared.issue.Issue.{Issue}
-use Rattle.tf_lint.specs.Issues.{reports}
-use Rattle.tf_lint.specs.Reports.{lines_of}
+use Rattle.tf_lint.specs.Reports.{Report, lines_of}
 use Rattle.tf_lint.specs.Steps.{IsReport}
 use Rattle.tf_stream.specs.Streams.{Source, Target, Puts, Untouched}
 use Rattle.tf_commands.specs.declared.command.Command.TheVariants.{Fmt, Fix}
@@ -52,8 +50,7 @@ abbrev pub FixesText : List ℕ → RuleSet → List ℕ → List Entered → Do
     → List Entered → Type 0
 FixesText name rules t js d left u ks =
     DoesStep (Fix rules) t js d u ks
-    × (issues : List Issue) × IsReport rules u issues
-    × (left ≡ lines_of name (reports issues))
+    × (told : List Report) × IsReport rules u told × (left ≡ lines_of name told)
 
 -- The fix refused them; or it was done, and a growth was refused for those lines.
 abbrev pub NotFixed : RuleSet → List ℕ → List Entered → RunFault → Type 0

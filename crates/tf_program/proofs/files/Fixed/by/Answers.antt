@@ -1,10 +1,9 @@
 -- The fix is done; there are its lines, or a growth was refused.
-use Rattle.std.proofs.Common.{◌≡◌, ◌∙◌, Err, List, ap, rules}
+use Rattle.std.proofs.Common.{◌≡◌, ◌∙◌, Err, List, ℕ, rules, subst, sym}
 use Rattle.std.specs.Prelude.{string_bytes}
-use Rattle.tf_lint.specs.declared.issue.Issue.{Issue}
-use Rattle.tf_lint.specs.Issues.{reports}
+use Rattle.tf_lint.specs.Remaining.{IsRemaining}
+use Rattle.tf_lint.specs.Steps.{IsReport}
 use Rattle.tf_commands.specs.declared.fault.RunFault.{RunFault}
-use Rattle.tf_lint.specs.Reports.{lines_of}
 use Rattle.tf_commands.specs.Session.{text_of, records_of}
 use Rattle.tf_program.proofs.Fixing.{no_lines}
 use Rattle.tf_program.proofs.files.Fixed.by.Goals as goal
@@ -17,5 +16,7 @@ returns-in_err-lines-clause-fault c =
 pub returns-clause-done : goal.returns-clause-done
 returns-clause-done c =
     let bytes : c.into_bytes.result.items ≡ string_bytes c.in_ok-lines.lines = search rules in
-    let lines = c.in_ok-lines.ensures.lines ∙ ap (λ (xs : List Issue). lines_of c.args.name.now (reports xs)) c.deref.ensures.value in
-    (c.in_ok-done.ensures.done, c.in_ok-done.left.items, c.in_ok-done.ensures.left, bytes ∙ lines)
+    let remains = subst (λ (t : List ℕ). IsRemaining c.args.rules t c.in_ok-done.left) (sym c.text.ensures) c.in_ok-done.ensures.left in
+    let (told, report, lines) = c.in_ok-lines.ensures.lines c.args.rules remains in
+    let here = subst (λ (t : List ℕ). IsReport c.args.rules t told) c.text.ensures report in
+    (c.in_ok-done.ensures.done, told, here, bytes ∙ lines)
