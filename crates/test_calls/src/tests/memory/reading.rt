@@ -1,14 +1,14 @@
 //! Calls on one text: its tokens, its tree, its layout, its issues.
 
 use super::alike::are_same_edits;
-use super::inputs::{LINE, SHORT, TEXT, changed};
+use super::inputs::{LINE, SHORT, TEXT, changed, session_of};
 use super::{answered, begin};
 use crate::tests::given;
 use hcl_layout::LayoutFault;
 use hcl_scan::{ScanFault, Scanned};
 use hcl_tree::ParseFault;
 use std::alloc::{AllocError, Global};
-use tf_lint::{FixFault, LintFault, NewText, Place, Rule, RuleSet, read_text};
+use tf_lint::{FixFault, LintFault, NewText, Place, Rule, RuleSet, lines_of_issues, read_text};
 use tf_session::Command;
 
 #[test]
@@ -145,6 +145,30 @@ fn fix_text(rt: HostRuntime) {
     let made = answered(&rt, answer, FixFault::Memory, true);
     assert!(rt; are_same_changes(&made.change, &right.change));
     assert!(rt; made.left.len() == right.left.len());
+}
+
+#[test]
+fn remaining_lines(rt: HostRuntime) {
+    let mut session = session_of(&rt, TEXT, b"");
+    let (_, left) = given(&rt, session.fix(rt.alloc(), RuleSet::all()));
+    let issues = given(&rt, left.issues(rt.alloc(), session.text()));
+    let right = given(&rt, lines_of_issues(rt.alloc(), "main.tf", &issues));
+    let mut session = session_of(&rt, TEXT, b"");
+    let (_, left) = given(&rt, session.fix(rt.alloc(), RuleSet::all()));
+    begin(&rt);
+    let answer = left.lines(rt.alloc(), "main.tf", session.text());
+    let lines = answered(&rt, answer, AllocError, true);
+    assert!(rt; lines.as_str() == right.as_str());
+}
+
+#[test]
+fn remaining_issues(rt: HostRuntime) {
+    let mut session = session_of(&rt, TEXT, b"");
+    let (done, left) = given(&rt, session.fix(rt.alloc(), RuleSet::all()));
+    begin(&rt);
+    let answer = left.issues(rt.alloc(), session.text());
+    let issues = answered(&rt, answer, LintFault::Memory, true);
+    assert!(rt; issues.len() == done.left);
 }
 
 fn are_same_changes(a: &Option<NewText>, b: &Option<NewText>) -> bool {

@@ -59,6 +59,7 @@ fn fix_through(rt: HostRuntime) {
 fn put_issues(rt: HostRuntime) {
     let mut session = session_of(&rt, TEXT, b"");
     let (_, left) = given(&rt, session.fix(rt.alloc(), RuleSet::all()));
+    let left = given(&rt, left.issues(rt.alloc(), session.text()));
     let mut right = Told::new(roomy(&rt));
     given(
         &rt,
