@@ -145,6 +145,7 @@ impl<'s, 't> Reader<'s, 't> {
         ensures { Reads (spec.tuple self.now first at.old) result at.new }
     {
         let found = self.items(at)?;
+        let found = Boxed::new(self.alloc(), found)?;
         nodes::term(first, *at, Shape::Tuple(found))
     }
 
@@ -156,6 +157,7 @@ impl<'s, 't> Reader<'s, 't> {
     {
         self.lines(at)?;
         let found = self.elements(at)?;
+        let found = Boxed::new(self.alloc(), found)?;
         nodes::term(first, *at, Shape::Object(found))
     }
 

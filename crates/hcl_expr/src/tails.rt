@@ -121,6 +121,7 @@ impl<'s, 't> Reader<'s, 't> {
         ensures { Reads (spec.tailed self.now first head at.old) result at.new }
     {
         let tails = self.tails(at)?;
+        let tails = Boxed::new(self.alloc(), tails)?;
         nodes::tailed(first, *at, head, tails)
     }
 

@@ -14,6 +14,7 @@ use hcl_grammar::goal::Goal;
 use hcl_grammar::tree::{Shape, Term};
 use hcl_nodes::nodes;
 use hcl_token::Kind;
+use plain_tree::Boxed;
 
 impl<'s, 't> Reader<'s, 't> {
     /// Whether `(` or `::` comes next, so that the identifier before it is a function's name.
@@ -105,6 +106,7 @@ impl<'s, 't> Reader<'s, 't> {
         ensures { Reads (spec.quoted self.now first at.old) result at.new }
     {
         let template = self.enter(first, at)?.closed(Kind::QuoteClose, at)?;
+        let template = Boxed::new(self.alloc(), template)?;
         nodes::term(first, *at, Shape::Quoted(template))
     }
 
@@ -116,6 +118,7 @@ impl<'s, 't> Reader<'s, 't> {
         ensures { Reads (spec.heredoc self.now first at.old) result at.new }
     {
         let template = self.enter(first, at)?.closed(Kind::HereClose, at)?;
+        let template = Boxed::new(self.alloc(), template)?;
         nodes::term(first, *at, Shape::Heredoc(template))
     }
 

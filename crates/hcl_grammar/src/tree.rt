@@ -61,6 +61,9 @@ pub struct Expr {
     pub form: Form,
 }
 
+// So it takes 48 bytes of memory of its own.
+const _: () = prove!(size_of::<Expr>() == 40);
+
 /// What an expression is.
 #[cycle(tree)]
 #[derive(Drop)]
@@ -68,11 +71,11 @@ pub enum Form {
     /// `A ? B : C`
     Conditional(Boxed<Expr>, Boxed<Expr>, Boxed<Expr>),
     /// An operand, and one or more operators of one level, each with the operand behind it.
-    Chain(Boxed<Expr>, Items<Link>),
+    Chain(Boxed<Expr>, Boxed<Items<Link>>),
     /// `-A` or `!A`
     Prefixed(Prefix, Boxed<Expr>),
     /// A term with one or more tails.
-    Tailed(Boxed<Term>, Items<Tail>),
+    Tailed(Boxed<Term>, Boxed<Items<Tail>>),
     /// A term without tails.
     Plain(Term),
 }
@@ -127,17 +130,17 @@ pub enum Shape {
     /// `NAME(A, B)`
     Call(Boxed<Call>),
     /// `[A, B]`
-    Tuple(Items<Expr>),
+    Tuple(Boxed<Items<Expr>>),
     /// `{ A = B }`
-    Object(Items<Elem>),
+    Object(Boxed<Items<Elem>>),
     /// `[for NAME in A : B]`
     ForTuple(Boxed<ForTuple>),
     /// `{for NAME in A : B => C}`
     ForObject(Boxed<ForObject>),
     /// `"..."`
-    Quoted(Template),
+    Quoted(Boxed<Template>),
     /// A heredoc.
-    Heredoc(Template),
+    Heredoc(Boxed<Template>),
     /// `(A)`
     Parens(Boxed<Expr>),
 }

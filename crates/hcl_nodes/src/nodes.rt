@@ -6,8 +6,6 @@
 
 ghost use Rattle.std.specs.Prelude.{◌≡◌, ◌^◌, ◌≤◌, ◌⊎◌, [], Ok, Some, IfOk, IfErr};
 ghost use Rattle.hcl_grammar.specs.declared.tree.Content.TheVariants as content;
-ghost use Rattle.hcl_grammar.specs.declared.tree.Part.TheVariants as part;
-ghost use Rattle.hcl_grammar.specs.declared.tree.Tail.TheVariants as tail;
 ghost use Rattle.hcl_grammar.specs.Nodes as nodes;
 ghost use Rattle.hcl_grammar.specs.Pure.Reading.{Reads};
 
@@ -84,7 +82,9 @@ pub fn chain(
     if links.is_empty() {
         Ok(head)
     } else {
-        expr(first, past, Form::Chain(Boxed::new(alloc, head)?, links))
+        let head = Boxed::new(alloc, head)?;
+        let links = Boxed::new(alloc, links)?;
+        expr(first, past, Form::Chain(head, links))
     }
 }
 
@@ -102,23 +102,16 @@ pub fn tailed(
     first: usize,
     past: usize,
     head: Boxed<Term>,
-    tails: Items<Tail>,
+    tails: Boxed<Items<Tail>>,
 ) -> Result<Expr, TokenFault>
     ensures node { Reads (Ok (nodes.tailed first past head tails, past)) result past }
     ensures err { IfErr result (λ _. (2 ^ 32 ≤ first) ⊎ (2 ^ 32 ≤ past)) }
 {
-    if tails.is_empty() {
+    if tails.get().is_empty() {
         plain(first, past, head.into_inner())
     } else {
         expr(first, past, Form::Tailed(head, tails))
     }
-}
-
-/// An index in brackets.
-pub fn index(alloc: Global, key: Expr) -> Result<Tail, AllocError>
-    ensures { IfOk result (λ t. t ≡ tail.Index key) }
-{
-    Ok(Tail::Index(Boxed::new(alloc, key)?))
 }
 
 /// A call of a function.
@@ -201,13 +194,6 @@ pub fn template(first: usize, past: usize, parts: Items<Part>) -> Result<Templat
 {
     let (first, past) = narrow(first, past)?;
     Ok(Template { first, past, parts })
-}
-
-/// An interpolation.
-pub fn interp(alloc: Global, value: Expr) -> Result<Part, AllocError>
-    ensures { IfOk result (λ p. p ≡ part.Interp value) }
-{
-    Ok(Part::Interp(Boxed::new(alloc, value)?))
 }
 
 /// An `if` directive.

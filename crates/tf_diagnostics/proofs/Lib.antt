@@ -1,3 +1,4 @@
+mod CommentLemmas
 mod FilterLemmas
 mod Levels
 mod LineLemmas

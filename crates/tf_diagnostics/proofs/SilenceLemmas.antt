@@ -1,25 +1,29 @@
 -- Findings that are not silenced.
-use Rattle.std.proofs.Common.{◌≡◌, ◌≤◌, ℕ, false, not, List, [], ◌∷◌, length, drop, filter, refl, ap, sym, ◌∙◌}
-use Rattle.std.proofs.lemmas.List.{drop_all}
+use Rattle.std.proofs.Common.{◌≡◌, ◌==◌, ℕ, Bool, true, false, not, List, [], ◌∷◌, length, filter, refl, ap, sym, ◌∙◌, arith}
+use Rattle.std.proofs.lemmas.Bool.Decides.{nat_tests}
+use Rattle.std.proofs.lemmas.List.{nil_from_length}
 use Rattle.std.proofs.lemmas.List.Elements.{filter_agree}
 use Rattle.hcl_token.specs.Place.{line_of}
 use Rattle.hcl_token.specs.Tokens.{Pair}
 use Rattle.tf_rule.specs.declared.finding.Finding.{Finding}
 use Rattle.tf_rule.specs.declared.rule.Rule.{Rule}
 use Rattle.tf_diagnostics.specs.declared.suppression.mark.Mark.{Mark}
-use Rattle.tf_diagnostics.specs.Silencing.{is_silenced, is_silenced_on, silenced_from}
-use Rattle.tf_diagnostics.specs.Inner.Marks.{is_hit}
+use Rattle.tf_diagnostics.specs.Silencing.{is_silenced, is_silenced_on}
+use Rattle.tf_diagnostics.specs.Inner.Marks.{is_hit, silences_among}
 
 stays : (pairs : List Pair) (found : List Finding) → ((f : Finding) → is_silenced pairs f ≡ false) → found ≡ filter (λ f. not (is_silenced pairs f)) found
 stays pairs [] never = refl
 stays pairs (f ∷ found) never = rw (never f) (ap (λ (l : List Finding). f ∷ l) (stays pairs found never))
 
+pub is_empty : (xs : List ℕ) (b : Bool) → b ≡ (length xs == 0) → b ≡ true → xs ≡ []
+is_empty xs b is none = nil_from_length xs (grind (arith, nat_tests))
+
 -- where no token silences anything, all are left
-pub all_left : (pairs : List Pair) (found : List Finding) (first : ℕ) → length pairs ≤ first
-    → ((rule : Rule) (line : ℕ) → silenced_from pairs rule line first (drop first pairs) ≡ is_silenced_on pairs rule line)
+pub all_left : (pairs : List Pair) (found : List Finding) (silencing : List ℕ) → silencing ≡ []
+    → ((rule : Rule) (line : ℕ) → silences_among pairs rule line silencing ≡ is_silenced_on pairs rule line)
     → found ≡ filter (λ f. not (is_silenced pairs f)) found
-all_left pairs found first past before =
-    stays pairs found (λ f. sym (before f.rule (line_of pairs f.first)) ∙ ap (silenced_from pairs f.rule (line_of pairs f.first) first) (drop_all first pairs past))
+all_left pairs found silencing none silence =
+    stays pairs found (λ f. sym (silence f.rule (line_of pairs f.first)) ∙ ap (silences_among pairs f.rule (line_of pairs f.first)) none)
 
 -- what no mark hits is left
 pub unhit_left : (pairs there : List Pair) (found list : List Finding) (marks slice : List Mark) → there ≡ pairs → list ≡ found → slice ≡ marks

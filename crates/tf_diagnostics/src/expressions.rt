@@ -56,7 +56,7 @@ fn form(
         }
         Form::Chain(head, rest) => {
             boxed(finder, Role::Elsewhere, head, found)?;
-            links(finder, rest, found)?;
+            links(finder, rest.get(), found)?;
             Ok(())
         }
         Form::Prefixed(_, operand) => {
@@ -65,7 +65,7 @@ fn form(
         }
         Form::Tailed(t, behind) => {
             term(finder, Role::Elsewhere, t.get(), found)?;
-            tails(finder, behind, found)?;
+            tails(finder, behind.get(), found)?;
             Ok(())
         }
         Form::Plain(t) => {
@@ -231,12 +231,12 @@ fn shape(finder: &Finder<'_, '_>, shape: &Shape, found: &mut Vec<Finding>) -> Re
         Shape::Number => Ok(()),
         Shape::Identifier => Ok(()),
         Shape::Call(c) => exprs(finder, Role::Argument, &c.get().arguments, found),
-        Shape::Tuple(es) => exprs(finder, Role::Element, es, found),
-        Shape::Object(xs) => elems(finder, xs, found),
+        Shape::Tuple(es) => exprs(finder, Role::Element, es.get(), found),
+        Shape::Object(xs) => elems(finder, xs.get(), found),
         Shape::ForTuple(f) => for_tuple(finder, f.get(), found),
         Shape::ForObject(f) => for_object(finder, f.get(), found),
-        Shape::Quoted(t) => parts(finder, &t.parts, found),
-        Shape::Heredoc(t) => parts(finder, &t.parts, found),
+        Shape::Quoted(t) => parts(finder, &t.get().parts, found),
+        Shape::Heredoc(t) => parts(finder, &t.get().parts, found),
         Shape::Parens(e) => boxed(finder, Role::Parentheses, e, found),
     }
 }

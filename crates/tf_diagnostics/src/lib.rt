@@ -3,6 +3,7 @@
 #![tactic(auto)]
 
 mod bodies;
+mod comments;
 mod expressions;
 pub mod laws;
 mod one;

@@ -9,4 +9,5 @@ mod mark;
 mod marking;
 mod silence;
 
+pub use comment::{is_comment, is_silencing};
 pub use silence::without_silenced;

@@ -6,18 +6,19 @@ ghost use Rattle.tf_rule.specs.Findings.{AreSound};
 ghost use Rattle.tf_diagnostics.specs.Findings.{AreAtNodesAndBlocks, AreFindings};
 
 use crate::bodies::tree_findings;
+use crate::comments::look_at_comments;
 use crate::order::put_in_order;
 use crate::suppression::without_silenced;
 use hcl_grammar::tree::Tree;
 use hcl_scan::Scanned;
 use std::alloc::{AllocError, Global};
 use tf_rule::{Finding, RuleSet, sound_is_sound};
-use tf_rules::{add_comment_findings, add_top_findings};
+use tf_rules::add_top_findings;
 
 /// What the rules of the set find in a text, by the first token, at one token by rule, and of one
 /// rule the longer first; without what comments silence. `AllocError` where memory is refused.
 ///
-/// It takes one pass over the tree and two over the tokens, and a sort of what is found.
+/// It takes one pass over the tree and one over the tokens, and a sort of what is found.
 ///
 /// TFLint ruleset for the Terraform language.
 pub fn findings(
@@ -53,8 +54,8 @@ pub fn complete_findings(
 {
     sound_is_sound();
     let mut all = found;
-    add_comment_findings(scanned, rules, &mut all)?;
+    let silencing = look_at_comments(alloc, scanned, rules, &mut all)?;
     put_in_order(&mut all)?;
-    let told = without_silenced(alloc, scanned, all)?;
+    let told = without_silenced(alloc, scanned, all, &silencing)?;
     Ok(told)
 }

@@ -1,4 +1,3 @@
-mod CommentLemmas
 mod SpanLemmas
 pub mod Origin
 pub mod Origins

@@ -14,7 +14,7 @@ fn is_empty_text(e: &Expr) -> bool
 {
     match &e.form {
         Form::Plain(t) => match &t.shape {
-            Shape::Quoted(q) => q.parts.is_empty(),
+            Shape::Quoted(q) => q.get().parts.is_empty(),
             _ => false,
         },
         _ => false,

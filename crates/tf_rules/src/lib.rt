@@ -15,5 +15,5 @@ mod words;
 pub use finder::Finder;
 pub use node::{at_expr, at_tail, at_term};
 pub use role::Role;
-pub use rules::comment_syntax::add_comment_findings;
+pub use rules::comment_syntax::at_comment;
 pub use top::{add_member_findings, add_top_findings};

@@ -113,7 +113,7 @@ impl<'t> Left<'t> {
             }
             Form::Chain(head, links) => {
                 self.expr(head.get());
-                self.links(links, seen);
+                self.links(links.get(), seen);
             }
             Form::Prefixed(prefix, operand) => {
                 seen.form(name_of_prefix(*prefix));
@@ -121,7 +121,7 @@ impl<'t> Left<'t> {
             }
             Form::Tailed(term, tails) => {
                 self.shape(&term.get().shape, seen);
-                self.tails(tails);
+                self.tails(tails.get());
             }
             Form::Plain(term) => self.shape(&term.shape, seen),
         }
@@ -158,11 +158,11 @@ impl<'t> Left<'t> {
         match shape {
             Shape::Number | Shape::Identifier => {}
             Shape::Call(call) => self.call(call.get(), seen),
-            Shape::Tuple(exprs) => self.exprs(exprs),
-            Shape::Object(elems) => self.elems(elems),
+            Shape::Tuple(exprs) => self.exprs(exprs.get()),
+            Shape::Object(elems) => self.elems(elems.get()),
             Shape::ForTuple(each) => self.for_tuple(each.get(), seen),
             Shape::ForObject(each) => self.for_object(each.get(), seen),
-            Shape::Quoted(template) | Shape::Heredoc(template) => self.parts(template),
+            Shape::Quoted(template) | Shape::Heredoc(template) => self.parts(template.get()),
             Shape::Parens(expr) => self.expr(expr.get()),
         }
     }
@@ -273,15 +273,15 @@ fn name_of_shape(shape: &Shape) -> &'static str {
         Shape::Identifier => "a name",
         Shape::Call(call) if call.get().names.len() > 1 => "a call of a name with ::",
         Shape::Call(_) => "a call",
-        Shape::Tuple(exprs) if exprs.is_empty() => "a tuple without elements",
+        Shape::Tuple(exprs) if exprs.get().is_empty() => "a tuple without elements",
         Shape::Tuple(_) => "a tuple",
-        Shape::Object(elems) if elems.is_empty() => "an object without elements",
+        Shape::Object(elems) if elems.get().is_empty() => "an object without elements",
         Shape::Object(_) => "an object",
         Shape::ForTuple(_) => "[for",
         Shape::ForObject(_) => "{for",
-        Shape::Quoted(template) if template.parts.is_empty() => "quotes alone",
+        Shape::Quoted(template) if template.get().parts.is_empty() => "quotes alone",
         Shape::Quoted(_) => "quoted text",
-        Shape::Heredoc(template) if template.parts.is_empty() => "a heredoc without a line",
+        Shape::Heredoc(template) if template.get().parts.is_empty() => "a heredoc without a line",
         Shape::Heredoc(_) => "a heredoc",
         Shape::Parens(_) => "( )",
     }

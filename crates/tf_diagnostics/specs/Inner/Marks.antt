@@ -18,6 +18,15 @@ silences_at pairs rule line i =
     (λ (p : Pair). silences p.kind p.spelling rule && is_near line (line_of pairs i))
     (slice_get pairs i)) false
 
+-- whether one of the tokens of these numbers is
+abbrev pub silences_among : List Pair → Rule → ℕ → List ℕ → Bool
+silences_among pairs rule line numbers = list_any (silences_at pairs rule line) numbers
+
+-- the numbers rise, from a on, and stand before b
+abbrev pub Rise : ℕ → List ℕ → ℕ → Type 0
+Rise a [] b = a ≤ b
+Rise a (n ∷ ns) b = (a ≤ n) × Rise (n + 1) ns b
+
 -- whether the rule is in the set, if there is one
 abbrev pub option_has : Option RuleSet → Rule → Bool
 option_has None rule = false

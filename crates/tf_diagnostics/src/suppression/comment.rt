@@ -5,6 +5,7 @@ ghost use Rattle.std.specs.List.{list_all, list_any};
 ghost use Rattle.std.specs.Str.{bytes_eq};
 ghost use Rattle.tf_rule.specs.declared.rule.Rule.{Rule};
 ghost use Rattle.tf_rule.specs.RuleSets.{has_rule};
+ghost use Rattle.tf_rules.specs.Rules.CommentSyntax.{is_line_comment};
 ghost use Rattle.tf_diagnostics.specs.Comments.{behind_blanks, are_blanks, ends_in_blank, parted, name_in, is_named, means, lists, says, held, silences};
 ghost use Rattle.tf_diagnostics.specs.Inner.Marks.{option_has};
 
@@ -141,10 +142,11 @@ fn held(kind: Kind, spelling: &[u8]) -> &[u8]
     }
 }
 
-/// Whether a token of the kind can silence anything.
+/// Whether a token of the kind is a comment: no other can silence anything.
 pub fn is_comment(kind: Kind) -> bool
-    ensures { (spelling : List ℕ) (rule : Rule) → result ≡ false
+    ensures quiet { (spelling : List ℕ) (rule : Rule) → result ≡ false
         → silences kind spelling rule ≡ false }
+    ensures other { result ≡ false → is_line_comment kind ≡ false }
 {
     matches!(kind, Kind::LineComment | Kind::InlineComment)
 }

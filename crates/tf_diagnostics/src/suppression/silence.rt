@@ -4,11 +4,11 @@ ghost use Rattle.std.specs.Prelude.{◌≡◌, ◌<◌, ◌≤◌, ◌+◌, ◌+
 ghost use Rattle.hcl_token.specs.Place.{line_of};
 ghost use Rattle.tf_rule.specs.declared.rule.Rule.{Rule};
 ghost use Rattle.tf_rule.specs.Findings.{AreSound};
-ghost use Rattle.tf_diagnostics.specs.Silencing.{is_silenced};
-ghost use Rattle.tf_diagnostics.specs.Inner.Marks.{Ascend, is_hit, IsNext};
+ghost use Rattle.tf_diagnostics.specs.Silencing.{is_silenced, is_silenced_on};
+ghost use Rattle.tf_diagnostics.specs.Inner.Marks.{Ascend, Rise, is_hit, silences_among, IsNext};
 
 use crate::suppression::mark::Mark;
-use crate::suppression::marking::{first_silencing, marks_of};
+use crate::suppression::marking::marks_of;
 use hcl_scan::{Places, Scanned};
 use std::alloc::{AllocError, Global};
 use tf_rule::{Finding, Rule};
@@ -150,24 +150,29 @@ fn unmarked(places: &Places<'_>, found: Vec<Finding>, marks: &[Mark]) -> Vec<Fin
 
 /// The findings that no comment of the text silences, in the same order.
 ///
-/// It takes one pass over the tokens. Only where a comment silences anything are places made, and
-/// then it takes one pass over the findings too, if these stand by place. These stay in their list.
+/// The tokens that silence anything are told by their numbers. Only where there is one are places
+/// made, and then it takes one pass over the findings, if these stand by place. These stay in their
+/// list.
 ///
 /// TFLint, Annotations.
 pub fn without_silenced(
     alloc: Global,
     scanned: &Scanned<'_>,
     found: Vec<Finding>,
+    silencing: &[usize],
 ) -> Result<Vec<Finding>, AllocError>
-    requires { AreSound (length scanned.now.pairs) found.items }
+    requires sound { AreSound (length scanned.now.pairs) found.items }
+    requires order { Rise 0 silencing.now (length scanned.now.pairs) }
+    requires silence { (rule : Rule) (line : ℕ)
+        → silences_among scanned.now.pairs rule line silencing.now
+        ≡ is_silenced_on scanned.now.pairs rule line }
     ensures { IfOk result
         (λ kept. kept.items ≡ filter (λ f. not (is_silenced scanned.now.pairs f)) found.items) }
 {
-    let first = first_silencing(scanned);
-    if first == scanned.len() {
+    if silencing.is_empty() {
         return Ok(found);
     }
     let places = scanned.places(alloc)?;
-    let marks = marks_of(alloc, scanned, &places, first)?;
+    let marks = marks_of(alloc, scanned, &places, silencing)?;
     Ok(unmarked(&places, found, marks.as_slice()))
 }

@@ -3,7 +3,8 @@
 ghost use Rattle.std.specs.Prelude.{◌≡◌, ◌++◌, ◌<◌, ◌==◌, ◌&&◌, Some, slice_get, slice_index, length, OnOk};
 ghost use Rattle.std.specs.Option.{option_map};
 ghost use Rattle.tf_rule.specs.Findings.{sound};
-ghost use Rattle.tf_rules.specs.Rules.CommentSyntax.{is_slash_comment, comment_finding, comments_from, comment_findings};
+ghost use Rattle.hcl_token.specs.Tokens.{Pair};
+ghost use Rattle.tf_rules.specs.Rules.CommentSyntax.{is_slash_comment, comment_finding, found_at};
 
 use hcl_scan::Scanned;
 use hcl_token::Kind;
@@ -44,30 +45,21 @@ fn add_comment(
     add_finding(found, count, finding)
 }
 
-fn add_comments(scanned: &Scanned<'_>, found: &mut Vec<Finding>) -> Result<(), AllocError>
-    ensures { OnOk result
-        (found.new.items ≡ found.old.items
-        ++ sound (length scanned.now.pairs) (comments_from 0 scanned.now.pairs)) }
-{
-    for i in 0..scanned.len() {
-        let slashed = is_slash_comment(scanned, i);
-        add_comment(scanned, i, slashed, found)?;
-    }
-    Ok(())
-}
-
-/// Adds the comments of a text that begin with `//`, if the rule is in the set.
-pub fn add_comment_findings(
+/// Adds token `i`, if it is a comment that begins with `//` and the rule is in the set.
+pub fn at_comment(
     scanned: &Scanned<'_>,
     rules: RuleSet,
+    i: usize,
     found: &mut Vec<Finding>,
 ) -> Result<(), AllocError>
-    ensures { OnOk result
-        (found.new.items ≡ found.old.items
-        ++ sound (length scanned.now.pairs) (comment_findings rules scanned.now.pairs)) }
+    requires { i < length scanned.now.pairs }
+    ensures { (p : Pair) → slice_get scanned.now.pairs i ≡ Some p
+        → OnOk result (found.new.items ≡ found.old.items
+        ++ sound (length scanned.now.pairs) (found_at rules i p)) }
 {
     if !rules.has(Rule::CommentSyntax) {
         return Ok(());
     }
-    add_comments(scanned, found)
+    let slashed = is_slash_comment(scanned, i);
+    add_comment(scanned, i, slashed, found)
 }

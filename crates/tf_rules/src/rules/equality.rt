@@ -48,7 +48,7 @@ fn is_empty_list(e: &Expr) -> bool
 {
     match &e.form {
         Form::Plain(t) => match &t.shape {
-            Shape::Tuple(es) => es.is_empty(),
+            Shape::Tuple(es) => es.get().is_empty(),
             _ => false,
         },
         _ => false,
@@ -166,7 +166,7 @@ fn find_at_form(
             finder,
             first,
             head.get(),
-            links.as_slice(),
+            links.get().as_slice(),
             found,
         ),
         Form::Prefixed(_, _) => Ok(()),

@@ -46,7 +46,7 @@ fn sole_in(shape: &Shape) -> Option<&Expr>
         Shape::Object(_) => None,
         Shape::ForTuple(_) => None,
         Shape::ForObject(_) => None,
-        Shape::Quoted(t) => sole(t.parts.as_slice()),
+        Shape::Quoted(t) => sole(t.get().parts.as_slice()),
         Shape::Heredoc(_) => None,
         Shape::Parens(_) => None,
     }

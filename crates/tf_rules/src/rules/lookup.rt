@@ -43,7 +43,7 @@ fn is_indexable(form: &Form) -> bool
         Form::Conditional(_, _, _) => false,
         Form::Chain(_, _) => false,
         Form::Prefixed(_, _) => false,
-        Form::Tailed(_, tails) => !has_splat(tails.as_slice()),
+        Form::Tailed(_, tails) => !has_splat(tails.get().as_slice()),
         Form::Plain(_) => true,
     }
 }

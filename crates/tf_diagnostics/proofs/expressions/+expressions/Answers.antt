@@ -1,4 +1,4 @@
-use Rattle.std.proofs.Common.{[], ◌∷◌, ◌+◌, drop, map, refl, sym, ap, append-nil}
+use Rattle.std.proofs.Common.{false, [], ◌∷◌, ◌+◌, drop, map, refl, sym, ap, append-nil}
 use Rattle.std.specs.List.{flat_map}
 use Rattle.hcl_grammar.specs.declared.tree.Link.{Link}
 use Rattle.tf_rules.specs.declared.role.Role.TheVariants as role
@@ -73,12 +73,13 @@ form-returns-in_ok-boxed-in-Conditional-3 t c =
 pub form-returns-in_ok-links-in-Chain : goal.form-returns-in_ok-links-in-Chain
 form-returns-in_ok-links-in-Chain t c =
     among (ap (form_parts c.args.role) (is-Chain c.in-Chain.is))
-    (joined c.in_ok-boxed-in-Chain.ensures c.in_ok-links-in-Chain.ensures)
+    (joined c.in_ok-boxed-in-Chain.ensures (among (ap (map (λ (x : Link). expr role.Elsewhere x.operand)) (sym c.get.ensures)) c.in_ok-links-in-Chain.ensures))
 
 pub form-returns-in_ok-tails-in-Tailed : goal.form-returns-in_ok-tails-in-Tailed
 form-returns-in_ok-tails-in-Tailed t c =
     among (ap (form_parts c.args.role) (is-Tailed c.in-Tailed.is))
-    (joined (among (ap (λ x. term role.Elsewhere x ∷ []) (sym c.get.ensures)) c.in_ok-term-in-Tailed.ensures) c.in_ok-tails-in-Tailed.ensures)
+    (joined (among (ap (λ x. term role.Elsewhere x ∷ []) (sym c.get-in-Tailed.ensures)) c.in_ok-term-in-Tailed.ensures)
+    (among (ap (tails_from false) (sym c.get-in-Tailed-2.ensures)) c.in_ok-tails-in-Tailed.ensures))
 
 pub shape-returns-in-Number : goal.shape-returns-in-Number
 shape-returns-in-Number t c = nowhere (ap shape_parts (is-Number c.in-Number.is))

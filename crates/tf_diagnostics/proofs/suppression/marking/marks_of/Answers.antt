@@ -1,21 +1,38 @@
-use Rattle.std.proofs.Common.{arith, ◌||◌, ◌+◌, drop, ap, sym, ◌∙◌}
-use Rattle.tf_diagnostics.proofs.LineLemmas.{line_next, silenced_step}
+use Rattle.std.proofs.Common.{◌<◌, ◌||◌, ◌+◌, length, drop, slice_index_or, ap, sym, ◌∙◌, arith}
+use Rattle.tf_diagnostics.proofs.CommentLemmas.{among_next, line_rises, rise_next, rise_within}
+use Rattle.tf_diagnostics.proofs.LineLemmas.{line_next}
 use Rattle.tf_diagnostics.proofs.MarkLemmas.{ascend_more, or_assoc}
-use Rattle.tf_diagnostics.specs.Silencing.{silenced_from}
-use Rattle.tf_diagnostics.specs.Inner.Marks.{is_hit}
+use Rattle.tf_diagnostics.specs.Inner.Marks.{is_hit, silences_at, silences_among}
 use Rattle.tf_diagnostics.proofs.suppression.marking.marks_of.Goals as goal
+
+pub mark_comment-requires-clause-within : goal.mark_comment-requires-clause-within
+mark_comment-requires-clause-within c =
+    let (next, rise, ascend) = c.loop-i.invariant.order in
+    let numbers = c.args.silencing.now in
+    let at = rise_next numbers c.loop-i.i-index next (length c.args.scanned.now.pairs) (omega (arith, c.loop-i-test.true)) rise in
+    omega (arith, rise_within _ _ _ at.1)
+
+pub mark_comment-requires-clause-before : goal.mark_comment-requires-clause-before
+mark_comment-requires-clause-before c =
+    let (next, rise, ascend) = c.loop-i.invariant.order in
+    let at = rise_next c.args.silencing.now c.loop-i.i-index next (length c.args.scanned.now.pairs) (omega (arith, c.loop-i-test.true)) rise in
+    ascend_more 0 _ _ _ ascend (line_rises c.args.scanned.now.pairs next _ at.0)
 
 pub loop-i-preserved : goal.loop-i-preserved
 loop-i-preserved c =
     let pairs = c.args.scanned.now.pairs in
-    let i = c.loop-i.i in
+    let numbers = c.args.silencing.now in
+    let i = c.loop-i.i-index in
+    let within : i < length numbers = omega (arith, c.loop-i-test.true) in
+    let (next, rise, ascend) = c.loop-i.invariant.order in
+    let at = rise_next numbers i next (length pairs) within rise in
+    let token = slice_index_or numbers i 0 in
     record {
-      order = ascend_more 0 _ _ _ c.in_ok-mark_token.ensures.after (line_next pairs i);
+      order = (token + 1, at.1, ascend_more 0 _ _ _ c.in_ok-mark_comment.ensures.after (line_next pairs token));
       hit = λ rule line.
-          let rest = silenced_from pairs rule line (i + 1) (drop (i + 1) pairs) in
+          let rest = silences_among pairs rule line (drop (i + 1) numbers) in
           let old = is_hit rule line c.loop-i.marks.items in
-          ap (λ b. b || rest) (c.in_ok-mark_token.ensures.hit rule line)
-          ∙ (or_assoc old _ rest
-          ∙ (ap (λ b. old || b) (sym (silenced_step pairs rule line i (omega (arith, c.loop-i-test.true, c.len-i-end.ensures.value))))
-          ∙ c.loop-i.invariant.hit rule line));
+          ap (λ b. b || rest) (c.in_ok-mark_comment.ensures.hit rule line)
+          ∙ (or_assoc old (silences_at pairs rule line token) rest
+          ∙ (ap (λ b. old || b) (sym (among_next pairs rule line numbers i within)) ∙ c.loop-i.invariant.hit rule line));
     }
