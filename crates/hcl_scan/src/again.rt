@@ -412,6 +412,11 @@ fn cut_again(
         let limit = replaced[first].at as usize;
         done = stretch_again(text, items, old, done, limit)?;
         let Touched { to, len, count } = touched_lines(old, done.front, replaced, first)?;
+        if len > text.len() / 2 {
+            // Its lines are cut by themselves into a list of their own: that would be as long as
+            // the list of the whole text.
+            return Err(GiveUp::Unfit);
+        }
         spare = scan_lines(alloc, text, items, done.at, len, spare)?;
         done = Done {
             front: to,

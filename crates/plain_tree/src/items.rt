@@ -76,8 +76,8 @@ impl<T: Drop, A: Allocator + Copy> Items<T, A> {
             return self.vec.reserve_exact(1);
         }
         if len >= SHORT_LIST {
-            // A long list is most of its tree, and grows by a quarter.
-            return self.vec.reserve_exact(len / 4);
+            // A long list doubles: what its next elements own fills the memory that it leaves.
+            return self.vec.reserve_exact(len);
         }
         // A short list grows by half. It moves to a piece of memory that was let go before, which
         // malloc finds sooner than it makes a piece longer.

@@ -102,7 +102,7 @@ pub fn taken_replacements(
         ≡ step_replacements scanned.now.pairs findings.now) }
     ensures coming { IfOk result (λ all. AreComing scanned.now.pairs all.items) }
 {
-    let mut all = Vec::new(alloc);
+    let mut all = Vec::with_capacity(alloc, findings.len())?;
     let mut past = 0;
     for one in findings {
         if is_taken(one, past) {

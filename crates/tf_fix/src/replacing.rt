@@ -102,7 +102,7 @@ pub fn replacement_edits(
         ≡ changes_from 0 (replaced_pieces (parts scanned.now)
         (replacements scanned.now.pairs all.now))) }
 {
-    let mut edits = Vec::new(alloc);
+    let mut edits = Vec::with_capacity(alloc, all.len())?;
     let mut near = Near::Nothing;
     let mut at = Edge::Gap(0);
     let mut left = all;
