@@ -5,3 +5,4 @@ mod Shaping
 mod Merged
 pub mod Groupings
 mod Determined
+mod Existing

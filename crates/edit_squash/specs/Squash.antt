@@ -1,7 +1,7 @@
 -- One list of edits in the place of two, the second of which goes on from the first.
 use Rattle.std.specs.Prelude.{◌≡◌, ◌≢◌, ◌↔◌, ℕ, ◌+◌, ◌<◌, List, length, take, Result, Ok, Err}
 use Rattle.edit_list.specs.Pieces.{EditList, Turns}
-use Rattle.edit_list.specs.Made.{new_len}
+use Rattle.edit_list.specs.Made.{AreEdits, new_len}
 use Rattle.edit_squash.specs.Shape.{HasShape}
 use Rattle.edit_squash.specs.declared.squashing.Unmet.{Unmet}
 use Rattle.edit_squash.specs.declared.squashing.Unmet.TheVariants.{LengthsDiffer, Contradicts, Memory}
@@ -32,6 +32,15 @@ pub record IsSquash (a b c : EditList) : Type 0 where
   pub can_follow : CanFollow a b
   pub alike : TurnsAlike c a b
   pub shape : HasShape a b c
+
+-- these are a list of edits: placed one behind the other, and both lengths are within the limit
+abbrev pub IsList : EditList → Type 0
+IsList e = AreEdits e.old_len (new_len e) e.entries
+
+-- any two lists, of which some text goes by the one and then by the other, have one in their place
+abbrev pub FollowersSquash : Type 0
+FollowersSquash = (a b : EditList) → IsList a → IsList b → CanFollow a b
+    → (c : EditList) × IsList c × IsSquash a b c
 
 -- the lengths follow, and there is an edit: no memory is taken for any other two lists
 pub record MayRunOut (a b : EditList) : Type 0 where

@@ -3,7 +3,7 @@
 ghost use Rattle.std.specs.Prelude.{◌≡◌, List};
 ghost use Rattle.edit_list.specs.Pieces.{EditList};
 ghost use Rattle.edit_squash.specs.Grouping.{Associates, SquashAsOne};
-ghost use Rattle.edit_squash.specs.Squash.{IsSquash};
+ghost use Rattle.edit_squash.specs.Squash.{FollowersSquash, IsList, IsSquash};
 
 use edit_list::Edits;
 
@@ -11,6 +11,18 @@ use edit_list::Edits;
 pub fn squash_is_one(first: &Edits, second: &Edits)
     ensures { (c d : EditList) → IsSquash first.now second.now c → IsSquash first.now second.now d
         → c ≡ d }
+{}
+
+/// What is held as edits is a list of edits.
+pub fn edits_are_a_list(edits: &Edits)
+    ensures { IsList edits.now }
+{
+    let _ = edits.edits();
+}
+
+/// Two lists squash to one wherever some text goes by the first and then by the second.
+pub fn followers_squash()
+    ensures { FollowersSquash }
 {}
 
 /// Squashing three lists is the same whichever two come first: both groupings turn the same texts

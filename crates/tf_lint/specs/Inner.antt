@@ -1,5 +1,6 @@
 -- For proofs: the parts of a line, what is found so far beside the pure parser, one step of a fix,
 -- and what is known from some steps on.
+pub mod Leading
 pub mod LineParts
 pub mod Passing
 pub mod Seeing

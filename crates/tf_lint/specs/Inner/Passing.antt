@@ -102,10 +102,11 @@ RefusesFrom rules order text by fault =
 
 -- ---- what the last of them answers
 
-abbrev pub made_by : Ended → Made
-made_by e = record {
-  text = e.change.text.items;
-  edits = e.change.edits;
+-- by these edits
+abbrev pub made_by : EditList → Ended → Made
+made_by edits e = record {
+  text = e.text.items;
+  edits = edits;
   fixed = e.fixed;
   left = number_left e.left;
 }

@@ -12,7 +12,7 @@ use Rattle.tf_lint.specs.declared.steps.Turned.{Turned}
 -- the text with its tree, what was found in it, and what these rules did to it, where so many
 -- findings were mended before
 pub record IsTurned (order : List Rule) (count : ℕ) (p : Parsed) (turned : Turned) : Type 0 where
-  pub reads : Reads turned.done.text.items p
+  pub reads : Reads turned.text.items p
   pub before : IsBefore p turned.before
   pub finds : Finds turned.before.rules p turned.found.items
   pub sound : AreSound (length p.scanned.pairs) turned.found.items

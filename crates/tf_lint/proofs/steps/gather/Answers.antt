@@ -1,12 +1,9 @@
-use Rattle.tf_lint.proofs.StepLemmas.{never_unmet}
-use Rattle.tf_lint.proofs.steps.gather.Goals.{in-Memory, in_default}
+-- Where no edits are kept there are some all the same.
+use Rattle.edit_squash.specs.Squash.{CanFollow}
 use Rattle.tf_lint.proofs.steps.gather.Goals as goal
 
--- the edits go on from those so far, so squash refuses for want of memory alone
-pub prove-unreachable-requires : goal.prove-unreachable-requires
-prove-unreachable-requires c =
-    let is = never_unmet c.turned_texts_have_the_lengths.ensures c.args.done.now c.args.edits.now c.in-Err.unmet c.requires c.in-Err.ensures in
-    elim c.match-matches.branch [
-      | in-Memory w ↦ absurd (cc (w.matches-is, c.if-prove.true))
-      | in_default w ↦ w.in_default.not-Memory is
-    ]
+pub returns-in-None-clause-both : goal.returns-in-None-clause-both
+returns-in-None-clause-both c = λ edits old between new leads turns.
+    let follow : CanFollow edits c.args.more.now = (old, between, new, leads.turns, turns) in
+    let (all, list, is) = c.followers_squash.ensures edits c.args.more.now leads.list c.edits_are_a_list.ensures follow in
+    (all, is, record { are_kept = tt; list = list; turns = (is.alike old new).1 (between, leads.turns, turns) })

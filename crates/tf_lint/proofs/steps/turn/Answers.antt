@@ -10,7 +10,7 @@ use Rattle.tf_lint.proofs.steps.turn.Goals as goal
 
 pub returns-in_err-made-clause-fault : goal.returns-in_err-made-clause-fault
 returns-in_err-made-clause-fault c =
-    residual c.from_residual.result c.in_err-made.field-0.0 (RefusesFrom c.args.before.rules c.args.order.now c.args.done.text.items c.args.by) c.from_residual.ensures
+    residual c.from_residual.result c.in_err-made.field-0.0 (RefusesFrom c.args.before.rules c.args.order.now c.args.text.items c.args.by) c.from_residual.ensures
     (elim c.in_err-made.ensures.fault [
       | inl memory ↦ inl memory
       | inr broken ↦ inr (inl (broken.0, subst IsUnread c.deref.ensures.value broken.1))
