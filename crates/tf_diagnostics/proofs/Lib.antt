@@ -8,7 +8,7 @@ mod OneRuleFinds
 mod OneText
 mod PartLemmas
 mod SilenceLemmas
-mod SoundLemmas
+pub mod SoundLemmas
 mod TextLemmas
 mod TotalOrder
 mod TreeLaws

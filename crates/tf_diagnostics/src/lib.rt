@@ -12,5 +12,5 @@ mod suppression;
 mod text;
 
 pub use bodies::add_member_findings;
-pub use one::of_rule;
+pub use one::is_of;
 pub use text::{complete_findings, findings};

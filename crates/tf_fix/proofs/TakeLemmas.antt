@@ -1,9 +1,10 @@
 -- Taking findings, and what each of them is replaced by.
-use Rattle.std.proofs.Common.{◌≡◌, ℕ, ◌+◌, ◌*◌, ◌≤◌, ◌<◌, ◌&&◌, not, nat_lt, Bool, true, false, List, [], ◌∷◌, ◌++◌, length, drop, get_or, Option, Some, None, if◌then◌else◌, refl, subst, arith}
+use Rattle.std.proofs.Common.{◌≡◌, ℕ, ◌+◌, ◌*◌, ◌≤◌, ◌<◌, ◌&&◌, not, nat_lt, Bool, true, false, List, [], ◌∷◌, ◌++◌, length, drop, filter, get_or, Option, Some, None, if◌then◌else◌, refl, subst, arith}
 use Rattle.std.specs.List.{flat_map}
 use Rattle.std.proofs.lemmas.List.{drop_more}
 use Rattle.std.proofs.lemmas.Bool.{and_parts, ltb-false}
 use Rattle.hcl_token.specs.Tokens.{Pair}
+use Rattle.tf_diagnostics.specs.OneRule.{is_of}
 use Rattle.tf_rule.specs.declared.finding.Finding.{Finding}
 use Rattle.tf_rule.specs.declared.fix.Fix.{Fix}
 use Rattle.tf_rule.specs.declared.fix.Fix.TheVariants.{Slashes, Tokens}
@@ -31,9 +32,17 @@ mendable : (first past : ℕ) (fix : Option Fix) → is_fixable fix ≡ true →
 mendable first past None e fits = absurd (cc e)
 mendable first past (Some fix) e fits = fits
 
-pub is_sound : (pairs : List Pair) (findings : List Finding) (i : ℕ) (d : Finding) → i < length findings → AreSound (length pairs) (drop i findings)
-    → (is_fixable (get_or findings i d).fix ≡ true → Fits (length pairs) (get_or findings i d)) × AreSound (length pairs) (drop (i + 1) findings)
-is_sound pairs findings i d lt are = let both = subst (AreSound (length pairs)) (drop_more findings i d lt) are in (λ fixable. (both.0.1, mendable _ _ _ fixable both.0.2, both.0.0), both.1)
+sound_if : (count : ℕ) (f : Finding) (rest : List Finding) (here : Bool) → AreSound count (if here then f ∷ rest else rest)
+    → (here ≡ true → is_fixable f.fix ≡ true → Fits count f) × AreSound count rest
+sound_if count f rest true are = (λ of fixable. (are.0.1, mendable _ _ _ fixable are.0.2, are.0.0), are.1)
+sound_if count f rest false are = (λ of. absurd (cc of), are)
+
+-- one of the rule that can be fixed fits, and those of the rule behind it are sound
+pub is_sound : (pairs : List Pair) (rule : Rule) (findings : List Finding) (i : ℕ) (d : Finding) → i < length findings → AreSound (length pairs) (filter (is_of rule) (drop i findings))
+    → (is_of rule (get_or findings i d) ≡ true → is_fixable (get_or findings i d).fix ≡ true → Fits (length pairs) (get_or findings i d)) × AreSound (length pairs) (filter (is_of rule) (drop (i + 1) findings))
+is_sound pairs rule findings i d lt are =
+    sound_if (length pairs) (get_or findings i d) (filter (is_of rule) (drop (i + 1) findings)) (is_of rule (get_or findings i d))
+    (subst (λ fs. AreSound (length pairs) (filter (is_of rule) fs)) (drop_more findings i d lt) are)
 
 -- ---- what is taken
 

@@ -1,9 +1,10 @@
 //! One step of a fix.
 
-ghost use Rattle.std.specs.Prelude.{◌≡◌, ◌<◌, ◌≤◌, ◌⊎◌, length, IfOk, IfErr};
+ghost use Rattle.std.specs.Prelude.{◌≡◌, ◌<◌, ◌≤◌, ◌⊎◌, length, filter, IfOk, IfErr};
 ghost use Rattle.edit_list.specs.Pieces.{Turns};
 ghost use Rattle.hcl_scan.specs.Cut.{MAX_TEXT};
 ghost use Rattle.hcl_scan.specs.Follows.{AreApart};
+ghost use Rattle.tf_diagnostics.specs.OneRule.{is_of};
 ghost use Rattle.tf_rule.specs.Findings.{AreSound};
 ghost use Rattle.tf_fix.specs.ByPairs.{mended_text};
 ghost use Rattle.tf_fix.specs.Mended.{step_entries, mended_edits};
@@ -32,20 +33,19 @@ fn step_edits(
     alloc: Global,
     scanned: &Scanned<'_>,
     rule: Rule,
-    findings: Vec<Finding>,
+    findings: &[Finding],
 ) -> Result<Vec<Edit>, LintFault>
     requires filled { AreFilled scanned.now.pairs }
-    requires sound { AreSound (length scanned.now.pairs) findings.items }
+    requires sound { AreSound (length scanned.now.pairs) (filter (is_of rule) findings.now) }
     ensures ok { IfOk result
-        (λ edits. edits.items ≡ step_entries rule scanned.now findings.items) }
+        (λ edits. edits.items
+        ≡ step_entries rule scanned.now (filter (is_of rule) findings.now)) }
     ensures err { IfErr result (λ e. e ≡ Memory) }
 {
     if is_comment_rule(rule) {
-        return Ok(comment_edits(alloc, scanned, &findings)?);
+        return Ok(comment_edits(alloc, scanned, rule, findings)?);
     }
-    let all = taken_replacements(alloc, scanned, &findings)?;
-    // The edits take as much memory as the findings, which are not asked any more.
-    drop(findings);
+    let all = taken_replacements(alloc, scanned, rule, findings)?;
     Ok(replacement_edits(alloc, scanned, &all)?)
 }
 
@@ -58,19 +58,22 @@ pub fn mended_edits(
     alloc: Global,
     scanned: &Scanned<'_>,
     rule: Rule,
-    findings: Vec<Finding>,
+    findings: &[Finding],
 ) -> Result<Edits, LintFault>
     requires apart { AreApart scanned.now.pairs }
-    requires of { AreOf rule scanned.now.pairs findings.items }
-    requires sound { AreSound (length scanned.now.pairs) findings.items }
-    ensures edits { IfOk result (λ edits. edits ≡ mended_edits rule scanned.now findings.items) }
+    requires of { AreOf rule scanned.now.pairs (filter (is_of rule) findings.now) }
+    requires sound { AreSound (length scanned.now.pairs) (filter (is_of rule) findings.now) }
+    ensures edits { IfOk result
+        (λ edits. edits ≡ mended_edits rule scanned.now (filter (is_of rule) findings.now)) }
     ensures turns { IfOk result
-        (λ edits. Turns edits scanned.now.text (mended_text scanned.now findings.items)) }
+        (λ edits. Turns edits scanned.now.text
+        (mended_text scanned.now (filter (is_of rule) findings.now))) }
     ensures short { IfOk result
-        (λ edits. length (mended_text scanned.now findings.items) ≤ MAX_TEXT) }
+        (λ edits. length (mended_text scanned.now (filter (is_of rule) findings.now)) ≤ MAX_TEXT) }
     ensures err { IfErr result
         (λ e. (e ≡ Memory)
-        ⊎ ((e ≡ TooLong) × (MAX_TEXT < length (mended_text scanned.now findings.items)))) }
+        ⊎ ((e ≡ TooLong)
+        × (MAX_TEXT < length (mended_text scanned.now (filter (is_of rule) findings.now))))) }
 {
     let text = scanned.text();
     let edits = step_edits(alloc, scanned, rule, findings)?;

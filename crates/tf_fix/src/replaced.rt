@@ -1,18 +1,21 @@
 //! What is replaced to mend the findings that one step takes.
 
-ghost use Rattle.std.specs.Prelude.{◌≡◌, ◌++◌, length, IfOk};
+ghost use Rattle.std.specs.Prelude.{◌≡◌, ◌++◌, ◌<◌, length, filter, IfOk, IfErr};
+ghost use Rattle.tf_diagnostics.specs.OneRule.{is_of};
 ghost use Rattle.tf_rule.specs.Findings.{AreSound};
 ghost use Rattle.tf_fix.specs.Mending.{kept_from, finding_replacements, step_replacements};
+ghost use Rattle.tf_fix.specs.Taking.{taken};
 ghost use Rattle.tf_fix.specs.Inner.Filled.{AreFilled, Fits};
 ghost use Rattle.tf_fix.specs.Inner.Views.{place_of, skip_of, replacements, AreComing, AreKeptComing};
 
 use crate::edge::Edge;
 use crate::packed::{Packed, push};
 use crate::replacing::Replacement;
-use crate::taking::is_taken;
+use crate::taking::{is_taken, taken};
 use hcl_scan::Scanned;
 use std::alloc::{AllocError, Global};
-use tf_rule::{Finding, Fix, Insertion, Kept};
+use tf_diagnostics::is_of;
+use tf_rule::{Finding, Fix, Insertion, Kept, Rule};
 
 /// What is replaced from a place on, where this is written first, and then so much is kept.
 fn push_kept(
@@ -89,23 +92,27 @@ fn push_replacements(
     }
 }
 
-/// What is replaced to mend the findings that one step takes, in order.
+/// What is replaced to mend the findings that one step of the rule takes, in order. Where it takes
+/// none it asks for no memory.
 pub fn taken_replacements(
     alloc: Global,
     scanned: &Scanned<'_>,
+    rule: Rule,
     findings: &[Finding],
 ) -> Result<Vec<Packed>, AllocError>
     requires filled { AreFilled scanned.now.pairs }
-    requires sound { AreSound (length scanned.now.pairs) findings.now }
+    requires sound { AreSound (length scanned.now.pairs) (filter (is_of rule) findings.now) }
     ensures items { IfOk result
         (λ all. replacements scanned.now.pairs all.items
-        ≡ step_replacements scanned.now.pairs findings.now) }
+        ≡ step_replacements scanned.now.pairs (filter (is_of rule) findings.now)) }
     ensures coming { IfOk result (λ all. AreComing scanned.now.pairs all.items) }
+    ensures asked { IfErr result (λ _. 0 < length (taken (filter (is_of rule) findings.now))) }
 {
-    let mut all = Vec::with_capacity(alloc, findings.len())?;
+    // Each finding that is taken has one or more; comments, which have none, are mended elsewhere.
+    let mut all = Vec::with_capacity(alloc, taken(findings, rule))?;
     let mut past = 0;
     for one in findings {
-        if is_taken(one, past) {
+        if is_of(rule, one) && is_taken(one, past) {
             push_replacements(&mut all, scanned, one)?;
             past = one.past();
         }

@@ -1,10 +1,12 @@
 //! Which findings one step of a fix takes.
 
-ghost use Rattle.std.specs.Prelude.{◌≡◌, ◌&&◌, not, nat_lt, length};
+ghost use Rattle.std.specs.Prelude.{◌≡◌, ◌&&◌, not, nat_lt, length, filter};
+ghost use Rattle.tf_diagnostics.specs.OneRule.{is_of};
 ghost use Rattle.tf_rule.specs.Findings.{is_fixable};
 ghost use Rattle.tf_fix.specs.Taking.{taken};
 
-use tf_rule::Finding;
+use tf_diagnostics::is_of;
+use tf_rule::{Finding, Rule};
 
 /// Whether the finding is taken, where those taken before it end before token `past`.
 pub fn is_taken(one: &Finding, past: usize) -> bool
@@ -13,16 +15,16 @@ pub fn is_taken(one: &Finding, past: usize) -> bool
     one.is_fixable() && past <= one.first()
 }
 
-/// How many findings one step of a fix takes. They are looked at in order: by their first token, of
-/// those with one first token the longer first. One that can be fixed is taken where it shares no
-/// token with one that is taken before it.
-pub fn taken(findings: &[Finding]) -> usize
-    ensures { result ≡ length (taken findings.now) }
+/// How many findings of a rule one step of a fix takes; those of other rules are passed over. They
+/// are looked at in order: by their first token, of those with one first token the longer first.
+/// One that can be fixed is taken where it shares no token with one that is taken before it.
+pub fn taken(findings: &[Finding], rule: Rule) -> usize
+    ensures { result ≡ length (taken (filter (is_of rule) findings.now)) }
 {
     let mut count = 0;
     let mut past = 0;
     for one in findings {
-        if is_taken(one, past) {
+        if is_of(rule, one) && is_taken(one, past) {
             count += 1;
             past = one.past();
         }

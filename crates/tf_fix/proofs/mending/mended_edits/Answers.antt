@@ -1,5 +1,6 @@
-use Rattle.std.proofs.Common.{sym, inr, refl, subst}
+use Rattle.std.proofs.Common.{filter, sym, inr, refl, subst}
 use Rattle.edit_list.specs.Pieces.{EditList, Turns}
+use Rattle.tf_diagnostics.specs.OneRule.{is_of}
 use Rattle.tf_fix.specs.ByPairs.{mended_text}
 use Rattle.tf_fix.specs.Mended.{step_entries}
 use Rattle.tf_fix.proofs.FillLemmas.{cut_filled}
@@ -12,7 +13,7 @@ step_edits-requires-clause-filled c = cut_filled c.args.scanned.now.text c.args.
 pub returns-in-Ok-clause-edits : goal.returns-in-Ok-clause-edits
 returns-in-Ok-clause-edits c =
     let cut = c.args.scanned.now in
-    let findings = c.args.findings.items in
+    let findings = filter (is_of c.args.rule) c.args.findings.now in
     step_same c.pieces_make.ensures cut (mended_text cut findings) (step_entries c.args.rule cut findings) _ c.text-text.ensures.cut
     (step_pieces c.args.rule cut findings c.text-text.ensures.cut c.requires.apart c.requires.of c.requires.sound)
     (read_made _ _ _ _ _ _ c.make.ensures c.text-text.ensures.text c.in_ok-edits.ensures.ok c.in-Ok.is)
@@ -20,7 +21,7 @@ returns-in-Ok-clause-edits c =
 pub returns-in-Ok-clause-turns : goal.returns-in-Ok-clause-turns
 returns-in-Ok-clause-turns c =
     let cut = c.args.scanned.now in
-    let findings = c.args.findings.items in
+    let findings = filter (is_of c.args.rule) c.args.findings.now in
     let p = step_pieces c.args.rule cut findings c.text-text.ensures.cut c.requires.apart c.requires.of c.requires.sound in
     let same = step_same c.pieces_make.ensures cut (mended_text cut findings) (step_entries c.args.rule cut findings) _ c.text-text.ensures.cut p
     (read_made _ _ _ _ _ _ c.make.ensures c.text-text.ensures.text c.in_ok-edits.ensures.ok c.in-Ok.is) in
@@ -30,7 +31,7 @@ returns-in-Ok-clause-turns c =
 pub returns-in-Ok-clause-short : goal.returns-in-Ok-clause-short
 returns-in-Ok-clause-short c =
     let cut = c.args.scanned.now in
-    let findings = c.args.findings.items in
+    let findings = filter (is_of c.args.rule) c.args.findings.now in
     step_fits c.pieces_make.ensures cut (mended_text cut findings) (step_entries c.args.rule cut findings) _ c.text-text.ensures.cut
     (step_pieces c.args.rule cut findings c.text-text.ensures.cut c.requires.apart c.requires.of c.requires.sound)
     (read_made _ _ _ _ _ _ c.make.ensures c.text-text.ensures.text c.in_ok-edits.ensures.ok c.in-Ok.is)
@@ -38,7 +39,7 @@ returns-in-Ok-clause-short c =
 pub returns-in-Err-clause-err : goal.returns-in-Err-clause-err
 returns-in-Err-clause-err c =
     let cut = c.args.scanned.now in
-    let findings = c.args.findings.items in
+    let findings = filter (is_of c.args.rule) c.args.findings.now in
     inr (
       refl,
       step_too_long c.pieces_make.ensures cut (mended_text cut findings) (step_entries c.args.rule cut findings) _ c.text-text.ensures.cut
