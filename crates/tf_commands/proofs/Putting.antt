@@ -17,7 +17,9 @@ use Rattle.tf_commands.specs.declared.command.Done.{Done}
 use Rattle.tf_commands.specs.declared.command.Fault.{Fault}
 use Rattle.tf_lint.specs.declared.step.NewText.{NewText}
 use Rattle.tf_lint.specs.Steps.{Made, differ}
-use Rattle.tf_lint.specs.Fixed.{text_after, edits_after}
+use Rattle.tf_lint.specs.Fixed.{text_after, edits_after, text_behind, made_with, FixesTo}
+use Rattle.tf_lint.specs.Remaining.{number_left}
+use Rattle.tf_lint.specs.declared.steps.FixedText.{FixedText}
 use Rattle.tf_commands.specs.Makes.{Makes}
 use Rattle.tf_commands.specs.Machine.{done}
 use Rattle.tf_commands.specs.Records.{HasWord, AddsRecord, AddsRecordOf, PutsInPlace, DoesStep, Steps}
@@ -32,23 +34,23 @@ leads t None e h =
 leads t (Some change) e h = h
 
 -- what was made of a text, by its parts
-abbrev made_with : List ℕ → Option NewText → ℕ → ℕ → Made
-made_with t change fixed left = record { text = text_after t change; edits = edits_after t change; fixed = fixed; left = left }
+abbrev made_by : List ℕ → Option NewText → ℕ → ℕ → Made
+made_by t change fixed left = record { text = text_after t change; edits = edits_after t change; fixed = fixed; left = left }
 
 -- what a command made of a text
 abbrev pub MakesOf : Command → List ℕ → Option NewText → ℕ → ℕ → Type 0
-MakesOf command t change fixed left = Makes command t (Ok (made_with t change fixed left))
+MakesOf command t change fixed left = Makes command t (Ok (made_by t change fixed left))
 
 abbrev Leads : List ℕ → Option NewText → Type 0
 Leads t change = IfSome change (λ c. Turns c.edits t c.text.items)
 
 adds : (command : Command) (word : Word) → HasWord command word → (b : Bool) (t : List ℕ) (js ks : List Entered) (change : Option NewText) (fixed left : ℕ) → differ t (text_after t change) ≡ b
     → MakesOf command t change fixed left → Leads t change
-    → AddsRecord b word (edits_after t change) js ks → AddsRecordOf b command t (made_with t change fixed left) js ks
+    → AddsRecord b word (edits_after t change) js ks → AddsRecordOf b command t (made_by t change fixed left) js ks
 adds command word has true t js ks change fixed left e makes turns h = (
   record { word = word; edits = edits_after t change },
   h,
-  record { made = made_with t change fixed left; makes = makes; text = refl; edits = refl; word = has; turns = leads t change e turns },
+  record { made = made_by t change fixed left; makes = makes; text = refl; edits = refl; word = has; turns = leads t change e turns },
   refl,
 )
 adds command word has false t js ks change fixed left e makes turns h = h
@@ -62,7 +64,7 @@ put_here : (command : Command) (word : Word) → HasWord command word → (t : L
     → IfOk reply (λ d. d ≡ done (differ t (text_after t change)) fixed left) → IfOk reply (λ d. u ≡ text_after t change)
     → IfOk reply (λ d. AddsRecord (differ t (text_after t change)) word (edits_after t change) js ks) → IfOk reply (λ d. PutsMade command t js d u ks)
 put_here command word has t js change fixed left (Ok d) u ks makes turns replied put added =
-    (made_with t change fixed left, makes, (put, replied, adds command word has (differ t (text_after t change)) t js ks change fixed left refl makes turns added))
+    (made_by t change fixed left, makes, (put, replied, adds command word has (differ t (text_after t change)) t js ks change fixed left refl makes turns added))
 put_here command word has t js change fixed left (Err fault) u ks makes turns replied put added = replied
 
 put_lent : (command : Command) (word : Word) → HasWord command word → (lent t : List ℕ) (js : List Entered) (change : Option NewText) (fixed left : ℕ) (reply : Result Done Fault) (u : List ℕ) (ks : List Entered) → lent ≡ t
@@ -87,17 +89,17 @@ pub put_fix : (rules : RuleSet) (lent t : List ℕ) (js : List Entered) (change 
     → IfOk reply (λ d. AddsRecord (differ t (text_after t change)) Word.Fix (edits_after t change) js ks) → IfOk reply (λ d. DoesStep (Fix rules) t js d u ks)
 put_fix rules lent t js change fixed left reply u ks same makes turns replied put added = put_lent (Fix rules) Word.Fix refl lent t js change fixed left reply u ks same makes turns replied put added
 
--- ---- a text laid out, with no record before it
+-- ---- a text laid out or fixed, with no record before it
 
-abbrev record_of : Bool → EditList → List Entered
-record_of true edits = record { word = Word.Fmt; edits = edits } ∷ []
-record_of false edits = []
+abbrev record_of : Word → Bool → EditList → List Entered
+record_of word true edits = record { word = word; edits = edits } ∷ []
+record_of word false edits = []
 
-adds_first : (b : Bool) (text : List ℕ) (made : Made) → Makes Fmt text (Ok made) → Turns made.edits text made.text
-    → AddsRecordOf b Fmt text made [] (record_of b made.edits)
-adds_first true text made makes turns =
-    (record { word = Word.Fmt; edits = made.edits }, refl, record { made = made; makes = makes; text = refl; edits = refl; word = refl; turns = turns }, refl)
-adds_first false text made makes turns = refl
+adds_first : (command : Command) (word : Word) → HasWord command word → (b : Bool) (text : List ℕ) (made : Made) → Makes command text (Ok made) → Turns made.edits text made.text
+    → AddsRecordOf b command text made [] (record_of word b made.edits)
+adds_first command word has true text made makes turns =
+    (record { word = word; edits = made.edits }, refl, record { made = made; makes = makes; text = refl; edits = refl; word = has; turns = turns }, refl)
+adds_first command word has false text made makes turns = refl
 
 pub lays : (text new : List ℕ) (p : Parsed) → Reads text p → IsLayout p.scanned.text new → length new ≤ MAX_TEXT → Turns (layout_edits p.scanned) p.scanned.text new
     → Steps Fmt text new
@@ -105,4 +107,19 @@ lays text new p reads layout short turns =
     let made : Made = record { text = new; edits = layout_edits p.scanned; fixed = 0; left = 0 } in
     let makes = changes text new (layout_edits p.scanned) p reads layout short refl in
     let here = subst (λ (x : List ℕ). Turns (layout_edits p.scanned) x new) reads.0 turns in
-    (done (differ text new) 0 0, record_of (differ text new) (layout_edits p.scanned), (made, makes, (refl, refl, adds_first (differ text new) text made makes here)))
+    (done (differ text new) 0 0, record_of Word.Fmt (differ text new) (layout_edits p.scanned), (made, makes, (refl, refl, adds_first Fmt Word.Fmt refl (differ text new) text made makes here)))
+
+pub mends : (rules : RuleSet) (text : List ℕ) (made : Made) → Makes (Fix rules) text (Ok made) → Turns made.edits text made.text
+    → (records : List Entered) × DoesStep (Fix rules) text [] (done (differ text made.text) made.fixed made.left) made.text records
+mends rules text made makes turns =
+    (record_of Word.Fix (differ text made.text) made.edits, (made, makes, (refl, refl, adds_first (Fix rules) Word.Fix refl (differ text made.text) text made makes turns)))
+
+pub same_differ : (t : List ℕ) → differ t t ≡ false
+same_differ t = rw ((bytes_eq-Decides t t).1 refl) refl
+
+-- the same of a text of which no edits were kept
+pub mended : (rules : RuleSet) (lent text new : List ℕ) (f : FixedText) (changed : Bool) (d : Done) → lent ≡ text → FixesTo rules lent f → new ≡ text_behind text f.text → changed ≡ differ text new
+    → d ≡ done changed f.fixed (number_left f.left) → (records : List Entered) × DoesStep (Fix rules) text [] d new records
+mended rules lent text new f changed d same fixes is told answered =
+    let (edits, turns, makes) = subst (λ (t : List ℕ). FixesTo rules t f) same fixes in
+    rw (answered, told, is) (mends rules text (made_with edits text f) makes turns)

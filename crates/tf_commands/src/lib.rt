@@ -21,6 +21,7 @@ mod texts;
 pub use command::{Command, Done, Fault, Reply};
 pub use edit_list::{Journal, Refused};
 pub use fault::{Part, RunFault};
+pub use fixing::fixed_text;
 pub use hcl_scan::ScanFault;
 pub use hcl_tree::ParseFault;
 pub use linting::{lint_stream, put_issues};

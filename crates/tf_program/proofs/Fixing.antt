@@ -1,5 +1,4 @@
--- What a fix of an input comes to, from what its calls answer. Its session has the text that came,
--- and an empty journal.
+-- What a fix of an input comes to, from what its calls answer.
 use Rattle.std.proofs.Common.{◌≡◌, ℕ, List, [], Result, Ok, Err, OnOk, IfOk, IfErr, refl, subst, inl, inr}
 use Rattle.edit_list.specs.Journal.{Entered}
 use Rattle.tf_rule.specs.declared.rule_set.RuleSet.{RuleSet}
@@ -17,56 +16,49 @@ pub no_lines : (rules : RuleSet) (t : List ℕ) (js : List Entered) (d : Done) (
 no_lines rules t js d u ks does = inr (refl, d, u, ks, does)
 
 pub not_fixed : (name : List ℕ) (rules : RuleSet) (fault : RunFault) (source : Source)
-    (target left_out : Target) (text t : List ℕ) (js : List Entered)
-    → TakesText source text → t ≡ text → js ≡ [] → NotFixed rules t js fault
+    (target left_out : Target) (text : List ℕ) → TakesText source text → NotFixed rules text [] fault
     → Untouched target → Untouched left_out → FixesAtFault name rules fault source target left_out
-not_fixed name rules fault source target left_out text t js taken same none why still quiet =
-    let over = subst (λ (s : List ℕ). NotFixed rules s js fault) same why in
-    let w = subst (λ (k : List Entered). NotFixed rules text k fault) none over in
-    inr (inl (text, taken, w, still, quiet))
+not_fixed name rules fault source target left_out text taken why still quiet =
+    inr (inl (text, taken, why, still, quiet))
 
-made_of : (name : List ℕ) (rules : RuleSet) (text t : List ℕ) (js : List Entered) (d : Done)
-    (left new : List ℕ) (records : List Entered) → t ≡ text → js ≡ []
-    → FixesText name rules t js d left new records → FixesText name rules text [] d left new records
-made_of name rules text t js d left new records same none made =
-    let over = subst (λ (s : List ℕ). FixesText name rules s js d left new records) same made in
-    subst (λ (k : List Entered). FixesText name rules text k d left new records) none over
+-- a fix made this of the text
+abbrev FixesAlone : List ℕ → RuleSet → List ℕ → Done → List ℕ → List ℕ → Type 0
+FixesAlone name rules text d left new =
+    (records : List Entered) × FixesText name rules text [] d left new records
 
 pub fixes : (name : List ℕ) (rules : RuleSet) (source : Source) (target left_out : Target)
-    (text t : List ℕ) (js : List Entered) (d : Done) (left new out : List ℕ)
-    (records : List Entered) (r : Result Met RunFault)
-    → TakesText source text → t ≡ text → js ≡ [] → FixesText name rules t js d left new records
-    → out ≡ new → IfOk r (λ met. ComesTo met d.left) → OnOk r (Puts target out)
-    → OnOk r (Puts left_out left) → IfOk r (λ met. Fixes name rules met source target left_out)
-fixes name rules source target left_out text t js d left new out records (Ok met) taken same none made is comes put told = (
+    (text : List ℕ) (d : Done) (left new out : List ℕ) (r : Result Met RunFault)
+    → TakesText source text → FixesAlone name rules text d left new → out ≡ new
+    → IfOk r (λ met. ComesTo met d.left) → OnOk r (Puts target out) → OnOk r (Puts left_out left)
+    → IfOk r (λ met. Fixes name rules met source target left_out)
+fixes name rules source target left_out text d left new out (Ok met) taken made is comes put told = (
   text,
   taken,
   d,
   left,
   new,
-  records,
-  made_of name rules text t js d left new records same none made,
+  made.0,
+  made.1,
   subst (λ (s : List ℕ). Puts target s) is put,
   told,
   comes,
 )
-fixes name rules source target left_out text t js d left new out records (Err fault) taken same none made is comes put told = tt
+fixes name rules source target left_out text d left new out (Err fault) taken made is comes put told = tt
 
 pub not_put : (name : List ℕ) (rules : RuleSet) (source : Source) (target left_out : Target)
-    (text t : List ℕ) (js : List Entered) (d : Done) (left new out : List ℕ)
-    (records : List Entered) (r : Result Met RunFault)
-    → TakesText source text → t ≡ text → js ≡ [] → FixesText name rules t js d left new records
-    → out ≡ new → IfErr r (λ fault. NotPutBoth fault target out left_out left)
+    (text : List ℕ) (d : Done) (left new out : List ℕ) (r : Result Met RunFault)
+    → TakesText source text → FixesAlone name rules text d left new → out ≡ new
+    → IfErr r (λ fault. NotPutBoth fault target out left_out left)
     → IfErr r (λ fault. FixesAtFault name rules fault source target left_out)
-not_put name rules source target left_out text t js d left new out records (Ok met) taken same none made is not = tt
-not_put name rules source target left_out text t js d left new out records (Err fault) taken same none made is not =
+not_put name rules source target left_out text d left new out (Ok met) taken made is not = tt
+not_put name rules source target left_out text d left new out (Err fault) taken made is not =
     inr (inr (
       text,
       taken,
       d,
       left,
       new,
-      records,
-      made_of name rules text t js d left new records same none made,
+      made.0,
+      made.1,
       subst (λ (s : List ℕ). NotPutBoth fault target s left_out left) is not,
     ))

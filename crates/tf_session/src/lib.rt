@@ -16,6 +16,6 @@ pub use saving::{journal_text, save};
 pub use streaming::{fix_stream, fmt_stream, revert_stream};
 pub use tf_commands::{
     Command, Done, Fault, Issue, Journal, ParseFault, Part, Refused, Remaining, Reply, Rule,
-    RuleSet, RunFault, ScanFault, Session, Told, check_stream, fix_through, format_stream,
-    lint_stream, put_issues, put_journal, put_text, run, step_stream, take_text,
+    RuleSet, RunFault, ScanFault, Session, Told, check_stream, fix_through, fixed_text,
+    format_stream, lint_stream, put_issues, put_journal, put_text, run, step_stream, take_text,
 };

@@ -148,6 +148,17 @@ fn fix_text(rt: HostRuntime) {
 }
 
 #[test]
+fn fixed_text(rt: HostRuntime) {
+    let right = given(&rt, tf_lint::fix_text(rt.alloc(), TEXT, RuleSet::all()));
+    begin(&rt);
+    let answer = tf_lint::fixed_text(rt.alloc(), TEXT, RuleSet::all());
+    let made = answered(&rt, answer, FixFault::Memory, true);
+    assert!(rt; is_same_text(&made.text, &right.change));
+    assert!(rt; made.fixed == right.fixed);
+    assert!(rt; made.left.len() == right.left.len());
+}
+
+#[test]
 fn remaining_lines(rt: HostRuntime) {
     let mut session = session_of(&rt, TEXT, b"");
     let (_, left) = given(&rt, session.fix(rt.alloc(), RuleSet::all()));
@@ -174,6 +185,14 @@ fn remaining_issues(rt: HostRuntime) {
 fn are_same_changes(a: &Option<NewText>, b: &Option<NewText>) -> bool {
     match (a, b) {
         (Some(a), Some(b)) => are_same_edits(&a.edits, &b.edits),
+        (None, None) => true,
+        _ => false,
+    }
+}
+
+fn is_same_text(a: &Option<Vec<u8>>, b: &Option<NewText>) -> bool {
+    match (a, b) {
+        (Some(a), Some(b)) => a.as_slice() == b.text.as_slice(),
         (None, None) => true,
         _ => false,
     }

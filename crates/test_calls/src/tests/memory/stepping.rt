@@ -8,7 +8,7 @@ use super::inputs::{
 use super::{answered, begin, wanted};
 use crate::tests::{Host, given};
 use std::alloc::AllocError;
-use tf_session::{Command, Done, Fault, Reply, Session};
+use tf_session::{Command, Done, Fault, Reply, RuleSet, Session};
 
 /// The session over this text and journal behind a command, and what that did. Where it wants
 /// memory it does nothing.
@@ -38,6 +38,19 @@ fn step_fmt(rt: HostRuntime) {
 #[test]
 fn step_fix(rt: HostRuntime) {
     step(&rt, TEXT, b"", fix_all());
+}
+
+/// No session is made, and it answers what one with no journal would have.
+#[test]
+fn fixed_text(rt: HostRuntime) {
+    let (right, right_done) = changed(&rt, TEXT, b"", fix_all());
+    let text = bytes_of(&rt, TEXT);
+    begin(&rt);
+    let answer = tf_session::fixed_text(rt.alloc(), text, RuleSet::all());
+    let (text, done, left) = answered(&rt, answer, Fault::Memory, true);
+    assert!(rt; text.as_slice() == right.text());
+    assert!(rt; done == right_done);
+    assert!(rt; left.len() == done.left);
 }
 
 #[test]
