@@ -22,6 +22,8 @@ pub struct Searched<'t> {
 #[derive(Drop)]
 pub struct Before {
     pub tokens: TokenList,
+    /// How many these are.
+    pub count: usize,
     /// The rules that were asked.
     pub rules: RuleSet,
     /// The attributes and blocks of its body, each with what the rules find in it.

@@ -140,6 +140,7 @@ fn search_behind<'t>(
         tokens,
         rules,
         members,
+        ..
     } = before;
     let old = Scanned::over(old_text, tokens);
     let scanned = scan_again(alloc, room, text, &old, &replaced)?;
@@ -156,6 +157,29 @@ fn search_behind<'t>(
         searched,
         room: old.into_room(),
     })
+}
+
+/// Room for the tokens of a text that comes from one of so many, in which these pieces were
+/// replaced: each new token has a byte that was added. A list that grows while it is filled would
+/// leave memory behind that is too small for it.
+fn room_for(
+    alloc: Global,
+    room: Vec<Token>,
+    text: &[u8],
+    count: usize,
+    replaced: &[Replaced],
+) -> Result<Vec<Token>, AllocError> {
+    let mut most = count;
+    for piece in replaced {
+        most = most.saturating_add(piece.added as usize);
+    }
+    // the cut asks for as much as an eighth of the bytes at once
+    let most = most.min(text.len()).max(text.len() / 8);
+    if most <= room.capacity() {
+        return Ok(room);
+    }
+    drop(room);
+    Vec::with_capacity(alloc, most)
 }
 
 /// Why a text that the step of a rule made is not read.
@@ -189,6 +213,7 @@ pub fn search_made<'t>(
 {
     no_cut_with_fault();
     one_cut();
+    let room = room_for(alloc, room, text, before.count, &replaced)?;
     match search_behind(alloc, text, old_text, before, room, replaced) {
         Ok(made) => Ok(made),
         Err(fault) => Err(broken(fault, rule)),
@@ -201,8 +226,10 @@ pub fn before_next(searched: Searched<'_>) -> (Before, Vec<Finding>)
     ensures rules { result.0.rules ≡ searched.entry.rules }
     ensures found { result.1.items ≡ searched.entry.found.items }
 {
+    let count = searched.scanned.len();
     let before = Before {
         tokens: searched.scanned.without_text(),
+        count,
         rules: searched.rules,
         members: searched.members,
     };

@@ -4,7 +4,6 @@ use Rattle.std.specs.Option.{is_some}
 use Rattle.edit_list.specs.Pieces.{EditList, Turns, as_list}
 use Rattle.edit_squash.specs.Squash.{IsList}
 use Rattle.tf_rule.specs.declared.rule_set.RuleSet.{RuleSet}
-use Rattle.tf_lint.specs.declared.steps.Ended.{Ended}
 use Rattle.tf_lint.specs.declared.steps.Outcome.{Outcome}
 use Rattle.tf_lint.specs.declared.steps.Outcome.TheVariants.{Unchanged, New}
 use Rattle.tf_lint.specs.Inner.Passing.{made_by}

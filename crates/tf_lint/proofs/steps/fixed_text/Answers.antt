@@ -1,5 +1,5 @@
 -- Steps of which no edits were kept.
-use Rattle.std.proofs.Common.{◌≡◌, List, [], ◌∷◌, ℕ, length, refl, subst}
+use Rattle.std.proofs.Common.{List, [], ◌∷◌, ℕ, length, refl, subst}
 use Rattle.std.proofs.lemmas.List.{append-nil}
 use Rattle.edit_list.specs.Pieces.{Turns, as_list}
 use Rattle.edit_list.specs.Pieces.Piece.{Kept}
