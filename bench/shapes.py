@@ -115,6 +115,8 @@ SHAPES = {
     "issues-all": (20000, lambda n: lines(n, lambda i: f'variable "aB{i}" {{}}\noutput "o{i}" {{ value = lookup(a.0, "${{b}}") == [] }} // c\n')),
     # issues one behind the other in one expression
     "index-chain": (100000, lambda n: "x = a" + ".0" * n + "\n"),
+    # a little longer than where the list of indexes doubles, which leaves the most memory behind
+    "index-chain-past-doubling": (73000, lambda n: "x = a" + ".0" * n + "\n"),
     "index-behind-splat": (100000, lambda n: "x = a.*" + ".0" * n + "\n"),
     "equality-chain": (100000, lambda n: "x = a" + " == []" * n + "\n"),
     # the same where a long token stands before the first operand, from which the issues' columns are counted
