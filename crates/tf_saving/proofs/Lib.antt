@@ -1,0 +1,9 @@
+pub mod AllRuns
+pub mod Checks
+pub mod Holds
+pub mod Lists
+pub mod OtherPrograms
+pub mod OtherSaves
+pub mod Recovering
+pub mod Saving
+pub mod Strays

@@ -1,0 +1,87 @@
+//! The system calls of a save, and the replies to them.
+ghost use Rattle.std.specs.Prelude.{◌≡◌};
+ghost use Rattle.tf_saving.specs.Steps.{choose, choose_or_in_place};
+
+use crate::step::Step;
+
+/// One of the two files that are saved together.
+#[derive(Clone, Copy)]
+pub enum Part {
+    Text,
+    Journal,
+}
+
+/// A system call. A part's *new file* is the one next to it that is to replace it.
+#[derive(Clone, Copy)]
+pub enum Call {
+    /// Opens the part for writing, and changes nothing.
+    Open(Part),
+    /// Looks whether the part's new file exists.
+    FindNew(Part),
+    /// Creates the part's new file, empty. It fails if the file exists.
+    CreateNew(Part),
+    /// Gives the new file the owner, group and mode that it is to have.
+    CopyAttributes(Part),
+    /// Writes all bytes to the new file.
+    Write(Part),
+    /// Waits until the bytes of the new file are durable (`fsync`).
+    Sync(Part),
+    /// Waits until the names in the part's directory are durable (`fsync` of the directory). The
+    /// reply for a directory that can't be opened for that is `CannotReplace`; for a file system
+    /// that has no such call, `Done`.
+    SyncDirectory(Part),
+    /// Compares the file under the new file's name with the one that this command created: device
+    /// and inode. Any reply but `Done` means that it is another, or that the system doesn't say.
+    CompareNew(Part),
+    /// Compares the text's file with the one that this command read: device, inode, size and time
+    /// of modification, from before the first read. Any reply but `Done` means that it has changed,
+    /// or that the system doesn't say.
+    Compare,
+    /// Reads the new journal that was found alone. The reply is `Done` if it may replace the
+    /// journal, `NotFound` if it may not: it can't be decoded, or the journal's last record can be
+    /// reverted in the text and the new journal's can't.
+    CanAdopt,
+    /// Renames the new file to the part's name.
+    Rename(Part),
+    /// Removes the new file.
+    Remove(Part),
+}
+
+/// The system's reply to a call.
+#[derive(Clone, Copy)]
+pub enum Reply {
+    Done,
+    /// There is no such file.
+    NotFound,
+    /// It was not done, because no new file can replace this one: the directory is not writable,
+    /// something is mounted there, the name is too long, the file has other links or an owner that
+    /// can't be given to a new one.
+    CannotReplace,
+    /// It failed for any other reason, such as a full disk. It may have been done all the same.
+    Failed,
+}
+
+impl Reply {
+    /// Returns the step that follows this reply.
+    pub fn choose(self, done: Step, not_found: Step, failed: Step) -> Step
+        ensures { result ≡ choose self done not_found failed }
+    {
+        match self {
+            Reply::Done => done,
+            Reply::NotFound => not_found,
+            Reply::CannotReplace | Reply::Failed => failed,
+        }
+    }
+
+    /// Returns the step that follows this reply, where the part may be written in place of being
+    /// replaced.
+    pub fn choose_or_in_place(self, done: Step, in_place: Step, failed: Step) -> Step
+        ensures { result ≡ choose_or_in_place self done in_place failed }
+    {
+        match self {
+            Reply::Done => done,
+            Reply::CannotReplace => in_place,
+            Reply::NotFound | Reply::Failed => failed,
+        }
+    }
+}
