@@ -6,7 +6,8 @@
  *
  *   o  opening for writing        r  rename        t  setting the length
  *   w  write                      u  unlink        m  setting the mode
- *   s  sync                                        c  setting the owner
+ *   s  sync                      l  look (stat)    c  setting the owner
+ *   i  read
  *
  * What goes to standard output or standard error, and what stands in /dev or /proc, does not count. It reads the environment:
  *
@@ -14,6 +15,7 @@
  *   STOP_ERROR=E    the call is refused instead, with this number for errno
  *   STOP=N-         and so is each call behind it
  *   STOP_HALF=1     the first call that is met, if it is a write, takes half of its bytes
+ *   STOP_DONE=1     a call that is refused is done all the same, unless it is a write
  *   STOP_TOLD=F     the letter of each call that was met is written behind what the file F holds
  *
  * It includes nothing, so that a compiler that comes without headers, as that of the toolchain, compiles it.
@@ -26,6 +28,7 @@ int *__errno_location(void);
 long syscall(long number, ...);
 
 enum {
+    SYSCALL_READ = 0,
     SYSCALL_WRITE = 1,
     SYSCALL_OPEN = 2,
     SYSCALL_FSYNC = 74,
@@ -34,8 +37,10 @@ enum {
     SYSCALL_UNLINK = 87,
     SYSCALL_FCHMOD = 91,
     SYSCALL_CHOWN = 92,
+    SYSCALL_LCHOWN = 94,
     SYSCALL_EXIT_GROUP = 231,
     SYSCALL_OPENAT = 257,
+    SYSCALL_STATX = 332,
     FOR_WRITING = 03,
     TO_WRITE_BEHIND = 01 | 0100 | 02000,
     HERE = -100,
@@ -44,7 +49,7 @@ enum {
 
 static const char *counted;
 static long first, seen;
-static int goes_on, error, takes_half;
+static int goes_on, error, takes_half, is_done;
 
 static long number_of(const char *text)
 {
@@ -63,6 +68,7 @@ __attribute__((constructor)) static void begin(void)
         goes_on = *stop == '-';
     error = (int)number_of(getenv("STOP_ERROR"));
     takes_half = number_of(getenv("STOP_HALF")) == 1;
+    is_done = error && number_of(getenv("STOP_DONE")) == 1;
 }
 
 static void tell(char letter)
@@ -95,6 +101,15 @@ static int refused(void)
     return -1;
 }
 
+/* Makes a call by its number, unless it is met: then it is refused, and made or not. */
+static int answer(int met, long number, long one, long two, long three)
+{
+    int result = 0;
+    if (!met || is_done)
+        result = (int)syscall(number, one, two, three);
+    return met ? refused() : result;
+}
+
 static int is_outside(const char *name)
 {
     const char *const outside[] = {"/dev/", "/proc/"};
@@ -115,9 +130,9 @@ int openat(int folder, const char *name, int flags, ...)
     __builtin_va_start(rest, flags);
     int mode = __builtin_va_arg(rest, int);
     __builtin_va_end(rest);
-    if ((flags & FOR_WRITING) && !is_outside(name) && is_met('o'))
-        return refused();
-    return (int)syscall(SYSCALL_OPENAT, folder, name, flags, mode);
+    int met = (flags & FOR_WRITING) && !is_outside(name) && is_met('o');
+    int file = met && !is_done ? 0 : (int)syscall(SYSCALL_OPENAT, folder, name, flags, mode);
+    return met ? refused() : file;
 }
 
 int open(const char *name, int flags, ...)
@@ -158,22 +173,22 @@ long write(int file, const void *bytes, size_t count)
 
 int rename(const char *from, const char *to)
 {
-    return is_met('r') ? refused() : (int)syscall(SYSCALL_RENAME, from, to);
+    return answer(is_met('r'), SYSCALL_RENAME, (long)from, (long)to, 0);
 }
 
 int unlink(const char *name)
 {
-    return is_met('u') ? refused() : (int)syscall(SYSCALL_UNLINK, name);
+    return answer(is_met('u'), SYSCALL_UNLINK, (long)name, 0, 0);
 }
 
 int fsync(int file)
 {
-    return is_met('s') ? refused() : (int)syscall(SYSCALL_FSYNC, file);
+    return answer(is_met('s'), SYSCALL_FSYNC, file, 0, 0);
 }
 
 int ftruncate(int file, long length)
 {
-    return is_met('t') ? refused() : (int)syscall(SYSCALL_FTRUNCATE, file, length);
+    return answer(is_met('t'), SYSCALL_FTRUNCATE, file, length, 0);
 }
 
 int ftruncate64(int file, long length)
@@ -183,10 +198,30 @@ int ftruncate64(int file, long length)
 
 int fchmod(int file, unsigned mode)
 {
-    return is_met('m') ? refused() : (int)syscall(SYSCALL_FCHMOD, file, mode);
+    return answer(is_met('m'), SYSCALL_FCHMOD, file, mode, 0);
 }
 
 int chown(const char *name, unsigned owner, unsigned group)
 {
-    return is_met('c') ? refused() : (int)syscall(SYSCALL_CHOWN, name, owner, group);
+    return answer(is_met('c'), SYSCALL_CHOWN, (long)name, owner, group);
+}
+
+int lchown(const char *name, unsigned owner, unsigned group)
+{
+    return answer(is_met('c'), SYSCALL_LCHOWN, (long)name, owner, group);
+}
+
+/* A look at a name, or at an open file, whose name is empty. */
+int statx(int folder, const char *name, int flags, unsigned mask, void *found)
+{
+    if ((*name || folder > 2) && !is_outside(name) && is_met('l'))
+        return refused();
+    return (int)syscall(SYSCALL_STATX, folder, name, flags, mask, found);
+}
+
+long read(int file, void *bytes, size_t count)
+{
+    if (file > 2 && is_met('i'))
+        return refused();
+    return syscall(SYSCALL_READ, file, bytes, count);
 }

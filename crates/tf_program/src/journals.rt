@@ -1,7 +1,8 @@
 //! Files that have their journals beside them.
 
-use crate::places::{Places, tells_absence};
-use crate::saving::{NewBytes, save};
+use crate::places::{Places, is_absent, tells_absence};
+use crate::saving::{NewBytes, recover, save};
+use crate::snapshot::Snapshot;
 use std::alloc::Global;
 use std::io::{ErrorKind, Read};
 use std::rt::Files;
@@ -12,21 +13,28 @@ use tf_session::{RunFault, Session, Told, journal_text, load};
 #[derive(Drop)]
 pub struct JournaledFile<'a> {
     places: Places<'a>,
+    /// The file from before it was read.
+    read: Option<Snapshot>,
     pub session: Session,
 }
 
 impl<'a> JournaledFile<'a> {
-    /// Reads both, once what a stopped command has begun is ended. A file that cannot be opened is
-    /// `Read`.
+    /// Recovers from a command that was interrupted, then reads both. A file that cannot be opened
+    /// is `Read`.
     pub fn open<R: Files>(
         rt: &R,
         alloc: Global,
         name: &'a str,
     ) -> Result<JournaledFile<'a>, RunFault> {
         let places = Places::of(rt, alloc, name)?;
-        places.settle(rt)?;
+        recover(rt, alloc, &places)?;
+        let snapshot = Snapshot::of(rt, places.text);
         let session = read(rt, alloc, places.text, &places.journal)?;
-        Ok(JournaledFile { places, session })
+        Ok(JournaledFile {
+            places,
+            read: snapshot,
+            session,
+        })
     }
 
     /// Writes both. At a fault they are as they were; `Write` names the part that could not be
@@ -37,14 +45,14 @@ impl<'a> JournaledFile<'a> {
             journal: &journal,
             text: self.session.text(),
         };
-        save(rt, alloc, &self.places, bytes)
+        save(rt, alloc, &self.places, bytes, self.read)
     }
 }
 
 /// Reads a file and its journal, and writes nothing.
 pub fn read_only<R: Files>(rt: &R, alloc: Global, name: &str) -> Result<Session, RunFault> {
     let places = Places::of(rt, alloc, name)?;
-    read(rt, alloc, places.text, places.fitting_journal(rt))
+    read(rt, alloc, places.text, places.fitting_journal(rt, alloc)?)
 }
 
 /// A journal that is there and cannot be opened: its first read fails.
@@ -57,14 +65,21 @@ impl Read for Closed {
     }
 }
 
-fn read<R: Files>(rt: &R, alloc: Global, text: &str, journal: &str) -> Result<Session, RunFault> {
+/// Reads a text and a journal. A journal that is not there is the empty one; a link to nothing is
+/// no such journal, since to write it would create a file wherever the link leads.
+pub fn read<R: Files>(
+    rt: &R,
+    alloc: Global,
+    text: &str,
+    journal: &str,
+) -> Result<Session, RunFault> {
     let Ok(text) = fs::open(rt, text) else {
         return Err(RunFault::Read);
     };
     let mut text = Told::new(text);
     match fs::open(rt, journal) {
         Ok(journal) => load(alloc, &mut text, &mut Told::new(journal)),
-        Err(error) if tells_absence(&error) => {
+        Err(error) if tells_absence(&error) && is_absent(rt, journal) => {
             load(alloc, &mut text, &mut Told::new(b"".as_slice()))
         }
         Err(_) => load(alloc, &mut text, &mut Told::new(Closed)),

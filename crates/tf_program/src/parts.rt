@@ -1,6 +1,7 @@
 //! One part of what is saved: the text of a file, or its journal.
 
 use std::io::Write;
+use tf_saving as saving;
 use tf_session::{Part, RunFault, Told, put_journal, put_text};
 
 /// The fault where a part could not be written whole.
@@ -14,5 +15,13 @@ pub fn put_part<W: Write>(part: Part, bytes: &[u8], writer: &mut W) -> Result<()
     match part {
         Part::Journal => put_journal(bytes, &mut writer),
         Part::Text => put_text(bytes, &mut writer),
+    }
+}
+
+/// Returns the part as errors name it.
+pub fn session_part(part: saving::Part) -> Part {
+    match part {
+        saving::Part::Text => Part::Text,
+        saving::Part::Journal => Part::Journal,
     }
 }

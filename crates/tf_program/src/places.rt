@@ -1,11 +1,11 @@
 //! Where a file, its journal, and what is to take their places lie.
 
-use crate::parts::unwritten;
+use crate::adoption::can_adopt;
 use std::alloc::{AllocError, Global};
 use std::fs;
 use std::io::{self, ErrorKind};
 use std::rt::Files;
-use tf_session::{Part, RunFault};
+use tf_session::RunFault;
 
 /// What the name of a journal has behind that of its file.
 const JOURNAL: &str = ".tfundo";
@@ -31,16 +31,6 @@ pub struct Places<'a> {
     pub new_journal: String,
 }
 
-/// What a command that was stopped has left beside a file.
-#[derive(Clone, Copy)]
-enum Left {
-    Nothing,
-    /// The new text took its place; the new journal still has to.
-    NewJournal,
-    /// Neither took its place.
-    Unused,
-}
-
 impl<'a> Places<'a> {
     /// The places for a file of this name.
     pub fn of<R: Files>(rt: &R, alloc: Global, name: &'a str) -> Result<Places<'a>, RunFault> {
@@ -59,55 +49,28 @@ impl<'a> Places<'a> {
         })
     }
 
-    /// Ends what a stopped command has begun, so that text and journal are both old or both new.
+    /// Returns the name of the journal that belongs to the text: the new one where a command was
+    /// interrupted once it had replaced the text.
     ///
-    /// A new journal that cannot take its place is `Write` with no byte sent.
-    pub fn settle<R: Files>(&self, rt: &R) -> Result<(), RunFault> {
-        match self.left(rt) {
-            Left::Nothing => Ok(()),
-            Left::NewJournal => self.put_journal(rt, 0),
-            Left::Unused => {
-                self.take_away(rt);
-                Ok(())
-            }
-        }
+    /// # Errors
+    /// `Read` where the system does not say what is there.
+    pub fn fitting_journal<R: Files>(&self, rt: &R, alloc: Global) -> Result<&str, RunFault> {
+        let is_new = is_found(rt, &self.new_journal)?
+            && !is_found(rt, &self.new_text)?
+            && can_adopt(rt, alloc, self.text, &self.journal, &self.new_journal)?;
+        Ok(if is_new {
+            self.new_journal.as_str()
+        } else {
+            self.journal.as_str()
+        })
     }
+}
 
-    /// The name of the journal that fits the text: the new one where only its text took its place.
-    pub fn fitting_journal<R: Files>(&self, rt: &R) -> &str {
-        match self.left(rt) {
-            Left::NewJournal => self.new_journal.as_str(),
-            Left::Nothing | Left::Unused => self.journal.as_str(),
-        }
-    }
-
-    /// The new text is made before the new journal, and its name goes when it takes its place.
-    /// Where the system does not tell, the new journal counts as not there, and the new text as
-    /// there.
-    fn left<R: Files>(&self, rt: &R) -> Left {
-        let has_journal = fs::symlink_metadata(rt, &self.new_journal).is_ok();
-        match (has_journal, is_absent(rt, &self.new_text)) {
-            (true, true) => Left::NewJournal,
-            (false, true) => Left::Nothing,
-            (_, false) => Left::Unused,
-        }
-    }
-
-    /// Takes both new files away, as far as the system lets it. The journal goes first: alone, it
-    /// would tell that its text took its place.
-    pub fn take_away<R: Files>(&self, rt: &R) {
-        let _ = fs::remove_file(rt, &self.new_journal);
-        if is_absent(rt, &self.new_journal) {
-            let _ = fs::remove_file(rt, &self.new_text);
-        }
-    }
-
-    /// Puts the new journal, to which so many bytes were sent, in the place of the old one.
-    pub fn put_journal<R: Files>(&self, rt: &R, sent: usize) -> Result<(), RunFault> {
-        match fs::rename(rt, &self.new_journal, &self.journal) {
-            Ok(()) => Ok(()),
-            Err(_) => Err(unwritten(Part::Journal, sent)),
-        }
+fn is_found<R: Files>(rt: &R, name: &str) -> Result<bool, RunFault> {
+    match fs::symlink_metadata(rt, name) {
+        Ok(_) => Ok(true),
+        Err(error) if tells_absence(&error) => Ok(false),
+        Err(_) => Err(RunFault::Read),
     }
 }
 

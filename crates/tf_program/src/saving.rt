@@ -1,14 +1,13 @@
-//! Saves a text and its journal, so that at a fault both files are as they were.
+//! Saves a text with its journal, so that after an error both files are as they were.
 
+use crate::calls::follow;
 use crate::overwriting::overwrite;
-use crate::parts::unwritten;
 use crate::places::Places;
-use crate::replacing::replace;
+use crate::snapshot::Snapshot;
 use std::alloc::Global;
-use std::fs::OpenOptions;
-use std::io::ErrorKind;
 use std::rt::Files;
-use tf_session::{Part, RunFault};
+use tf_saving::Step;
+use tf_session::RunFault;
 
 /// The bytes that a file and its journal are to have.
 #[derive(Clone, Copy)]
@@ -17,34 +16,36 @@ pub struct NewBytes<'b> {
     pub text: &'b [u8],
 }
 
-/// Writes a journal and a text: new files take the places of the old ones, or, where none can, the
-/// old ones are written over.
+/// Saves a journal and a text: new files replace the old ones or, where none can, the old ones are
+/// written in place. `read` is the text's file from before it was read.
+///
+/// # Errors
+/// `Write` with the part and the number of its bytes that were written, 0 where another program has
+/// changed a file meanwhile; `Read` where it is not known what the next recovery will find.
 pub fn save<R: Files>(
     rt: &R,
     alloc: Global,
     places: &Places<'_>,
     bytes: NewBytes<'_>,
+    read: Option<Snapshot>,
 ) -> Result<(), RunFault> {
-    can_write(rt, places)?;
-    let is_replaced = replace(rt, places, bytes)?;
+    let is_replaced = follow(rt, alloc, places, bytes, read, Step::SAVE)?;
     if is_replaced {
         return Ok(());
     }
-    overwrite(rt, alloc, places, bytes)
+    overwrite(rt, alloc, places, bytes, read)
 }
 
-/// Opens both files for writing, the journal first, and changes neither: a new file could take the
-/// place of one that nobody may write.
-fn can_write<R: Files>(rt: &R, places: &Places<'_>) -> Result<(), RunFault> {
-    let mut options = OpenOptions::new();
-    options.write(true);
-    match options.open(rt, &places.journal) {
-        Ok(_) => {}
-        Err(error) if error.kind() == ErrorKind::NotFound => {}
-        Err(_) => return Err(unwritten(Part::Journal, 0)),
-    }
-    match options.open(rt, places.text) {
-        Ok(_) => Ok(()),
-        Err(_) => Err(unwritten(Part::Text, 0)),
-    }
+/// Recovers from a command that was interrupted, so that text and journal are both old or both new.
+///
+/// # Errors
+/// `Read` where it is not known what was interrupted; `Write` of the journal where a new journal
+/// can't be removed or renamed.
+pub fn recover<R: Files>(rt: &R, alloc: Global, places: &Places<'_>) -> Result<(), RunFault> {
+    let nothing = NewBytes {
+        journal: &[],
+        text: &[],
+    };
+    follow(rt, alloc, places, nothing, None, Step::RECOVER)?;
+    Ok(())
 }

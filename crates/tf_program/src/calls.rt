@@ -1,0 +1,265 @@
+//! Makes the system calls that save a file with its journal, in the order of `tf_saving`.
+
+use crate::adoption::can_adopt;
+use crate::new_file::{copy_attributes, create_new, is_same_file};
+use crate::parts::{put_part, session_part, unwritten};
+use crate::places::{Places, tells_absence};
+use crate::saving::NewBytes;
+use crate::snapshot::Snapshot;
+use std::alloc::Global;
+use std::fs::{self, OpenFile, OpenOptions};
+use std::io::{self, ErrorKind, Write};
+use std::path::Path;
+use std::rt::Files;
+use tf_saving::{Call, End, Part, Reply, Step};
+use tf_session::RunFault;
+
+/// One of the two files that are saved.
+#[derive(Drop)]
+pub struct PartFile<'a, F: Drop> {
+    /// The name by which it is opened.
+    pub given: &'a str,
+    /// What that name leads to.
+    pub own: &'a str,
+    /// The name of the new file.
+    pub new: &'a str,
+    /// The name of the text's file.
+    pub text: &'a str,
+    /// The new file, from its creation on. It stays open until it is compared, so that no other
+    /// file gets its inode meanwhile.
+    pub created: Option<F>,
+    bytes: &'a [u8],
+    /// How many bytes were written.
+    sent: usize,
+    /// The file from before it was read.
+    read: Option<Snapshot>,
+    is_out_of_memory: bool,
+}
+
+/// Makes the calls from this step on. Returns whether the new files have replaced the old ones: if
+/// they can't, both are to be written in place.
+///
+/// # Errors
+/// `Write` with the part and the number of its bytes that were written; `Read` where it is not
+/// known what the next recovery will find; `Memory`.
+pub fn follow<R: Files>(
+    rt: &R,
+    alloc: Global,
+    places: &Places<'_>,
+    bytes: NewBytes<'_>,
+    read: Option<Snapshot>,
+    first: Step,
+) -> Result<bool, RunFault> {
+    let mut text = text_file::<R::File>(places, bytes.text, read);
+    let mut journal = journal_file::<R::File>(places, bytes.journal);
+    let end = end_of(rt, alloc, &mut text, &mut journal, first);
+    outcome(end, &text, &journal)
+}
+
+fn text_file<'a, F: Drop>(
+    places: &'a Places<'_>,
+    bytes: &'a [u8],
+    read: Option<Snapshot>,
+) -> PartFile<'a, F> {
+    PartFile {
+        given: places.text,
+        own: places.real_text.as_str(),
+        new: places.new_text.as_str(),
+        text: places.text,
+        created: None,
+        bytes,
+        sent: 0,
+        read,
+        is_out_of_memory: false,
+    }
+}
+
+fn journal_file<'a, F: Drop>(places: &'a Places<'_>, bytes: &'a [u8]) -> PartFile<'a, F> {
+    PartFile {
+        given: places.journal.as_str(),
+        own: places.journal.as_str(),
+        new: places.new_journal.as_str(),
+        text: places.text,
+        created: None,
+        bytes,
+        sent: 0,
+        read: None,
+        is_out_of_memory: false,
+    }
+}
+
+fn end_of<R: Files>(
+    rt: &R,
+    alloc: Global,
+    text: &mut PartFile<'_, R::File>,
+    journal: &mut PartFile<'_, R::File>,
+    first: Step,
+) -> End {
+    let mut step = first;
+    loop {
+        let reply = match step.call() {
+            Ok(call) => match part_of(call) {
+                Part::Text => make(rt, alloc, text, call),
+                Part::Journal => make(rt, alloc, journal, call),
+            },
+            Err(end) => return end,
+        };
+        step = step.after(reply);
+    }
+}
+
+fn outcome<F: Drop>(
+    end: End,
+    text: &PartFile<'_, F>,
+    journal: &PartFile<'_, F>,
+) -> Result<bool, RunFault> {
+    match end {
+        End::Success => Ok(true),
+        End::InPlace => Ok(false),
+        End::Unknown if journal.is_out_of_memory => Err(RunFault::Memory),
+        End::Unknown => Err(RunFault::Read),
+        End::Error(Part::Text) => Err(unwritten(session_part(Part::Text), text.sent)),
+        End::Error(Part::Journal) | End::Late => {
+            Err(unwritten(session_part(Part::Journal), journal.sent))
+        }
+    }
+}
+
+/// Returns the part that a call is about.
+fn part_of(call: Call) -> Part {
+    match call {
+        Call::Compare => Part::Text,
+        Call::CanAdopt => Part::Journal,
+        Call::Open(part)
+        | Call::FindNew(part)
+        | Call::CreateNew(part)
+        | Call::CopyAttributes(part)
+        | Call::Write(part)
+        | Call::Sync(part)
+        | Call::SyncDirectory(part)
+        | Call::CompareNew(part)
+        | Call::Rename(part)
+        | Call::Remove(part) => part,
+    }
+}
+
+/// Makes one call for the part that it is about.
+fn make<R: Files>(rt: &R, alloc: Global, file: &mut PartFile<'_, R::File>, call: Call) -> Reply {
+    match call {
+        Call::Open(_) => open(rt, file.given),
+        Call::FindNew(_) => reply_to(fs::symlink_metadata(rt, file.new)),
+        Call::CreateNew(_) => create_new(rt, file),
+        Call::CopyAttributes(_) => copy_attributes(rt, file),
+        Call::Write(part) => write(part, file),
+        Call::Sync(_) => sync(file),
+        Call::SyncDirectory(_) => sync_directory(rt, file.own),
+        Call::CompareNew(_) => compare_new(rt, file),
+        Call::Compare => compare(rt, file),
+        Call::CanAdopt => adopt(rt, alloc, file),
+        Call::Rename(_) => rename(rt, file),
+        Call::Remove(_) => reply_to(fs::remove_file(rt, file.new)),
+    }
+}
+
+fn reply_to<T: Drop>(answer: io::Result<T>) -> Reply {
+    match answer {
+        Ok(_) => Reply::Done,
+        Err(error) if tells_absence(&error) => Reply::NotFound,
+        Err(_) => Reply::Failed,
+    }
+}
+
+/// A name that is too long can be found nowhere, and can't be written either.
+fn open<R: Files>(rt: &R, name: &str) -> Reply {
+    let mut options = OpenOptions::new();
+    options.write(true);
+    match options.open(rt, name) {
+        Ok(_) => Reply::Done,
+        Err(error) if error.kind() == ErrorKind::NotFound => Reply::NotFound,
+        Err(_) => Reply::Failed,
+    }
+}
+
+fn write<F: Write + Drop>(part: Part, file: &mut PartFile<'_, F>) -> Reply {
+    let Some(created) = &mut file.created else {
+        return Reply::Failed;
+    };
+    match put_part(session_part(part), file.bytes, created) {
+        Ok(()) => {
+            file.sent = file.bytes.len();
+            Reply::Done
+        }
+        Err(RunFault::Write { sent, .. }) => {
+            file.sent = sent;
+            Reply::Failed
+        }
+        Err(_) => Reply::Failed,
+    }
+}
+
+fn sync<F: OpenFile + Drop>(file: &mut PartFile<'_, F>) -> Reply {
+    match &file.created {
+        Some(created) => reply_to(created.sync_all()),
+        None => Reply::Failed,
+    }
+}
+
+/// Syncs the directory of this name. A file system that can't sync directories has nothing to wait
+/// for.
+pub fn sync_directory<R: Files>(rt: &R, name: &str) -> Reply {
+    let directory = match Path::new(name).parent() {
+        Some(directory) if !directory.as_str().is_empty() => directory.as_str(),
+        _ => ".",
+    };
+    match fs::open(rt, directory) {
+        Ok(directory) => reply_to_sync(directory.sync_all()),
+        Err(error) if error.kind() == ErrorKind::PermissionDenied => Reply::CannotReplace,
+        Err(_) => Reply::Failed,
+    }
+}
+
+fn reply_to_sync(answer: io::Result<()>) -> Reply {
+    match answer {
+        Err(error) if error.kind() == ErrorKind::InvalidInput => Reply::Done,
+        answer => reply_to(answer),
+    }
+}
+
+/// Nothing of what was written is to be reported where another program has changed a file.
+fn compare_new<R: Files>(rt: &R, file: &mut PartFile<'_, R::File>) -> Reply {
+    if is_same_file(rt, file) {
+        Reply::Done
+    } else {
+        file.sent = 0;
+        Reply::Failed
+    }
+}
+
+fn compare<R: Files>(rt: &R, file: &mut PartFile<'_, R::File>) -> Reply {
+    let now = Snapshot::of(rt, file.given);
+    if now.is_some() && now == file.read {
+        Reply::Done
+    } else {
+        file.sent = 0;
+        Reply::Failed
+    }
+}
+
+fn adopt<R: Files>(rt: &R, alloc: Global, journal: &mut PartFile<'_, R::File>) -> Reply {
+    match can_adopt(rt, alloc, journal.text, journal.own, journal.new) {
+        Ok(true) => Reply::Done,
+        Ok(false) => Reply::NotFound,
+        Err(fault) => {
+            journal.is_out_of_memory = fault == RunFault::Memory;
+            Reply::Failed
+        }
+    }
+}
+
+/// Nothing is renamed over what is mounted.
+fn rename<R: Files>(rt: &R, file: &PartFile<'_, R::File>) -> Reply {
+    match fs::rename(rt, file.new, file.own) {
+        Err(error) if error.kind() == ErrorKind::ResourceBusy => Reply::CannotReplace,
+        answer => reply_to(answer),
+    }
+}

@@ -1,0 +1,100 @@
+//! The new file that is to replace an old one.
+
+use crate::calls::PartFile;
+use crate::places::tells_absence;
+use std::fs::{self, Metadata, OpenFile, OpenOptions};
+use std::io::{self, ErrorKind};
+use std::os::unix::fs::{MetadataExt, OpenOptionsExt, PermissionsExt, lchown};
+use std::rt::Files;
+use tf_saving::Reply;
+
+/// The mode of a new file until it gets that of the old one, so that nobody else can open it.
+const PRIVATE: u32 = 0o600;
+
+/// Creates the new file, empty. What is no regular file is not replaced, nor one with other names,
+/// which would keep the old text.
+pub fn create_new<R: Files>(rt: &R, file: &mut PartFile<'_, R::File>) -> Reply {
+    match fs::symlink_metadata(rt, file.own) {
+        Ok(old) if old.is_file() && old.nlink() == 1 => {}
+        Ok(_) => return Reply::CannotReplace,
+        Err(error) if tells_absence(&error) => {}
+        Err(_) => return Reply::Failed,
+    }
+    let mut options = OpenOptions::new();
+    options.write(true).create_new(true).mode(PRIVATE);
+    match options.open(rt, file.new) {
+        Ok(created) => {
+            file.created = Some(created);
+            Reply::Done
+        }
+        Err(error) if error.kind() == ErrorKind::AlreadyExists => reply_if_taken(rt, file.new),
+        Err(error) => reply_to_refusal(&error),
+    }
+}
+
+/// Returns the reply where the new file's name is taken, though a recovery has just removed what
+/// had it: it could not remove it, or another program has created it since. A removal that does not
+/// fit what is there tells which, and removes nothing.
+fn reply_if_taken<R: Files>(rt: &R, name: &str) -> Reply {
+    let removed = match fs::symlink_metadata(rt, name) {
+        Ok(found) if found.is_dir() => fs::remove_file(rt, name),
+        Ok(_) => fs::remove_dir(rt, name),
+        Err(_) => return Reply::Failed,
+    };
+    match removed {
+        Ok(()) => Reply::Failed,
+        Err(error) => reply_to_refusal(&error),
+    }
+}
+
+/// Returns whether a refusal says that no new file may be here, or that one can't be like the old.
+fn reply_to_refusal(error: &io::Error) -> Reply {
+    match error.kind() {
+        ErrorKind::PermissionDenied | ErrorKind::ReadOnlyFilesystem | ErrorKind::InvalidFilename =>
+            Reply::CannotReplace,
+        _ => Reply::Failed,
+    }
+}
+
+/// Gives the new file the owner, group and mode of the old one; to a first journal those of the
+/// text's file.
+pub fn copy_attributes<R: Files>(rt: &R, file: &PartFile<'_, R::File>) -> Reply {
+    let old = match fs::symlink_metadata(rt, file.own) {
+        Err(error) if tells_absence(&error) => fs::metadata(rt, file.text),
+        found => found,
+    };
+    match (old, &file.created) {
+        (Ok(old), Some(created)) => make_like(rt, &old, file.new, created),
+        _ => Reply::Failed,
+    }
+}
+
+/// The owner comes first, since a change of it takes bits of the mode away. The name may lead to
+/// something else by now, and no link is followed there.
+fn make_like<R: Files>(rt: &R, old: &Metadata, name: &str, created: &R::File) -> Reply {
+    match created.metadata() {
+        Ok(new) if new.uid() == old.uid() && new.gid() == old.gid() => {}
+        Ok(_) => match lchown(rt, name, Some(old.uid()), Some(old.gid())) {
+            Ok(()) => {}
+            // no user of this number is known here
+            Err(error) if error.kind() == ErrorKind::InvalidInput => return Reply::CannotReplace,
+            Err(error) => return reply_to_refusal(&error),
+        },
+        Err(_) => return Reply::Failed,
+    }
+    match created.set_permissions(old.permissions()) {
+        Ok(()) => Reply::Done,
+        Err(error) => reply_to_refusal(&error),
+    }
+}
+
+/// Returns whether the file of the new file's name is the one that was created.
+pub fn is_same_file<R: Files>(rt: &R, file: &PartFile<'_, R::File>) -> bool {
+    let Some(created) = &file.created else {
+        return false;
+    };
+    match (created.metadata(), fs::symlink_metadata(rt, file.new)) {
+        (Ok(created), Ok(found)) => created.dev() == found.dev() && created.ino() == found.ino(),
+        _ => false,
+    }
+}
