@@ -1,0 +1,112 @@
+"""A second command runs at each call of a first: whole, killed at each of its own calls, or held
+there until the first has ended."""
+import os
+import time
+
+import images
+from program import Check
+from scenes import RENAME, Scene, read, write
+
+# A disk that gives the number of a removed file to the next one, as most do.
+KIND = "ext4"
+PAIRS = [
+    ("", "fmt", "fmt"),
+    ("", "fix", "fmt"),
+    ("fix", "fmt", "fmt"),
+    ("fix", "fmt", "revert"),
+    ("fix", "revert", "fmt"),
+    ("fix fmt", "revert", "revert"),
+]
+WAIT = "do sleep 0.0005; done"
+
+
+class Pair:
+    """Two commands on a scene, the second run at a call of the first."""
+
+    def __init__(self, check, scene, first, second):
+        self.check, self.scene, self.first, self.second = check, scene, first, second
+        self.program, self.disk = scene.program, os.path.dirname(scene.folder)
+        self.log = f"{self.disk}/second"
+        scene.begin()
+        self.calls = self.program.calls(scene.folder, first)
+        orders = [(), (first,), (second,), (first, second), (second, first)]
+        self.whole = {self.after(*order) for order in orders}
+
+    def after(self, *commands):
+        """Returns FILE and journal after commands that run one after the other."""
+        self.scene.begin()
+        for command in commands:
+            self.program.run(self.scene.folder, command)
+        return self.scene.state()
+
+    def shell(self, how, number):
+        """The command of the shell that runs the second, with one of its calls met."""
+        second = " ".join(self.program.words(self.second))
+        return f"{self.program.tracer} -c {self.log} '{how}' {number} {second}"
+
+    def meet(self, at, how, number):
+        """Runs the second at call `at` of the first, with its own call met; judges what is there.
+        Returns whether the second had such a call."""
+        self.scene.begin()
+        write(self.log, b"")
+        if how == "held":
+            ran = self.hold(at, number)
+        else:
+            second = f"run:{self.shell(how, number)} >../out 2>&1"
+            ran = self.program.meet(self.scene.folder, self.first, second, at)
+        calls = read(self.log).decode().split("\n")[:-1]
+        if number > len(calls):
+            return False
+        met = calls[number - 1] if number else "no call"
+        self.judge(ran, self.calls[at - 1], f"{self.second} {how} at {met}", met)
+        return True
+
+    def hold(self, at, number):
+        """Runs the first with the second held at one of its calls; lets it go on, and waits."""
+        for name in ("held", "free", "ended"):
+            if os.path.exists(f"{self.disk}/{name}"):
+                os.unlink(f"{self.disk}/{name}")
+        held = self.shell(f"run:touch ../held; until [ -e ../free ]; {WAIT}", number)
+        second = f"({held}; touch ../held ../ended) >../out 2>&1 & until [ -e ../held ]; {WAIT}"
+        ran = self.program.meet(self.scene.folder, self.first, f"run:{second}", at)
+        write(f"{self.disk}/free", b"")
+        while not os.path.exists(f"{self.disk}/ended"):
+            time.sleep(0.0005)
+        return ran
+
+    def judge(self, ran, call, second, met):
+        """Judges what two commands have left."""
+        scene = self.scene
+        where = (self.first, "of", scene, "at", call, "and", second, "status", ran.returncode)
+        where += (ran.stderr.decode().strip(), "left", scene.leftovers())
+        text = scene.state()[0]
+        self.program.recover(scene.folder)
+        state = scene.state()
+        is_instant = call == RENAME or " held " in second and met == RENAME
+        is_text = state[0] == text and text in {whole[0] for whole in self.whole}
+        name = "whole" if state in self.whole else "journal unfit" if is_text else "FILE torn"
+        self.check.see(name + (" in the last instant" if is_instant and name != "whole" else ""))
+        if not is_instant:
+            self.check.require(is_text, "FILE is not whole", *where)
+            self.check.require(text or ran.returncode, "FILE is empty, status 0", *where)
+            self.check.require(state in self.whole or not is_text, "journal unfit", *where)
+        self.check.require(not scene.leftovers(), "left", *where)
+
+
+def pair(program, history, first, second):
+    """Runs a second command at each call of a first one."""
+    after = f" after {history}" if history else ""
+    check = Check(f"pairs, {second} at each call of {first}{after}", least=800)
+    disk_name = f"pair-{history}-{first}-{second}".replace(" ", "-")
+    with images.new_disk(program, disk_name, KIND) as disk:
+        both = Pair(check, Scene(program, f"{disk}/s", "name", history), first, second)
+        for at in range(1, len(both.calls)):
+            both.meet(at, "list", 0)
+            for how in ("kill-before", "held"):
+                number = 1
+                while both.meet(at, how, number):
+                    number += 1
+    return check
+
+
+JOBS = [(pair, *both) for both in PAIRS]

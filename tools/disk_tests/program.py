@@ -1,0 +1,90 @@
+"""Runs the built program, alone or with one of its system calls met, and counts what is seen."""
+import collections
+import os
+import subprocess
+
+# It changes nothing, and recovers what an interrupted command left.
+NEXT_COMMAND = "revert --take 4294967295"
+
+KILLED = 128 + 9
+
+
+class Missing(Exception):
+    """Something is not here that a check needs; it is skipped."""
+
+
+class Program:
+    """The built program, the one that meets its calls (tools/ptrace.c), and a folder for tests."""
+
+    def __init__(self, path, tracer, room):
+        self.path, self.tracer, self.room = path, tracer, room
+
+    def folder(self, name):
+        """Makes a folder in the folder for tests."""
+        path = f"{self.room}/{name}"
+        os.makedirs(path, exist_ok=True)
+        return path
+
+    def words(self, command, file="main.tf"):
+        """Returns the command line of a command on FILE."""
+        return [self.path, *command.split(), file]
+
+    def run(self, folder, command, file="main.tf", **options):
+        """Runs a command on FILE of a folder."""
+        words = self.words(command, file)
+        return subprocess.run(words, cwd=folder, capture_output=True, check=False, **options)
+
+    def recover(self, folder):
+        """Runs the next command, which changes nothing of what it finds but what was left."""
+        return self.run(folder, NEXT_COMMAND)
+
+    def meet(self, folder, command, how, number, file="main.tf"):
+        """Runs a command with its call `number` met; `how` is as in tools/ptrace.c."""
+        log = f"{self.room}/calls.{os.getpid()}"
+        words = [self.tracer, log, how, str(number), *self.words(command, file)]
+        ran = subprocess.run(words, cwd=folder, capture_output=True, check=False, timeout=60)
+        with open(log, encoding="utf-8", errors="replace") as lines:
+            ran.calls = lines.read().split("\n")[:-1]
+        ran.is_met = 0 < number <= len(ran.calls)
+        return ran
+
+    def calls(self, folder, command):
+        """Returns the calls that a command makes, one line for each."""
+        return self.meet(folder, command, "list", 0).calls
+
+
+class Check:
+    """What is required of one thing: how many runs there were, of what outcomes, and complaints."""
+
+    def __init__(self, name, unit="runs", least=1):
+        self.name, self.unit, self.least = name, unit, least
+        self.runs, self.outcomes, self.complaints = 0, collections.Counter(), {}
+
+    def see(self, outcome):
+        """Counts a run and its outcome."""
+        self.runs += 1
+        self.outcomes[outcome] += 1
+
+    def require(self, holds, kind, *details):
+        """Notes a complaint, with the details of the first of its kind, unless it holds."""
+        if not holds:
+            self.complaints.setdefault(kind, []).append(details)
+
+    @property
+    def has_passed(self):
+        """Whether nothing was wrong, over as many runs as there have to be."""
+        return not self.complaints and self.runs >= self.least
+
+    def text(self, most):
+        """Returns its lines, with the first complaint of each of the `most` frequent kinds."""
+        figures = ", ".join(f"{count} {what}" for what, count in self.outcomes.most_common())
+        lines = [f"{self.name}: {self.runs} {self.unit}: {figures}"]
+        if self.runs < self.least:
+            lines.append(f"  fewer than {self.least}")
+        kinds = sorted(self.complaints.items(), key=lambda kind: -len(kind[1]))
+        for kind, details in kinds[:most]:
+            first = " ".join(str(detail) for detail in details[0])
+            lines.append(f"  {len(details)} times {kind}: {first}")
+        if len(kinds) > most:
+            lines.append(f"  and {len(kinds) - most} more kinds")
+        return ("" if self.has_passed else "FAILED ") + "\n".join(lines)
