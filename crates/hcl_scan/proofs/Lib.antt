@@ -4,7 +4,6 @@ pub mod BeatsNumbers
 pub mod BeatsPlain
 pub mod CutFollows
 pub mod CutTo
-pub mod DepthLemmas
 pub mod Ends
 pub mod Exact
 pub mod ExactNumbers
@@ -17,7 +16,6 @@ pub mod HereLemmas
 pub mod HerePlaces
 pub mod HereSound
 pub mod IdentLemmas
-pub mod LineLemmas
 pub mod Longest
 pub mod MarkerLemmas
 pub mod Neighbours

@@ -3,7 +3,6 @@
 -- The clauses of public calls are said without them.
 pub mod Front
 pub mod HereNext
-pub mod Lines
 pub mod MarkItem
 pub mod Markers
 pub mod Next

@@ -5,7 +5,6 @@
 //! `laws` says.
 #![tactic(auto)]
 
-mod again;
 mod bytes;
 mod cut;
 mod fault;
@@ -19,7 +18,6 @@ mod runs;
 mod scanned;
 mod token;
 
-pub use again::{Replaced, scan_again};
 pub use fault::ScanFault;
 pub use hcl_token::{Item, Kind, MAX_TEXT, Place, Places, Token, TokenList};
-pub use scanned::{Scanned, scan};
+pub use scanned::{Scanned, scan, scan_in};

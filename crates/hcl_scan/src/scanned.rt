@@ -1,7 +1,8 @@
 //! A text with its cut.
 
-ghost use Rattle.std.specs.Prelude.{◌≡◌, ◌+◌, ◌<◌, ◌≤◌, ◌↔◌, [], Some, IsTrue, IsUtf8, length, IfOk, IfErr, ◌⊎◌};
+ghost use Rattle.std.specs.Prelude.{◌≡◌, ◌+◌, ◌<◌, ◌≤◌, ◌↔◌, [], Some, IsTrue, IsUtf8, length, drop, IfOk, IfErr, ◌⊎◌};
 ghost use Rattle.hcl_token.specs.CutText.{CutText, AreUtf8, kind_of, spelling_of, gap_of, clusters_of, item_of, joins_of, stretch_of};
+ghost use Rattle.hcl_token.specs.Items.{InOrder, pairs_of};
 ghost use Rattle.hcl_token.specs.Lists.{AreTokensOf};
 ghost use Rattle.hcl_scan.specs.Cut.{IsCut, MAX_TEXT};
 ghost use Rattle.hcl_scan.specs.Fault.{IsFault};
@@ -18,7 +19,7 @@ use std::marker::Model;
 /// Tokens are numbered from 0. No call but `places` takes memory.
 #[derive(Drop)]
 pub struct Scanned<'t> {
-    pub(crate) tokens: Tokens<'t>,
+    tokens: Tokens<'t>,
 }
 
 impl<'t> Model for Scanned<'t> {
@@ -47,7 +48,7 @@ pub fn scan<'t>(alloc: Global, text: &'t [u8]) -> Result<Scanned<'t>, ScanFault>
 
 /// The same, with the tokens in a list that has room, as `Scanned::into_room` gives it back. What
 /// stands in the list is given up.
-pub(crate) fn scan_in<'t>(
+pub fn scan_in<'t>(
     alloc: Global,
     room: Vec<Token>,
     text: &'t [u8],
@@ -59,12 +60,23 @@ pub(crate) fn scan_in<'t>(
         ⊎ IsFault text.now e) }
 {
     let (items, last_at) = cut_of(alloc, room, text)?;
-    Ok(Scanned {
-        tokens: Tokens::new(text, items, last_at),
-    })
+    Ok(Scanned::of_tokens(text, items, last_at))
 }
 
 impl<'t> Scanned<'t> {
+    /// A text with tokens that are its cut, and where its last gap begins.
+    pub fn of_tokens(text: &'t [u8], tokens: Vec<Token>, last_at: usize) -> Scanned<'t>
+        requires cut { IsCut text.now (pairs_of text.now tokens.items) (drop last_at text.now) }
+        requires order { InOrder 0 tokens.items last_at }
+        requires within { last_at ≤ length text.now }
+        ensures text { result.text ≡ text.now }
+        ensures cut { IsCut text.now result.pairs result.last }
+    {
+        Scanned {
+            tokens: Tokens::new(text, tokens, last_at),
+        }
+    }
+
     /// The memory of the tokens, which are given up: an empty list with room for as many.
     pub fn into_room(self) -> Vec<Token>
         ensures { result.items ≡ [] }

@@ -3,7 +3,8 @@
 use crate::answer::Answer;
 use crate::row::Row;
 use crate::tokens::{cut, yes_or_no};
-use hcl_scan::{Replaced, Scanned, scan, scan_again};
+use hcl_rescan::{Replaced, scan_again};
+use hcl_scan::{Scanned, scan};
 use hcl_text_laws::laws::parsed_apart;
 
 pub fn answer(row: &Row, out: &mut Answer) {

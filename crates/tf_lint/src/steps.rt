@@ -24,7 +24,8 @@ use edit_list::Edits;
 use edit_list::laws::turned_texts_have_the_lengths;
 use edit_squash::laws::{edits_are_a_list, followers_squash};
 use edit_squash::{Unmet, squash};
-use hcl_scan::{Replaced, Token};
+use hcl_rescan::Replaced;
+use hcl_scan::Token;
 use std::alloc::Global;
 use tf_rule::{Finding, Rule, RuleSet};
 

@@ -1,0 +1,2 @@
+pub mod DepthLemmas
+pub mod LineLemmas

@@ -1,0 +1,12 @@
+use Rattle.std.proofs.Common.{◌≡◌, ◌≤◌, [], length, slice_range}
+use Rattle.hcl_rescan.specs.Inner.Lines.{IsFront, IsStretch}
+use Rattle.hcl_scan.proofs.PairLemmas.{modes_behind}
+use Rattle.hcl_rescan.proofs.again.last_front.Given as goal
+
+abbrev pub invariant-loop-i : goal.invariant-loop-i
+invariant-loop-i l = record {
+  front : IsFront l.old l.to.index l.to.at;
+  lines : IsStretch l.old.pairs l.fn.from.index l.to.index;
+  depth : l.depth ≡ length (modes_behind [] (slice_range l.old.pairs l.fn.from.index l.i));
+  few : l.depth ≤ l.i;
+}

@@ -1,5 +1,0 @@
-use Rattle.hcl_scan.proofs.Utf8Pairs.{cut_utf8}
-use Rattle.hcl_scan.proofs.again.scan_again.Goals as goal
-
-pub new-requires-clause-utf8 : goal.new-requires-clause-utf8
-new-requires-clause-utf8 c = cut_utf8 _ _ _ c.in-Ok.ensures.cut
