@@ -1,16 +1,4 @@
-mod Window
-mod Moved
 mod MemberAnswers
-mod MoveLines
-mod MoveExpressions
-mod MoveBodies
-mod MovedSpans
-mod Moves
-mod MovedFindings
-mod FoundNodes
-mod FoundBlocks
-mod FoundMember
-mod Keep
 mod TokenLemmas
 mod BodyLemmas
 mod FileLemmas

@@ -11,7 +11,7 @@ use Rattle.hcl_grammar.specs.Pure.BodyParser.{deeper_members}
 use Rattle.hcl_grammar.specs.Pure.Reading.{expect}
 use Rattle.hcl_grammar.specs.Lines.{At, IsLine, IsEol}
 use Rattle.hcl_grammar.specs.Nodes as node
-use Rattle.tf_lint.specs.OneMember.{IsOneMember, attribute, block, line_block}
+use Rattle.tf_reuse.specs.OneMember.{IsOneMember, attribute, block, line_block}
 use Rattle.hcl_grammar.specs.Tokens.{Token, start, after}
 use Rattle.hcl_grammar_laws.proofs.BodyComplete.{member_attribute, member_block, content_lines, c_on_line, c_members, members-is, ends_brace, eol_stop}
 use Rattle.hcl_grammar_laws.proofs.BodySound.{Inside, inside_lines, inside_line, all_labels, s_content, s_eol, sound_body, shut}

@@ -4,7 +4,7 @@ use Rattle.hcl_grammar.specs.Tokens.{Token}
 use Rattle.hcl_scan.specs.Follows.{tokens_of}
 use Rattle.hcl_token.specs.CutText.{stretch_of, without_first_gap}
 use Rattle.hcl_token.specs.Tokens.{Pair}
-use Rattle.tf_lint.proofs.Window.{get_drop}
+use Rattle.tf_reuse.proofs.Window.{get_drop}
 
 -- the token of a pair
 abbrev pub token_of : Pair → Token

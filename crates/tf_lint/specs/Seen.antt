@@ -1,7 +1,7 @@
 -- What is found in the members of a text's body.
 use Rattle.std.specs.Prelude.{◌≡◌, ℕ, true, List, [], ◌∷◌, slice_get, length, Option, Some, None, Ok}
 use Rattle.hcl_grammar.specs.Pure.BodyParser.{deeper_members, member_of}
-use Rattle.tf_lint.specs.OneMember.{IsOneMember}
+use Rattle.tf_reuse.specs.OneMember.{IsOneMember}
 use Rattle.hcl_grammar.specs.declared.tree.Member.{Member}
 use Rattle.hcl_grammar.specs.declared.bounds.TheConstants.{MAX_NESTING}
 use Rattle.hcl_scan.specs.Follows.{tokens_of}

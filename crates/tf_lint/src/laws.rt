@@ -1,28 +1,15 @@
-//! Laws of what is kept and of fixes: functions that do nothing, for callers whose proofs want what
+//! Laws of fixes: functions that do nothing, for callers whose proofs want what
 //! their clauses say.
 
 ghost use Rattle.std.specs.Prelude.{◌≡◌, ℕ, List, [], ◌∷◌};
 ghost use Rattle.tf_rule.specs.declared.rule.Rule.TheVariants.{CommentSyntax, DeprecatedIndex, DeprecatedInterpolation, EmptyListEquality, DeprecatedLookup};
 ghost use Rattle.tf_rule.specs.declared.rule_set.RuleSet.{RuleSet};
-ghost use Rattle.tf_lint.specs.Keeping.{MembersKeep};
-ghost use Rattle.tf_lint.specs.OneMember.{StandsInFront};
 ghost use Rattle.tf_lint.specs.Steps.{OneFix, fix_order};
 
 use edit_squash::laws::squash_all_is_one;
 use hcl_scan::laws::one_cut;
 use hcl_text_laws::laws::one_parse;
 use tf_diagnostics::laws::findings_are_one;
-
-/// A member whose tokens stand elsewhere too stands there, and what the rules find in it is the
-/// same, its numbers moved.
-pub fn members_keep()
-    ensures { MembersKeep }
-{}
-
-/// A member by itself, in front of the members of a body, begins a body.
-pub fn a_member_stands_in_front()
-    ensures { StandsInFront }
-{}
 
 /// A fix makes one text of a text, or can't be done for one reason.
 pub fn one_fix()

@@ -8,20 +8,20 @@ ghost use Rattle.hcl_grammar.specs.declared.bounds.TheConstants.{MAX_NESTING};
 ghost use Rattle.hcl_scan.specs.Follows.{tokens_of};
 ghost use Rattle.tf_rules.specs.Nodes as node;
 ghost use Rattle.tf_diagnostics.specs.TreeFindings.{AreTreeFindings};
-ghost use Rattle.tf_lint.specs.Keeping.{SameTokens};
+ghost use Rattle.tf_reuse.specs.Keeping.{SameTokens};
 ghost use Rattle.tf_lint.specs.Seen.{IsSeen, AreSeen, IsNext};
 ghost use Rattle.tf_rule.specs.Findings.{sound};
 ghost use Rattle.tf_rule.specs.declared.rule_set.RuleSet.{RuleSet};
 ghost use Rattle.tf_rules.specs.TopFindings.{member_findings};
 
-use crate::laws::members_keep;
-use crate::moving::moved_findings;
 use crate::tokens::same_tokens;
 use hcl_grammar::fault::TokenFault;
 use hcl_grammar::tree::Member;
 use hcl_scan::Scanned;
 use hcl_tree::{MAX_NESTING, Reader, member};
 use std::alloc::{AllocError, Global};
+use tf_reuse::laws::members_keep;
+use tf_reuse::moved_findings;
 use tf_rule::{Finding, RuleSet};
 
 /// A member of a text's body: where it was read, and what the rules find in it.

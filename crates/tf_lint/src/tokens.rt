@@ -2,7 +2,7 @@
 
 ghost use Rattle.std.specs.Prelude.{◌≡◌, ◌≢◌, ◌<◌, ◌≤◌, ◌+◌, true, false, length, take, drop, slice_get};
 ghost use Rattle.hcl_scan.specs.Follows.{tokens_of};
-ghost use Rattle.tf_lint.specs.Keeping.{SameTokens};
+ghost use Rattle.tf_reuse.specs.Keeping.{SameTokens};
 
 use hcl_scan::Scanned;
 use hcl_token::Kind;

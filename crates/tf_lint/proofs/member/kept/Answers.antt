@@ -1,7 +1,7 @@
 -- The member of the new text is the old one, its numbers moved.
 use Rattle.std.proofs.Common.{refl, sym, map, ap, ◌∙◌, ◌-◌}
 use Rattle.hcl_grammar.specs.declared.bounds.TheConstants.{MAX_NESTING}
-use Rattle.tf_lint.specs.Moving.{moved_finding}
+use Rattle.tf_reuse.specs.Moving.{moved_finding}
 use Rattle.tf_lint.proofs.member.kept.Goals as goal
 
 pub returns : goal.returns

@@ -2,8 +2,8 @@
 
 ghost use Rattle.std.specs.Prelude.{◌≡◌, map, IfOk};
 ghost use Rattle.std.specs.Option.{option_map};
-ghost use Rattle.tf_lint.specs.Moving as spec;
-ghost use Rattle.tf_lint.specs.Moving.{moved_finding};
+ghost use Rattle.tf_reuse.specs.Moving as spec;
+ghost use Rattle.tf_reuse.specs.Moving.{moved_finding};
 
 use std::alloc::{AllocError, Global};
 use tf_rule::{Finding, Fix, Insertion, Kept, Message};

@@ -25,13 +25,13 @@ use Rattle.tf_rules.specs.declared.role.Role.TheVariants.{AttributeValue, Elemen
 use Rattle.tf_rules.specs.NodeFindings.{node_findings}
 use Rattle.tf_rules.specs.Nodes as nodes
 use Rattle.tf_rules.specs.Nodes.{Node, Stand, expr, term, tail, part, member, parts, tails_from, splat_behind, form_parts, elem_parts, filter_parts, shape_parts, tail_parts, else_parts, part_parts, option_parts, content_parts}
-use Rattle.tf_lint.proofs.Moved as moved
-use Rattle.tf_lint.proofs.Moved.{MovedExpr, MovedForm, MovedLinks, MovedTails, MovedTail, MovedTerm, MovedShape, MovedExprs, MovedElems, MovedIntro, MovedFilter, MovedTemplate, MovedParts, MovedPart, MovedElse, MovedOnLine, MovedMember, MovedContent, MovedMembers}
-use Rattle.tf_lint.proofs.Moves.{Moves, append}
-use Rattle.tf_lint.proofs.Moves as moves
-use Rattle.tf_lint.proofs.MovedFindings.{splat_behind_moved, at_expr, at_term, at_tail}
-use Rattle.tf_lint.proofs.Window.{Here, Same}
-use Rattle.tf_lint.specs.Keeping.{SameTokens}
+use Rattle.tf_reuse.proofs.Moved as moved
+use Rattle.tf_reuse.proofs.Moved.{MovedExpr, MovedForm, MovedLinks, MovedTails, MovedTail, MovedTerm, MovedShape, MovedExprs, MovedElems, MovedIntro, MovedFilter, MovedTemplate, MovedParts, MovedPart, MovedElse, MovedOnLine, MovedMember, MovedContent, MovedMembers}
+use Rattle.tf_reuse.proofs.Moves.{Moves, append}
+use Rattle.tf_reuse.proofs.Moves as moves
+use Rattle.tf_reuse.proofs.MovedFindings.{splat_behind_moved, at_expr, at_term, at_tail}
+use Rattle.tf_reuse.proofs.Window.{Here, Same}
+use Rattle.tf_reuse.specs.Keeping.{SameTokens}
 use Rattle.tf_rule.specs.declared.rule_set.RuleSet.{RuleSet}
 
 -- in two lists of nodes stands as much, and in the second is found what is found in the first, its numbers moved

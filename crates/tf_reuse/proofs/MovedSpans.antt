@@ -11,9 +11,9 @@ use Rattle.hcl_token.specs.CutText.{kind_of, spelling_of}
 use Rattle.hcl_token.specs.Tokens.{Pair}
 use Rattle.hcl_grammar.specs.Tokens.{Token}
 use Rattle.tf_rules.specs.Spans.{tokens, has_trivia, has_break, is_here_close, is_here_close_kind, depth_behind}
-use Rattle.tf_lint.proofs.Window.{Here, Same}
-use Rattle.tf_lint.specs.Keeping.{SameTokens}
-use Rattle.tf_lint.specs.Moving.{moved}
+use Rattle.tf_reuse.proofs.Window.{Here, Same}
+use Rattle.tf_reuse.specs.Keeping.{SameTokens}
+use Rattle.tf_reuse.specs.Moving.{moved}
 
 -- ---- tests of numbers
 

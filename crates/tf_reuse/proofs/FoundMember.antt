@@ -8,11 +8,11 @@ use Rattle.tf_rules.specs.NodeFindings.{node_findings}
 use Rattle.tf_rules.specs.Nodes as nodes
 use Rattle.tf_rules.specs.Nodes.{Node, Stand, member}
 use Rattle.tf_diagnostics.specs.TreeFindings.{AreTreeFindings}
-use Rattle.tf_lint.proofs.FoundNodes.{found_member}
-use Rattle.tf_lint.proofs.Moved.{MovedMember}
-use Rattle.tf_lint.proofs.Window.{Here, Same}
-use Rattle.tf_lint.specs.Keeping.{SameTokens}
-use Rattle.tf_lint.specs.Moving.{moved_finding}
+use Rattle.tf_reuse.proofs.FoundNodes.{found_member}
+use Rattle.tf_reuse.proofs.Moved.{MovedMember}
+use Rattle.tf_reuse.proofs.Window.{Here, Same}
+use Rattle.tf_reuse.specs.Keeping.{SameTokens}
+use Rattle.tf_reuse.specs.Moving.{moved_finding}
 use Rattle.tf_rule.specs.declared.finding.Finding.{Finding}
 use Rattle.tf_rule.specs.Findings.{sound}
 use Rattle.tf_rule.specs.declared.rule_set.RuleSet.{RuleSet}

@@ -17,14 +17,14 @@ use Rattle.hcl_grammar.specs.Nodes as node
 use Rattle.hcl_grammar_laws.proofs.Opens as opens
 use Rattle.hcl_scan.specs.Follows.{tokens_of}
 use Rattle.hcl_token.specs.Tokens.{Pair}
-use Rattle.tf_lint.specs.Keeping.{SameTokens}
-use Rattle.tf_lint.specs.Moving.{moved, moved_finding}
-use Rattle.tf_lint.proofs.Moved as moves_as
-use Rattle.tf_lint.proofs.Moved.{MovedNumber, MovedExpr, MovedForm, MovedTerm, MovedShape, MovedParts, MovedLabels, MovedOnLine, MovedMember, MovedContent, MovedMembers}
-use Rattle.tf_lint.proofs.MovedSpans.{moved_token, spelling_moved}
-use Rattle.tf_lint.proofs.Moves.{Moves, either, append, finding_moves, no_fix}
-use Rattle.tf_lint.proofs.Moves as moves
-use Rattle.tf_lint.proofs.Window.{Here, Same}
+use Rattle.tf_reuse.specs.Keeping.{SameTokens}
+use Rattle.tf_reuse.specs.Moving.{moved, moved_finding}
+use Rattle.tf_reuse.proofs.Moved as moves_as
+use Rattle.tf_reuse.proofs.Moved.{MovedNumber, MovedExpr, MovedForm, MovedTerm, MovedShape, MovedParts, MovedLabels, MovedOnLine, MovedMember, MovedContent, MovedMembers}
+use Rattle.tf_reuse.proofs.MovedSpans.{moved_token, spelling_moved}
+use Rattle.tf_reuse.proofs.Moves.{Moves, either, append, finding_moves, no_fix}
+use Rattle.tf_reuse.proofs.Moves as moves
+use Rattle.tf_reuse.proofs.Window.{Here, Same}
 use Rattle.tf_rule.specs.declared.finding.Message.{Message}
 use Rattle.tf_rule.specs.declared.finding.Named.{Named}
 use Rattle.tf_rule.specs.declared.finding.Named.TheVariants.{Local}

@@ -14,14 +14,14 @@ use Rattle.hcl_grammar.specs.Lines.{At, IsLine, line_end, comment, IsEol, eol_li
 use Rattle.hcl_grammar.specs.Nodes as node
 use Rattle.hcl_grammar.specs.Tokens.{Token, start, next, after, first_of}
 use Rattle.hcl_grammar_laws.proofs.Spans.{span_line, span_eol, span_expr, span_labels, span_on_line, span_members}
-use Rattle.tf_lint.specs.Keeping.{SameTokens}
-use Rattle.tf_lint.specs.OneMember.{IsOneMember}
-use Rattle.tf_lint.specs.OneMember as alone
-use Rattle.tf_lint.proofs.MoveExpressions.{move_expr}
-use Rattle.tf_lint.proofs.MoveLines.{move_line}
-use Rattle.tf_lint.proofs.Moved.{MovedExpr, MovedLabels, MovedOnLine, MovedMember, MovedMembers}
-use Rattle.tf_lint.proofs.Moved as moved
-use Rattle.tf_lint.proofs.Window.{Here, Same, Comes, starts, starts_here, afters, nexts, some_next, comes_end, comes_within, earlier, firsts}
+use Rattle.tf_reuse.specs.Keeping.{SameTokens}
+use Rattle.tf_reuse.specs.OneMember.{IsOneMember}
+use Rattle.tf_reuse.specs.OneMember as alone
+use Rattle.tf_reuse.proofs.MoveExpressions.{move_expr}
+use Rattle.tf_reuse.proofs.MoveLines.{move_line}
+use Rattle.tf_reuse.proofs.Moved.{MovedExpr, MovedLabels, MovedOnLine, MovedMember, MovedMembers}
+use Rattle.tf_reuse.proofs.Moved as moved
+use Rattle.tf_reuse.proofs.Window.{Here, Same, Comes, starts, starts_here, afters, nexts, some_next, comes_end, comes_within, earlier, firsts}
 
 -- one member in front of others
 pub in_front : {ts : List Token} {d : ℕ} {x : Member} {ms : List Member} {i n l : ℕ} → IsOneMember ts d x i n → IsMembers ts d ms n l → IsMembers ts d (x ∷ ms) i l

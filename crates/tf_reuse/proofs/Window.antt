@@ -6,7 +6,7 @@ use Rattle.std.specs.List.{prefix_len}
 use Rattle.std.specs.Option.{option_map}
 use Rattle.hcl_grammar.specs.Tokens.{Token, is_dropped, start, token, next, after, first_of}
 use Rattle.hcl_grammar_laws.proofs.Neat.{kept_at}
-use Rattle.tf_lint.specs.Keeping.{SameTokens}
+use Rattle.tf_reuse.specs.Keeping.{SameTokens}
 
 -- lists with the same n elements in front: an answer of prefix_len below n is that of both
 front : (p : Token → Bool) (n : ℕ) (xs ys : List Token) → take n xs ≡ take n ys → prefix_len p xs < n → prefix_len p ys ≡ prefix_len p xs

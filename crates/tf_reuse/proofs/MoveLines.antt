@@ -4,9 +4,9 @@ use Rattle.hcl_token.specs.declared.kind.Kind.{Kind}
 use Rattle.hcl_grammar.specs.Lines.{At, Word, NoWord, IsLine, line_end, comment, IsLines, no_lines, line, IsSep, comma, lines, IsNames, no_names, name, IsSecond, no_second, second, IsDots, no_dots, dots, IsKeyword, keyword}
 use Rattle.hcl_grammar.specs.Tokens.{Token, start, next, after}
 use Rattle.hcl_grammar_laws.proofs.Spans.{span_lines, span_names}
-use Rattle.tf_lint.proofs.Moved as moved
-use Rattle.tf_lint.proofs.Window.{Here, Same, Comes, starts, afters, tokens, nexts, comes_within, before}
-use Rattle.tf_lint.specs.Keeping.{SameTokens}
+use Rattle.tf_reuse.proofs.Moved as moved
+use Rattle.tf_reuse.proofs.Window.{Here, Same, Comes, starts, afters, tokens, nexts, comes_within, before}
+use Rattle.tf_reuse.specs.Keeping.{SameTokens}
 
 module _ (ts : List Token) where
   pub passed : (m : Bool) (i : ℕ) → i < after ts m i

@@ -26,13 +26,13 @@ use Rattle.tf_rules.specs.Nodes.{expr, term, tail, splat_behind}
 use Rattle.tf_rule.specs.declared.rule_set.RuleSet.{RuleSet}
 use Rattle.tf_rule.specs.RuleSets.{has_rule}
 use Rattle.tf_rules.specs.Spans.{tokens, has_trivia, is_here_close}
-use Rattle.tf_lint.proofs.Moved as moved
-use Rattle.tf_lint.proofs.Moved.{MovedNumbers, MovedExpr, MovedForm, MovedLinks, MovedTails, MovedTail, MovedTerm, MovedShape, MovedExprs, MovedParts, MovedFilter}
-use Rattle.tf_lint.proofs.MovedSpans.{here_of, behind_of, eq_moved, spelling_moved, trivia_moved, break_moved, inner_break_moved, here_close_moved}
-use Rattle.tf_lint.proofs.Window.{Here, Same}
-use Rattle.tf_lint.specs.Keeping.{SameTokens}
-use Rattle.tf_lint.proofs.Moves.{Moves, SameFix, either, append, both, fix_when, index, word, keeps, skip, no_kept, tokens as same_tokens, no_fix, finding_moves, neither_fits}
-use Rattle.tf_lint.proofs.Moves as moves
+use Rattle.tf_reuse.proofs.Moved as moved
+use Rattle.tf_reuse.proofs.Moved.{MovedNumbers, MovedExpr, MovedForm, MovedLinks, MovedTails, MovedTail, MovedTerm, MovedShape, MovedExprs, MovedParts, MovedFilter}
+use Rattle.tf_reuse.proofs.MovedSpans.{here_of, behind_of, eq_moved, spelling_moved, trivia_moved, break_moved, inner_break_moved, here_close_moved}
+use Rattle.tf_reuse.proofs.Window.{Here, Same}
+use Rattle.tf_reuse.specs.Keeping.{SameTokens}
+use Rattle.tf_reuse.proofs.Moves.{Moves, SameFix, either, append, both, fix_when, index, word, keeps, skip, no_kept, tokens as same_tokens, no_fix, finding_moves, neither_fits}
+use Rattle.tf_reuse.proofs.Moves as moves
 use Rattle.tf_rule.specs.declared.fix.Fix.{Fix}
 use Rattle.tf_rule.specs.declared.fix.Insertion.TheVariants.{Nothing, Length, IsZero, IsPositive, OpenBracket, CloseBracket}
 use Rattle.tf_rule.specs.declared.rule.Rule.TheVariants.{DeprecatedIndex, DeprecatedInterpolation, EmptyListEquality, DeprecatedLookup}

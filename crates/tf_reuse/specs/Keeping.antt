@@ -1,13 +1,13 @@
 -- What is found in a member whose tokens stand elsewhere too.
 use Rattle.std.specs.Prelude.{◌≡◌, ◌≢◌, ◌≤◌, ◌<◌, ℕ, ◌+◌, ◌^◌, false, List, [], ◌∷◌, length, map, take, drop, None}
-use Rattle.tf_lint.specs.OneMember.{IsOneMember}
+use Rattle.tf_reuse.specs.OneMember.{IsOneMember}
 use Rattle.hcl_grammar.specs.Tokens.{Token, next}
 use Rattle.hcl_grammar.specs.declared.tree.Member.{Member}
 use Rattle.hcl_scan.specs.Follows.{tokens_of}
 use Rattle.hcl_token.specs.Tokens.{Pair}
 use Rattle.tf_rules.specs.Nodes.{member}
 use Rattle.tf_diagnostics.specs.TreeFindings.{AreTreeFindings}
-use Rattle.tf_lint.specs.Moving.{moved_finding}
+use Rattle.tf_reuse.specs.Moving.{moved_finding}
 use Rattle.tf_rule.specs.declared.finding.Finding.{Finding}
 use Rattle.tf_rule.specs.Findings.{sound}
 use Rattle.tf_rule.specs.declared.rule_set.RuleSet.{RuleSet}

@@ -16,10 +16,10 @@ use Rattle.hcl_grammar.specs.Lines.{At}
 use Rattle.hcl_grammar.specs.Nodes as node
 use Rattle.hcl_grammar.specs.Tokens.{Token, is_dropped, start, token, next, after}
 use Rattle.hcl_grammar_laws.proofs.Spans.{span_lines, span_sep, span_names, span_second, span_dots, span_keyword, span_expr, span_level, span_links, span_unary, span_tails, span_arguments, span_items, span_elems, span_elem, span_intro, span_filter, span_parts}
-use Rattle.tf_lint.proofs.Moved as moved
-use Rattle.tf_lint.proofs.MoveLines.{passed, not_before, less, begins_sep, begins_keyword, inside, just, at, no_next, word, no_word, move_lines, move_sep, move_names, move_second, move_dots, move_keyword}
-use Rattle.tf_lint.proofs.Window.{Here, Same, Comes, starts, starts_here, afters, comes_end, comes_within, before, earlier, earlier_than, firsts}
-use Rattle.tf_lint.specs.Keeping.{SameTokens}
+use Rattle.tf_reuse.proofs.Moved as moved
+use Rattle.tf_reuse.proofs.MoveLines.{passed, not_before, less, begins_sep, begins_keyword, inside, just, at, no_next, word, no_word, move_lines, move_sep, move_names, move_second, move_dots, move_keyword}
+use Rattle.tf_reuse.proofs.Window.{Here, Same, Comes, starts, starts_here, afters, comes_end, comes_within, before, earlier, earlier_than, firsts}
+use Rattle.tf_reuse.specs.Keeping.{SameTokens}
 
 -- the first token of these is not past the last
 module _ {ts : List Token} where

@@ -1,13 +1,13 @@
 -- A member whose tokens stand elsewhere is read there, and what is found in it is the same.
 use Rattle.std.proofs.Common.{◌≡◌, ℕ, ◌+◌, List, refl, subst, arith}
-use Rattle.tf_lint.specs.OneMember.{IsOneMember}
+use Rattle.tf_reuse.specs.OneMember.{IsOneMember}
 use Rattle.hcl_grammar.specs.Tokens.{Token}
 use Rattle.hcl_scan.specs.Follows.{tokens_of}
-use Rattle.tf_lint.specs.Keeping.{SameTokens, MembersKeep}
-use Rattle.tf_lint.proofs.FoundBlocks.{top_moves}
-use Rattle.tf_lint.proofs.FoundMember.{keeps_found}
-use Rattle.tf_lint.proofs.MoveBodies.{move_member}
-use Rattle.tf_lint.proofs.Window.{Here, one_place}
+use Rattle.tf_reuse.specs.Keeping.{SameTokens, MembersKeep}
+use Rattle.tf_reuse.proofs.FoundBlocks.{top_moves}
+use Rattle.tf_reuse.proofs.FoundMember.{keeps_found}
+use Rattle.tf_reuse.proofs.MoveBodies.{move_member}
+use Rattle.tf_reuse.proofs.Window.{Here, one_place}
 
 module _ {old new : List Token} {from to count : ℕ} (w : SameTokens old new from to count) where
   -- the first place, and the place behind the last

@@ -5,10 +5,10 @@ use Rattle.std.proofs.lemmas.List.Elements.{filter-append}
 use Rattle.std.specs.Option.{option_map}
 use Rattle.hcl_scan.specs.Follows.{tokens_of}
 use Rattle.hcl_token.specs.Tokens.{Pair}
-use Rattle.tf_lint.proofs.MovedSpans.{moved_is, moved_token, here_of, lt_moved, le_moved, is_le, token_of}
-use Rattle.tf_lint.proofs.Window.{Here, Same}
-use Rattle.tf_lint.specs.Keeping.{SameTokens}
-use Rattle.tf_lint.specs.Moving.{moved, moved_insertion, moved_kept, moved_fix, moved_message, moved_finding}
+use Rattle.tf_reuse.proofs.MovedSpans.{moved_is, moved_token, here_of, lt_moved, le_moved, is_le, token_of}
+use Rattle.tf_reuse.proofs.Window.{Here, Same}
+use Rattle.tf_reuse.specs.Keeping.{SameTokens}
+use Rattle.tf_reuse.specs.Moving.{moved, moved_insertion, moved_kept, moved_fix, moved_message, moved_finding}
 use Rattle.tf_rule.specs.declared.finding.Finding.{Finding}
 use Rattle.tf_rule.specs.declared.finding.Message.{Message}
 use Rattle.tf_rule.specs.declared.fix.Fix.{Fix}
