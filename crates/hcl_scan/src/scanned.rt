@@ -4,19 +4,20 @@ ghost use Rattle.std.specs.Prelude.{◌≡◌, ◌+◌, ◌<◌, ◌≤◌, ◌�
 ghost use Rattle.hcl_token.specs.CutText.{CutText, AreUtf8, kind_of, spelling_of, gap_of, clusters_of, item_of, joins_of, stretch_of};
 ghost use Rattle.hcl_token.specs.Items.{InOrder, pairs_of};
 ghost use Rattle.hcl_token.specs.Lists.{AreTokensOf};
+ghost use Rattle.hcl_token.specs.Place.{place_of};
 ghost use Rattle.hcl_scan.specs.Cut.{IsCut, MAX_TEXT};
 ghost use Rattle.hcl_scan.specs.Fault.{IsFault};
 ghost use Rattle.hcl_scan.specs.declared.fault.ScanFault.TheVariants.{Memory};
 
 use crate::cut::cut_of;
 use crate::fault::ScanFault;
-use hcl_token::{Item, Kind, Places, Token, TokenList, Tokens};
-use std::alloc::{AllocError, Global};
+use hcl_token::{Item, Kind, Place, Places, Token, TokenList, Tokens};
+use std::alloc::Global;
 use std::marker::Model;
 
 /// A text with its cut: its tokens, each with the gap before it, and the gap behind the last.
 ///
-/// Tokens are numbered from 0. No call but `places` takes memory.
+/// Tokens are numbered from 0. No call takes memory.
 #[derive(Drop)]
 pub struct Scanned<'t> {
     tokens: Tokens<'t>,
@@ -197,10 +198,18 @@ impl<'t> Scanned<'t> {
         self.tokens.same_stretch(from, &other.tokens, to, count)
     }
 
-    /// Where the tokens stand, by line and column. The text is read once.
-    pub fn places(&self, alloc: Global) -> Result<Places<'_>, AllocError>
-        ensures { IfOk result (λ places. places ≡ self.now.pairs) }
+    /// The line and the column of token `i`, from 1, found from the front of the text.
+    pub fn place_of(&self, i: usize) -> Place
+        requires { i < length self.now.pairs }
+        ensures { result ≡ place_of self.now.pairs i }
     {
-        self.tokens.places(alloc)
+        self.tokens.place_of(i)
+    }
+
+    /// The places of tokens that are asked for one after another, by line and column.
+    pub fn places(&self) -> Places<'_>
+        ensures { result ≡ self.now.pairs }
+    {
+        self.tokens.places()
     }
 }

@@ -4,13 +4,12 @@ use Rattle.std.specs.List.{list_any}
 use Rattle.std.proofs.lemmas.Bool.{cases_lt}
 use Rattle.std.proofs.lemmas.List.{get_or_append_left, get_or_push}
 use Rattle.std.proofs.lemmas.List.Sums.{count_by-le-length}
-use Rattle.hcl_token.specs.declared.milestone.Milestone.{Milestone}
 use Rattle.hcl_token.specs.declared.place.Place.{Place}
 use Rattle.hcl_token.specs.declared.token.Token.{Token}
 use Rattle.hcl_token.specs.Tokens.{Pair, whole_text}
 use Rattle.hcl_token.specs.Items.{pair_at, pairs_from, pairs_of}
 use Rattle.hcl_token.specs.Place.{clusters, is_lf, is_mark, last_line}
-use Rattle.hcl_token.specs.Inner.Milestones.{AreMilestones, IsMilestone, IsOrdered, IsReached, IsStretch, after_piece, after_pair, after_pairs, first_place, gap_at, has_mark, milestone_place}
+use Rattle.hcl_token.specs.Inner.Milestones.{IsOrdered, IsReached, IsStretch, after_piece, after_pair, after_pairs, first_place, gap_at, has_mark}
 use Rattle.hcl_token.specs.Inner.Plain.{is_plain}
 use Rattle.hcl_token.proofs.ClusterLemmas.{clusters-le}
 use Rattle.hcl_token.proofs.OrderLemmas.{text_is-slice, length-range, gap-first, gap-le, length-pairs, order-le, order-slice, pairs-take, utf8-slice}
@@ -75,55 +74,6 @@ front_reached text tokens last n o =
     subst (λ (ps : List Pair). IsReached (after_pairs first_place ps) (gap_at tokens n)) same
     (stretch_reached text (slice_range tokens 0 n) (gap_at tokens 0) (gap_at tokens n) first_place s)
 
--- the milestones up to token `from`, and the place there
-pub record IsStored (text : List ℕ) (tokens : List Token) (milestones : List Milestone) (from : ℕ) (at : Place) : Type 0 where
-  pub within : from ≤ length tokens
-  pub filled : from ≤ 64 * length milestones
-  pub even : from < length tokens → from ≡ 64 * length milestones
-  pub right : (k : ℕ) → k < length milestones → IsMilestone (pairs_of text tokens) milestones k
-  pub at_from : at ≡ after_pairs first_place (take from (pairs_of text tokens))
-
-pub stored_reached : (text : List ℕ) (tokens : List Token) (last : ℕ) (milestones : List Milestone) (from : ℕ) (at : Place) → IsOrdered text tokens last → IsStored text tokens milestones from at → IsReached at (gap_at tokens from)
-stored_reached text tokens last milestones from at o s =
-    subst (λ (p : Place). IsReached p (gap_at tokens from)) (sym s.at_from) (front_reached text tokens last from o)
-
--- a place within a text fits 32 bits
-pub reached_fits : (at : Place) (tokens : List Token) (text : List ℕ) (last from : ℕ) → IsOrdered text tokens last → IsReached at (gap_at tokens from) → (at.line ≤ 16777217) × (at.column ≤ 16777217)
-reached_fits at tokens text last from o r =
-    let le = gap-le tokens 0 last from o.order in
-    (omega (arith, r.line, le, o.within, o.short), omega (arith, r.column, le, o.within, o.short))
-
-pub stored_step : (text : List ℕ) (tokens : List Token) (milestones more : List Milestone) (from to : ℕ) (at behind : Place) (milestone : Milestone)
-    → IsStored text tokens milestones from at → from < length tokens → to ≡ min (length tokens) (from + 64) → more ≡ milestones ++ milestone ∷ [] → milestone_place milestone ≡ at
-    → behind ≡ after_pairs at (pairs_from text (gap_at tokens from) (slice_range tokens from to)) → IsStored text tokens more to behind
-stored_step text tokens milestones more from to at behind milestone s h to_is more_is stone_is behind_is =
-    let pairs : List Pair = pairs_of text tokens in
-    let size : length more ≡ length milestones + 1 = ap length more_is ∙ length-append milestones (milestone ∷ []) in
-    let old : (k : ℕ) → k < length milestones → IsMilestone pairs more k =
-    λ k inside d. ap (λ (l : List Milestone). milestone_place (get_or l k d)) more_is ∙ ap milestone_place (get_or_append_left milestones (milestone ∷ []) d k inside) ∙ s.right k inside d in
-    let new : (k : ℕ) → length milestones ≡ k → IsMilestone pairs more k =
-    λ k is d.
-    let same : from ≡ 64 * k = omega (arith, s.even h) in
-    ap (λ (l : List Milestone). milestone_place (get_or l k d)) more_is ∙ ap milestone_place (get_or_push milestones milestone d k is)
-    ∙ stone_is ∙ s.at_from ∙ ap (λ n. after_pairs first_place (take n pairs)) same in
-    let end : from + (to - from) ≡ to = omega arith in
-    record {
-      within = omega arith;
-      filled = omega (arith, size, s.even h);
-      even = λ inside. omega (arith, size, s.even h);
-      right = λ k inside. elim (cases_lt k (length milestones)) [ inl less ↦ old k less | inr not_less ↦ new k (omega (arith, size)) ];
-      at_from = behind_is
-          ∙ ap (λ (p : Place). after_pairs p (pairs_from text (gap_at tokens from) (slice_range tokens from to))) s.at_from
-          ∙ after_pairs-slice text tokens 0 first_place from (to - from)
-          ∙ ap (λ n. after_pairs first_place (take n pairs)) end;
-    }
-
-pub stored_end : (text : List ℕ) (tokens : List Token) (milestones : List Milestone) (from : ℕ) (at : Place) → IsStored text tokens milestones from at → length tokens ≤ from → AreMilestones (pairs_of text tokens) milestones
-stored_end text tokens milestones from at s h = record {
-  right = s.right;
-  enough = omega (arith, s.filled, length-pairs text tokens 0);
-}
-
 pub stretch_length : (text : List ℕ) (tokens : List Token) (from to : ℕ) (at : Place) → IsStretch text tokens from to at → from + length (slice_range text from to) ≡ to
 stretch_length text tokens from to at s =
     let le : from ≤ to = order-le tokens from to s.order in
@@ -135,21 +85,3 @@ pub plain_part : (text : List ℕ) (tokens : List Token) (from to : ℕ) (at : P
 plain_part text tokens from to at bytes s is plain none =
     let text_is : bytes ≡ whole_text (pairs_from text from tokens) [] = is ∙ sym (text_is-slice text tokens from to s.order) in
     ap (after_piece at) text_is ∙ sym (plain_stretch text tokens from at (ap is_plain (sym text_is) ∙ plain) none)
-
--- the milestone before token i
-pub milestone_at : (text : List ℕ) (tokens : List Token) (milestones : List Milestone) (i : ℕ) (d : Milestone) → AreMilestones (pairs_of text tokens) milestones → i < length tokens
-    → (i / 64 < length milestones) × (milestone_place (get_or milestones (i / 64) d) ≡ after_pairs first_place (take (i / 64 * 64) (pairs_of text tokens)))
-milestone_at text tokens milestones i d m h =
-    let inside : i / 64 < length milestones = omega (arith, m.enough, length-pairs text tokens 0) in
-    (inside, m.right (i / 64) inside d ∙ ap (λ n. after_pairs first_place (take n (pairs_of text tokens))) (omega arith))
-
-pub stored_none : (text : List ℕ) (tokens : List Token) (milestones : List Milestone) → milestones ≡ [] → IsStored text tokens milestones 0 first_place
-stored_none text tokens milestones none =
-    let size : length milestones ≡ 0 = ap length none in
-    record {
-      within = omega arith;
-      filled = omega arith;
-      even = λ _. omega arith;
-      right = λ k inside. absurd (omega arith);
-      at_from = refl;
-    }

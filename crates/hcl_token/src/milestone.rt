@@ -1,8 +1,8 @@
-//! Places kept along a text, so that the place of any token is found near one of them.
+//! Lines and columns, told by going forward over the tokens.
 
-ghost use Rattle.std.specs.Prelude.{◌≡◌, ℕ, true, ◌+◌, ◌^◌, ◌<◌, ◌≤◌, [], ◌∷◌, length, slice_range, count_by, IsUtf8, IfOk};
+ghost use Rattle.std.specs.Prelude.{◌≡◌, ℕ, true, ◌+◌, ◌^◌, ◌<◌, ◌≤◌, [], ◌∷◌, length, slice_range, take, count_by, IsUtf8};
 ghost use Rattle.hcl_token.specs.Items.{pair_at, pairs_from, pairs_of};
-ghost use Rattle.hcl_token.specs.Inner.Milestones.{AreMilestones, IsKept, IsOrdered, IsReached, IsStretch, after_pair, after_piece, after_pairs, gap_at, has_mark, milestone_place};
+ghost use Rattle.hcl_token.specs.Inner.Milestones.{IsAt, IsReached, IsStretch, after_pair, after_piece, after_pairs, first_place, gap_at, has_mark};
 ghost use Rattle.hcl_token.specs.Inner.Plain.{is_plain};
 ghost use Rattle.hcl_token.specs.Place.{is_lf, is_mark, last_line, place_of};
 
@@ -11,10 +11,6 @@ use crate::kind::Kind;
 use crate::place::Place;
 use crate::token::Token;
 use memchr::memrchr;
-use std::alloc::{AllocError, Global};
-
-/// How many tokens apart the places are that are kept.
-const SPACING: usize = 64;
 
 /// The greatest number of bytes whose line ends are counted in 8 bits.
 const MOST_SHORT: usize = 255;
@@ -22,24 +18,6 @@ const MOST_SHORT: usize = 255;
 /// So many bytes at a time are counted of a longer piece: a multiple of 32, so that none of them is
 /// done alone.
 const STEP: usize = 224;
-
-/// The place of the gap before a token; a text is so short that 32 bits hold its lines and columns.
-#[derive(Clone, Copy)]
-pub(crate) struct Milestone {
-    pub line: u32,
-    pub column: u32,
-}
-
-impl Milestone {
-    fn place(self) -> Place
-        ensures { result ≡ milestone_place self }
-    {
-        Place {
-            line: self.line as usize,
-            column: self.column as usize,
-        }
-    }
-}
 
 /// The bytes of a text from one place to another.
 pub(crate) fn part(text: &[u8], from: u32, to: u32) -> &[u8]
@@ -201,43 +179,24 @@ fn after_tokens(text: &[u8], tokens: &[Token], from: u32, to: u32, at: Place) ->
     }
 }
 
-/// The milestones of a text with its tokens: one pass over the text.
-pub(crate) fn milestones(
-    alloc: Global,
-    text: &[u8],
-    tokens: &[Token],
-) -> Result<Vec<Milestone>, AllocError>
-    requires { (last : ℕ) × IsOrdered text.now tokens.now last }
-    ensures { IfOk result
-        (λ milestones. AreMilestones (pairs_of text.now tokens.now) milestones.items) }
+/// The place of the gap before token `to`, where that of the gap before token `from` is `at`.
+pub(crate) fn gap_place(text: &[u8], tokens: &[Token], from: usize, at: Place, to: usize) -> Place
+    requires at { (last : ℕ) × IsAt text.now tokens.now last from at }
+    requires order { from ≤ to }
+    requires within { to ≤ length tokens.now }
+    ensures { result ≡ after_pairs first_place (take to (pairs_of text.now tokens.now)) }
 {
-    let mut milestones = Vec::with_capacity(alloc, tokens.len() / SPACING + 1)?;
-    let mut at = Place { line: 1, column: 1 };
-    let mut from = 0;
-    while from < tokens.len() {
-        milestones.push(Milestone {
-            line: at.line as u32,
-            column: at.column as u32,
-        })?;
-        let to = tokens.len().min(from + SPACING);
-        let stretch = stretch(tokens, from, to);
-        at = after_tokens(text, stretch, gap_at(tokens, from), gap_at(tokens, to), at);
-        from = to;
-    }
-    Ok(milestones)
+    let stretch = stretch(tokens, from, to);
+    after_tokens(text, stretch, gap_at(tokens, from), gap_at(tokens, to), at)
 }
 
-/// The place of a token, from the milestone before it on.
-pub(crate) fn place_at(text: &[u8], tokens: &[Token], milestones: &[Milestone], i: usize) -> Place
-    requires kept { (last : ℕ) × IsKept text.now tokens.now last milestones.now }
+/// The place of token `i`, where that of the gap before it is `at`.
+pub(crate) fn token_place(text: &[u8], tokens: &[Token], i: usize, at: Place) -> Place
+    requires at { (last : ℕ) × IsAt text.now tokens.now last i at }
     requires within { i < length tokens.now }
     ensures { result ≡ place_of (pairs_of text.now tokens.now) i }
 {
-    let from = i / SPACING * SPACING;
     let token = tokens[i];
     let begins = gap_at(tokens, i);
-    let stretch = stretch(tokens, from, i);
-    let place = milestones[i / SPACING].place();
-    let at = after_tokens(text, stretch, gap_at(tokens, from), begins, place);
     after_piece(at, part(text, begins, token.start()))
 }

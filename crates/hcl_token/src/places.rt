@@ -1,24 +1,25 @@
 //! The places of the tokens of a text.
 
-ghost use Rattle.std.specs.Prelude.{◌≡◌, ◌<◌, ℕ, List, length, IfOk};
+ghost use Rattle.std.specs.Prelude.{◌≡◌, ◌<◌, ℕ, List, length};
 ghost use Rattle.hcl_token.specs.Tokens.{Pair};
 ghost use Rattle.hcl_token.specs.Items.{pairs_of};
-ghost use Rattle.hcl_token.specs.Inner.Milestones.{IsKept, IsOrdered};
+ghost use Rattle.hcl_token.specs.Inner.Milestones.{IsAt, IsOrdered};
 ghost use Rattle.hcl_token.specs.Place.{place_of};
 
-use crate::milestone::{Milestone, milestones, place_at};
+use crate::milestone::{gap_place, token_place};
 use crate::place::Place;
 use crate::token::Token;
-use std::alloc::{AllocError, Global};
 use std::marker::Model;
 
-/// Where the tokens of a text stand, by line and column. It is made by one pass over the text, and
-/// no call takes memory.
+/// Where the tokens of a text stand, by line and column. The text is read forward, from the token
+/// that was asked for last; from the front, for one before that. No call takes memory.
 #[derive(Drop)]
 pub struct Places<'s> {
     text: &'s [u8],
     tokens: &'s [Token],
-    milestones: Vec<Milestone>,
+    /// The number of a token, and the place of the gap before it.
+    from: usize,
+    at: Place,
 }
 
 impl<'s> Model for Places<'s> {
@@ -26,32 +27,37 @@ impl<'s> Model for Places<'s> {
 
     ghost view = { λ p. pairs_of p.text.now p.tokens.now };
 
-    ghost invariant = { λ p. (last : ℕ) × IsKept p.text.now p.tokens.now last p.milestones.items };
+    ghost invariant = { λ p. (last : ℕ) × IsAt p.text.now p.tokens.now last p.from p.at };
 }
 
+const FRONT: Place = Place { line: 1, column: 1 };
+
 impl<'s> Places<'s> {
-    pub(crate) fn new(
-        alloc: Global,
-        text: &'s [u8],
-        tokens: &'s [Token],
-    ) -> Result<Places<'s>, AllocError>
+    pub(crate) fn new(text: &'s [u8], tokens: &'s [Token]) -> Places<'s>
         requires { (last : ℕ) × IsOrdered text.now tokens.now last }
-        ensures { IfOk result (λ places. places ≡ pairs_of text.now tokens.now) }
+        ensures { result ≡ pairs_of text.now tokens.now }
     {
-        let milestones = milestones(alloc, text, tokens)?;
-        Ok(Places {
+        Places {
             text,
             tokens,
-            milestones,
-        })
+            from: 0,
+            at: FRONT,
+        }
     }
 
-    /// The line and the column of token `i`, from 1: found from a milestone at most 63 tokens
-    /// before it.
-    pub fn of(&self, i: usize) -> Place
-        requires { i < length self.now }
-        ensures { result ≡ place_of self.now i }
+    /// The line and the column of token `i`, from 1.
+    pub fn of(&mut self, i: usize) -> Place
+        requires { i < length self.old }
+        ensures place { result ≡ place_of self.old i }
+        ensures same { self.new ≡ self.old }
     {
-        place_at(self.text, self.tokens, &self.milestones, i)
+        let at = if i < self.from {
+            gap_place(self.text, self.tokens, 0, FRONT, i)
+        } else {
+            gap_place(self.text, self.tokens, self.from, self.at, i)
+        };
+        self.from = i;
+        self.at = at;
+        token_place(self.text, self.tokens, i, at)
     }
 }

@@ -1,9 +1,10 @@
 //! A text with its tokens.
 
-ghost use Rattle.std.specs.Prelude.{◌≡◌, ◌+◌, ◌<◌, ◌≤◌, ◌↔◌, [], length, drop, IsTrue, IsUtf8, Some, IfOk};
+ghost use Rattle.std.specs.Prelude.{◌≡◌, ◌+◌, ◌<◌, ◌≤◌, ◌↔◌, [], length, drop, IsTrue, IsUtf8, Some};
 ghost use Rattle.hcl_token.specs.declared.tokens.TheConstants.{MAX_TEXT};
 ghost use Rattle.hcl_token.specs.CutText.{CutText, AreUtf8, kind_of, spelling_of, gap_of, clusters_of, item_of, joins_of, stretch_of};
 ghost use Rattle.hcl_token.specs.Items.{InOrder, cut_text, pairs_of};
+ghost use Rattle.hcl_token.specs.Place.{place_of};
 ghost use Rattle.hcl_token.specs.Inner.Milestones.{IsOrdered};
 ghost use Rattle.hcl_token.specs.Lists.{AreTokensOf};
 ghost use Rattle.hcl_token.specs.Tokens.{whole_text};
@@ -13,11 +14,11 @@ use crate::item::Item;
 use crate::join_table::joins;
 use crate::kind::Kind;
 use crate::milestone::{gap_at, part, stretch};
+use crate::place::Place;
 use crate::places::Places;
 use crate::run::same_run;
 use crate::token::Token;
 use crate::token_list::TokenList;
-use std::alloc::{AllocError, Global};
 use std::marker::Model;
 
 /// The greatest number of bytes of a text.
@@ -25,7 +26,7 @@ pub const MAX_TEXT: usize = 16_777_216;
 
 /// A text with its tokens, each with the gap before it, and the gap behind the last.
 ///
-/// Tokens are numbered from 0. Nothing but `places` takes memory.
+/// Tokens are numbered from 0. No call takes memory.
 #[derive(Drop)]
 pub struct Tokens<'t> {
     text: &'t [u8],
@@ -205,10 +206,18 @@ impl<'t> Tokens<'t> {
         same_run(self.text, tokens, other.text, others)
     }
 
-    /// Where the tokens stand, by line and column. The text is read once.
-    pub fn places(&self, alloc: Global) -> Result<Places<'_>, AllocError>
-        ensures { IfOk result (λ places. places ≡ self.now.pairs) }
+    /// The line and the column of token `i`, from 1, found from the front of the text.
+    pub fn place_of(&self, i: usize) -> Place
+        requires { i < length self.now.pairs }
+        ensures { result ≡ place_of self.now.pairs i }
     {
-        Places::new(alloc, self.text, &self.tokens)
+        self.places().of(i)
+    }
+
+    /// The places of tokens that are asked for one after another, by line and column.
+    pub fn places(&self) -> Places<'_>
+        ensures { result ≡ self.now.pairs }
+    {
+        Places::new(self.text, &self.tokens)
     }
 }

@@ -1,7 +1,6 @@
--- Places found by going forward over the tokens, and those that are kept along the way.
-use Rattle.std.specs.Prelude.{◌≡◌, ℕ, zero, suc, ◌+◌, ◌*◌, ◌<◌, ◌≤◌, ◌==◌, Bool, List, [], ◌∷◌, length, take, count_by, slice_index_or, if◌then◌else◌}
+-- Places found by going forward over the tokens.
+use Rattle.std.specs.Prelude.{◌≡◌, ℕ, zero, suc, ◌+◌, ◌≤◌, ◌==◌, Bool, List, [], ◌∷◌, length, take, count_by, if◌then◌else◌}
 use Rattle.std.specs.List.{list_any}
-use Rattle.hcl_token.specs.declared.milestone.Milestone.{Milestone}
 use Rattle.hcl_token.specs.declared.place.Place.{Place}
 use Rattle.hcl_token.specs.declared.token.Token.{Token}
 use Rattle.hcl_token.specs.declared.tokens.TheConstants.{MAX_TEXT}
@@ -56,20 +55,6 @@ gap_from at (token ∷ tokens) (suc i) = gap_from token.stop tokens i
 abbrev pub gap_at : List Token → ℕ → ℕ
 gap_at tokens i = gap_from 0 tokens i
 
-abbrev pub milestone_place : Milestone → Place
-milestone_place milestone = record { line = milestone.line; column = milestone.column }
-
--- the k-th milestone is the place of the gap before the 64 * k-th token
-abbrev pub IsMilestone : List Pair → List Milestone → ℕ → Type 0
-IsMilestone pairs milestones k = (d : Milestone)
-    → milestone_place (slice_index_or milestones k d)
-    ≡ after_pairs first_place (take (64 * k) pairs)
-
--- a milestone stands before each 64th token, the first among them
-pub record AreMilestones (pairs : List Pair) (milestones : List Milestone) : Type 0 where
-  pub right : (k : ℕ) → k < length milestones → IsMilestone pairs milestones k
-  pub enough : length pairs ≤ 64 * length milestones
-
 -- a text with tokens in order
 pub record IsOrdered (text : List ℕ) (tokens : List Token) (last_at : ℕ) : Type 0 where
   pub order : InOrder 0 tokens last_at
@@ -77,8 +62,7 @@ pub record IsOrdered (text : List ℕ) (tokens : List Token) (last_at : ℕ) : T
   pub short : length text ≤ MAX_TEXT
   pub utf8 : AreUtf8 (pairs_of text tokens)
 
--- what is kept of a text with its tokens
-pub record IsKept (text : List ℕ) (tokens : List Token) (last_at : ℕ)
-    (milestones : List Milestone) : Type 0 where
+-- the place of the gap before a token, found from the front on
+pub record IsAt (text : List ℕ) (tokens : List Token) (last_at from : ℕ) (at : Place) : Type 0 where
   pub ordered : IsOrdered text tokens last_at
-  pub placed : AreMilestones (pairs_of text tokens) milestones
+  pub is : at ≡ after_pairs first_place (take from (pairs_of text tokens))

@@ -45,12 +45,13 @@ fn push_mark(marks: &mut Vec<Mark>, mark: Mark) -> Result<(), AllocError>
 fn mark_comment(
     marks: &mut Vec<Mark>,
     scanned: &Scanned<'_>,
-    places: &Places<'_>,
+    places: &mut Places<'_>,
     i: usize,
 ) -> Result<(), AllocError>
-    requires places { places.now ≡ scanned.now.pairs }
+    requires places { places.old ≡ scanned.now.pairs }
     requires within { i < length scanned.now.pairs }
     requires before { Ascend 0 marks.old.items (line_of scanned.now.pairs i) }
+    ensures places { places.new ≡ places.old }
     ensures after { OnOk result (Ascend 0 marks.new.items (line_of scanned.now.pairs i)) }
     ensures hit { OnOk result
         ((rule : Rule) (line : ℕ)
@@ -72,10 +73,8 @@ fn mark_comment(
 pub fn marks_of(
     alloc: Global,
     scanned: &Scanned<'_>,
-    places: &Places<'_>,
     silencing: &[usize],
 ) -> Result<Vec<Mark>, AllocError>
-    requires places { places.now ≡ scanned.now.pairs }
     requires order { Rise 0 silencing.now (length scanned.now.pairs) }
     ensures order { IfOk result (λ marks. (b : ℕ) × Ascend 0 marks.items b) }
     ensures hit { IfOk result
@@ -84,8 +83,9 @@ pub fn marks_of(
         ≡ silences_among scanned.now.pairs rule line silencing.now) }
 {
     let mut marks = Vec::new(alloc);
+    let mut places = scanned.places();
     for i in silencing {
-        mark_comment(&mut marks, scanned, places, *i)?;
+        mark_comment(&mut marks, scanned, &mut places, *i)?;
     }
     Ok(marks)
 }

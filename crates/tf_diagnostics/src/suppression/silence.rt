@@ -1,6 +1,6 @@
 //! Findings without those that a comment silences.
 
-ghost use Rattle.std.specs.Prelude.{◌≡◌, ◌<◌, ◌≤◌, ◌+◌, ◌++◌, [], ◌∷◌, ℕ, not, nat_lt, filter, length, take, drop, IfOk, IfSome, if◌then◌else◌};
+ghost use Rattle.std.specs.Prelude.{◌≡◌, ◌<◌, ◌≤◌, ◌+◌, ◌++◌, [], ◌∷◌, ℕ, not, nat_lt, filter, length, take, drop, IfOk, if◌then◌else◌};
 ghost use Rattle.hcl_token.specs.Place.{line_of};
 ghost use Rattle.tf_rule.specs.declared.rule.Rule.{Rule};
 ghost use Rattle.tf_rule.specs.Findings.{AreSound};
@@ -9,7 +9,7 @@ ghost use Rattle.tf_diagnostics.specs.Inner.Marks.{Ascend, Rise, is_hit, silence
 
 use crate::suppression::mark::Mark;
 use crate::suppression::marking::marks_of;
-use hcl_scan::{Places, Scanned};
+use hcl_scan::Scanned;
 use std::alloc::{AllocError, Global};
 use tf_rule::{Finding, Rule};
 
@@ -93,40 +93,22 @@ fn keep(found: &mut [Finding], kept: usize, f: Finding, is_silenced: bool) -> us
     kept + 1
 }
 
-/// The line of a token; where it is the token whose line was told last, that line, without a second
-/// look.
-fn line_at(places: &Places<'_>, told: Option<(usize, usize)>, i: usize) -> usize
-    requires within { i < length places.now }
-    requires told { IfSome told (λ t. t.1 ≡ line_of places.now t.0) }
-    ensures { result ≡ line_of places.now i }
-{
-    match told {
-        Some((token, line)) if token == i => line,
-        _ => places.of(i).line,
-    }
-}
-
 /// Puts the findings that none of the marks silences to the front of a list, in the same order, and
 /// answers how many these are.
-///
-/// Many findings can begin at one token, which may stand behind a long one: its line is asked for
-/// once.
-fn unmarked_first(places: &Places<'_>, found: &mut [Finding], marks: &[Mark]) -> usize
-    requires sound { AreSound (length places.now) found.old }
+fn unmarked_first(scanned: &Scanned<'_>, found: &mut [Finding], marks: &[Mark]) -> usize
+    requires sound { AreSound (length scanned.now.pairs) found.old }
     requires order { (b : ℕ) × Ascend 0 marks.now b }
     ensures { take result found.new
         ≡ filter (λ f. not
-        (is_hit f.rule (line_of places.now f.first) marks.now)) found.old }
+        (is_hit f.rule (line_of scanned.now.pairs f.first) marks.now)) found.old }
 {
     let mut kept = 0;
     let mut rest = marks;
     let mut reached = 0;
-    let mut told = None;
+    let mut places = scanned.places();
     for i in 0..found.len() {
         let f = found[i];
-        let first = f.first();
-        let line = line_at(places, told, first);
-        told = Some((first, line));
+        let line = places.of(f.first()).line;
         rest = left_at(marks, rest, reached, line);
         reached = line;
         kept = keep(found, kept, f, is_hit(rest, f.rule(), line));
@@ -135,24 +117,23 @@ fn unmarked_first(places: &Places<'_>, found: &mut [Finding], marks: &[Mark]) ->
 }
 
 /// The findings that none of the marks silences.
-fn unmarked(places: &Places<'_>, found: Vec<Finding>, marks: &[Mark]) -> Vec<Finding>
-    requires sound { AreSound (length places.now) found.items }
+fn unmarked(scanned: &Scanned<'_>, found: Vec<Finding>, marks: &[Mark]) -> Vec<Finding>
+    requires sound { AreSound (length scanned.now.pairs) found.items }
     requires order { (b : ℕ) × Ascend 0 marks.now b }
     ensures { result.items
         ≡ filter (λ f. not
-        (is_hit f.rule (line_of places.now f.first) marks.now)) found.items }
+        (is_hit f.rule (line_of scanned.now.pairs f.first) marks.now)) found.items }
 {
     let mut left = found;
-    let kept = unmarked_first(places, &mut left, marks);
+    let kept = unmarked_first(scanned, &mut left, marks);
     left.truncate(kept);
     left
 }
 
 /// The findings that no comment of the text silences, in the same order.
 ///
-/// The tokens that silence anything are told by their numbers. Only where there is one are places
-/// made, and then it takes one pass over the findings, if these stand by place. These stay in their
-/// list.
+/// The tokens that silence anything are told by their numbers. Where there is one, it takes one pass
+/// over the findings, if these stand by place. These stay in their list.
 ///
 /// TFLint, Annotations.
 pub fn without_silenced(
@@ -172,7 +153,6 @@ pub fn without_silenced(
     if silencing.is_empty() {
         return Ok(found);
     }
-    let places = scanned.places(alloc)?;
-    let marks = marks_of(alloc, scanned, &places, silencing)?;
-    Ok(unmarked(&places, found, marks.as_slice()))
+    let marks = marks_of(alloc, scanned, silencing)?;
+    Ok(unmarked(scanned, found, marks.as_slice()))
 }

@@ -3,7 +3,17 @@ use Rattle.hcl_token.specs.Tokens.{Pair}
 use Rattle.hcl_token.proofs.OrderLemmas.{length-pairs}
 use Rattle.hcl_token.proofs.places.Places.of.Goals as goal
 
-pub place_at-requires-clause-within : goal.place_at-requires-clause-within
-place_at-requires-clause-within c =
+pub gap_place-at-requires-clause-within : goal.gap_place-at-requires-clause-within
+gap_place-at-requires-clause-within c =
+    let size = ap (λ (ps : List Pair). length ps) c.self.view_is in
+    omega (arith, c.requires, size, length-pairs c.self.inside.text.now c.self.inside.tokens.now 0)
+
+pub gap_place-at-requires-else-i-self-clause-within : goal.gap_place-at-requires-else-i-self-clause-within
+gap_place-at-requires-else-i-self-clause-within c =
+    let size = ap (λ (ps : List Pair). length ps) c.self.view_is in
+    omega (arith, c.requires, size, length-pairs c.self.inside.text.now c.self.inside.tokens.now 0)
+
+pub token_place-requires-clause-within : goal.token_place-requires-clause-within
+token_place-requires-clause-within c =
     let size = ap (λ (ps : List Pair). length ps) c.self.view_is in
     omega (arith, c.requires, size, length-pairs c.self.inside.text.now c.self.inside.tokens.now 0)

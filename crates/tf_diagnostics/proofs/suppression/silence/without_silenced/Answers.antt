@@ -8,5 +8,5 @@ returns-then-is_empty c =
 
 pub returns : goal.returns
 returns c =
-    c.unmarked.ensures ∙ unhit_left c.args.scanned.now.pairs _ c.args.found.items _ c.in_ok-marks.marks.items _ c.in_ok-places.ensures refl c.as_slice.ensures.value
+    c.unmarked.ensures ∙ unhit_left c.args.scanned.now.pairs _ c.args.found.items _ c.in_ok-marks.marks.items _ refl refl c.as_slice.ensures.value
     (λ rule line. c.in_ok-marks.ensures.hit rule line ∙ c.requires.silence rule line)
