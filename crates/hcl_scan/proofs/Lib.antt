@@ -3,6 +3,7 @@ pub mod Beats
 pub mod BeatsNumbers
 pub mod BeatsPlain
 pub mod CutFollows
+pub mod CutOrFault
 pub mod CutTo
 pub mod Ends
 pub mod Exact

@@ -1,7 +1,7 @@
 //! What holds of the cuts and the faults of texts, and of a text that is written token by token.
 //! Each law is the contract of a function that does nothing.
 
-ghost use Rattle.std.specs.Prelude.{◌≡◌, ℕ, ◌≤◌, false, List, [], length};
+ghost use Rattle.std.specs.Prelude.{◌≡◌, ℕ, ◌≤◌, ◌⊎◌, false, List, [], length};
 ghost use Rattle.hcl_token.specs.Tokens.{Pair, whole_text};
 ghost use Rattle.hcl_scan.specs.Cut.{MAX_TEXT, IsCut};
 ghost use Rattle.hcl_scan.specs.declared.fault.ScanFault.{ScanFault};
@@ -51,4 +51,10 @@ pub fn other_gaps()
     ensures { (pairs others : List Pair) (last other : List ℕ) → Follows pairs last []
         → tokens_of others ≡ tokens_of pairs
         → AreGaps false others other → AreApart others → Follows others other [] }
+{}
+
+/// Each text has a cut or a fault.
+pub fn cut_or_fault()
+    ensures { (text : List ℕ) → ((pairs : List Pair) × (last : List ℕ) × IsCut text pairs last)
+        ⊎ ((fault : ScanFault) × IsFault text fault) }
 {}
