@@ -26,21 +26,19 @@ use Rattle.hcl_grammar.specs.Pure.Reading.{Outcome, Step, ◌>>=◌, ◌>>◌}
 use Rattle.hcl_grammar.specs.Tokens as tokens
 use Rattle.hcl_grammar.specs.Tokens.{Token}
 
--- the tokens of a text, whether line ends are dropped here, how many constructs may still nest, and
--- whether lists keep what is found
+-- the tokens of a text, whether line ends are dropped here, and how many constructs may still nest
 pub record Here : Type 0 where
   pub tokens : List Token
   pub inside : Bool
   pub depth : ℕ
-  pub keep : Bool
 
 -- the same place outside of brackets, where line ends count
 abbrev pub on_lines : Here → Here
-on_lines t = record { tokens = t.tokens; inside = false; depth = t.depth; keep = t.keep }
+on_lines t = record { tokens = t.tokens; inside = false; depth = t.depth }
 
 -- the same place in brackets, where line ends are dropped
 abbrev pub in_brackets : Here → Here
-in_brackets t = record { tokens = t.tokens; inside = true; depth = t.depth; keep = t.keep }
+in_brackets t = record { tokens = t.tokens; inside = true; depth = t.depth }
 
 module _ (t : Here) where
   abbrev pub start : ℕ → ℕ
@@ -68,10 +66,10 @@ module _ (t : Here) where
   binds i = climb.binds t.tokens t.inside i
 
   abbrev pub expr : Goal → Step Expr
-  expr goal = p.expr t.keep t.tokens t.depth t.inside goal
+  expr goal = p.expr t.tokens t.depth t.inside goal
 
   abbrev pub whole : Step Expr
-  whole = p.whole t.keep t.tokens t.depth (p.deeper t.keep t.tokens t.depth) t.inside
+  whole = p.whole t.tokens t.depth (p.deeper t.tokens t.depth) t.inside
 
   -- behind the condition, which begins at token `first`
   abbrev pub choice : ℕ → Expr → Step Expr
@@ -80,26 +78,26 @@ module _ (t : Here) where
     is_conditional ← r.eat t.tokens t.inside k.Question
     if is_conditional then (do
       r.enter t.depth opening
-      met ← (p.deeper t.keep t.tokens t.depth).expr t.inside Whole
+      met ← (p.deeper t.tokens t.depth).expr t.inside Whole
       expect k.Colon
-      unmet ← (p.deeper t.keep t.tokens t.depth).expr t.inside Whole
+      unmet ← (p.deeper t.tokens t.depth).expr t.inside Whole
       end ← r.here
       r.pure (node.expr first end (form.Conditional c met unmet))) else r.pure c
 
   abbrev pub level : ℕ → Step Expr
-  level n = p.level t.keep t.tokens t.depth (p.deeper t.keep t.tokens t.depth) n t.inside
+  level n = p.level t.tokens t.depth (p.deeper t.tokens t.depth) n t.inside
 
   abbrev pub links_from : ℕ → ℕ → List Link → Step (List Link)
   links_from n turns found =
-      p.links_from t.keep t.tokens t.depth (p.deeper t.keep t.tokens t.depth)
-      (p.level t.keep t.tokens t.depth (p.deeper t.keep t.tokens t.depth) n) t.inside n turns found
+      p.links_from t.tokens t.depth (p.deeper t.tokens t.depth)
+      (p.level t.tokens t.depth (p.deeper t.tokens t.depth) n) t.inside n turns found
 
   abbrev pub links : ℕ → Step (List Link)
   links n = links_from n (length t.tokens) []
 
   abbrev pub rest : ℕ → ℕ → Expr → Step Expr
   rest n first head =
-      climb.rest t.keep t.tokens t.depth (p.deeper t.keep t.tokens t.depth) n t.inside first head
+      climb.rest t.tokens t.depth (p.deeper t.tokens t.depth) n t.inside first head
 
   -- behind the first operand of an expression, which begins at token `first`
   abbrev pub behind : ℕ → Expr → Step Expr
@@ -108,33 +106,33 @@ module _ (t : Here) where
     choice first condition
 
   abbrev pub unary : Step Expr
-  unary = p.unary t.keep t.tokens t.depth (p.deeper t.keep t.tokens t.depth) t.inside
+  unary = p.unary t.tokens t.depth (p.deeper t.tokens t.depth) t.inside
 
   -- behind the operator before it, which is token `first`
   abbrev pub prefixed : ℕ → Prefix → Step Expr
   prefixed first op =
-      p.unary_by t.keep t.tokens t.depth (p.deeper t.keep t.tokens t.depth) t.inside first (Some op)
+      p.unary_by t.tokens t.depth (p.deeper t.tokens t.depth) t.inside first (Some op)
 
   abbrev pub tails_from : ℕ → List Tail → Step (List Tail)
   tails_from turns found =
-      p.tails_from t.keep t.tokens t.depth (p.deeper t.keep t.tokens t.depth) t.inside turns found
+      p.tails_from t.tokens t.depth (p.deeper t.tokens t.depth) t.inside turns found
 
   abbrev pub tails : Step (List Tail)
   tails = tails_from (length t.tokens) []
 
   abbrev pub tail : Step (Option Tail)
-  tail = p.tail_of t.keep t.tokens t.depth (p.deeper t.keep t.tokens t.depth) t.inside
+  tail = p.tail_of t.tokens t.depth (p.deeper t.tokens t.depth) t.inside
 
   abbrev pub dotted : Step Tail
-  dotted = p.dotted t.keep t.tokens t.depth (p.deeper t.keep t.tokens t.depth) t.inside
+  dotted = p.dotted t.tokens t.depth (p.deeper t.tokens t.depth) t.inside
 
   abbrev pub indexed : ℕ → Step Tail
-  indexed first = p.indexed t.keep t.tokens t.depth (p.deeper t.keep t.tokens t.depth) first
+  indexed first = p.indexed t.tokens t.depth (p.deeper t.tokens t.depth) first
 
   -- a term, behind its first token, which is of this kind
   abbrev pub term_by : ℕ → Kind → Step Term
   term_by first kind =
-      p.term_by t.keep t.tokens t.depth (p.deeper t.keep t.tokens t.depth) t.inside first kind
+      p.term_by t.tokens t.depth (p.deeper t.tokens t.depth) t.inside first kind
 
   -- its tails
   abbrev pub tailed : ℕ → Term → Step Expr
@@ -150,31 +148,31 @@ module _ (t : Here) where
     tailed first head
 
   abbrev pub named : ℕ → Step Term
-  named first = p.named t.keep t.tokens t.depth (p.deeper t.keep t.tokens t.depth) t.inside first
+  named first = p.named t.tokens t.depth (p.deeper t.tokens t.depth) t.inside first
 
   abbrev pub call : ℕ → Step Term
-  call first = p.call t.keep t.tokens t.depth (p.deeper t.keep t.tokens t.depth) t.inside first
+  call first = p.call t.tokens t.depth (p.deeper t.tokens t.depth) t.inside first
 
   abbrev pub parens : ℕ → Step Term
-  parens first = p.parens t.keep t.tokens t.depth (p.deeper t.keep t.tokens t.depth) first
+  parens first = p.parens t.tokens t.depth (p.deeper t.tokens t.depth) first
 
   abbrev pub bracket : ℕ → Step Term
-  bracket first = p.bracket t.keep t.tokens t.depth (p.deeper t.keep t.tokens t.depth) first
+  bracket first = p.bracket t.tokens t.depth (p.deeper t.tokens t.depth) first
 
   abbrev pub brace : ℕ → Step Term
-  brace first = p.brace t.keep t.tokens t.depth (p.deeper t.keep t.tokens t.depth) first
+  brace first = p.brace t.tokens t.depth (p.deeper t.tokens t.depth) first
 
   abbrev pub quoted : ℕ → Step Term
-  quoted first = p.quoted t.keep t.tokens t.depth (p.deeper t.keep t.tokens t.depth) t.inside first
+  quoted first = p.quoted t.tokens t.depth (p.deeper t.tokens t.depth) t.inside first
 
   abbrev pub heredoc : ℕ → Step Term
   heredoc first =
-      p.heredoc t.keep t.tokens t.depth (p.deeper t.keep t.tokens t.depth) t.inside first
+      p.heredoc t.tokens t.depth (p.deeper t.tokens t.depth) t.inside first
 
   -- the arguments of a call in this construct, which stand in its brackets
   abbrev pub arguments_from : ℕ → List Expr → Step (List Expr × Bool)
   arguments_from turns found =
-      p.arguments_from t.keep t.tokens (p.expr t.keep t.tokens t.depth) turns found
+      p.arguments_from t.tokens (p.expr t.tokens t.depth) turns found
 
   abbrev pub arguments : Step (List Expr × Bool)
   arguments = arguments_from (length t.tokens) []
@@ -216,88 +214,88 @@ module _ (t : Here) where
   word w = r.word t.tokens t.inside w
 
   abbrev pub items_from : ℕ → List Expr → Step (List Expr)
-  items_from turns found = p.items_from t.keep t.tokens (p.expr t.keep t.tokens t.depth) turns found
+  items_from turns found = p.items_from t.tokens (p.expr t.tokens t.depth) turns found
 
   abbrev pub items : Step (List Expr)
   items = items_from (length t.tokens) []
 
   abbrev pub element : Step Elem
-  element = p.element t.keep t.tokens (p.expr t.keep t.tokens t.depth)
+  element = p.element t.tokens (p.expr t.tokens t.depth)
 
   -- what stands behind the key
   abbrev pub element_value : Step Expr
   element_value = do
     is_equals ← r.eat t.tokens false k.Equal
-    if is_equals then p.expr t.keep t.tokens t.depth false Whole else (do
+    if is_equals then p.expr t.tokens t.depth false Whole else (do
       r.expect t.tokens false k.Colon
-      p.expr t.keep t.tokens t.depth false Whole)
+      p.expr t.tokens t.depth false Whole)
 
   abbrev pub elements_from : ℕ → List Elem → Step (List Elem)
   elements_from turns found =
-      p.elements_from t.keep t.tokens (p.expr t.keep t.tokens t.depth) turns found
+      p.elements_from t.tokens (p.expr t.tokens t.depth) turns found
 
   abbrev pub elements : Step (List Elem)
   elements = elements_from (length t.tokens) []
 
   abbrev pub intro : Step Intro
-  intro = p.intro t.keep t.tokens (p.expr t.keep t.tokens t.depth)
+  intro = p.intro t.tokens (p.expr t.tokens t.depth)
 
   abbrev pub filter : Kind → Step (Option Expr)
-  filter close = p.filter t.keep t.tokens (p.expr t.keep t.tokens t.depth) close
+  filter close = p.filter t.tokens (p.expr t.tokens t.depth) close
 
   abbrev pub tuple : ℕ → Step Term
-  tuple first = p.tuple t.keep t.tokens (p.expr t.keep t.tokens t.depth) first
+  tuple first = p.tuple t.tokens (p.expr t.tokens t.depth) first
 
   abbrev pub object : ℕ → Step Term
-  object first = p.object t.keep t.tokens (p.expr t.keep t.tokens t.depth) first
+  object first = p.object t.tokens (p.expr t.tokens t.depth) first
 
   abbrev pub for_tuple : ℕ → Step Term
-  for_tuple first = p.for_tuple t.keep t.tokens (p.expr t.keep t.tokens t.depth) first
+  for_tuple first = p.for_tuple t.tokens (p.expr t.tokens t.depth) first
 
   abbrev pub for_value : ℕ → Intro → Expr → Step Term
-  for_value first x key = p.for_value t.keep t.tokens (p.expr t.keep t.tokens t.depth) first x key
+  for_value first x key = p.for_value t.tokens (p.expr t.tokens t.depth) first x key
 
   abbrev pub for_object : ℕ → Step Term
-  for_object first = p.for_object t.keep t.tokens (p.expr t.keep t.tokens t.depth) first
+  for_object first = p.for_object t.tokens (p.expr t.tokens t.depth) first
 
   -- the parts of a template, up to this token
   abbrev pub closed : Kind → Step Template
   closed close =
-      p.closed t.keep t.tokens (suc t.depth) (p.under t.keep t.tokens t.depth) t.inside close
+      p.closed t.tokens (suc t.depth) (p.under t.tokens t.depth) t.inside close
 
   -- what stands where the condition of an `if` directive does not hold
   abbrev pub otherwise : Step (Option Template)
-  otherwise = p.otherwise t.keep t.tokens (suc t.depth) (p.under t.keep t.tokens t.depth) t.inside
+  otherwise = p.otherwise t.tokens (suc t.depth) (p.under t.tokens t.depth) t.inside
 
   abbrev pub parts : Step (List Part)
-  parts = p.parts t.keep t.tokens t.depth t.inside
+  parts = p.parts t.tokens t.depth t.inside
 
   abbrev pub parts_from : ℕ → List Part → Step (List Part)
   parts_from turns found =
-      p.parts_from t.keep t.tokens t.depth (p.deeper t.keep t.tokens t.depth)
-      (p.twice t.keep t.tokens t.depth) t.inside turns found
+      p.parts_from t.tokens t.depth (p.deeper t.tokens t.depth)
+      (p.twice t.tokens t.depth) t.inside turns found
 
   abbrev pub part : Step (Option Part)
   part =
-      p.part_of t.keep t.tokens t.depth (p.deeper t.keep t.tokens t.depth)
-      (p.twice t.keep t.tokens t.depth) t.inside
+      p.part_of t.tokens t.depth (p.deeper t.tokens t.depth)
+      (p.twice t.tokens t.depth) t.inside
 
   abbrev pub interp : ℕ → Step Part
-  interp first = p.interp t.keep t.tokens t.depth (p.deeper t.keep t.tokens t.depth) first
+  interp first = p.interp t.tokens t.depth (p.deeper t.tokens t.depth) first
 
   abbrev pub directive : ℕ → Step (Option Part)
-  directive first = p.directive t.keep t.tokens t.depth (p.deeper t.keep t.tokens t.depth)
-      (p.twice t.keep t.tokens t.depth) t.inside first
+  directive first = p.directive t.tokens t.depth (p.deeper t.tokens t.depth)
+      (p.twice t.tokens t.depth) t.inside first
 
   abbrev pub if_directive : ℕ → Step Part
   if_directive first =
-      p.if_directive t.keep t.tokens t.depth (p.deeper t.keep t.tokens t.depth)
-      (p.twice t.keep t.tokens t.depth) t.inside first
+      p.if_directive t.tokens t.depth (p.deeper t.tokens t.depth)
+      (p.twice t.tokens t.depth) t.inside first
 
   abbrev pub for_directive : ℕ → Step Part
   for_directive first =
-      p.for_directive t.keep t.tokens t.depth (p.deeper t.keep t.tokens t.depth)
-      (p.twice t.keep t.tokens t.depth) t.inside first
+      p.for_directive t.tokens t.depth (p.deeper t.tokens t.depth)
+      (p.twice t.tokens t.depth) t.inside first
 
   abbrev pub keyword : List ℕ → Step (Unit {0})
   keyword w = p.keyword t.tokens t.inside w
@@ -306,14 +304,14 @@ module _ (t : Here) where
 pub record IsOpened (t inner : Here) : Type 0 where
   pub is : inner ≡ record t { depth = t.depth - 1 }
   pub depth : suc inner.depth ≡ t.depth
-  pub deeper : p.deeper t.keep t.tokens t.depth ≡ p.under t.keep t.tokens inner.depth
-  pub members : b.deeper_members t.keep t.tokens t.depth ≡ b.members t.keep t.tokens inner.depth
+  pub deeper : p.deeper t.tokens t.depth ≡ p.under t.tokens inner.depth
+  pub members : b.deeper_members t.tokens t.depth ≡ b.members t.tokens inner.depth
 
 -- two, one in the other
 pub record IsOpenedTwice (t inner : Here) : Type 0 where
-  pub is : inner ≡ record { tokens = t.tokens; inside = true; depth = t.depth - 2; keep = t.keep }
+  pub is : inner ≡ record { tokens = t.tokens; inside = true; depth = t.depth - 2 }
   pub depth : suc (suc inner.depth) ≡ t.depth
-  pub deeper : p.twice t.keep t.tokens t.depth ≡ p.expr t.keep t.tokens inner.depth
+  pub deeper : p.twice t.tokens t.depth ≡ p.expr t.tokens inner.depth
 
 -- a construct that opens at this token, if one more may nest
 abbrev pub Opens : Here → ℕ → ℕ → Result Here TokenFault → ℕ → Type 0

@@ -24,7 +24,7 @@ impl<'s, 't> Reader<'s, 't> {
             if inside.eat(Kind::CloseParen, at) {
                 return Ok((found, false));
             }
-            inside.add(&mut found, inside.expr(Goal::Whole, at)?)?;
+            found.push(inside.expr(Goal::Whole, at)?)?;
             if !inside.eat(Kind::Comma, at) {
                 let spread = inside.eat(Kind::Ellipsis, at);
                 inside.expect(Kind::CloseParen, at)?;
@@ -45,7 +45,7 @@ impl<'s, 't> Reader<'s, 't> {
             if inside.eat(Kind::CloseBracket, at) {
                 return Ok(found);
             }
-            inside.add(&mut found, inside.expr(Goal::Whole, at)?)?;
+            found.push(inside.expr(Goal::Whole, at)?)?;
             if !inside.eat(Kind::Comma, at) {
                 inside.expect(Kind::CloseBracket, at)?;
                 return Ok(found);
@@ -88,7 +88,7 @@ impl<'s, 't> Reader<'s, 't> {
             if lines.eat(Kind::CloseBrace, at) {
                 return Ok(found);
             }
-            lines.add(&mut found, lines.element(at)?)?;
+            found.push(lines.element(at)?)?;
             if !lines.separator_or_end(at)? {
                 return Ok(found);
             }

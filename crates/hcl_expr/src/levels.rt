@@ -188,7 +188,7 @@ impl<'s, 't> Reader<'s, 't> {
                 return Ok(found);
             };
             let operand = self.level(level, at)?;
-            self.add(&mut found, nodes::link(operator, operand))?;
+            found.push(nodes::link(operator, operand))?;
         }
         Ok(found)
     }

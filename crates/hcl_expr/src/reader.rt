@@ -2,10 +2,9 @@
 //!
 //! What a place is stands in `specs/Rules`. The place itself goes beside the reader, as `at`.
 
-ghost use Rattle.std.specs.Prelude.{◌≡◌, ◌<◌, ◌+◌, ◌^◌, true, false, length, slice_get, OnOk, OnSome};
+ghost use Rattle.std.specs.Prelude.{◌≡◌, ◌<◌, ◌+◌, ◌^◌, true, false, length, slice_get, OnSome};
 ghost use Rattle.hcl_expr.specs.Rules as spec;
 ghost use Rattle.hcl_expr.specs.Rules.{Opens, OpensTwo};
-ghost use Rattle.hcl_grammar.specs.Pure.Parser.{adds};
 ghost use Rattle.hcl_grammar.specs.Pure.Reading.{Gives};
 ghost use Rattle.hcl_grammar.specs.Tokens as tokens;
 ghost use Rattle.hcl_grammar.specs.declared.fault.TokenFault.TheVariants as fault;
@@ -16,8 +15,7 @@ use hcl_grammar::MAX_NESTING;
 use hcl_grammar::fault::TokenFault;
 use hcl_scan::Scanned;
 use hcl_token::Kind;
-use plain_tree::Items;
-use std::alloc::{AllocError, Global};
+use std::alloc::Global;
 use std::marker::Model;
 
 /// A text, as it is read at one place.
@@ -29,9 +27,6 @@ pub struct Reader<'s, 't> {
     inside: bool,
     /// How many constructs may still nest.
     depth: usize,
-    /// Whether lists keep what is found. Where only a place or a fault is asked for, they don't, so
-    /// that no memory is taken for them.
-    keep: bool,
 }
 
 impl<'s, 't> Model for Reader<'s, 't> {
@@ -44,7 +39,6 @@ impl<'s, 't> Model for Reader<'s, 't> {
       tokens = tokens_of r.scanned.now.pairs;
       inside = r.inside;
       depth = r.depth;
-      keep = r.keep;
     } };
 }
 
@@ -55,7 +49,6 @@ impl<'s, 't> Reader<'s, 't> {
           tokens = tokens_of scanned.now.pairs;
           inside = false;
           depth = MAX_NESTING;
-          keep = true;
         } }
     {
         Reader {
@@ -63,49 +56,12 @@ impl<'s, 't> Reader<'s, 't> {
             scanned,
             inside: false,
             depth: MAX_NESTING,
-            keep: true,
-        }
-    }
-
-    /// The same, for a text of which no list of nodes is asked for.
-    pub fn passing(alloc: Global, scanned: &'s Scanned<'t>) -> Reader<'s, 't>
-        ensures { result ≡ record {
-          tokens = tokens_of scanned.now.pairs;
-          inside = false;
-          depth = MAX_NESTING;
-          keep = false;
-        } }
-    {
-        Reader {
-            alloc,
-            scanned,
-            inside: false,
-            depth: MAX_NESTING,
-            keep: false,
         }
     }
 
     /// Memory for nodes.
     pub fn alloc(&self) -> Global {
         self.alloc
-    }
-
-    /// Whether lists keep what is found.
-    pub fn keeps(&self) -> bool
-        ensures { result ≡ self.now.keep }
-    {
-        self.keep
-    }
-
-    /// Puts what was found behind the others, where lists are kept; else it is dropped.
-    #[inline(always)]
-    pub fn add<T: Drop>(&self, found: &mut Items<T>, item: T) -> Result<(), AllocError>
-        ensures { OnOk result (found.new ≡ adds self.now.keep found.old item) }
-    {
-        if self.keep {
-            return found.push(item);
-        }
-        Ok(())
     }
 
     /// How many tokens the text has.
@@ -185,7 +141,6 @@ impl<'s, 't> Reader<'s, 't> {
             scanned: self.scanned,
             inside: true,
             depth: self.depth,
-            keep: self.keep,
         }
     }
 
@@ -201,7 +156,6 @@ impl<'s, 't> Reader<'s, 't> {
             scanned: self.scanned,
             inside: self.inside,
             depth: self.depth - 1,
-            keep: self.keep,
         })
     }
 
@@ -214,7 +168,6 @@ impl<'s, 't> Reader<'s, 't> {
             scanned: self.scanned,
             inside: false,
             depth: self.depth,
-            keep: self.keep,
         }
     }
 
@@ -234,14 +187,12 @@ impl<'s, 't> Reader<'s, 't> {
             scanned: self.scanned,
             inside: self.inside,
             depth: self.depth - 1,
-            keep: self.keep,
         };
         let braces = Reader {
             alloc: self.alloc,
             scanned: self.scanned,
             inside: true,
             depth: self.depth - 2,
-            keep: self.keep,
         };
         Ok((directive, braces))
     }

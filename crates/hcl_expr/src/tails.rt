@@ -88,11 +88,9 @@ impl<'s, 't> Reader<'s, 't> {
     }
 
     /// How many tails to take memory for, where one comes next: more than one if another tail
-    /// stands behind a `.` and a name. For none, where they are not kept.
+    /// stands behind a `.` and a name.
     fn room(&self, at: usize) -> usize {
-        if !self.keeps() {
-            0
-        } else if self.has_tail(at.saturating_add(2)) {
+        if self.has_tail(at.saturating_add(2)) {
             3
         } else {
             1
@@ -109,7 +107,7 @@ impl<'s, 't> Reader<'s, 't> {
             let Some(tail) = self.tail(at)? else {
                 return Ok(found);
             };
-            self.add(&mut found, tail)?;
+            found.push(tail)?;
         }
         Ok(found)
     }

@@ -175,7 +175,7 @@ impl<'s, 't> Reader<'s, 't> {
             let Some(part) = self.part(at)? else {
                 return Ok(found);
             };
-            self.add(&mut found, part)?;
+            found.push(part)?;
         }
         Ok(found)
     }

@@ -66,14 +66,14 @@ module _ (ts : List Token) where
   unfolding bodies.label_of
   label-at o i h = ap (λ o. bodies.label_by ts (start ts false i) o i) h
 
-  labels-end : (turns : ℕ) (acc : List Label) (i : ℕ) → At ts false k.OpenBrace i → bodies.labels_from true ts turns acc i ≡ Ok (acc, i)
+  labels-end : (turns : ℕ) (acc : List Label) (i : ℕ) → At ts false k.OpenBrace i → bodies.labels_from ts turns acc i ≡ Ok (acc, i)
   unfolding bodies.labels_from
   labels-end zero acc i h = refl
   labels-end (suc turns) acc i h = rw (label-at (Some k.OpenBrace) i h)
 
   labels-more : {x : Label} {j l : ℕ} (ls : List Label) (turns : ℕ) (acc : List Label) (i : ℕ) → bodies.label_of ts i ≡ Ok (Some x, j)
-      → bodies.labels_from true ts turns (acc ++ x ∷ []) j ≡ Ok ((acc ++ x ∷ []) ++ ls, l)
-      → bodies.labels_from true ts (suc turns) acc i ≡ Ok (acc ++ x ∷ ls, l)
+      → bodies.labels_from ts turns (acc ++ x ∷ []) j ≡ Ok ((acc ++ x ∷ []) ++ ls, l)
+      → bodies.labels_from ts (suc turns) acc i ≡ Ok (acc ++ x ∷ ls, l)
   unfolding bodies.labels_from
   labels-more {x} {l} ls turns acc i h more = rw h (more ∙ ap (λ xs. Ok (xs, l)) (append_assoc acc (x ∷ []) ls))
 
@@ -90,7 +90,7 @@ module _ (ts : List Token) where
       let n = sees-other ts false k.QuoteClose k.QuoteLit (after ts false i) c refl in
       rw (label-at (Some k.QuoteOpen) i a, n, past-no ts false k.QuoteLit (after ts false i) n, expect-yes ts false k.QuoteClose (after ts false i) c)
 
-  labels-yes : {ls : List Label} {i j : ℕ} → IsLabels ts ls i j → At ts false k.OpenBrace j → (turns : ℕ) (acc : List Label) → j ≤ turns + i → bodies.labels_from true ts turns acc i ≡ Ok (acc ++ ls, j)
+  labels-yes : {ls : List Label} {i j : ℕ} → IsLabels ts ls i j → At ts false k.OpenBrace j → (turns : ℕ) (acc : List Label) → j ≤ turns + i → bodies.labels_from ts turns acc i ≡ Ok (acc ++ ls, j)
   labels-yes (no_labels {i}) s turns acc l = labels-end turns acc i s ∙ ap (λ xs. Ok (xs, i)) (sym (append-nil acc))
   labels-yes (word_label {i} q ls) s zero acc l = absurd (omega (arith, (step ts false k.Identifier i q).forth, (span_labels ls).forth))
   labels-yes (word_label {ls = xs} {i} q ls) s (suc turns) acc l =
@@ -106,7 +106,7 @@ module _ (ts : List Token) where
       labels-more xs turns acc i (label_empty i a c)
       (labels-yes ls s turns (acc ++ node.label (start ts false i) (after ts false (after ts false i)) None ∷ []) (omega (arith, (step ts false k.QuoteOpen i a).forth, (step ts false k.QuoteClose (after ts false i) c).forth)))
 
-  labels_all : {ls : List Label} {i j : ℕ} → IsLabels ts ls i j → At ts false k.OpenBrace j → bodies.labels_from true ts (length ts) [] i ≡ Ok (ls, j)
+  labels_all : {ls : List Label} {i j : ℕ} → IsLabels ts ls i j → At ts false k.OpenBrace j → bodies.labels_from ts (length ts) [] i ≡ Ok (ls, j)
   labels_all ls s = labels-yes ls s (length ts) [] (omega (arith, (span_labels ls).within))
 
   not_equals : {ls : List Label} {i j : ℕ} → IsLabels ts ls i j → At ts false k.OpenBrace j → sees ts false k.Equal i ≡ false
@@ -127,32 +127,32 @@ module _ (ts : List Token) where
   unfolding same_kind
   ends_brace i h = record { no_line = no_line_brace i h; no_name = sees-other ts false k.CloseBrace k.Identifier i h refl }
 
-  members_end : {d a : ℕ} (turns : ℕ) (acc : List Member) (i : ℕ) → Ends i → Answers d a acc i (bodies.members_from true ts a (deeper_members true ts a) turns acc i)
+  members_end : {d a : ℕ} (turns : ℕ) (acc : List Member) (i : ℕ) → Ends i → Answers d a acc i (bodies.members_from ts a (deeper_members ts a) turns acc i)
   unfolding bodies.members_from bodies.member_of
   members_end zero acc i s = found
   members_end (suc turns) acc i s = rw (s.no_line.is, s.no_name, past-no ts false k.Identifier i s.no_name) found
 
-  members_blank : {d a : ℕ} {ys : List Member} {j l : ℕ} (turns : ℕ) (acc : List Member) (i : ℕ) → IsLine ts i j → Answers d a ys l (bodies.members_from true ts a (deeper_members true ts a) turns acc j)
-      → Answers d a ys l (bodies.members_from true ts a (deeper_members true ts a) (suc turns) acc i)
+  members_blank : {d a : ℕ} {ys : List Member} {j l : ℕ} (turns : ℕ) (acc : List Member) (i : ℕ) → IsLine ts i j → Answers d a ys l (bodies.members_from ts a (deeper_members ts a) turns acc j)
+      → Answers d a ys l (bodies.members_from ts a (deeper_members ts a) (suc turns) acc i)
   unfolding bodies.members_from
   members_blank turns acc i q r = rw (line-yes q) r
 
   -- a member, and those behind it
   members_more : {d a : ℕ} {x : Member} {ys : List Member} {n l : ℕ} (turns : ℕ) (acc : List Member) (i : ℕ) → At ts false k.Identifier i
-      → Answers d a x n (bodies.named_member true ts a (deeper_members true ts a) (start ts false i) (after ts false i))
-      → Answers d a ys l (bodies.members_from true ts a (deeper_members true ts a) turns (acc ++ x ∷ []) n)
-      → Answers d a ys l (bodies.members_from true ts a (deeper_members true ts a) (suc turns) acc i)
+      → Answers d a x n (bodies.named_member ts a (deeper_members ts a) (start ts false i) (after ts false i))
+      → Answers d a ys l (bodies.members_from ts a (deeper_members ts a) turns (acc ++ x ∷ []) n)
+      → Answers d a ys l (bodies.members_from ts a (deeper_members ts a) (suc turns) acc i)
   unfolding bodies.members_from bodies.member_of
   members_more turns acc i q x more = rw ((no_line_name i q).is, sees-yes ts false k.Identifier i q, past-yes ts false k.Identifier i q) (bind _ (bind _ x found) more)
 
-  pub member_attribute : {d a : ℕ} {e : Expr} {j n : ℕ} (first i : ℕ) → At ts false k.Equal i → Answers d a e j (p.expr true ts a false Whole (after ts false i)) → IsEol ts j n
-      → Answers d a (member.Attribute (node.attribute first n e)) n (bodies.named_member true ts a (deeper_members true ts a) first i)
+  pub member_attribute : {d a : ℕ} {e : Expr} {j n : ℕ} (first i : ℕ) → At ts false k.Equal i → Answers d a e j (p.expr ts a false Whole (after ts false i)) → IsEol ts j n
+      → Answers d a (member.Attribute (node.attribute first n e)) n (bodies.named_member ts a (deeper_members ts a) first i)
   unfolding bodies.named_member bodies.attribute_by
   member_attribute first i e x l = rw (sees-yes ts false k.Equal i e, past-yes ts false k.Equal i e) (bind _ x (rw (eol-yes l) found))
 
   pub member_block : {d : ℕ} {ls : List Label} {x : Content} {j o q : ℕ} (first i : ℕ) → IsLabels ts ls i j → At ts false k.OpenBrace j → At ts false k.CloseBrace o → IsEol ts (after ts false o) q → (b : ℕ)
-      → ((a : ℕ) → Answers d a x o (bodies.block_content true ts (suc a) (bodies.members true ts a) (after ts false j)))
-      → Answers (suc d) b (node.block first q ls x) q (bodies.named_member true ts b (deeper_members true ts b) first i)
+      → ((a : ℕ) → Answers d a x o (bodies.block_content ts (suc a) (bodies.members ts a) (after ts false j)))
+      → Answers (suc d) b (node.block first q ls x) q (bodies.named_member ts b (deeper_members ts b) first i)
   unfolding bodies.named_member bodies.block_by
   member_block {j} {o} first i ls br cl el zero x =
       rw (not_equals ls br, past-no ts false k.Equal i (not_equals ls br), labels_all ls br, expect-yes ts false k.OpenBrace j br) (deep (omega arith))
@@ -160,31 +160,31 @@ module _ (ts : List Token) where
       rw (not_equals ls br, past-no ts false k.Equal i (not_equals ls br), labels_all ls br, expect-yes ts false k.OpenBrace j br)
       (bind _ (deeper_found (x a)) (rw (expect-yes ts false k.CloseBrace o cl, eol-yes el) found))
 
-  pub content_lines : {d a : ℕ} {bs : List Member} {n o : ℕ} (i : ℕ) → IsLine ts i n → Answers d a bs o (bodies.members true ts a n)
-      → Answers d a (content.Lines (node.body (first_of ts false n o) o bs)) o (bodies.block_content true ts (suc a) (bodies.members true ts a) i)
+  pub content_lines : {d a : ℕ} {bs : List Member} {n o : ℕ} (i : ℕ) → IsLine ts i n → Answers d a bs o (bodies.members ts a n)
+      → Answers d a (content.Lines (node.body (first_of ts false n o) o bs)) o (bodies.block_content ts (suc a) (bodies.members ts a) i)
   unfolding bodies.block_content bodies.nested_body
   content_lines i l x = rw (inner-yes l) (bind _ x found)
 
-  content_empty : {d a : ℕ} (i : ℕ) → At ts false k.CloseBrace i → Answers d a (content.Line None) i (bodies.block_content true ts (suc a) (bodies.members true ts a) i)
+  content_empty : {d a : ℕ} (i : ℕ) → At ts false k.CloseBrace i → Answers d a (content.Line None) i (bodies.block_content ts (suc a) (bodies.members ts a) i)
   unfolding bodies.block_content bodies.on_line same_kind
   content_empty i h = let n = sees-other ts false k.CloseBrace k.Identifier i h refl in rw ((no_inner_at ts i h).is, n, past-no ts false k.Identifier i n) found
 
-  content_one : {d a : ℕ} {e : Expr} {j : ℕ} (i : ℕ) → At ts false k.Identifier i → At ts false k.Equal (after ts false i) → Answers d a e j (p.expr true ts a false Whole (after ts false (after ts false i)))
-      → Answers d a (content.Line (Some (node.attribute (start ts false i) j e))) j (bodies.block_content true ts (suc a) (bodies.members true ts a) i)
+  content_one : {d a : ℕ} {e : Expr} {j : ℕ} (i : ℕ) → At ts false k.Identifier i → At ts false k.Equal (after ts false i) → Answers d a e j (p.expr ts a false Whole (after ts false (after ts false i)))
+      → Answers d a (content.Line (Some (node.attribute (start ts false i) j e))) j (bodies.block_content ts (suc a) (bodies.members ts a) i)
   unfolding bodies.block_content bodies.on_line
   content_one i h q x = rw ((no_inner_name i h).is, sees-yes ts false k.Identifier i h, past-yes ts false k.Identifier i h, expect-yes ts false k.Equal (after ts false i) q) (bind _ x found)
 
-  pub c_on_line : {d : ℕ} {x : Option Attribute} {i j : ℕ} → IsOnLine ts d x i j → At ts false k.CloseBrace j → (a : ℕ) → Answers d a (content.Line x) j (bodies.block_content true ts (suc a) (bodies.members true ts a) i)
+  pub c_on_line : {d : ℕ} {x : Option Attribute} {i j : ℕ} → IsOnLine ts d x i j → At ts false k.CloseBrace j → (a : ℕ) → Answers d a (content.Line x) j (bodies.block_content ts (suc a) (bodies.members ts a) i)
   c_on_line (nothing {i}) h a = content_empty i h
   c_on_line (one {i} {j} n q x) h a = content_one i n q (nested ts false (after ts false (after ts false i)) a (c_expr ts x (stops_at 8 k.CloseBrace h (omega arith)) a))
 
-  pub members-is : (a i : ℕ) → bodies.members true ts a i ≡ bodies.members_from true ts a (deeper_members true ts a) (length ts) [] i
+  pub members-is : (a i : ℕ) → bodies.members ts a i ≡ bodies.members_from ts a (deeper_members ts a) (length ts) [] i
   unfolding bodies.members
   members-is zero i = refl
   members-is (suc a) i = refl
 
   pub c_members : {d : ℕ} {ms : List Member} {i j : ℕ} → IsMembers ts d ms i j → Ends j → (b turns : ℕ) (acc : List Member) → j ≤ turns + i
-      → Answers d b (acc ++ ms) j (bodies.members_from true ts b (deeper_members true ts b) turns acc i)
+      → Answers d b (acc ++ ms) j (bodies.members_from ts b (deeper_members ts b) turns acc i)
   c_members (no_members {i}) s b turns acc l = rw (append-nil acc) (members_end turns acc i s)
   c_members (blank q ms) s b zero acc l = absurd (omega (arith, (span_line q).forth, (span_members ms).forth))
   c_members (blank {i} q ms) s b (suc turns) acc l = members_blank turns acc i q (c_members ms s b turns acc (omega (arith, (span_line q).forth)))
@@ -220,7 +220,7 @@ module _ (ts : List Token) where
 
   -- the member that a body begins with, where no line end stands before it
   c_named : {d : ℕ} {m : Member} {ms : List Member} {i l : ℕ} → At ts false k.Identifier i → IsMembers ts d (m ∷ ms) i l → (b : ℕ)
-      → (n : ℕ) × Answers d b m n (bodies.named_member true ts b (deeper_members true ts b) (start ts false i) (after ts false i))
+      → (n : ℕ) × Answers d b m n (bodies.named_member ts b (deeper_members ts b) (start ts false i) (after ts false i))
   c_named h (blank q ms) b = absurd (no_blank h q)
   c_named h (attribute {i} {n = n} q e x el ms) b = (n, member_attribute (start ts false i) (after ts false i) e (nested ts false (after ts false (after ts false i)) b (c_expr ts x (eol_stop el) b)) el)
   c_named h (block {i} {j} {n} {o} {q} g ls br nl bs cl el ms) b = (
@@ -230,16 +230,16 @@ module _ (ts : List Token) where
   )
   c_named h (line_block {i} {q = q} g ls br x cl el ms) b = (q, member_block (start ts false i) (after ts false i) ls br cl el b (λ a. c_on_line x cl a))
 
-  c_some : {d : ℕ} {m : Member} {n : ℕ} (b i : ℕ) → At ts false k.Identifier i → Answers d b m n (bodies.named_member true ts b (deeper_members true ts b) (start ts false i) (after ts false i))
-      → Answers d b (Some m) n (bodies.member_of true ts b (deeper_members true ts b) i)
+  c_some : {d : ℕ} {m : Member} {n : ℕ} (b i : ℕ) → At ts false k.Identifier i → Answers d b m n (bodies.named_member ts b (deeper_members ts b) (start ts false i) (after ts false i))
+      → Answers d b (Some m) n (bodies.member_of ts b (deeper_members ts b) i)
   unfolding bodies.member_of
   c_some b i h x = rw (sees-yes ts false k.Identifier i h, past-yes ts false k.Identifier i h) (bind _ x found)
 
   pub c_member : {d : ℕ} {m : Member} {ms : List Member} {l : ℕ} (i : ℕ) → At ts false k.Identifier i → IsMembers ts d (m ∷ ms) i l → (b : ℕ)
-      → (n : ℕ) × Answers d b (Some m) n (bodies.member_of true ts b (deeper_members true ts b) i)
+      → (n : ℕ) × Answers d b (Some m) n (bodies.member_of ts b (deeper_members ts b) i)
   c_member i h x b = let r = c_named h x b in (r.0, c_some b i h r.1)
 
-  pub c_none : (b i : ℕ) → next ts false i ≢ Some k.Identifier → Answers b b None i (bodies.member_of true ts b (deeper_members true ts b) i)
+  pub c_none : (b i : ℕ) → next ts false i ≢ Some k.Identifier → Answers b b None i (bodies.member_of ts b (deeper_members ts b) i)
   unfolding bodies.member_of
   c_none b i h = let n = sees-not ts false k.Identifier i h in rw (n, past-no ts false k.Identifier i n) found
 
@@ -266,13 +266,13 @@ module _ (ts : List Token) where
   front-past no_mark ms l = past-no ts false k.Mark 0 (no_front ms l)
   front-past (mark q) ms l = past-yes ts false k.Mark 0 q
 
-  file_by : {d : ℕ} {ms : List Member} {i j : ℕ} (b : ℕ) → past ts false k.Mark 0 ≡ i → Answers d b ms j (bodies.members true ts b i) → IsLast ts j
-      → (n : ℕ) × Answers d b (node.tree (length ts) (node.body (first_of ts false i j) j ms)) n (bodies.file true ts b 0)
+  file_by : {d : ℕ} {ms : List Member} {i j : ℕ} (b : ℕ) → past ts false k.Mark 0 ≡ i → Answers d b ms j (bodies.members ts b i) → IsLast ts j
+      → (n : ℕ) × Answers d b (node.tree (length ts) (node.body (first_of ts false i j) j ms)) n (bodies.file ts b 0)
   unfolding bodies.file
   file_by {j} b s x (at_end h) = (j, rw s (bind _ x (let n = unlike k.LineComment j h in rw (past-no ts false k.LineComment j n, h) found)))
   file_by {j} b s x (at_comment q h) = (after ts false j, rw s (bind _ x (rw (past-yes ts false k.LineComment j q, h) found)))
 
   -- each derivation of a whole text is answered
-  pub file_answers : (b d : ℕ) (t : Tree) → IsFile ts d t → (n : ℕ) × Answers d b t n (bodies.file true ts b 0)
+  pub file_answers : (b d : ℕ) (t : Tree) → IsFile ts d t → (n : ℕ) × Answers d b t n (bodies.file ts b 0)
   file_answers b d t (file {i} {j} f ms l) =
       file_by b (front-past f ms l) (rw (members-is b i) (c_members ms (last_ends j l) b (length ts) [] (omega (arith, (span_members ms).within)))) l

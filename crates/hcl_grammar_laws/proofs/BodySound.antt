@@ -81,9 +81,9 @@ module _ (ts : List Token) where
     pub labels : IsLabels ts more i j
 
   labels_step : (turns : ℕ) (acc : List Label) (i : ℕ) (ys : List Label) (j : ℕ)
-      → ((acc : List Label) (i : ℕ) → bodies.labels_from true ts turns acc i ≡ done ys j → Labels acc ys i j)
+      → ((acc : List Label) (i : ℕ) → bodies.labels_from ts turns acc i ≡ done ys j → Labels acc ys i j)
       → (o : Option Label) (n : ℕ) → bodies.label_of ts i ≡ done o n
-      → bodies.labels_step true ts (bodies.labels_from true ts turns) acc o n ≡ done ys j → Labels acc ys i j
+      → bodies.labels_step ts (bodies.labels_from ts turns) acc o n ≡ done ys j → Labels acc ys i j
   unfolding bodies.label_of
   labels_step turns acc i ys j again None n g f =
       along (λ ys j. Labels acc ys i j) f (record { more = []; is = sym (append-nil acc); labels = subst (λ n. IsLabels ts [] i n) (sym (s_label_none i (next ts false i) n g)) no_labels })
@@ -91,18 +91,18 @@ module _ (ts : List Token) where
       let r = again (acc ++ x ∷ []) n f in
       record { more = x ∷ r.more; is = r.is ∙ append_assoc acc (x ∷ []) r.more; labels = s_label_some i (next ts false i) refl x n g r.more j r.labels }
 
-  s_labels : (turns : ℕ) (acc : List Label) (i : ℕ) (ys : List Label) (j : ℕ) → bodies.labels_from true ts turns acc i ≡ done ys j → Labels acc ys i j
+  s_labels : (turns : ℕ) (acc : List Label) (i : ℕ) (ys : List Label) (j : ℕ) → bodies.labels_from ts turns acc i ≡ done ys j → Labels acc ys i j
   unfolding bodies.labels_from
   s_labels zero acc i ys j e = along (λ ys j. Labels acc ys i j) e (record { more = []; is = sym (append-nil acc); labels = no_labels })
   s_labels (suc turns) acc i ys j e = let w = bind_inv _ _ e in labels_step turns acc i ys j (λ acc i. s_labels turns acc i ys j) w.value w.at w.is w.rest
 
-  pub all_labels : (i : ℕ) (ls : List Label) (j : ℕ) → bodies.labels_from true ts (length ts) [] i ≡ done ls j → IsLabels ts ls i j
+  pub all_labels : (i : ℕ) (ls : List Label) (j : ℕ) → bodies.labels_from ts (length ts) [] i ≡ done ls j → IsLabels ts ls i j
   all_labels i ls j e = let r = s_labels (length ts) [] i ls j e in subst (λ xs. IsLabels ts xs i j) (sym r.is) r.labels
 
   -- ---- members
 
   pub record SoundBody (a : ℕ) : Type 0 where
-    pub members : (i : ℕ) (ms : List Member) (j : ℕ) → bodies.members true ts a i ≡ done ms j → IsMembers ts a ms i j
+    pub members : (i : ℕ) (ms : List Member) (j : ℕ) → bodies.members ts a i ≡ done ms j → IsMembers ts a ms i j
 
   abbrev pub Below : ℕ → Type 0
   Below zero = Unit {0}
@@ -113,7 +113,7 @@ module _ (ts : List Token) where
   Precedes b i m j = (ms : List Member) (l : ℕ) → IsMembers ts b ms j l → IsMembers ts b (m ∷ ms) i l
 
   s_attribute : (b i : ℕ) → At ts false k.Identifier i → At ts false k.Equal (after ts false i) → (m : Member) (j : ℕ)
-      → bodies.attribute_by true ts b (deeper_members true ts b) (start ts false i) (after ts false (after ts false i)) ≡ done m j → Precedes b i m j
+      → bodies.attribute_by ts b (deeper_members ts b) (start ts false i) (after ts false (after ts false i)) ≡ done m j → Precedes b i m j
   unfolding bodies.attribute_by
   s_attribute b i h q m j e =
       let w = bind_inv _ _ e in
@@ -127,7 +127,7 @@ module _ (ts : List Token) where
     inside_lines : {bs : List Member} {i n o : ℕ} → IsLine ts i n → IsMembers ts a bs n o → Inside a (content.Lines (node.body (first_of ts false n o) o bs)) i o
     inside_line : {x : Option Attribute} {i o : ℕ} → IsOnLine ts a x i o → Inside a (content.Line x) i o
 
-  s_on_line : (a i : ℕ) (x : Content) (j : ℕ) → bodies.on_line true ts a i ≡ done x j → Inside a x i j
+  s_on_line : (a i : ℕ) (x : Content) (j : ℕ) → bodies.on_line ts a i ≡ done x j → Inside a x i j
   unfolding bodies.on_line
   s_on_line a i x j e = elim (eat_inv ts false k.Identifier i) [
     | eaten q s l ↦
@@ -137,7 +137,7 @@ module _ (ts : List Token) where
     | uneaten s l ↦ along (λ x j. Inside a x i j) (rw (s, l) at e) (inside_line nothing)
   ]
 
-  pub s_content : (a : ℕ) → SoundBody a → (i : ℕ) (x : Content) (j : ℕ) → bodies.block_content true ts (suc a) (bodies.members true ts a) i ≡ done x j → Inside a x i j
+  pub s_content : (a : ℕ) → SoundBody a → (i : ℕ) (x : Content) (j : ℕ) → bodies.block_content ts (suc a) (bodies.members ts a) i ≡ done x j → Inside a x i j
   unfolding bodies.block_content bodies.nested_body
   s_content a z i x j e =
       let w = bind_inv _ _ e in
@@ -155,10 +155,10 @@ module _ (ts : List Token) where
   block_from a i h ls br n e x (inside_line {x = found} {o = to} y) c el = λ ms l r. line_block h ls br (subst (λ n. IsOnLine ts a found n to) e y) c el r
 
   s_block : (b : ℕ) → Below b → (i : ℕ) → At ts false k.Identifier i → (m : Member) (j : ℕ)
-      → bodies.block_by true ts b (deeper_members true ts b) (start ts false i) (after ts false i) ≡ done m j → Precedes b i m j
+      → bodies.block_by ts b (deeper_members ts b) (start ts false i) (after ts false i) ≡ done m j → Precedes b i m j
   unfolding bodies.block_by
   s_block zero z i h m j e =
-      let w = bind_inv (bodies.labels_from true ts (length ts) [] (after ts false i)) _ e in
+      let w = bind_inv (bodies.labels_from ts (length ts) [] (after ts false i)) _ e in
       absurd (shut (expect ts false k.OpenBrace w.at) (TooDeep (start ts false w.at)) w.rest)
   s_block (suc a) z i h m j e =
       let w = bind_inv _ _ e in
@@ -171,31 +171,31 @@ module _ (ts : List Token) where
       along (λ m j. Precedes (suc a) i m j) el.rest (block_from a i h ls br (after ts false w.at) refl x.value y c (s_eol (after ts false x.at) el.is))
 
   s_named : (b : ℕ) → Below b → (i : ℕ) → At ts false k.Identifier i → (m : Member) (j : ℕ)
-      → bodies.named_member true ts b (deeper_members true ts b) (start ts false i) (after ts false i) ≡ done m j → Precedes b i m j
+      → bodies.named_member ts b (deeper_members ts b) (start ts false i) (after ts false i) ≡ done m j → Precedes b i m j
   unfolding bodies.named_member
   s_named b z i h m j e = elim (eat_inv ts false k.Equal (after ts false i)) [
     | eaten q s l ↦ s_attribute b i h q m j (rw (s, l) at e)
     | uneaten s l ↦ s_block b z i h m j (rw (s, l) at e)
   ]
 
-  pub s_member_some : (b : ℕ) → Below b → (i : ℕ) (m : Member) (j : ℕ) → bodies.member_of true ts b (deeper_members true ts b) i ≡ done (Some m) j → Precedes b i m j
+  pub s_member_some : (b : ℕ) → Below b → (i : ℕ) (m : Member) (j : ℕ) → bodies.member_of ts b (deeper_members ts b) i ≡ done (Some m) j → Precedes b i m j
   unfolding bodies.member_of
   s_member_some b z i m j e = elim (eat_inv ts false k.Identifier i) [
     | eaten q s l ↦ (let w = bind_inv _ _ (rw (s, l) at e) in some_along (λ m j. Precedes b i m j) w.rest (s_named b z i q w.value w.at w.is))
     | uneaten s l ↦ absurd (none_some (rw (s, l) at e))
   ]
 
-  pub s_member_none : (b i j : ℕ) → bodies.member_of true ts b (deeper_members true ts b) i ≡ done None j → j ≡ i
+  pub s_member_none : (b i j : ℕ) → bodies.member_of ts b (deeper_members ts b) i ≡ done None j → j ≡ i
   unfolding bodies.member_of
   s_member_none b i j e = elim (eat_inv ts false k.Identifier i) [
-    | eaten q s l ↦ absurd (then_some (bodies.named_member true ts b (deeper_members true ts b) (start ts false i) (after ts false i)) (λ m. m) (rw (s, l) at e))
+    | eaten q s l ↦ absurd (then_some (bodies.named_member ts b (deeper_members ts b) (start ts false i) (after ts false i)) (λ m. m) (rw (s, l) at e))
     | uneaten s l ↦ along (λ _ j. j ≡ i) (rw (s, l) at e) refl
   ]
 
-  pub no_name : (b i j : ℕ) → bodies.member_of true ts b (deeper_members true ts b) i ≡ done None j → next ts false i ≢ Some k.Identifier
+  pub no_name : (b i j : ℕ) → bodies.member_of ts b (deeper_members ts b) i ≡ done None j → next ts false i ≢ Some k.Identifier
   unfolding bodies.member_of
   no_name b i j e h = elim (eat_inv ts false k.Identifier i) [
-    | eaten q s l ↦ then_some (bodies.named_member true ts b (deeper_members true ts b) (start ts false i) (after ts false i)) (λ m. m) (rw (s, l) at e)
+    | eaten q s l ↦ then_some (bodies.named_member ts b (deeper_members ts b) (start ts false i) (after ts false i)) (λ m. m) (rw (s, l) at e)
     | uneaten s l ↦ unseen s (sees-yes ts false k.Identifier i h)
   ]
 
@@ -209,16 +209,16 @@ module _ (ts : List Token) where
     pub members : IsMembers ts b more i j
 
   members_step : (b : ℕ) → Below b → (turns : ℕ) (acc : List Member) (i : ℕ) (ys : List Member) (j : ℕ)
-      → ((acc : List Member) (i : ℕ) → bodies.members_from true ts b (deeper_members true ts b) turns acc i ≡ done ys j → Members b acc ys i j)
-      → (o : Option Member) (n : ℕ) → bodies.member_of true ts b (deeper_members true ts b) i ≡ done o n
-      → bodies.members_step true ts b (deeper_members true ts b) (bodies.members_from true ts b (deeper_members true ts b) turns) acc o n ≡ done ys j → Members b acc ys i j
+      → ((acc : List Member) (i : ℕ) → bodies.members_from ts b (deeper_members ts b) turns acc i ≡ done ys j → Members b acc ys i j)
+      → (o : Option Member) (n : ℕ) → bodies.member_of ts b (deeper_members ts b) i ≡ done o n
+      → bodies.members_step ts b (deeper_members ts b) (bodies.members_from ts b (deeper_members ts b) turns) acc o n ≡ done ys j → Members b acc ys i j
   members_step b z turns acc i ys j again None n g f =
       along (λ ys j. Members b acc ys i j) f (record { more = []; is = sym (append-nil acc); members = subst (λ n. IsMembers ts b [] i n) (sym (s_member_none b i n g)) no_members })
   members_step b z turns acc i ys j again (Some m) n g f =
       let r = again (acc ++ m ∷ []) n f in
       record { more = m ∷ r.more; is = r.is ∙ append_assoc acc (m ∷ []) r.more; members = s_member_some b z i m n g r.more j r.members }
 
-  s_members : (b : ℕ) → Below b → (turns : ℕ) (acc : List Member) (i : ℕ) (ys : List Member) (j : ℕ) → bodies.members_from true ts b (deeper_members true ts b) turns acc i ≡ done ys j → Members b acc ys i j
+  s_members : (b : ℕ) → Below b → (turns : ℕ) (acc : List Member) (i : ℕ) (ys : List Member) (j : ℕ) → bodies.members_from ts b (deeper_members ts b) turns acc i ≡ done ys j → Members b acc ys i j
   unfolding bodies.members_from
   s_members b z zero acc i ys j e = along (λ ys j. Members b acc ys i j) e (record { more = []; is = sym (append-nil acc); members = no_members })
   s_members b z (suc turns) acc i ys j e =
@@ -231,7 +231,7 @@ module _ (ts : List Token) where
             subst (λ n. Members b acc ys n j) same (members_step b z turns acc w.at ys j (λ acc i. s_members b z turns acc i ys j) v.value v.at v.is v.rest)
       ]
 
-  all_members : (b : ℕ) → Below b → (i : ℕ) (ms : List Member) (j : ℕ) → bodies.members_from true ts b (deeper_members true ts b) (length ts) [] i ≡ done ms j → IsMembers ts b ms i j
+  all_members : (b : ℕ) → Below b → (i : ℕ) (ms : List Member) (j : ℕ) → bodies.members_from ts b (deeper_members ts b) (length ts) [] i ≡ done ms j → IsMembers ts b ms i j
   all_members b z i ms j e = let r = s_members b z (length ts) [] i ms j e in subst (λ xs. IsMembers ts b xs i j) (sym r.is) r.members
 
   pub sound_body : (a : ℕ) → SoundBody a
@@ -249,7 +249,7 @@ module _ (ts : List Token) where
   ]
 
   -- what is answered over a whole text is derived
-  pub file_derived : (b : ℕ) (t : Tree) (j : ℕ) → bodies.file true ts b 0 ≡ done t j → IsFile ts b t
+  pub file_derived : (b : ℕ) (t : Tree) (j : ℕ) → bodies.file ts b 0 ≡ done t j → IsFile ts b t
   unfolding bodies.file
   file_derived b t j e = elim (eat_inv ts false k.Mark 0) [
     | eaten q s l ↦ (let w = bind_inv _ _ (rw l at e) in file_end b (after ts false 0) (mark q) w.value w.at ((sound_body b).members (after ts false 0) w.value w.at w.is) t j w.rest)

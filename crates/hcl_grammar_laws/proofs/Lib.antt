@@ -22,4 +22,3 @@ pub mod Alike
 pub mod AlikeExpressions
 pub mod AlikeBodies
 pub mod Quiet
-pub mod Passing

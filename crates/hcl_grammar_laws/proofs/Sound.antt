@@ -30,9 +30,9 @@ nat-eq a b h = elim (eqb_tells a b) [ inl w ↦ w.1 | inr w ↦ absurd (let clas
 
 module _ (ts : List Token) where
   pub record Sound (a : ℕ) : Type 0 where
-    pub whole : (m : Bool) (i : ℕ) (e : Expr) (j : ℕ) → p.expr true ts a m Whole i ≡ Ok (e, j) → IsExpr ts a m e i j
-    pub operand : (m : Bool) (i : ℕ) (e : Expr) (j : ℕ) → p.expr true ts a m Operand i ≡ Ok (e, j) → IsUnary ts a m e i j
-    pub inside : (m : Bool) (i : ℕ) (ps : List Part) (j : ℕ) → p.parts true ts a m i ≡ Ok (ps, j) → IsParts ts a m ps i j
+    pub whole : (m : Bool) (i : ℕ) (e : Expr) (j : ℕ) → p.expr ts a m Whole i ≡ Ok (e, j) → IsExpr ts a m e i j
+    pub operand : (m : Bool) (i : ℕ) (e : Expr) (j : ℕ) → p.expr ts a m Operand i ≡ Ok (e, j) → IsUnary ts a m e i j
+    pub inside : (m : Bool) (i : ℕ) (ps : List Part) (j : ℕ) → p.parts ts a m i ≡ Ok (ps, j) → IsParts ts a m ps i j
 
   -- ---- line ends
 
@@ -147,8 +147,8 @@ module _ (ts : List Token) where
     pub items : IsItems ts a more i j
 
   items_step : (a : ℕ) → Sound a → (turns : ℕ) (acc : List Expr) (i : ℕ) (ys : List Expr) (j : ℕ)
-      → ((acc : List Expr) (i : ℕ) → p.items_from true ts (p.expr true ts a) turns acc i ≡ done ys j → Items a acc ys i j)
-      → p.items_from true ts (p.expr true ts a) (suc turns) acc i ≡ done ys j → Items a acc ys i j
+      → ((acc : List Expr) (i : ℕ) → p.items_from ts (p.expr ts a) turns acc i ≡ done ys j → Items a acc ys i j)
+      → p.items_from ts (p.expr ts a) (suc turns) acc i ≡ done ys j → Items a acc ys i j
   unfolding p.items_from
   items_step a z turns acc i ys j again e = elim (eat_inv ts true k.CloseBracket i) [
     | eaten q s l ↦ along (λ ys j. Items a acc ys i j) (rw (s, l) at e) (record { more = []; is = sym (append-nil acc); items = no_items q })
@@ -163,7 +163,7 @@ module _ (ts : List Token) where
         ]
   ]
 
-  s_items : (a : ℕ) → Sound a → (turns : ℕ) (acc : List Expr) (i : ℕ) (ys : List Expr) (j : ℕ) → p.items_from true ts (p.expr true ts a) turns acc i ≡ done ys j → Items a acc ys i j
+  s_items : (a : ℕ) → Sound a → (turns : ℕ) (acc : List Expr) (i : ℕ) (ys : List Expr) (j : ℕ) → p.items_from ts (p.expr ts a) turns acc i ≡ done ys j → Items a acc ys i j
   unfolding p.items_from
   s_items a z zero acc i ys j e = absurd (cc)
   s_items a z (suc turns) acc i ys j e = items_step a z turns acc i ys j (λ acc i. s_items a z turns acc i ys j) e
@@ -174,8 +174,8 @@ module _ (ts : List Token) where
     pub arguments : IsArguments ts a more ys.1 i j
 
   arguments_step : (a : ℕ) → Sound a → (turns : ℕ) (acc : List Expr) (i : ℕ) (ys : List Expr × Bool) (j : ℕ)
-      → ((acc : List Expr) (i : ℕ) → p.arguments_from true ts (p.expr true ts a) turns acc i ≡ done ys j → Arguments a acc ys i j)
-      → p.arguments_from true ts (p.expr true ts a) (suc turns) acc i ≡ done ys j → Arguments a acc ys i j
+      → ((acc : List Expr) (i : ℕ) → p.arguments_from ts (p.expr ts a) turns acc i ≡ done ys j → Arguments a acc ys i j)
+      → p.arguments_from ts (p.expr ts a) (suc turns) acc i ≡ done ys j → Arguments a acc ys i j
   unfolding p.arguments_from
   arguments_step a z turns acc i ys j again e = elim (eat_inv ts true k.CloseParen i) [
     | eaten q s l ↦ along (λ ys j. Arguments a acc ys i j) (rw (s, l) at e) (record { more = []; is = sym (append-nil acc); arguments = no_arguments q })
@@ -194,14 +194,14 @@ module _ (ts : List Token) where
         ]
   ]
 
-  s_arguments : (a : ℕ) → Sound a → (turns : ℕ) (acc : List Expr) (i : ℕ) (ys : List Expr × Bool) (j : ℕ) → p.arguments_from true ts (p.expr true ts a) turns acc i ≡ done ys j → Arguments a acc ys i j
+  s_arguments : (a : ℕ) → Sound a → (turns : ℕ) (acc : List Expr) (i : ℕ) (ys : List Expr × Bool) (j : ℕ) → p.arguments_from ts (p.expr ts a) turns acc i ≡ done ys j → Arguments a acc ys i j
   unfolding p.arguments_from
   s_arguments a z zero acc i ys j e = absurd (cc)
   s_arguments a z (suc turns) acc i ys j e = arguments_step a z turns acc i ys j (λ acc i. s_arguments a z turns acc i ys j) e
 
   -- ---- elements
 
-  s_elem : (a : ℕ) → Sound a → (i : ℕ) (x : Elem) (j : ℕ) → p.element true ts (p.expr true ts a) i ≡ done x j → IsElem ts a x i j
+  s_elem : (a : ℕ) → Sound a → (i : ℕ) (x : Elem) (j : ℕ) → p.element ts (p.expr ts a) i ≡ done x j → IsElem ts a x i j
   unfolding p.element
   s_elem a z i x j e =
       let w = bind_inv _ _ e in
@@ -219,8 +219,8 @@ module _ (ts : List Token) where
     pub elems : IsElems ts a more i j
 
   elems_step : (a : ℕ) → Sound a → (turns : ℕ) (acc : List Elem) (i : ℕ) (ys : List Elem) (j : ℕ)
-      → ((acc : List Elem) (i : ℕ) → p.elements_from true ts (p.expr true ts a) turns acc i ≡ done ys j → Elems a acc ys i j)
-      → p.elements_from true ts (p.expr true ts a) (suc turns) acc i ≡ done ys j → Elems a acc ys i j
+      → ((acc : List Elem) (i : ℕ) → p.elements_from ts (p.expr ts a) turns acc i ≡ done ys j → Elems a acc ys i j)
+      → p.elements_from ts (p.expr ts a) (suc turns) acc i ≡ done ys j → Elems a acc ys i j
   unfolding p.elements_from
   elems_step a z turns acc i ys j again e = elim (eat_inv ts false k.CloseBrace i) [
     | eaten q s l ↦ along (λ ys j. Elems a acc ys i j) (rw (s, l) at e) (record { more = []; is = sym (append-nil acc); elems = no_elems q })
@@ -236,7 +236,7 @@ module _ (ts : List Token) where
         ]
   ]
 
-  s_elems : (a : ℕ) → Sound a → (turns : ℕ) (acc : List Elem) (i : ℕ) (ys : List Elem) (j : ℕ) → p.elements_from true ts (p.expr true ts a) turns acc i ≡ done ys j → Elems a acc ys i j
+  s_elems : (a : ℕ) → Sound a → (turns : ℕ) (acc : List Elem) (i : ℕ) (ys : List Elem) (j : ℕ) → p.elements_from ts (p.expr ts a) turns acc i ≡ done ys j → Elems a acc ys i j
   unfolding p.elements_from
   s_elems a z zero acc i ys j e = absurd (cc)
   s_elems a z (suc turns) acc i ys j e = elems_step a z turns acc i ys j (λ acc i. s_elems a z turns acc i ys j) e
@@ -250,7 +250,7 @@ module _ (ts : List Token) where
     | uneaten s l ↦ along (λ o j. IsSecond ts o i j) (rw (s, l) at e) no_second
   ]
 
-  s_intro : (a : ℕ) → Sound a → (i : ℕ) (x : Intro) (j : ℕ) → p.intro true ts (p.expr true ts a) i ≡ done x j → IsIntro ts a x i j
+  s_intro : (a : ℕ) → Sound a → (i : ℕ) (x : Intro) (j : ℕ) → p.intro ts (p.expr ts a) i ≡ done x j → IsIntro ts a x i j
   unfolding p.intro
   s_intro a z i x j e =
       let (w, r) = word_then ts true for_word i _ e in
@@ -261,7 +261,7 @@ module _ (ts : List Token) where
       let y = bind_inv _ _ t in
       along (λ x j. IsIntro ts a x i j) y.rest (intro w n o v (z.whole true (after ts true u.at) y.value y.at y.is))
 
-  s_filter : (a : ℕ) → Sound a → (close : Kind) (i : ℕ) (o : Option Expr) (j : ℕ) → p.filter true ts (p.expr true ts a) close i ≡ done o j → IsFilter ts a close o i j
+  s_filter : (a : ℕ) → Sound a → (close : Kind) (i : ℕ) (o : Option Expr) (j : ℕ) → p.filter ts (p.expr ts a) close i ≡ done o j → IsFilter ts a close o i j
   unfolding p.filter
   s_filter a z close i o j e = elim (hear ts true if_word i) [
     | heard w s ↦
@@ -282,7 +282,7 @@ module _ (ts : List Token) where
   Twice (suc zero) = Unit {0}
   Twice (suc (suc a)) = Sound a
 
-  s_for_tuple : (a : ℕ) → Sound a → (m : Bool) (i : ℕ) (e : Term) (j : ℕ) → At ts m k.OpenBracket i → p.for_tuple true ts (p.expr true ts a) (start ts m i) (after ts m i) ≡ done e j → IsTerm ts (suc a) m e i j
+  s_for_tuple : (a : ℕ) → Sound a → (m : Bool) (i : ℕ) (e : Term) (j : ℕ) → At ts m k.OpenBracket i → p.for_tuple ts (p.expr ts a) (start ts m i) (after ts m i) ≡ done e j → IsTerm ts (suc a) m e i j
   unfolding p.for_tuple
   s_for_tuple a z m i e j h f =
       let u = bind_inv _ _ f in
@@ -293,7 +293,7 @@ module _ (ts : List Token) where
       let w = bind_inv _ _ v.rest in
       along (λ e j. IsTerm ts (suc a) m e i j) w.rest (for_tuple h x c y (s_filter a z k.CloseBracket v.at w.value w.at w.is))
 
-  s_for_object : (a : ℕ) → Sound a → (m : Bool) (i : ℕ) (e : Term) (j : ℕ) → At ts m k.OpenBrace i → p.for_object true ts (p.expr true ts a) (start ts m i) (after ts m i) ≡ done e j → IsTerm ts (suc a) m e i j
+  s_for_object : (a : ℕ) → Sound a → (m : Bool) (i : ℕ) (e : Term) (j : ℕ) → At ts m k.OpenBrace i → p.for_object ts (p.expr ts a) (start ts m i) (after ts m i) ≡ done e j → IsTerm ts (suc a) m e i j
   unfolding p.for_object p.for_value
   s_for_object a z m i e j h f =
       let u = bind_inv _ _ f in
@@ -311,14 +311,14 @@ module _ (ts : List Token) where
             along (λ e j. IsTerm ts (suc a) m e i j) o.rest (for_object h x c y t g no_dots (s_filter a z k.CloseBrace w.at o.value o.at o.is)))
       ]
 
-  s_tuple : (a : ℕ) → Sound a → (m : Bool) (i : ℕ) (e : Term) (j : ℕ) → At ts m k.OpenBracket i → NoWord ts true for_word (after ts m i) → p.tuple true ts (p.expr true ts a) (start ts m i) (after ts m i) ≡ done e j → IsTerm ts (suc a) m e i j
+  s_tuple : (a : ℕ) → Sound a → (m : Bool) (i : ℕ) (e : Term) (j : ℕ) → At ts m k.OpenBracket i → NoWord ts true for_word (after ts m i) → p.tuple ts (p.expr ts a) (start ts m i) (after ts m i) ≡ done e j → IsTerm ts (suc a) m e i j
   unfolding p.tuple
   s_tuple a z m i e j h n f =
       let w = bind_inv _ _ f in
       let r = s_items a z (length ts) [] (after ts m i) w.value w.at w.is in
       along (λ e j. IsTerm ts (suc a) m e i j) w.rest (tuple h n (subst (λ xs. IsItems ts a xs (after ts m i) w.at) (sym r.is) r.items))
 
-  s_object : (a : ℕ) → Sound a → (m : Bool) (i : ℕ) (e : Term) (j : ℕ) → At ts m k.OpenBrace i → NoWord ts true for_word (after ts m i) → p.object true ts (p.expr true ts a) (start ts m i) (after ts m i) ≡ done e j → IsTerm ts (suc a) m e i j
+  s_object : (a : ℕ) → Sound a → (m : Bool) (i : ℕ) (e : Term) (j : ℕ) → At ts m k.OpenBrace i → NoWord ts true for_word (after ts m i) → p.object ts (p.expr ts a) (start ts m i) (after ts m i) ≡ done e j → IsTerm ts (suc a) m e i j
   unfolding p.object
   s_object a z m i e j h n f =
       let u = bind_inv _ _ f in
@@ -326,7 +326,7 @@ module _ (ts : List Token) where
       let r = s_elems a z (length ts) [] u.at w.value w.at w.is in
       along (λ e j. IsTerm ts (suc a) m e i j) w.rest (object h n (lines-inv (length ts) (after ts m i) u.is) (subst (λ xs. IsElems ts a xs u.at w.at) (sym r.is) r.elems))
 
-  s_bracket : (b : ℕ) → Below b → (m : Bool) (i : ℕ) (e : Term) (j : ℕ) → At ts m k.OpenBracket i → p.bracket true ts b (deeper true ts b) (start ts m i) (after ts m i) ≡ done e j → IsTerm ts b m e i j
+  s_bracket : (b : ℕ) → Below b → (m : Bool) (i : ℕ) (e : Term) (j : ℕ) → At ts m k.OpenBracket i → p.bracket ts b (deeper ts b) (start ts m i) (after ts m i) ≡ done e j → IsTerm ts b m e i j
   unfolding p.bracket
   s_bracket zero z m i e j h f = absurd (cc)
   s_bracket (suc a) z m i e j h f = elim (hear ts true for_word (after ts m i)) [
@@ -334,7 +334,7 @@ module _ (ts : List Token) where
     | unheard n s ↦ s_tuple a z m i e j h n (rw s at f)
   ]
 
-  s_brace : (b : ℕ) → Below b → (m : Bool) (i : ℕ) (e : Term) (j : ℕ) → At ts m k.OpenBrace i → p.brace true ts b (deeper true ts b) (start ts m i) (after ts m i) ≡ done e j → IsTerm ts b m e i j
+  s_brace : (b : ℕ) → Below b → (m : Bool) (i : ℕ) (e : Term) (j : ℕ) → At ts m k.OpenBrace i → p.brace ts b (deeper ts b) (start ts m i) (after ts m i) ≡ done e j → IsTerm ts b m e i j
   unfolding p.brace
   s_brace zero z m i e j h f = absurd (cc)
   s_brace (suc a) z m i e j h f = elim (hear ts true for_word (after ts m i)) [
@@ -342,7 +342,7 @@ module _ (ts : List Token) where
     | unheard n s ↦ s_object a z m i e j h n (rw s at f)
   ]
 
-  s_parens : (b : ℕ) → Below b → (m : Bool) (i : ℕ) (e : Term) (j : ℕ) → At ts m k.OpenParen i → p.parens true ts b (deeper true ts b) (start ts m i) (after ts m i) ≡ done e j → IsTerm ts b m e i j
+  s_parens : (b : ℕ) → Below b → (m : Bool) (i : ℕ) (e : Term) (j : ℕ) → At ts m k.OpenParen i → p.parens ts b (deeper ts b) (start ts m i) (after ts m i) ≡ done e j → IsTerm ts b m e i j
   unfolding p.parens
   s_parens zero z m i e j h f = absurd (cc)
   s_parens (suc a) z m i e j h f =
@@ -359,7 +359,7 @@ module _ (ts : List Token) where
     pub is : t ≡ node.template (first_of ts m i end) end list
     pub at : j ≡ after ts m end
 
-  s_closed : (a : ℕ) → Sound a → (b : ℕ) (m : Bool) (close : Kind) (i : ℕ) (t : Template) (j : ℕ) → p.closed true ts b (p.under true ts a) m close i ≡ done t j → Closed a m close t i j
+  s_closed : (a : ℕ) → Sound a → (b : ℕ) (m : Bool) (close : Kind) (i : ℕ) (t : Template) (j : ℕ) → p.closed ts b (p.under ts a) m close i ≡ done t j → Closed a m close t i j
   unfolding p.closed
   s_closed a z b m close i t j e =
       let w = bind_inv _ _ e in
@@ -371,7 +371,7 @@ module _ (ts : List Token) where
       subst (λ t. IsTerm ts (suc a) m (node.term (start ts m i) n (shape.Quoted t)) i n) (sym c.is)
       (subst (λ n. IsTerm ts (suc a) m (node.term (start ts m i) n (shape.Quoted (node.template (first_of ts m (after ts m i) c.end) c.end c.list))) i n) (sym c.at) (quoted h c.parts c.token))
 
-  s_quoted : (b : ℕ) → Below b → (m : Bool) (i : ℕ) (e : Term) (j : ℕ) → At ts m k.QuoteOpen i → p.quoted true ts b (deeper true ts b) m (start ts m i) (after ts m i) ≡ done e j → IsTerm ts b m e i j
+  s_quoted : (b : ℕ) → Below b → (m : Bool) (i : ℕ) (e : Term) (j : ℕ) → At ts m k.QuoteOpen i → p.quoted ts b (deeper ts b) m (start ts m i) (after ts m i) ≡ done e j → IsTerm ts b m e i j
   unfolding p.quoted
   s_quoted zero z m i e j h f = absurd (cc)
   s_quoted (suc a) z m i e j h f =
@@ -384,7 +384,7 @@ module _ (ts : List Token) where
       subst (λ t. IsTerm ts (suc a) m (node.term (start ts m i) n (shape.Heredoc t)) i n) (sym c.is)
       (subst (λ n. IsTerm ts (suc a) m (node.term (start ts m i) n (shape.Heredoc (node.template (first_of ts m (after ts m i) c.end) c.end c.list))) i n) (sym c.at) (heredoc h c.parts c.token))
 
-  s_heredoc : (b : ℕ) → Below b → (m : Bool) (i : ℕ) (e : Term) (j : ℕ) → At ts m k.HereOpen i → p.heredoc true ts b (deeper true ts b) m (start ts m i) (after ts m i) ≡ done e j → IsTerm ts b m e i j
+  s_heredoc : (b : ℕ) → Below b → (m : Bool) (i : ℕ) (e : Term) (j : ℕ) → At ts m k.HereOpen i → p.heredoc ts b (deeper ts b) m (start ts m i) (after ts m i) ≡ done e j → IsTerm ts b m e i j
   unfolding p.heredoc
   s_heredoc zero z m i e j h f = absurd (cc)
   s_heredoc (suc a) z m i e j h f =
@@ -408,7 +408,7 @@ module _ (ts : List Token) where
     | uneaten s l ↦ along (λ ys j. Names m acc ys i j) (rw (s, l) at e) (record { more = []; is = sym (append-nil acc); names = no_names })
   ]
 
-  s_call : (b : ℕ) → Below b → (m : Bool) (i : ℕ) (e : Term) (j : ℕ) → At ts m k.Identifier i → p.call true ts b (deeper true ts b) m (start ts m i) (after ts m i) ≡ done e j → IsTerm ts b m e i j
+  s_call : (b : ℕ) → Below b → (m : Bool) (i : ℕ) (e : Term) (j : ℕ) → At ts m k.Identifier i → p.call ts b (deeper ts b) m (start ts m i) (after ts m i) ≡ done e j → IsTerm ts b m e i j
   unfolding p.call
   s_call zero z m i e j h f =
       let u = bind_inv (p.names_from ts m (length ts) [] (after ts m i)) _ f in
@@ -423,7 +423,7 @@ module _ (ts : List Token) where
       along (λ e j. IsTerm ts (suc a) m e i j) w.rest
       (call h (subst (λ ns. IsNames ts m ns (after ts m i) u.at) (sym ns.is) ns.names) q (subst (λ ys. IsArguments ts a ys w.value.1 (after ts m u.at) w.at) (sym xs.is) xs.arguments))
 
-  s_named : (b : ℕ) → Below b → (m : Bool) (i : ℕ) (e : Term) (j : ℕ) → At ts m k.Identifier i → p.named true ts b (deeper true ts b) m (start ts m i) (after ts m i) ≡ done e j → IsTerm ts b m e i j
+  s_named : (b : ℕ) → Below b → (m : Bool) (i : ℕ) (e : Term) (j : ℕ) → At ts m k.Identifier i → p.named ts b (deeper ts b) m (start ts m i) (after ts m i) ≡ done e j → IsTerm ts b m e i j
   unfolding p.named
   s_named b z m i e j h f = elim (chosen (sees ts m k.OpenParen (after ts m i) || sees ts m k.DoubleColon (after ts m i)) _ _ (after ts m i) f) [
     | then g r ↦ s_call b z m i e j h r
@@ -438,7 +438,7 @@ module _ (ts : List Token) where
       right true y g = absurd (let clash : true ≡ false = g in cc)
       right false y g = g
 
-  s_kind : (b : ℕ) → Below b → (m : Bool) (i : ℕ) (t : Kind) (e : Term) (j : ℕ) → At ts m t i → p.term_by true ts b (deeper true ts b) m (start ts m i) t (after ts m i) ≡ done e j → IsTerm ts b m e i j
+  s_kind : (b : ℕ) → Below b → (m : Bool) (i : ℕ) (t : Kind) (e : Term) (j : ℕ) → At ts m t i → p.term_by ts b (deeper ts b) m (start ts m i) t (after ts m i) ≡ done e j → IsTerm ts b m e i j
   s_kind b z m i k.Number e j h f = along (λ e j. IsTerm ts b m e i j) f (number h)
   s_kind b z m i k.Identifier e j h f = s_named b z m i e j h f
   s_kind b z m i k.OpenBracket e j h f = s_bracket b z m i e j h f
@@ -448,23 +448,23 @@ module _ (ts : List Token) where
   s_kind b z m i k.HereOpen e j h f = s_heredoc b z m i e j h f
   s_kind b z m i _ e j h f = absurd (cc)
 
-  s_term : (b : ℕ) → Below b → (m : Bool) (i : ℕ) (e : Term) (j : ℕ) → p.term true ts b (deeper true ts b) m i ≡ done e j → IsTerm ts b m e i j
+  s_term : (b : ℕ) → Below b → (m : Bool) (i : ℕ) (e : Term) (j : ℕ) → p.term ts b (deeper ts b) m i ≡ done e j → IsTerm ts b m e i j
   unfolding p.term
   s_term b z m i e j f =
       let w = bind_inv _ _ f in
       let t = bump_inv ts m i w.is in
-      s_kind b z m i w.value e j t.token (subst (λ n. p.term_by true ts b (deeper true ts b) m (start ts m i) w.value n ≡ done e j) t.at w.rest)
+      s_kind b z m i w.value e j t.token (subst (λ n. p.term_by ts b (deeper ts b) m (start ts m i) w.value n ≡ done e j) t.at w.rest)
 
   -- ---- tails
 
-  s_dotted : (b : ℕ) (m : Bool) (i : ℕ) (x : Tail) (j : ℕ) → At ts m k.Dot i → p.dotted true ts b (deeper true ts b) m (after ts m i) ≡ done x j → IsTail ts b m x i j
+  s_dotted : (b : ℕ) (m : Bool) (i : ℕ) (x : Tail) (j : ℕ) → At ts m k.Dot i → p.dotted ts b (deeper ts b) m (after ts m i) ≡ done x j → IsTail ts b m x i j
   unfolding p.dotted
   s_dotted b m i x j h f = elim (eat_inv ts m k.Star (after ts m i)) [
     | eaten q s l ↦ along (λ x j. IsTail ts b m x i j) (rw (s, l) at f) (attribute_splat h q)
     | uneaten s l ↦ (let (n, v) = expect_then ts m k.Identifier (after ts m i) _ (rw (s, l) at f) in along (λ x j. IsTail ts b m x i j) v (by_name h n))
   ]
 
-  s_indexed : (b : ℕ) → Below b → (m : Bool) (i : ℕ) (x : Tail) (j : ℕ) → At ts m k.OpenBracket i → p.indexed true ts b (deeper true ts b) (start ts m i) (after ts m i) ≡ done x j → IsTail ts b m x i j
+  s_indexed : (b : ℕ) → Below b → (m : Bool) (i : ℕ) (x : Tail) (j : ℕ) → At ts m k.OpenBracket i → p.indexed ts b (deeper ts b) (start ts m i) (after ts m i) ≡ done x j → IsTail ts b m x i j
   unfolding p.indexed
   s_indexed zero z m i x j h f = absurd (cc)
   s_indexed (suc a) z m i x j h f = elim (eat_inv ts true k.Star (after ts m i)) [
@@ -475,18 +475,18 @@ module _ (ts : List Token) where
         along (λ x j. IsTail ts (suc a) m x i j) v (index h (z.whole true (after ts m i) w.value w.at w.is) c))
   ]
 
-  s_tail_some : (b : ℕ) → Below b → (m : Bool) (i : ℕ) (o : Option Kind) → next ts m i ≡ o → (x : Tail) (j : ℕ) → p.tail_by true ts b (deeper true ts b) m (start ts m i) o i ≡ done (Some x) j → IsTail ts b m x i j
+  s_tail_some : (b : ℕ) → Below b → (m : Bool) (i : ℕ) (o : Option Kind) → next ts m i ≡ o → (x : Tail) (j : ℕ) → p.tail_by ts b (deeper ts b) m (start ts m i) o i ≡ done (Some x) j → IsTail ts b m x i j
   s_tail_some b z m i None h x j f = absurd (none_some f)
   s_tail_some b z m i (Some k.Dot) h x j f = let w = bind_inv _ _ f in some_along (λ x j. IsTail ts b m x i j) w.rest (s_dotted b m i w.value w.at h w.is)
   s_tail_some b z m i (Some k.DotIndex) h x j f = some_along (λ x j. IsTail ts b m x i j) f (legacy h)
   s_tail_some b z m i (Some k.OpenBracket) h x j f = let w = bind_inv _ _ f in some_along (λ x j. IsTail ts b m x i j) w.rest (s_indexed b z m i w.value w.at h w.is)
   s_tail_some b z m i (Some _) h x j f = absurd (none_some f)
 
-  s_tail_none : (b : ℕ) (m : Bool) (i : ℕ) (o : Option Kind) (j : ℕ) → p.tail_by true ts b (deeper true ts b) m (start ts m i) o i ≡ done None j → j ≡ i
+  s_tail_none : (b : ℕ) (m : Bool) (i : ℕ) (o : Option Kind) (j : ℕ) → p.tail_by ts b (deeper ts b) m (start ts m i) o i ≡ done None j → j ≡ i
   s_tail_none b m i None j f = along (λ _ j. j ≡ i) f refl
-  s_tail_none b m i (Some k.Dot) j f = absurd (then_some (p.dotted true ts b (deeper true ts b) m (after ts m i)) (λ x. x) f)
+  s_tail_none b m i (Some k.Dot) j f = absurd (then_some (p.dotted ts b (deeper ts b) m (after ts m i)) (λ x. x) f)
   s_tail_none b m i (Some k.DotIndex) j f = absurd (some_none f)
-  s_tail_none b m i (Some k.OpenBracket) j f = absurd (then_some (p.indexed true ts b (deeper true ts b) (start ts m i) (after ts m i)) (λ x. x) f)
+  s_tail_none b m i (Some k.OpenBracket) j f = absurd (then_some (p.indexed ts b (deeper ts b) (start ts m i) (after ts m i)) (λ x. x) f)
   s_tail_none b m i (Some _) j f = along (λ _ j. j ≡ i) f refl
 
   pub record Tails (b : ℕ) (m : Bool) (acc ys : List Tail) (i j : ℕ) : Type 0 where
@@ -495,8 +495,8 @@ module _ (ts : List Token) where
     pub tails : IsTails ts b m more i j
 
   tails_step : (b : ℕ) → Below b → (m : Bool) (turns : ℕ) (acc : List Tail) (i : ℕ) (ys : List Tail) (j : ℕ)
-      → ((acc : List Tail) (i : ℕ) → p.tails_from true ts b (deeper true ts b) m turns acc i ≡ done ys j → Tails b m acc ys i j)
-      → (o : Option Tail) (n : ℕ) → p.tail_of true ts b (deeper true ts b) m i ≡ done o n → p.tails_step true ts b (deeper true ts b) (p.tails_from true ts b (deeper true ts b) m turns) acc o n ≡ done ys j → Tails b m acc ys i j
+      → ((acc : List Tail) (i : ℕ) → p.tails_from ts b (deeper ts b) m turns acc i ≡ done ys j → Tails b m acc ys i j)
+      → (o : Option Tail) (n : ℕ) → p.tail_of ts b (deeper ts b) m i ≡ done o n → p.tails_step ts b (deeper ts b) (p.tails_from ts b (deeper ts b) m turns) acc o n ≡ done ys j → Tails b m acc ys i j
   unfolding p.tail_of
   tails_step b z m turns acc i ys j again None n g f =
       along (λ ys j. Tails b m acc ys i j) f (record { more = []; is = sym (append-nil acc); tails = subst (λ n. IsTails ts b m [] i n) (sym (s_tail_none b m i (next ts m i) n g)) no_tails })
@@ -504,7 +504,7 @@ module _ (ts : List Token) where
       let r = again (acc ++ t ∷ []) n f in
       record { more = t ∷ r.more; is = r.is ∙ append_assoc acc (t ∷ []) r.more; tails = tails (s_tail_some b z m i (next ts m i) refl t n g) r.tails }
 
-  s_tails : (b : ℕ) → Below b → (m : Bool) (turns : ℕ) (acc : List Tail) (i : ℕ) (ys : List Tail) (j : ℕ) → p.tails_from true ts b (deeper true ts b) m turns acc i ≡ done ys j → Tails b m acc ys i j
+  s_tails : (b : ℕ) → Below b → (m : Bool) (turns : ℕ) (acc : List Tail) (i : ℕ) (ys : List Tail) (j : ℕ) → p.tails_from ts b (deeper ts b) m turns acc i ≡ done ys j → Tails b m acc ys i j
   unfolding p.tails_from
   s_tails b z m zero acc i ys j e = along (λ ys j. Tails b m acc ys i j) e (record { more = []; is = sym (append-nil acc); tails = no_tails })
   s_tails b z m (suc turns) acc i ys j e = let w = bind_inv _ _ e in tails_step b z m turns acc i ys j (λ acc i. s_tails b z m turns acc i ys j) w.value w.at w.is w.rest
@@ -535,10 +535,10 @@ module _ (ts : List Token) where
       go None h = along (λ _ j. j ≡ i) (sym (ap (p.prefixes ts m i) h) ∙ e) refl
       go (Some t) h = by (prefix_of t) (sym (ap (p.prefixes ts m i) h) ∙ e)
 
-  s_unary_by : (b : ℕ) → Below b → (m : Bool) (i : ℕ) (o : Option Prefix) (n : ℕ) → p.prefix ts m i ≡ done o n → (e : Expr) (j : ℕ) → p.unary_by true ts b (deeper true ts b) m (start ts m i) o n ≡ done e j → IsUnary ts b m e i j
+  s_unary_by : (b : ℕ) → Below b → (m : Bool) (i : ℕ) (o : Option Prefix) (n : ℕ) → p.prefix ts m i ≡ done o n → (e : Expr) (j : ℕ) → p.unary_by ts b (deeper ts b) m (start ts m i) o n ≡ done e j → IsUnary ts b m e i j
   unfolding p.post
   s_unary_by b z m i None n g e j f =
-      let f2 = subst (λ n. p.post true ts b (deeper true ts b) m n ≡ done e j) (s_prefix_none m i n g) f in
+      let f2 = subst (λ n. p.post ts b (deeper ts b) m n ≡ done e j) (s_prefix_none m i n g) f in
       let w = bind_inv _ _ f2 in
       let v = bind_inv _ _ w.rest in
       let r = s_tails b z m (length ts) [] w.at v.value v.at v.is in
@@ -550,7 +550,7 @@ module _ (ts : List Token) where
       let x = z.operand m n w.value w.at w.is in
       along (λ e j. IsUnary ts (suc a) m e i j) w.rest (prefixed h o (subst (λ n. IsUnary ts a m w.value n w.at) at x))
 
-  s_unary : (b : ℕ) → Below b → (m : Bool) (i : ℕ) (e : Expr) (j : ℕ) → p.unary true ts b (deeper true ts b) m i ≡ done e j → IsUnary ts b m e i j
+  s_unary : (b : ℕ) → Below b → (m : Bool) (i : ℕ) (e : Expr) (j : ℕ) → p.unary ts b (deeper ts b) m i ≡ done e j → IsUnary ts b m e i j
   unfolding p.unary
   s_unary b z m i e j f = let w = bind_inv _ _ f in s_unary_by b z m i w.value w.at w.is e j w.rest
 
@@ -596,12 +596,12 @@ module _ (ts : List Token) where
 
   -- what the parser of the level below answers is derived
   abbrev Lower : ℕ → Bool → ℕ → Type 0
-  Lower b m n = (i : ℕ) (e : Expr) (j : ℕ) → p.level true ts b (deeper true ts b) n m i ≡ done e j → IsLevel ts b m n e i j
+  Lower b m n = (i : ℕ) (e : Expr) (j : ℕ) → p.level ts b (deeper ts b) n m i ≡ done e j → IsLevel ts b m n e i j
 
   links_step : (b : ℕ) (m : Bool) (n : ℕ) → Lower b m n → (turns : ℕ) (acc : List Link) (i : ℕ) (ys : List Link) (j : ℕ)
-      → ((acc : List Link) (i : ℕ) → p.links_from true ts b (deeper true ts b) (p.level true ts b (deeper true ts b) n) m n turns acc i ≡ done ys j → Links b m n acc ys i j)
+      → ((acc : List Link) (i : ℕ) → p.links_from ts b (deeper ts b) (p.level ts b (deeper ts b) n) m n turns acc i ≡ done ys j → Links b m n acc ys i j)
       → (o : Option Operator) (l : ℕ) → p.operator ts m n i ≡ done o l
-      → p.links_step true ts b (deeper true ts b) (p.level true ts b (deeper true ts b) n) m (p.links_from true ts b (deeper true ts b) (p.level true ts b (deeper true ts b) n) m n turns) acc o l ≡ done ys j → Links b m n acc ys i j
+      → p.links_step ts b (deeper ts b) (p.level ts b (deeper ts b) n) m (p.links_from ts b (deeper ts b) (p.level ts b (deeper ts b) n) m n turns) acc o l ≡ done ys j → Links b m n acc ys i j
   links_step b m n z turns acc i ys j again None l g f =
       along (λ ys j. Links b m n acc ys i j) f (record { more = []; is = sym (append-nil acc); links = subst (λ l. IsLinks ts b m n [] i l) (sym (s_operator_none m n i l g)) no_links })
   links_step b m n z turns acc i ys j again (Some op) l g f =
@@ -616,7 +616,7 @@ module _ (ts : List Token) where
       }
 
   s_links : (b : ℕ) (m : Bool) (n : ℕ) → Lower b m n → (turns : ℕ) (acc : List Link) (i : ℕ) (ys : List Link) (j : ℕ)
-      → p.links_from true ts b (deeper true ts b) (p.level true ts b (deeper true ts b) n) m n turns acc i ≡ done ys j → Links b m n acc ys i j
+      → p.links_from ts b (deeper ts b) (p.level ts b (deeper ts b) n) m n turns acc i ≡ done ys j → Links b m n acc ys i j
   unfolding p.links_from
   s_links b m n z zero acc i ys j e = along (λ ys j. Links b m n acc ys i j) e (record { more = []; is = sym (append-nil acc); links = no_links })
   s_links b m n z (suc turns) acc i ys j e = let w = bind_inv _ _ e in links_step b m n z turns acc i ys j (λ acc i. s_links b m n z turns acc i ys j) w.value w.at w.is w.rest
@@ -630,7 +630,7 @@ module _ (ts : List Token) where
       let r = s_links b m n (s_level b z m n) (length ts) [] w.at v.value v.at v.is in
       along (λ e j. IsLevel ts b m (suc n) e i j) v.rest (level (s_level b z m n i w.value w.at w.is) (subst (λ xs. IsLinks ts b m n xs w.at v.at) (sym r.is) r.links))
 
-  s_whole : (b : ℕ) → Below b → (m : Bool) (i : ℕ) (e : Expr) (j : ℕ) → p.whole true ts b (deeper true ts b) m i ≡ done e j → IsExpr ts b m e i j
+  s_whole : (b : ℕ) → Below b → (m : Bool) (i : ℕ) (e : Expr) (j : ℕ) → p.whole ts b (deeper ts b) m i ≡ done e j → IsExpr ts b m e i j
   unfolding p.whole
   s_whole zero z m i e j f =
       let w = bind_inv _ _ f in
@@ -664,7 +664,7 @@ module _ (ts : List Token) where
       let c = expect_inv ts true k.SeqClose (after ts true (after ts m i)) s in
       subst (λ n. IsKeyword ts m w i n) (sym c.at) (keyword h v c.token)
 
-  s_otherwise : (a : ℕ) → Sound a → (b : ℕ) (m : Bool) (i : ℕ) (o : Option Template) (j : ℕ) → p.otherwise true ts b (p.under true ts a) m i ≡ done o j → IsElse ts a m o i j
+  s_otherwise : (a : ℕ) → Sound a → (b : ℕ) (m : Bool) (i : ℕ) (o : Option Template) (j : ℕ) → p.otherwise ts b (p.under ts a) m i ≡ done o j → IsElse ts a m o i j
   unfolding p.otherwise
   s_otherwise a z b m i o j e = elim (hear ts true else_word (after ts m i)) [
     | heard w s ↦
@@ -675,7 +675,7 @@ module _ (ts : List Token) where
     | unheard n s ↦ (let u = bind_inv _ _ (rw s at e) in along (λ o j. IsElse ts a m o i j) u.rest (no_else (s_keyword m endif_word i u.is)))
   ]
 
-  s_interp : (b : ℕ) → Below b → (m : Bool) (i : ℕ) (x : Part) (j : ℕ) → At ts m k.InterpOpen i → p.interp true ts b (deeper true ts b) (start ts m i) (after ts m i) ≡ done x j → IsPart ts b m x i j
+  s_interp : (b : ℕ) → Below b → (m : Bool) (i : ℕ) (x : Part) (j : ℕ) → At ts m k.InterpOpen i → p.interp ts b (deeper ts b) (start ts m i) (after ts m i) ≡ done x j → IsPart ts b m x i j
   unfolding p.interp
   s_interp zero z m i x j h f = absurd (cc)
   s_interp (suc a) z m i x j h f =
@@ -684,7 +684,7 @@ module _ (ts : List Token) where
       along (λ x j. IsPart ts (suc a) m x i j) v (interp h (z.whole true (after ts m i) w.value w.at w.is) c)
 
   s_if : (b : ℕ) → Below b → Twice b → (m : Bool) (i : ℕ) (x : Part) (j : ℕ) → At ts m k.DirectiveOpen i → Word ts true if_word (after ts m i)
-      → p.if_directive true ts b (deeper true ts b) (twice true ts b) m (start ts m i) (after ts m i) ≡ done x j → IsPart ts b m x i j
+      → p.if_directive ts b (deeper ts b) (twice ts b) m (start ts m i) (after ts m i) ≡ done x j → IsPart ts b m x i j
   unfolding p.if_directive
   s_if zero z y m i x j h w f = absurd (cc)
   s_if (suc zero) z y m i x j h w f = absurd (cc)
@@ -698,7 +698,7 @@ module _ (ts : List Token) where
       along (λ x j. IsPart ts (suc (suc a)) m x i j) o.rest (if_directive h w e c met (s_otherwise (suc a) z (suc (suc a)) m v.at o.value o.at o.is))
 
   s_for : (b : ℕ) → Below b → Twice b → (m : Bool) (i : ℕ) (x : Part) (j : ℕ) → At ts m k.DirectiveOpen i
-      → p.for_directive true ts b (deeper true ts b) (twice true ts b) m (start ts m i) (after ts m i) ≡ done x j → IsPart ts b m x i j
+      → p.for_directive ts b (deeper ts b) (twice ts b) m (start ts m i) (after ts m i) ≡ done x j → IsPart ts b m x i j
   unfolding p.for_directive
   s_for zero z y m i x j h f = absurd (cc)
   s_for (suc zero) z y m i x j h f = absurd (cc)
@@ -712,7 +712,7 @@ module _ (ts : List Token) where
       along (λ x j. IsPart ts (suc (suc a)) m x i j) o.rest (for_directive h e c body (s_keyword m endfor_word v.at o.is))
 
   s_directive_some : (b : ℕ) → Below b → Twice b → (m : Bool) (i : ℕ) (x : Part) (j : ℕ) → At ts m k.DirectiveOpen i
-      → p.directive true ts b (deeper true ts b) (twice true ts b) m (start ts m i) i ≡ done (Some x) j → IsPart ts b m x i j
+      → p.directive ts b (deeper ts b) (twice ts b) m (start ts m i) i ≡ done (Some x) j → IsPart ts b m x i j
   unfolding p.directive
   s_directive_some b z y m i x j h f = elim (hear ts true if_word (after ts m i)) [
     | heard w s ↦ (let u = bind_inv _ _ (rw s at f) in some_along (λ x j. IsPart ts b m x i j) u.rest (s_if b z y m i u.value u.at h w u.is))
@@ -722,17 +722,17 @@ module _ (ts : List Token) where
     ]
   ]
 
-  s_directive_none : (b : ℕ) (m : Bool) (i j : ℕ) → p.directive true ts b (deeper true ts b) (twice true ts b) m (start ts m i) i ≡ done None j → j ≡ i
+  s_directive_none : (b : ℕ) (m : Bool) (i j : ℕ) → p.directive ts b (deeper ts b) (twice ts b) m (start ts m i) i ≡ done None j → j ≡ i
   unfolding p.directive
   s_directive_none b m i j f = elim (hear ts true if_word (after ts m i)) [
-    | heard w s ↦ absurd (then_some (p.if_directive true ts b (deeper true ts b) (twice true ts b) m (start ts m i) (after ts m i)) (λ x. x) (rw s at f))
+    | heard w s ↦ absurd (then_some (p.if_directive ts b (deeper ts b) (twice ts b) m (start ts m i) (after ts m i)) (λ x. x) (rw s at f))
     | unheard n s ↦ elim (hear ts true for_word (after ts m i)) [
-      | heard w s2 ↦ absurd (then_some (p.for_directive true ts b (deeper true ts b) (twice true ts b) m (start ts m i) (after ts m i)) (λ x. x) (rw (s, s2) at f))
+      | heard w s2 ↦ absurd (then_some (p.for_directive ts b (deeper ts b) (twice ts b) m (start ts m i) (after ts m i)) (λ x. x) (rw (s, s2) at f))
       | unheard n s2 ↦ along (λ _ j. j ≡ i) (rw (s, s2) at f) refl
     ]
   ]
 
-  s_part_some : (b : ℕ) → Below b → Twice b → (m : Bool) (i : ℕ) (o : Option Kind) → next ts m i ≡ o → (x : Part) (j : ℕ) → p.part_by true ts b (deeper true ts b) (twice true ts b) m (start ts m i) o i ≡ done (Some x) j → IsPart ts b m x i j
+  s_part_some : (b : ℕ) → Below b → Twice b → (m : Bool) (i : ℕ) (o : Option Kind) → next ts m i ≡ o → (x : Part) (j : ℕ) → p.part_by ts b (deeper ts b) (twice ts b) m (start ts m i) o i ≡ done (Some x) j → IsPart ts b m x i j
   s_part_some b z y m i None h x j f = absurd (none_some f)
   s_part_some b z y m i (Some k.QuoteLit) h x j f = some_along (λ x j. IsPart ts b m x i j) f (quote_text h)
   s_part_some b z y m i (Some k.HereLit) h x j f = some_along (λ x j. IsPart ts b m x i j) f (here_text h)
@@ -740,11 +740,11 @@ module _ (ts : List Token) where
   s_part_some b z y m i (Some k.DirectiveOpen) h x j f = s_directive_some b z y m i x j h f
   s_part_some b z y m i (Some _) h x j f = absurd (none_some f)
 
-  s_part_none : (b : ℕ) (m : Bool) (i : ℕ) (o : Option Kind) (j : ℕ) → p.part_by true ts b (deeper true ts b) (twice true ts b) m (start ts m i) o i ≡ done None j → j ≡ i
+  s_part_none : (b : ℕ) (m : Bool) (i : ℕ) (o : Option Kind) (j : ℕ) → p.part_by ts b (deeper ts b) (twice ts b) m (start ts m i) o i ≡ done None j → j ≡ i
   s_part_none b m i None j f = along (λ _ j. j ≡ i) f refl
   s_part_none b m i (Some k.QuoteLit) j f = absurd (some_none f)
   s_part_none b m i (Some k.HereLit) j f = absurd (some_none f)
-  s_part_none b m i (Some k.InterpOpen) j f = absurd (then_some (p.interp true ts b (deeper true ts b) (start ts m i) (after ts m i)) (λ x. x) f)
+  s_part_none b m i (Some k.InterpOpen) j f = absurd (then_some (p.interp ts b (deeper ts b) (start ts m i) (after ts m i)) (λ x. x) f)
   s_part_none b m i (Some k.DirectiveOpen) j f = s_directive_none b m i j f
   s_part_none b m i (Some _) j f = along (λ _ j. j ≡ i) f refl
 
@@ -754,9 +754,9 @@ module _ (ts : List Token) where
     pub list : IsParts ts b m more i j
 
   parts_step : (b : ℕ) → Below b → Twice b → (m : Bool) (turns : ℕ) (acc : List Part) (i : ℕ) (ys : List Part) (j : ℕ)
-      → ((acc : List Part) (i : ℕ) → p.parts_from true ts b (deeper true ts b) (twice true ts b) m turns acc i ≡ done ys j → Parts b m acc ys i j)
-      → (o : Option Part) (n : ℕ) → p.part_of true ts b (deeper true ts b) (twice true ts b) m i ≡ done o n
-      → p.parts_step true ts b (deeper true ts b) (twice true ts b) (p.parts_from true ts b (deeper true ts b) (twice true ts b) m turns) acc o n ≡ done ys j → Parts b m acc ys i j
+      → ((acc : List Part) (i : ℕ) → p.parts_from ts b (deeper ts b) (twice ts b) m turns acc i ≡ done ys j → Parts b m acc ys i j)
+      → (o : Option Part) (n : ℕ) → p.part_of ts b (deeper ts b) (twice ts b) m i ≡ done o n
+      → p.parts_step ts b (deeper ts b) (twice ts b) (p.parts_from ts b (deeper ts b) (twice ts b) m turns) acc o n ≡ done ys j → Parts b m acc ys i j
   unfolding p.part_of
   parts_step b z y m turns acc i ys j again None n g f =
       along (λ ys j. Parts b m acc ys i j) f (record { more = []; is = sym (append-nil acc); list = subst (λ n. IsParts ts b m [] i n) (sym (s_part_none b m i (next ts m i) n g)) no_parts })
@@ -764,12 +764,12 @@ module _ (ts : List Token) where
       let r = again (acc ++ t ∷ []) n f in
       record { more = t ∷ r.more; is = r.is ∙ append_assoc acc (t ∷ []) r.more; list = parts (s_part_some b z y m i (next ts m i) refl t n g) r.list }
 
-  s_parts : (b : ℕ) → Below b → Twice b → (m : Bool) (turns : ℕ) (acc : List Part) (i : ℕ) (ys : List Part) (j : ℕ) → p.parts_from true ts b (deeper true ts b) (twice true ts b) m turns acc i ≡ done ys j → Parts b m acc ys i j
+  s_parts : (b : ℕ) → Below b → Twice b → (m : Bool) (turns : ℕ) (acc : List Part) (i : ℕ) (ys : List Part) (j : ℕ) → p.parts_from ts b (deeper ts b) (twice ts b) m turns acc i ≡ done ys j → Parts b m acc ys i j
   unfolding p.parts_from
   s_parts b z y m zero acc i ys j e = along (λ ys j. Parts b m acc ys i j) e (record { more = []; is = sym (append-nil acc); list = no_parts })
   s_parts b z y m (suc turns) acc i ys j e = let w = bind_inv _ _ e in parts_step b z y m turns acc i ys j (λ acc i. s_parts b z y m turns acc i ys j) w.value w.at w.is w.rest
 
-  all_parts : (b : ℕ) → Below b → Twice b → (m : Bool) (i : ℕ) (ps : List Part) (j : ℕ) → p.parts_from true ts b (deeper true ts b) (twice true ts b) m (length ts) [] i ≡ done ps j → IsParts ts b m ps i j
+  all_parts : (b : ℕ) → Below b → Twice b → (m : Bool) (i : ℕ) (ps : List Part) (j : ℕ) → p.parts_from ts b (deeper ts b) (twice ts b) m (length ts) [] i ≡ done ps j → IsParts ts b m ps i j
   all_parts b z y m i ps j e = let r = s_parts b z y m (length ts) [] i ps j e in subst (λ xs. IsParts ts b m xs i j) (sym r.is) r.list
 
   pub sound : (a : ℕ) → Sound a

@@ -12,10 +12,7 @@ use Rattle.hcl_grammar.specs.Pure.Reading.{Outcome, Reads}
 use Rattle.hcl_grammar.specs.Tokens.{Token, next}
 use Rattle.hcl_grammar_laws.proofs.BodyComplete.{c_member, c_none, file_answers}
 use Rattle.hcl_grammar_laws.proofs.BodySound.{below, file_derived, no_name, s_member_none, s_member_some, sound_body}
-use Rattle.hcl_grammar_laws.proofs.Passing.{Same, read, fault}
-use Rattle.hcl_grammar_laws.proofs.Passing.{file as same_file}
 use Rattle.hcl_grammar_laws.specs.Members.{IsMember}
-use Rattle.hcl_grammar_laws.specs.Pure.Answering.{IsToldOf}
 use Rattle.hcl_grammar_laws.proofs.Inverts.{done, along}
 use Rattle.hcl_grammar_laws.proofs.Steps.{Answers, found, deep}
 
@@ -34,12 +31,12 @@ found_or (Err Memory) new s found h = tt
 found_or (Err (TooDeep at)) new s found h = let no : TooDeep at ≢ Memory = (λ same. cc) in let eq = h no in absurd (cc)
 found_or (Err (Syntax at)) new s found h = let no : Syntax at ≢ Memory = (λ same. cc) in let eq = h no in absurd (cc)
 
-module _ (ts : List Token) (b : ℕ) (r : Result Tree TokenFault) (new : ℕ) (h : Reads (file true ts b 0) r new) where
+module _ (ts : List Token) (b : ℕ) (r : Result Tree TokenFault) (new : ℕ) (h : Reads (file ts b 0) r new) where
   -- the tree is derived
   pub derived : IfOk r (λ t. IsFile ts b t)
   derived = go r h
     where
-      go : (r : Result Tree TokenFault) → Reads (file true ts b 0) r new → IfOk r (λ t. IsFile ts b t)
+      go : (r : Result Tree TokenFault) → Reads (file ts b 0) r new → IfOk r (λ t. IsFile ts b t)
       go (Ok t) h = file_derived ts b t new h
       go (Err f) h = tt
 
@@ -51,51 +48,21 @@ module _ (ts : List Token) (b : ℕ) (r : Result Tree TokenFault) (new : ℕ) (h
   pub deeper_only : (d : ℕ) (t : Tree) → IsFile ts d t → MatchResult r (λ x. x ≡ t) IsMemoryOrDeep
   deeper_only d t w = deep_or r new (file_answers ts b d t w).1 h
 
--- where a parser that keeps nothing reads on, one that keeps all does; its fault is the other's
-read_by_both : {A : Type 0} {R : A → A → Type 0} {o q : Outcome A} {x : A} {n : ℕ} → Same R o q → o ≡ Ok (x, n) → (y : A) × (q ≡ done y n)
-read_by_both (read {y = y} {i = i} r) e = (y, along (λ _ n. done y i ≡ done y n) e refl)
-read_by_both fault e = absurd (cc)
-
-refused_by_both : {A : Type 0} {R : A → A → Type 0} {o q : Outcome A} {f : TokenFault} → Same R o q → o ≡ Err f → q ≡ Err f
-refused_by_both (read r) e = absurd (cc)
-refused_by_both fault e = cc
-
-module _ (ts : List Token) (b : ℕ) where
-  told_derived : (r : Result Tree TokenFault) (new : ℕ) → Reads (file false ts b 0) r new → OnOk r ((t : Tree) × IsFile ts b t)
-  told_derived (Ok x) new h = let w = read_by_both (same_file ts b 0) h in (w.0, file_derived ts b w.0 new w.1)
-  told_derived (Err f) new h = tt
-
-  told_fault : (Q : TokenFault → Type 0) (r : Result Tree TokenFault) (new : ℕ) → Reads (file false ts b 0) r new
-      → ((s : Result Tree TokenFault) → Reads (file true ts b 0) s new → IfErr s Q) → IfErr r Q
-  told_fault Q (Ok x) new h told = tt
-  told_fault Q (Err f) new h told = told (Err f) (λ no. refused_by_both (same_file ts b 0) (h no))
-
-  pub told_of : (r : Result Tree TokenFault) (new : ℕ) → Reads (file false ts b 0) r new → IsToldOf ts b r
-  told_of r new h = record {
-    derived = told_derived r new h;
-    only = λ t w. told_fault IsMemory r new h (λ s g. as_fault (λ x. x ≡ t) IsMemory s (only ts b s new g t w));
-    deeper = λ d t w. told_fault IsMemoryOrDeep r new h (λ s g. as_fault (λ x. x ≡ t) IsMemoryOrDeep s (deeper_only ts b s new g d t w));
-  }
-    where
-      as_fault : (P : Tree → Type 0) (Q : TokenFault → Type 0) (s : Result Tree TokenFault) → MatchResult s P Q → IfErr s Q
-      as_fault P Q (Ok x) m = tt
-      as_fault P Q (Err f) m = m
-
 -- one member, likewise
 module _ (ts : List Token) (b i : ℕ) where
-  member_derived : (r : Result (Option Member) TokenFault) (new : ℕ) → Reads (member_of true ts b (deeper_members true ts b) i) r new
+  member_derived : (r : Result (Option Member) TokenFault) (new : ℕ) → Reads (member_of ts b (deeper_members ts b) i) r new
       → IfOk r (λ o. IfSome o (λ m. (ms : List Member) (l : ℕ) → IsMembers ts b ms new l → IsMembers ts b (m ∷ ms) i l))
   member_derived (Ok (Some m)) new h = s_member_some ts b (below ts b (sound_body ts)) i m new h
   member_derived (Ok None) new h = tt
   member_derived (Err f) new h = tt
 
-  member_none : (r : Result (Option Member) TokenFault) (new : ℕ) → Reads (member_of true ts b (deeper_members true ts b) i) r new
+  member_none : (r : Result (Option Member) TokenFault) (new : ℕ) → Reads (member_of ts b (deeper_members ts b) i) r new
       → IfOk r (λ o. IfNone o ((next ts false i ≢ Some Identifier) × (new ≡ i)))
   member_none (Ok (Some m)) new h = tt
   member_none (Ok None) new h = (no_name ts b i new h, s_member_none ts b i new h)
   member_none (Err f) new h = tt
 
-  pub member_is : (r : Result (Option Member) TokenFault) (new : ℕ) → Reads (member_of true ts b (deeper_members true ts b) i) r new → IsMember ts b i r new
+  pub member_is : (r : Result (Option Member) TokenFault) (new : ℕ) → Reads (member_of ts b (deeper_members ts b) i) r new → IsMember ts b i r new
   member_is r new h = record {
     derived = member_derived r new h;
     none = member_none r new h;

@@ -5,7 +5,7 @@ ghost use Rattle.hcl_grammar_laws.specs.EachNode.{EachNode};
 ghost use Rattle.hcl_grammar_laws.specs.Glue.{NoGlue};
 ghost use Rattle.hcl_grammar_laws.specs.Nesting.{NestingIsABound};
 ghost use Rattle.hcl_grammar_laws.specs.OneTree.{OneTree};
-ghost use Rattle.hcl_grammar_laws.specs.Pure.Answering.{FileAnswers, MemberAnswers, PassingAnswers};
+ghost use Rattle.hcl_grammar_laws.specs.Pure.Answering.{FileAnswers, MemberAnswers};
 ghost use Rattle.hcl_grammar_laws.specs.Pure.Climbing.{Climbing};
 
 /// Over the same tokens stands one tree at most.
@@ -40,12 +40,6 @@ pub fn each_node_over_its_tokens()
 /// the fault.
 pub fn file_answers()
     ensures { FileAnswers }
-{}
-
-/// For a parser that keeps nothing of what it finds: an answer that is the pure parser's, memory
-/// aside, tells whether there is a tree, or is the fault of one that keeps all.
-pub fn passing_answers()
-    ensures { PassingAnswers }
 {}
 
 /// For a parser: one look behind an operand tells which levels of operators have anything there.

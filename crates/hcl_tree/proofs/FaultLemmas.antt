@@ -13,7 +13,7 @@ use Rattle.hcl_grammar.specs.Pure.BodyParser.{file}
 use Rattle.hcl_grammar.specs.Pure.Reading.{Reads}
 use Rattle.hcl_grammar.specs.Tokens.{Token}
 use Rattle.hcl_grammar.specs.declared.bounds.TheConstants.{MAX_NESTING}
-use Rattle.hcl_grammar_laws.specs.Pure.Answering.{FileAnswers, IsAnswer, IsToldOf, PassingAnswers}
+use Rattle.hcl_grammar_laws.specs.Pure.Answering.{FileAnswers, IsAnswer}
 use Rattle.hcl_text_laws.specs.Parses.{Parses}
 use Rattle.hcl_tree.specs.Faults.{IsMemory, IsMemoryOrDeep, in_bytes}
 
@@ -22,18 +22,13 @@ pub own_tokens : (s : CutText) (t : Tree) (p : Parses s.text t) → s.pairs ≡ 
 own_tokens s t p e = subst (λ (ps : List Pair). IsFile (tokens_of ps) MAX_NESTING t) (sym e) p.derived
 
 -- what is read by a reader of a text is read of the text's own tokens
-its_reading : (ts : List Token) (keep : Bool) {here : Here} {r q : Result Tree TokenFault} (new : ℕ) → here ≡ record { tokens = ts; inside = false; depth = MAX_NESTING; keep = keep } → r ≡ q
-    → Reads (file here.keep here.tokens here.depth 0) r new → Reads (file keep ts MAX_NESTING 0) q new
-its_reading ts keep {here} {r} {q} new e same h = subst (λ (h : Here). Reads (file h.keep h.tokens h.depth 0) q new) e (subst (λ (o : Result Tree TokenFault). Reads (file here.keep here.tokens here.depth 0) o new) same h)
+its_reading : (ts : List Token) {here : Here} {r q : Result Tree TokenFault} (new : ℕ) → here ≡ record { tokens = ts; inside = false; depth = MAX_NESTING } → r ≡ q
+    → Reads (file here.tokens here.depth 0) r new → Reads (file ts MAX_NESTING 0) q new
+its_reading ts {here} {r} {q} new e same h = subst (λ (h : Here). Reads (file h.tokens h.depth 0) q new) e (subst (λ (o : Result Tree TokenFault). Reads (file here.tokens here.depth 0) o new) same h)
 
-pub its_answer : (ts : List Token) {here : Here} {r q : Result Tree TokenFault} (new : ℕ) → FileAnswers → here ≡ record { tokens = ts; inside = false; depth = MAX_NESTING; keep = true } → r ≡ q
-    → Reads (file here.keep here.tokens here.depth 0) r new → IsAnswer ts MAX_NESTING q
-its_answer ts {q = q} new answers e same h = answers ts MAX_NESTING q new (its_reading ts true new e same h)
-
--- the same where nothing is kept
-pub its_told : (ts : List Token) {here : Here} {r q : Result Tree TokenFault} (new : ℕ) → PassingAnswers → here ≡ record { tokens = ts; inside = false; depth = MAX_NESTING; keep = false } → r ≡ q
-    → Reads (file here.keep here.tokens here.depth 0) r new → IsToldOf ts MAX_NESTING q
-its_told ts {q = q} new answers e same h = answers ts MAX_NESTING q new (its_reading ts false new e same h)
+pub its_answer : (ts : List Token) {here : Here} {r q : Result Tree TokenFault} (new : ℕ) → FileAnswers → here ≡ record { tokens = ts; inside = false; depth = MAX_NESTING } → r ≡ q
+    → Reads (file here.tokens here.depth 0) r new → IsAnswer ts MAX_NESTING q
+its_answer ts {q = q} new answers e same h = answers ts MAX_NESTING q new (its_reading ts new e same h)
 
 -- ---- faults by bytes
 

@@ -11,17 +11,17 @@ use Rattle.hcl_grammar.specs.declared.tree.Member.{Member}
 use Rattle.hcl_grammar.specs.declared.tree.Tree.{Tree}
 use Rattle.hcl_token.specs.declared.kind.Kind.TheVariants as k
 
-at_depth : (ts : List Token) (d i : ℕ) → members true ts d i ≡ members_from true ts d (deeper_members true ts d) (length ts) [] i
+at_depth : (ts : List Token) (d i : ℕ) → members ts d i ≡ members_from ts d (deeper_members ts d) (length ts) [] i
 unfolding members
 at_depth ts zero i = refl
 at_depth ts (suc d) i = refl
 
 module _ (ts : List Token) (d : ℕ) where
   abbrev pub left : ℕ → List Member → ℕ → Result (List Member × ℕ) TokenFault
-  left n ms at = members_from true ts d (deeper_members true ts d) n ms at
+  left n ms at = members_from ts d (deeper_members ts d) n ms at
 
   -- a body's parser begins with no member
-  pub begins : (i : ℕ) → members true ts d i ≡ left (length ts) [] i
+  pub begins : (i : ℕ) → members ts d i ≡ left (length ts) [] i
   begins i = at_depth ts d i
 
   module _ (n : ℕ) (ms : List Member) (at : ℕ) {b : Bool} {behind : ℕ} (e : line ts at ≡ Ok (b, behind)) where
@@ -29,15 +29,15 @@ module _ (ts : List Token) (d : ℕ) where
     unfolding members_from
     at_line is = rw (e, is) refl
 
-    pub at_member : b ≡ false → {x : Member} {past : ℕ} → member_of true ts d (deeper_members true ts d) behind ≡ Ok (Some x, past) → left (suc n) ms at ≡ left n (ms ++ x ∷ []) past
+    pub at_member : b ≡ false → {x : Member} {past : ℕ} → member_of ts d (deeper_members ts d) behind ≡ Ok (Some x, past) → left (suc n) ms at ≡ left n (ms ++ x ∷ []) past
     unfolding members_from
     at_member is found = rw (e, is, found) refl
 
-    pub at_none : b ≡ false → {past : ℕ} → member_of true ts d (deeper_members true ts d) behind ≡ Ok (None, past) → left (suc n) ms at ≡ Ok (ms, past)
+    pub at_none : b ≡ false → {past : ℕ} → member_of ts d (deeper_members ts d) behind ≡ Ok (None, past) → left (suc n) ms at ≡ Ok (ms, past)
     unfolding members_from
     at_none is found = rw (e, is, found) refl
 
-    pub at_fault : b ≡ false → {f : TokenFault} → member_of true ts d (deeper_members true ts d) behind ≡ Err f → left (suc n) ms at ≡ Err f
+    pub at_fault : b ≡ false → {f : TokenFault} → member_of ts d (deeper_members ts d) behind ≡ Err f → left (suc n) ms at ≡ Err f
     unfolding members_from
     at_fault is found = rw (e, is, found) refl
 
@@ -46,36 +46,36 @@ module _ (ts : List Token) (d : ℕ) where
   at_end ms at = refl
 
 module _ (ts : List Token) (d i : ℕ) where
-  unread_body : (f : TokenFault) → members true ts d (past ts false k.Mark i) ≡ Err f → file true ts d i ≡ Err f
+  unread_body : (f : TokenFault) → members ts d (past ts false k.Mark i) ≡ Err f → file ts d i ≡ Err f
   unfolding file
   unread_body f e = rw e refl
 
-  unread_end : (ms : List Member) (j : ℕ) (f : TokenFault) → members true ts d (past ts false k.Mark i) ≡ Ok (ms, j)
-      → ended ts (next ts false (past ts false k.LineComment j)) (past ts false k.LineComment j) ≡ Err f → file true ts d i ≡ Err f
+  unread_end : (ms : List Member) (j : ℕ) (f : TokenFault) → members ts d (past ts false k.Mark i) ≡ Ok (ms, j)
+      → ended ts (next ts false (past ts false k.LineComment j)) (past ts false k.LineComment j) ≡ Err f → file ts d i ≡ Err f
   unfolding file
   unread_end ms j f e h = rw (e, h) refl
 
-  whole_file : (ms : List Member) (j new : ℕ) → members true ts d (past ts false k.Mark i) ≡ Ok (ms, j)
+  whole_file : (ms : List Member) (j new : ℕ) → members ts d (past ts false k.Mark i) ≡ Ok (ms, j)
       → ended ts (next ts false (past ts false k.LineComment j)) (past ts false k.LineComment j) ≡ Ok (tt, new)
-      → file true ts d i ≡ Ok (node.tree (length ts) (node.body (first_of ts false (past ts false k.Mark i) j) j ms), new)
+      → file ts d i ≡ Ok (node.tree (length ts) (node.body (first_of ts false (past ts false k.Mark i) j) j ms), new)
   unfolding file
   whole_file ms j new e h = rw (e, h) refl
 
   -- a body that is refused is the fault of the file
-  pub body_refused : (f : TokenFault) (at : ℕ) → at ≡ past ts false k.Mark i → (f ≢ Memory → members true ts d at ≡ Err f) → f ≢ Memory → file true ts d i ≡ Err f
-  body_refused f at is h other = unread_body f (subst (λ n. members true ts d n ≡ Err f) is (h other))
+  pub body_refused : (f : TokenFault) (at : ℕ) → at ≡ past ts false k.Mark i → (f ≢ Memory → members ts d at ≡ Err f) → f ≢ Memory → file ts d i ≡ Err f
+  body_refused f at is h other = unread_body f (subst (λ n. members ts d n ≡ Err f) is (h other))
 
   -- and so is what stands behind it
-  pub end_refused : (ms : List Member) (f : TokenFault) (at j behind : ℕ) → at ≡ past ts false k.Mark i → members true ts d at ≡ Ok (ms, j) → behind ≡ past ts false k.LineComment j
-      → ended ts (next ts false behind) behind ≡ Err f → file true ts d i ≡ Err f
+  pub end_refused : (ms : List Member) (f : TokenFault) (at j behind : ℕ) → at ≡ past ts false k.Mark i → members ts d at ≡ Ok (ms, j) → behind ≡ past ts false k.LineComment j
+      → ended ts (next ts false behind) behind ≡ Err f → file ts d i ≡ Err f
   end_refused ms f at j behind is e is_behind h =
-      unread_end ms j f (subst (λ n. members true ts d n ≡ Ok (ms, j)) is e) (subst (λ n. ended ts (next ts false n) n ≡ Err f) is_behind h)
+      unread_end ms j f (subst (λ n. members ts d n ≡ Ok (ms, j)) is e) (subst (λ n. ended ts (next ts false n) n ≡ Err f) is_behind h)
 
   -- the tree of these members
   abbrev pub file_tree : List Member → ℕ → Tree
   file_tree ms j = node.tree (length ts) (node.body (first_of ts false (past ts false k.Mark i) j) j ms)
 
-  pub file_read : (ms : List Member) (at j behind new : ℕ) → at ≡ past ts false k.Mark i → members true ts d at ≡ Ok (ms, j) → behind ≡ past ts false k.LineComment j
-      → ended ts (next ts false behind) behind ≡ Ok (tt, new) → file true ts d i ≡ Ok (file_tree ms j, new)
+  pub file_read : (ms : List Member) (at j behind new : ℕ) → at ≡ past ts false k.Mark i → members ts d at ≡ Ok (ms, j) → behind ≡ past ts false k.LineComment j
+      → ended ts (next ts false behind) behind ≡ Ok (tt, new) → file ts d i ≡ Ok (file_tree ms j, new)
   file_read ms at j behind new is e is_behind h =
-      whole_file ms j new (subst (λ n. members true ts d n ≡ Ok (ms, j)) is e) (subst (λ n. ended ts (next ts false n) n ≡ Ok (tt, new)) is_behind h)
+      whole_file ms j new (subst (λ n. members ts d n ≡ Ok (ms, j)) is e) (subst (λ n. ended ts (next ts false n) n ≡ Ok (tt, new)) is_behind h)

@@ -24,42 +24,42 @@ module _ (t : Here) where
   label = b.label_of t.tokens
 
   abbrev pub labels_from : ℕ → List Label → Step (List Label)
-  labels_from turns found = b.labels_from t.keep t.tokens turns found
+  labels_from turns found = b.labels_from t.tokens turns found
 
   abbrev pub labels : Step (List Label)
   labels = labels_from (length t.tokens) []
 
   abbrev pub attribute : ℕ → Step Member
   attribute first =
-      b.attribute_by t.keep t.tokens t.depth (b.deeper_members t.keep t.tokens t.depth) first
+      b.attribute_by t.tokens t.depth (b.deeper_members t.tokens t.depth) first
 
   abbrev pub block : ℕ → Step Member
-  block first = b.block_by t.keep t.tokens t.depth (b.deeper_members t.keep t.tokens t.depth) first
+  block first = b.block_by t.tokens t.depth (b.deeper_members t.tokens t.depth) first
 
   abbrev pub named : ℕ → Step Member
   named first =
-      b.named_member t.keep t.tokens t.depth (b.deeper_members t.keep t.tokens t.depth) first
+      b.named_member t.tokens t.depth (b.deeper_members t.tokens t.depth) first
 
   abbrev pub member : Step (Option Member)
-  member = b.member_of t.keep t.tokens t.depth (b.deeper_members t.keep t.tokens t.depth)
+  member = b.member_of t.tokens t.depth (b.deeper_members t.tokens t.depth)
 
   abbrev pub members_from : ℕ → List Member → Step (List Member)
   members_from turns found =
-      b.members_from t.keep t.tokens t.depth (b.deeper_members t.keep t.tokens t.depth) turns found
+      b.members_from t.tokens t.depth (b.deeper_members t.tokens t.depth) turns found
 
   abbrev pub members : Step (List Member)
-  members = b.members t.keep t.tokens t.depth
+  members = b.members t.tokens t.depth
 
   abbrev pub file : Step Tree
-  file = b.file t.keep t.tokens t.depth
+  file = b.file t.tokens t.depth
 
 -- what stands in the braces of a block, which were opened
 module _ (t : Here) where
   abbrev pub on_line : Step Content
-  on_line = b.on_line t.keep t.tokens t.depth
+  on_line = b.on_line t.tokens t.depth
 
   abbrev pub nested_body : Step Content
-  nested_body = b.nested_body t.keep t.tokens (suc t.depth) (b.members t.keep t.tokens t.depth)
+  nested_body = b.nested_body t.tokens (suc t.depth) (b.members t.tokens t.depth)
 
   abbrev pub block_content : Step Content
-  block_content = b.block_content t.keep t.tokens (suc t.depth) (b.members t.keep t.tokens t.depth)
+  block_content = b.block_content t.tokens (suc t.depth) (b.members t.tokens t.depth)

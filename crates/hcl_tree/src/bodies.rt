@@ -2,7 +2,7 @@
 //!
 //! HCL native syntax specification, Structural Elements.
 
-ghost use Rattle.std.specs.Prelude.{◌≡◌, length, [], true};
+ghost use Rattle.std.specs.Prelude.{◌≡◌, length, []};
 ghost use Rattle.hcl_grammar.specs.Pure.Reading.{Gives, Reads};
 ghost use Rattle.hcl_grammar_laws.specs.Members.{IsMember};
 ghost use Rattle.hcl_tree.specs.Rules as spec;
@@ -149,7 +149,7 @@ pub fn members(reader: &Reader<'_, '_>, at: &mut usize) -> Result<Items<Member>,
         let Some(member) = next_member(reader, at)? else {
             return Ok(found);
         };
-        reader.add(&mut found, member)?;
+        found.push(member)?;
     }
     Ok(found)
 }
@@ -159,7 +159,6 @@ pub fn members(reader: &Reader<'_, '_>, at: &mut usize) -> Result<Items<Member>,
 /// Line ends before it are not taken. A text's members, one behind the other, are what `parse`
 /// makes its tree of.
 pub fn member(reader: &Reader<'_, '_>, at: &mut usize) -> Result<Option<Member>, TokenFault>
-    requires { reader.now.keep ≡ true }
     ensures derived { IsMember reader.now.tokens reader.now.depth at.old result at.new }
     ensures reads { Reads (spec.member reader.now at.old) result at.new }
 {

@@ -55,7 +55,7 @@ pub fn labels(reader: &Reader<'_, '_>, at: &mut usize) -> Result<Items<Label>, T
         let Some(label) = label(reader, at)? else {
             return Ok(found);
         };
-        reader.add(&mut found, label)?;
+        found.push(label)?;
     }
     Ok(found)
 }

@@ -1,6 +1,6 @@
 //! The parser of the HCL native syntax: the tree of a text, if it parses.
 //!
-//! `parse` answers the one tree of a text that is cut into tokens, `check` whether there is one.
+//! `parse` answers the one tree of a text that is cut into tokens.
 //! Which texts parse, and which tree is theirs, is what `hcl_grammar` and `hcl_text_laws` say.
 #![tactic(auto)]
 
@@ -14,4 +14,4 @@ pub use fault::ParseFault;
 pub use hcl_expr::Reader;
 pub use hcl_grammar::tree::{Attribute, Block, Body, Expr, Template, Term, Tree};
 pub use hcl_grammar::{MAX_NESTING, tree};
-pub use parsing::{check, in_bytes, parse};
+pub use parsing::{in_bytes, parse};

@@ -2,7 +2,7 @@
 //!
 //! HCL native syntax specification, Structural Elements.
 
-ghost use Rattle.std.specs.Prelude.{◌≡◌, ℕ, IfOk, IfErr, MatchResult, OnOk};
+ghost use Rattle.std.specs.Prelude.{◌≡◌, ℕ, IfOk, MatchResult};
 ghost use Rattle.hcl_grammar.specs.Bodies.{IsFile};
 ghost use Rattle.hcl_grammar.specs.Pure.Reading.{Reads};
 ghost use Rattle.hcl_grammar.specs.declared.tree.Tree as tree;
@@ -86,28 +86,6 @@ pub fn parse(alloc: Global, scanned: &Scanned<'_>) -> Result<Tree, ParseFault>
     let mut at = 0;
     match file(&Reader::new(alloc, scanned), &mut at) {
         Ok(tree) => Ok(tree),
-        Err(fault) => Err(in_bytes(scanned, fault)),
-    }
-}
-
-/// Whether a text parses, as `parse` says it, with no tree of it kept: what stands in a list is
-/// given up before the next is read.
-pub fn check(alloc: Global, scanned: &Scanned<'_>) -> Result<(), ParseFault>
-    // A tree stands over the text.
-    ensures parses { OnOk result
-        ((t : tree.Tree) × IsFile (tokens_of scanned.now.pairs) MAX_NESTING t) }
-    // A text that parses is not refused, unless memory runs out.
-    ensures only { (t : tree.Tree) → Parses scanned.now.text t → IfErr result IsMemory }
-    // Where the tokens follow the grammar with more constructs in one another, the fault is that.
-    ensures deeper { (d : ℕ) (t : tree.Tree) → IsFile (tokens_of scanned.now.pairs) d t
-        → IfErr result IsMemoryOrDeep }
-{
-    hcl_grammar_laws::laws::passing_answers();
-    hcl_scan::laws::one_cut();
-    let _count = scanned.len();
-    let mut at = 0;
-    match file(&Reader::passing(alloc, scanned), &mut at) {
-        Ok(_tree) => Ok(()),
         Err(fault) => Err(in_bytes(scanned, fault)),
     }
 }

@@ -1,5 +1,5 @@
 -- For proofs: what the parser of bodies answers.
-use Rattle.std.specs.Prelude.{ℕ, zero, suc, Bool, false, if◌then◌else◌, List, [], length, Option, Some, None, Err}
+use Rattle.std.specs.Prelude.{ℕ, zero, suc, Bool, false, if◌then◌else◌, List, [], ◌∷◌, ◌++◌, length, Option, Some, None, Err}
 use Rattle.hcl_token.specs.declared.kind.Kind.{Kind}
 use Rattle.hcl_token.specs.declared.kind.Kind.TheVariants as k
 use Rattle.hcl_grammar.specs.declared.fault.TokenFault.TheVariants.{TooDeep}
@@ -11,7 +11,7 @@ use Rattle.hcl_grammar.specs.declared.tree.Member.{Member}
 use Rattle.hcl_grammar.specs.declared.tree.Member.TheVariants as member
 use Rattle.hcl_grammar.specs.declared.tree.Tree.{Tree}
 use Rattle.hcl_grammar.specs.Nodes as node
-use Rattle.hcl_grammar.specs.Pure.Parser.{line, inner_line, adds, expr, some}
+use Rattle.hcl_grammar.specs.Pure.Parser.{line, inner_line, expr, some}
 use Rattle.hcl_grammar.specs.Pure.Reading.{Step, ◌>>=◌, ◌>>◌, pure, here, ahead, refuse, peek, eat, expect, skip, enter}
 use Rattle.hcl_grammar.specs.Tokens.{Token, first_of}
 
@@ -60,12 +60,11 @@ module _ (ts : List Token) where
   one_less zero = zero
   one_less (suc depth) = depth
 
--- keep: whether lists keep what is found
-module _ (keep : Bool) (ts : List Token) where
+module _ (ts : List Token) where
   abbrev pub labels_step : (List Label → Step (List Label)) → List Label → Option Label
       → Step (List Label)
   labels_step more found None = pure found
-  labels_step more found (Some x) = more (adds keep found x)
+  labels_step more found (Some x) = more (found ++ x ∷ [])
 
   -- Label*
   unfoldable pub labels_from : ℕ → List Label → Step (List Label)
@@ -78,7 +77,7 @@ module _ (keep : Bool) (ts : List Token) where
     -- after the name and `=`
     unfoldable pub attribute_by : ℕ → Step Member
     attribute_by first = do
-      value ← expr keep ts depth false Whole
+      value ← expr ts depth false Whole
       eol ts
       end ← here
       pure (member.Attribute (node.attribute first end value))
@@ -98,7 +97,7 @@ module _ (keep : Bool) (ts : List Token) where
     is_name ← eat ts false k.Identifier
     if is_name then (do
       expect ts false k.Equal
-      value ← expr keep ts depth false Whole
+      value ← expr ts depth false Whole
       end ← here
       pure (content.Line (Some (node.attribute first end value)))) else pure (content.Line None)
 
@@ -138,7 +137,7 @@ module _ (keep : Bool) (ts : List Token) where
     abbrev pub members_step : (List Member → Step (List Member)) → List Member → Option Member
         → Step (List Member)
     members_step more found None = pure found
-    members_step more found (Some m) = more (adds keep found m)
+    members_step more found (Some m) = more (found ++ m ∷ [])
 
     -- Body
     unfoldable pub members_from : ℕ → List Member → Step (List Member)

@@ -23,12 +23,12 @@ level_of (Some t) = level_by (operator_of t)
 unfoldable pub binds : List Token → Bool → ℕ → ℕ
 binds ts m i = level_of (next ts m i)
 
-module _ (keep : Bool) (ts : List Token) (depth : ℕ) (inner : p.Under) where
+module _ (ts : List Token) (depth : ℕ) (inner : p.Under) where
   -- the operators of the levels below n, behind an operand that was read
   unfoldable pub rest : ℕ → Bool → ℕ → Expr → Step Expr
   rest zero m first head = pure head
   rest (suc n) m first head = do
     lower ← rest n m first head
-    found ← p.links_from keep ts depth inner (p.level keep ts depth inner n) m n (length ts) []
+    found ← p.links_from ts depth inner (p.level ts depth inner n) m n (length ts) []
     end ← here
     pure (node.chain first end lower found)

@@ -123,13 +123,7 @@ module _ (ts : List Token) where
     word ts true w
     expect ts true k.SeqClose
 
--- a list with what was found behind it; as it is, where nothing is kept
-abbrev pub adds : {A : Type 0} → Bool → List A → A → List A
-adds true found x = found ++ x ∷ []
-adds false found x = found
-
--- keep: whether lists keep what is found; the steps that read don't hang on it
-module _ (keep : Bool) (ts : List Token) where
+module _ (ts : List Token) where
   -- inner: the expressions of one construct deeper
   module _ (inner : Exprs) where
     -- (Expr ("," Expr)* ","?)? and `]`, put behind those that were found; so in the lists below
@@ -140,9 +134,9 @@ module _ (keep : Bool) (ts : List Token) where
       if is_closed then pure found else (do
         x ← inner true Whole
         more ← eat ts true k.Comma
-        if more then items_from n (adds keep found x) else (do
+        if more then items_from n (found ++ x ∷ []) else (do
           expect ts true k.CloseBracket
-          pure (adds keep found x)))
+          pure (found ++ x ∷ [])))
 
     -- (Expr ("," Expr)* (","|"...")?)? and `)`
     unfoldable pub arguments_from : ℕ → List Expr → Step (List Expr × Bool)
@@ -152,10 +146,10 @@ module _ (keep : Bool) (ts : List Token) where
       if is_closed then pure (found, false) else (do
         x ← inner true Whole
         more ← eat ts true k.Comma
-        if more then arguments_from n (adds keep found x) else (do
+        if more then arguments_from n (found ++ x ∷ []) else (do
           spread ← eat ts true k.Ellipsis
           expect ts true k.CloseParen
-          pure (adds keep found x, spread)))
+          pure (found ++ x ∷ [], spread)))
 
     -- Elem
     unfoldable pub element : Step Elem
@@ -175,7 +169,7 @@ module _ (keep : Bool) (ts : List Token) where
       if is_closed then pure found else (do
         x ← element
         more ← separator_or_end ts
-        if more then elements_from n (adds keep found x) else pure (adds keep found x))
+        if more then elements_from n (found ++ x ∷ []) else pure (found ++ x ∷ []))
 
     -- Intro
     unfoldable pub intro : Step Intro
@@ -366,7 +360,7 @@ module _ (keep : Bool) (ts : List Token) where
     abbrev pub tails_step : (List Tail → Step (List Tail)) → List Tail → Option Tail
         → Step (List Tail)
     tails_step more found None = pure found
-    tails_step more found (Some t) = more (adds keep found t)
+    tails_step more found (Some t) = more (found ++ t ∷ [])
 
     -- Tail*
     unfoldable pub tails_from : Bool → ℕ → List Tail → Step (List Tail)
@@ -405,7 +399,7 @@ module _ (keep : Bool) (ts : List Token) where
       links_step m more found None = pure found
       links_step m more found (Some op) = do
         x ← operand m
-        more (adds keep found (node.link op x))
+        more (found ++ node.link op x ∷ [])
 
       -- the operators of level n, each with the operand behind it
       unfoldable pub links_from : Bool → ℕ → ℕ → List Link → Step (List Link)
@@ -521,7 +515,7 @@ module _ (keep : Bool) (ts : List Token) where
       abbrev pub parts_step : (List Part → Step (List Part)) → List Part → Option Part
           → Step (List Part)
       parts_step more found None = pure found
-      parts_step more found (Some x) = more (adds keep found x)
+      parts_step more found (Some x) = more (found ++ x ∷ [])
 
       -- Parts
       unfoldable pub parts_from : Bool → ℕ → List Part → Step (List Part)

@@ -1,6 +1,6 @@
 -- For proofs: what an answer to a list of tokens has to be, and that an answer of the pure parser
 -- is such a one.
-use Rattle.std.specs.Prelude.{◌≡◌, ℕ, true, false, List, Option, Result, MatchResult, IfOk, IfErr, OnOk}
+use Rattle.std.specs.Prelude.{◌≡◌, ℕ, List, Option, Result, MatchResult, IfOk}
 use Rattle.hcl_grammar.specs.declared.fault.TokenFault.{TokenFault}
 use Rattle.hcl_grammar.specs.declared.tree.Member.{Member}
 use Rattle.hcl_grammar.specs.declared.tree.Tree.{Tree}
@@ -23,24 +23,10 @@ pub record IsAnswer (ts : List Token) (b : ℕ) (answer : Result Tree TokenFault
 
 abbrev pub FileAnswers : Type 0
 FileAnswers = (ts : List Token) (b : ℕ) (answer : Result Tree TokenFault) (new : ℕ)
-    → Reads (file true ts b 0) answer new → IsAnswer ts b answer
-
--- the answer of a parser that keeps nothing: it tells whether there is a tree
-pub record IsToldOf (ts : List Token) (b : ℕ) (answer : Result Tree TokenFault) : Type 0 where
-  -- where there is no fault, a tree is derived
-  pub derived : OnOk answer ((t : Tree) × IsFile ts b t)
-  -- where a tree is derived, there is no fault, or memory failed
-  pub only : (t : Tree) → IsFile ts b t → IfErr answer IsMemory
-  -- where one is derived with whatever nesting, there is no fault, or it nests too deep, or memory
-  -- failed
-  pub deeper : (d : ℕ) (t : Tree) → IsFile ts d t → IfErr answer IsMemoryOrDeep
-
-abbrev pub PassingAnswers : Type 0
-PassingAnswers = (ts : List Token) (b : ℕ) (answer : Result Tree TokenFault) (new : ℕ)
-    → Reads (file false ts b 0) answer new → IsToldOf ts b answer
+    → Reads (file ts b 0) answer new → IsAnswer ts b answer
 
 -- what a parser answers at one member
 abbrev pub MemberAnswers : Type 0
 MemberAnswers = (ts : List Token) (b i : ℕ) (answer : Result (Option Member) TokenFault) (new : ℕ)
-    → Reads (member_of true ts b (deeper_members true ts b) i) answer new
+    → Reads (member_of ts b (deeper_members ts b) i) answer new
     → IsMember ts b i answer new

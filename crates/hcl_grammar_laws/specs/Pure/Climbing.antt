@@ -6,18 +6,18 @@ use Rattle.hcl_grammar.specs.Pure.Parser.{Under, level, unary}
 use Rattle.hcl_grammar.specs.Pure.Reading.{go_on}
 use Rattle.hcl_grammar.specs.Tokens.{Token, start}
 
-pub record Climbs (keep : Bool) (ts : List Token) (depth : ℕ) (inner : Under) : Type 0 where
+pub record Climbs (ts : List Token) (depth : ℕ) (inner : Under) : Type 0 where
   -- a level is an operand and the operators of the levels below it that stand behind
   pub level_is : (n : ℕ) (m : Bool) (i : ℕ)
-      → level keep ts depth inner n m i
-      ≡ go_on (unary keep ts depth inner m i) (rest keep ts depth inner n m (start ts m i))
+      → level ts depth inner n m i
+      ≡ go_on (unary ts depth inner m i) (rest ts depth inner n m (start ts m i))
   -- where no operator of a level below n comes next, nothing of these levels stands behind
   pub rest_not : (n : ℕ) (m : Bool) (first : ℕ) (head : Expr) (i : ℕ) → n ≤ binds ts m i
-      → rest keep ts depth inner n m first head i ≡ Ok (head, i)
+      → rest ts depth inner n m first head i ≡ Ok (head, i)
   -- and level n is the operand
   pub level_not : (n : ℕ) (m : Bool) (i : ℕ) (x : Expr) (j : ℕ)
-      → unary keep ts depth inner m i ≡ Ok (x, j) → n ≤ binds ts m j
-      → level keep ts depth inner n m i ≡ Ok (x, j)
+      → unary ts depth inner m i ≡ Ok (x, j) → n ≤ binds ts m j
+      → level ts depth inner n m i ≡ Ok (x, j)
 
 abbrev pub Climbing : Type 0
-Climbing = (keep : Bool) (ts : List Token) (depth : ℕ) (inner : Under) → Climbs keep ts depth inner
+Climbing = (ts : List Token) (depth : ℕ) (inner : Under) → Climbs ts depth inner

@@ -6,16 +6,16 @@ use Rattle.hcl_expr.proofs.Turns.{turn_left, none_left, refused}
 use Rattle.hcl_tree.specs.Rules as spec
 use Rattle.hcl_tree.proofs.bodies.+nest.Goals as goal
 
-members-is : (keep : Bool) (ts : List Token) (d i : ℕ) → members keep ts d i ≡ members_from keep ts d (deeper_members keep ts d) (length ts) [] i
+members-is : (ts : List Token) (d i : ℕ) → members ts d i ≡ members_from ts d (deeper_members ts d) (length ts) [] i
 unfolding members
-members-is keep ts zero i = refl
-members-is keep ts (suc d) i = refl
+members-is ts zero i = refl
+members-is ts (suc d) i = refl
 
 pub members-loop-turn-init : goal.members-loop-turn-init
 members-loop-turn-init t c =
     let here = c.args.reader.now in
     let all : length here.tokens ≡ c.len-turn-end.result - 0 = omega (arith, c.len-turn-end.ensures) in
-    rw c.new-found.ensures (members-is here.keep here.tokens here.depth c.args.at.now ∙ ap (λ n. spec.members_from here n [] c.args.at.now) all)
+    rw c.new-found.ensures (members-is here.tokens here.depth c.args.at.now ∙ ap (λ n. spec.members_from here n [] c.args.at.now) all)
 
 pub members-returns-in_err-member : goal.members-returns-in_err-member
 unfolding members_from

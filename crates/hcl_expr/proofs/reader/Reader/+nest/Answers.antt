@@ -14,17 +14,17 @@ use Rattle.hcl_expr.proofs.reader.Reader.+nest.Goals as goal
 
 -- ---- an expression, by what is asked for
 
-expr-is : (keep : Bool) (ts : List Token) (d : ℕ) (m : Bool) (g : Goal) (i : ℕ) → (under keep ts d).expr m g i ≡ p.goal keep ts d (deeper keep ts d) m g i
+expr-is : (ts : List Token) (d : ℕ) (m : Bool) (g : Goal) (i : ℕ) → (under ts d).expr m g i ≡ p.goal ts d (deeper ts d) m g i
 unfolding under
-expr-is keep ts zero m g i = refl
-expr-is keep ts (suc zero) m g i = refl
-expr-is keep ts (suc (suc d)) m g i = refl
+expr-is ts zero m g i = refl
+expr-is ts (suc zero) m g i = refl
+expr-is ts (suc (suc d)) m g i = refl
 
 pub expr-returns-in-Whole : goal.expr-returns-in-Whole
-expr-returns-in-Whole t c = rw (c.in-Whole.is, expr-is c.args.self.now.keep c.args.self.now.tokens c.args.self.now.depth c.args.self.now.inside Whole c.args.at.now) c.whole.ensures
+expr-returns-in-Whole t c = rw (c.in-Whole.is, expr-is c.args.self.now.tokens c.args.self.now.depth c.args.self.now.inside Whole c.args.at.now) c.whole.ensures
 
 pub expr-returns-in-Operand : goal.expr-returns-in-Operand
-expr-returns-in-Operand t c = rw (c.in-Operand.is, expr-is c.args.self.now.keep c.args.self.now.tokens c.args.self.now.depth c.args.self.now.inside Operand c.args.at.now) c.unary.ensures
+expr-returns-in-Operand t c = rw (c.in-Operand.is, expr-is c.args.self.now.tokens c.args.self.now.depth c.args.self.now.inside Operand c.args.at.now) c.unary.ensures
 
 -- ---- a whole expression
 
@@ -35,18 +35,18 @@ whole-is t i = refl
 pub whole-returns-in_err-head : goal.whole-returns-in_err-head
 unfolding whole
 whole-returns-in_err-head t c =
-    let e = (c.climbing.ensures c.args.self.now.keep c.args.self.now.tokens c.args.self.now.depth (deeper c.args.self.now.keep c.args.self.now.tokens c.args.self.now.depth)).level_is 6 c.args.self.now.inside c.args.at.now in
+    let e = (c.climbing.ensures c.args.self.now.tokens c.args.self.now.depth (deeper c.args.self.now.tokens c.args.self.now.depth)).level_is 6 c.args.self.now.inside c.args.at.now in
     first_of (search rules, grind (arith, common_steps))
 
 pub whole-returns-then-ends : goal.whole-returns-then-ends
 unfolding past
 whole-returns-then-ends t c =
-    let k = (c.climbing.ensures c.args.self.now.keep c.args.self.now.tokens c.args.self.now.depth (deeper c.args.self.now.keep c.args.self.now.tokens c.args.self.now.depth)).level_not 6 c.args.self.now.inside c.args.at.now _ _ (c.in_ok-head.ensures {u = tt}) (omega (arith, c.ends.ensures.quiet c.if-ends.true)) in
+    let k = (c.climbing.ensures c.args.self.now.tokens c.args.self.now.depth (deeper c.args.self.now.tokens c.args.self.now.depth)).level_not 6 c.args.self.now.inside c.args.at.now _ _ (c.in_ok-head.ensures {u = tt}) (omega (arith, c.ends.ensures.quiet c.if-ends.true)) in
     rw (whole-is c.args.self.now c.args.at.now, k, c.ends.ensures.other c.if-ends.true) refl
 
 pub whole-returns : goal.whole-returns
 whole-returns t c =
-    let k = (c.climbing.ensures c.args.self.now.keep c.args.self.now.tokens c.args.self.now.depth (deeper c.args.self.now.keep c.args.self.now.tokens c.args.self.now.depth)).level_is 6 c.args.self.now.inside c.args.at.now in
+    let k = (c.climbing.ensures c.args.self.now.tokens c.args.self.now.depth (deeper c.args.self.now.tokens c.args.self.now.depth)).level_is 6 c.args.self.now.inside c.args.at.now in
     rw (whole-is c.args.self.now c.args.at.now, k, c.in_ok-head.ensures {u = tt}, ← c.start.ensures) c.behind.ensures
 
 pub behind-returns-in_err-condition : goal.behind-returns-in_err-condition
@@ -60,19 +60,19 @@ behind-returns t c = rw (c.in_ok-condition.ensures {u = tt}) c.choice.ensures
 
 pub level-returns-in_err-head : goal.level-returns-in_err-head
 level-returns-in_err-head t c =
-    refused _ 0 _ (search rules) ((c.climbing.ensures c.args.self.now.keep c.args.self.now.tokens c.args.self.now.depth (deeper c.args.self.now.keep c.args.self.now.tokens c.args.self.now.depth)).level_is c.args.level c.args.self.now.inside c.args.at.now) c.in_err-head.ensures
+    refused _ 0 _ (search rules) ((c.climbing.ensures c.args.self.now.tokens c.args.self.now.depth (deeper c.args.self.now.tokens c.args.self.now.depth)).level_is c.args.level c.args.self.now.inside c.args.at.now) c.in_err-head.ensures
 
 pub level-returns-then-level-from : goal.level-returns-then-level-from
 level-returns-then-level-from t c =
-    (c.climbing.ensures c.args.self.now.keep c.args.self.now.tokens c.args.self.now.depth (deeper c.args.self.now.keep c.args.self.now.tokens c.args.self.now.depth)).level_not c.args.level c.args.self.now.inside c.args.at.now _ _ (c.in_ok-head.ensures {u = tt}) (omega (arith, c.if-level-from.true, c.binds-from.ensures))
+    (c.climbing.ensures c.args.self.now.tokens c.args.self.now.depth (deeper c.args.self.now.tokens c.args.self.now.depth)).level_not c.args.level c.args.self.now.inside c.args.at.now _ _ (c.in_ok-head.ensures {u = tt}) (omega (arith, c.if-level-from.true, c.binds-from.ensures))
 
 pub level-returns : goal.level-returns
 level-returns t c =
-    rw ((c.climbing.ensures c.args.self.now.keep c.args.self.now.tokens c.args.self.now.depth (deeper c.args.self.now.keep c.args.self.now.tokens c.args.self.now.depth)).level_is c.args.level c.args.self.now.inside c.args.at.now, c.in_ok-head.ensures {u = tt}, ← c.start.ensures) c.rest.ensures
+    rw ((c.climbing.ensures c.args.self.now.tokens c.args.self.now.depth (deeper c.args.self.now.tokens c.args.self.now.depth)).level_is c.args.level c.args.self.now.inside c.args.at.now, c.in_ok-head.ensures {u = tt}, ← c.start.ensures) c.rest.ensures
 
 pub rest-returns-then-level-from : goal.rest-returns-then-level-from
 rest-returns-then-level-from t c =
-    (c.climbing.ensures c.args.self.now.keep c.args.self.now.tokens c.args.self.now.depth (deeper c.args.self.now.keep c.args.self.now.tokens c.args.self.now.depth)).rest_not c.args.level c.args.self.now.inside c.args.first c.args.head c.args.at.now (omega (arith, c.if-level-from.true, c.requires.quiet))
+    (c.climbing.ensures c.args.self.now.tokens c.args.self.now.depth (deeper c.args.self.now.tokens c.args.self.now.depth)).rest_not c.args.level c.args.self.now.inside c.args.first c.args.head c.args.at.now (omega (arith, c.if-level-from.true, c.requires.quiet))
 
 pub rest-returns-in_err-links : goal.rest-returns-in_err-links
 unfolding rest
@@ -231,14 +231,14 @@ items-returns t c =
 
 -- ---- parts
 
-parts-is : (keep : Bool) (ts : List Token) (d : ℕ) (m : Bool) (i : ℕ) → (under keep ts d).parts m i ≡ parts_from keep ts d (deeper keep ts d) (twice keep ts d) m (length ts) [] i
+parts-is : (ts : List Token) (d : ℕ) (m : Bool) (i : ℕ) → (under ts d).parts m i ≡ parts_from ts d (deeper ts d) (twice ts d) m (length ts) [] i
 unfolding under
-parts-is keep ts zero m i = refl
-parts-is keep ts (suc zero) m i = refl
-parts-is keep ts (suc (suc d)) m i = refl
+parts-is ts zero m i = refl
+parts-is ts (suc zero) m i = refl
+parts-is ts (suc (suc d)) m i = refl
 
 pub parts-returns : goal.parts-returns
-parts-returns t c = rw (parts-is c.args.self.now.keep c.args.self.now.tokens c.args.self.now.depth c.args.self.now.inside c.args.at.now) c.each_part.ensures
+parts-returns t c = rw (parts-is c.args.self.now.tokens c.args.self.now.depth c.args.self.now.inside c.args.at.now) c.each_part.ensures
 
 pub each_part-returns-in_err-part : goal.each_part-returns-in_err-part
 unfolding parts_from
