@@ -6,3 +6,4 @@ mod Merged
 pub mod Groupings
 mod Determined
 mod Existing
+pub mod Examples

@@ -80,7 +80,7 @@ module _ (la lb : ℕ) where
       let w = some_goes s.at 0 s.out (λ p. EditStep Forward p (edit s.at s.removed s.added) (Rest la lb s xs [])) h.done made in
       (w.t, w.u, w.goes)
 
-  took_first : (a b : List Entry) (s s' : State) (xs ys : List Entry) → Kept a b s xs ys → Readied la lb s (true, s') xs ys → GroupedReady la lb a b (true, s') xs ys → (q : State × List Entry × List Entry) → q ≡ took true s' xs ys → Kept a b q.0 q.1 q.2 × (length q.1 + length q.2 < length xs + length ys)
+  took_first : (a b : List Entry) (s s' : State) (xs ys : List Entry) → Kept a b s xs ys → Readied la lb s (true, s') xs ys → GroupedReady a b (true, s') xs ys → (q : State × List Entry × List Entry) → q ≡ took true s' xs ys → Kept a b q.0 q.1 q.2 × (length q.1 + length q.2 < length xs + length ys)
   took_first a b s s' [] ys k r gr q e = absurd r.takes
   took_first a b s s' (x ∷ xs) ys k r gr q e =
       let later = r.sound.first_placed.0.later in
@@ -93,7 +93,7 @@ module _ (la lb : ℕ) where
           whole = k.whole;
           none = λ z. let n = k.none z in omega arith;
           earlier = k.earlier;
-          grouped = grouped_first la lb a b s' x xs ys gr.grouped r.sound r.takes.0 r.takes.1 gr.linkable;
+          grouped = grouped_first la lb a b s' x xs ys gr r.takes.0 r.takes.1;
           alike = λ tail p. alike_then _ _ _ (k.alike tail (placed_earlier lb s.second_end s'.second_end tail r.later p)) (alike_then _ _ _ (r.alike tail p) (means_first la lb x s' xs tail r.takes.0 later r.takes.1));
         },
         omega arith,
@@ -103,7 +103,7 @@ module _ (la lb : ℕ) where
   push_some [] y e = cc
   push_some (x ∷ ys) y e = cc
 
-  took_second : (a b : List Entry) (s s' : State) (xs ys : List Entry) → 0 < length xs + length ys → Kept a b s xs ys → Readied la lb s (false, s') xs ys → GroupedReady la lb a b (false, s') xs ys → (q : State × List Entry × List Entry) → q ≡ took false s' xs ys → Kept a b q.0 q.1 q.2 × (length q.1 + length q.2 < length xs + length ys)
+  took_second : (a b : List Entry) (s s' : State) (xs ys : List Entry) → 0 < length xs + length ys → Kept a b s xs ys → Readied la lb s (false, s') xs ys → GroupedReady a b (false, s') xs ys → (q : State × List Entry × List Entry) → q ≡ took false s' xs ys → Kept a b q.0 q.1 q.2 × (length q.1 + length q.2 < length xs + length ys)
   took_second a b s s' xs [] more k r gr q e = let z = r.takes in absurd (omega arith)
   took_second a b s s' xs (y ∷ ys) more k r gr q e =
       let later = r.sound.second_placed.0.later in
@@ -118,7 +118,7 @@ module _ (la lb : ℕ) where
           whole = k.whole ∙ sym (append_assoc k.taken (y ∷ []) ys);
           none = λ z. absurd (push_some k.taken y z);
           earlier = inr (record { but_last = k.taken; last = y; whole = refl; passable = passable });
-          grouped = grouped_second la lb a b s' y xs ys gr.grouped r.sound r.takes.0 r.takes.1 gr.linkable;
+          grouped = grouped_second la lb a b s' y xs ys gr r.takes.0 r.takes.1 later;
           alike = λ tail p.
               let placed : ArePlaced lb s'.second_end (y ∷ tail) = (r.sound.second_placed.0, p) in
               rw append_assoc (alike_then _ _ _ (k.alike (y ∷ tail) (placed_earlier lb s.second_end s'.second_end (y ∷ tail) r.later placed)) (alike_then _ _ _ (r.alike (y ∷ tail) placed) (means_second la lb y s' xs tail r.takes.0 later r.takes.1)));
@@ -126,14 +126,14 @@ module _ (la lb : ℕ) where
         omega arith,
       )
 
-  took_by : (a b : List Entry) (s s' : State) (xs ys : List Entry) (first : Bool) → 0 < length xs + length ys → Kept a b s xs ys → Readied la lb s (first, s') xs ys → GroupedReady la lb a b (first, s') xs ys → (q : State × List Entry × List Entry) → q ≡ took first s' xs ys → Kept a b q.0 q.1 q.2 × (length q.1 + length q.2 < length xs + length ys)
+  took_by : (a b : List Entry) (s s' : State) (xs ys : List Entry) (first : Bool) → 0 < length xs + length ys → Kept a b s xs ys → Readied la lb s (first, s') xs ys → GroupedReady a b (first, s') xs ys → (q : State × List Entry × List Entry) → q ≡ took first s' xs ys → Kept a b q.0 q.1 q.2 × (length q.1 + length q.2 < length xs + length ys)
   took_by a b s s' xs ys true more k r gr q e = took_first a b s s' xs ys k r gr q e
   took_by a b s s' xs ys false more k r gr q e = took_second a b s s' xs ys more k r gr q e
 
   pub takes_one : (a b : List Entry) (s s' : State) (xs ys : List Entry) (first : Bool) (q : State × List Entry × List Entry) → 0 < length xs + length ys → Progress a b s xs ys → (first, s') ≡ readied s xs ys → q ≡ took first s' xs ys → Kept a b q.0 q.1 q.2 × (length q.1 + length q.2 < length xs + length ys)
   takes_one a b s s' xs ys first q more p e f =
       let r = readies la lb s xs ys p.kept.sound p.one in
-      took_by a b s s' xs ys first more p.kept (rw e r) (rw e (grouped_readied la lb a b s xs ys p.kept.grouped p.kept.sound p.one r.sound.first_placed)) q f
+      took_by a b s s' xs ys first more p.kept (rw e r) (rw e (grouped_readied la lb a b s xs ys more p.kept.grouped p.kept.sound p.one r.sound.first_placed)) q f
 
   pub goes_on : (a b : List Entry) (s s' : State) (xs ys : List Entry) → Kept a b s xs ys → take (meeting s) s.first_left ≡ take (meeting s) s.second_left → s' ≡ met s → Progress a b s' xs ys
   goes_on a b s s' xs ys k e f =
@@ -261,6 +261,6 @@ module _ (la lb : ℕ) where
             λ h. let len = h.len in turns_from_both la lb a b t v (alike.back t v (ends_from_same la 0 c t v (omega arith) (goes_from_turns (as_list la c) t v h))),
             λ h. let g = same_from_ends la 0 c t v (alike.go t v (both_from_turns la lb a b t h.0 v h.1 h.2)) in let len = g.1 in turns_from_goes (as_list la c) t v (omega arith) g.0,
           );
-          shape = grouped_end la lb a b c s k.grouped k.sound r.one n.0 e;
+          shape = grouped_end la lb a b c s k.grouped k.sound r.one e;
         },
       )

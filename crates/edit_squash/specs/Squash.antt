@@ -1,8 +1,8 @@
 -- One list of edits in the place of two, the second of which goes on from the first.
-use Rattle.std.specs.Prelude.{◌≡◌, ◌≢◌, ◌↔◌, ℕ, ◌+◌, ◌<◌, List, length, take, Result, Ok, Err}
+use Rattle.std.specs.Prelude.{◌≡◌, ◌≢◌, ◌↔◌, ℕ, ◌+◌, ◌<◌, List, length, map, take, Result, Ok, Err}
 use Rattle.edit_list.specs.Pieces.{EditList, Turns}
 use Rattle.edit_list.specs.Made.{AreEdits, new_len}
-use Rattle.edit_squash.specs.Shape.{HasShape}
+use Rattle.edit_squash.specs.Shape.{extent_of, become}
 use Rattle.edit_squash.specs.declared.squashing.Unmet.{Unmet}
 use Rattle.edit_squash.specs.declared.squashing.Unmet.TheVariants.{LengthsDiffer, Contradicts, Memory}
 
@@ -31,7 +31,7 @@ pub record IsSquash (a b c : EditList) : Type 0 where
   pub old_len_is : c.old_len ≡ a.old_len
   pub can_follow : CanFollow a b
   pub alike : TurnsAlike c a b
-  pub shape : HasShape a b c
+  pub shape : map extent_of c.entries ≡ become a.entries b.entries
 
 -- these are a list of edits: placed one behind the other, and both lengths are within the limit
 abbrev pub IsList : EditList → Type 0
