@@ -74,6 +74,13 @@ impl Edit {
         self.at
     }
 
+    /// Puts the edit at another place. It takes no memory.
+    pub fn put(&mut self, at: usize)
+        ensures { self.new ≡ record { at = at; removed = self.old.removed; added = self.old.added } }
+    {
+        self.at = at;
+    }
+
     /// The bytes that go.
     pub fn removed(&self) -> &[u8]
         ensures { result.now ≡ self.now.removed }

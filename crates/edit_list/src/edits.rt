@@ -105,6 +105,14 @@ impl Edits {
     {
         self.edits.as_slice()
     }
+
+    /// The same, handed out.
+    pub fn into_edits(self) -> Vec<Edit>
+        ensures same { result.items ≡ self.entries }
+        ensures placed { AreEdits self.old_len (new_len self) result.items }
+    {
+        self.edits
+    }
 }
 
 impl Change for Edits {
