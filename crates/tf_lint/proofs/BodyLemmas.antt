@@ -91,7 +91,7 @@ module _ {rules : RuleSet} {pairs : List Pair} where
 
 -- the member that comes next, as the parser answers it
 pub read_as : {rules : RuleSet} {pairs : List Pair} {from past : ℕ} {x : SeenMember} → (next : (x.from ≡ from) × (x.past ≡ past) × IsSeen rules pairs x)
-    → member_of true (tokens_of pairs) MAX_NESTING (deeper_members true (tokens_of pairs) MAX_NESTING) from ≡ Ok (Some next.2.member, past)
+    → member_of (tokens_of pairs) MAX_NESTING (deeper_members (tokens_of pairs) MAX_NESTING) from ≡ Ok (Some next.2.member, past)
 read_as {pairs} {past} next =
-    subst (λ n. member_of true (tokens_of pairs) MAX_NESTING (deeper_members true (tokens_of pairs) MAX_NESTING) n ≡ Ok (Some next.2.member, past)) next.0
+    subst (λ n. member_of (tokens_of pairs) MAX_NESTING (deeper_members (tokens_of pairs) MAX_NESTING) n ≡ Ok (Some next.2.member, past)) next.0
     (member_answers (tokens_of pairs) next.2.stands ∙ ap (λ n. Ok (Some next.2.member, n)) next.1)

@@ -26,7 +26,7 @@ module _ (ts : List Token) where
   -- ---- what is answered is derived
 
   attribute_derives : (b i : ℕ) → At ts false k.Identifier i → At ts false k.Equal (after ts false i) → (m : Member) (j : ℕ)
-      → bodies.attribute_by true ts b (deeper_members true ts b) (start ts false i) (after ts false (after ts false i)) ≡ done m j → IsOneMember ts b m i j
+      → bodies.attribute_by ts b (deeper_members ts b) (start ts false i) (after ts false (after ts false i)) ≡ done m j → IsOneMember ts b m i j
   unfolding bodies.attribute_by
   attribute_derives b i h q m j e =
       let w = bind_inv _ _ e in
@@ -41,10 +41,10 @@ module _ (ts : List Token) where
   block_from a i h ls br n e x (inside_line {x = one} {o = to} y) c el = line_block h ls br (subst (λ n. IsOnLine ts a one n to) e y) c el
 
   block_derives : (b i : ℕ) → At ts false k.Identifier i → (m : Member) (j : ℕ)
-      → bodies.block_by true ts b (deeper_members true ts b) (start ts false i) (after ts false i) ≡ done m j → IsOneMember ts b m i j
+      → bodies.block_by ts b (deeper_members ts b) (start ts false i) (after ts false i) ≡ done m j → IsOneMember ts b m i j
   unfolding bodies.block_by
   block_derives zero i h m j e =
-      let w = bind_inv (bodies.labels_from true ts (length ts) [] (after ts false i)) _ e in
+      let w = bind_inv (bodies.labels_from ts (length ts) [] (after ts false i)) _ e in
       absurd (shut (expect ts false k.OpenBrace w.at) (TooDeep (start ts false w.at)) w.rest)
   block_derives (suc a) i h m j e =
       let w = bind_inv _ _ e in
@@ -57,14 +57,14 @@ module _ (ts : List Token) where
       along (λ m j. IsOneMember ts (suc a) m i j) el.rest (block_from a i h ls br (after ts false w.at) refl x.value y c (s_eol ts (after ts false x.at) el.is))
 
   named_derives : (b i : ℕ) → At ts false k.Identifier i → (m : Member) (j : ℕ)
-      → bodies.named_member true ts b (deeper_members true ts b) (start ts false i) (after ts false i) ≡ done m j → IsOneMember ts b m i j
+      → bodies.named_member ts b (deeper_members ts b) (start ts false i) (after ts false i) ≡ done m j → IsOneMember ts b m i j
   unfolding bodies.named_member
   named_derives b i h m j e = elim (eat_inv ts false k.Equal (after ts false i)) [
     | eaten q s l ↦ attribute_derives b i h q m j (rw (s, l) at e)
     | uneaten s l ↦ block_derives b i h m j (rw (s, l) at e)
   ]
 
-  pub member_derives : (b i : ℕ) (m : Member) (j : ℕ) → bodies.member_of true ts b (deeper_members true ts b) i ≡ done (Some m) j → IsOneMember ts b m i j
+  pub member_derives : (b i : ℕ) (m : Member) (j : ℕ) → bodies.member_of ts b (deeper_members ts b) i ≡ done (Some m) j → IsOneMember ts b m i j
   unfolding bodies.member_of
   member_derives b i m j e = elim (eat_inv ts false k.Identifier i) [
     | eaten q s l ↦ (let w = bind_inv _ _ (rw (s, l) at e) in some_along (λ m j. IsOneMember ts b m i j) w.rest (named_derives b i q w.value w.at w.is))
@@ -73,12 +73,12 @@ module _ (ts : List Token) where
 
   -- ---- what is derived is answered
 
-  named_answers : {d b : ℕ} {x : Member} {j : ℕ} (i : ℕ) → At ts false k.Identifier i → Answers d b x j (bodies.named_member true ts b (deeper_members true ts b) (start ts false i) (after ts false i))
-      → Answers d b (Some x) j (bodies.member_of true ts b (deeper_members true ts b) i)
+  named_answers : {d b : ℕ} {x : Member} {j : ℕ} (i : ℕ) → At ts false k.Identifier i → Answers d b x j (bodies.named_member ts b (deeper_members ts b) (start ts false i) (after ts false i))
+      → Answers d b (Some x) j (bodies.member_of ts b (deeper_members ts b) i)
   unfolding bodies.member_of
   named_answers i q x = rw (sees-yes ts false k.Identifier i q, past-yes ts false k.Identifier i q) (bind _ x found)
 
-  answers : {d : ℕ} {x : Member} {i j : ℕ} → IsOneMember ts d x i j → (b : ℕ) → Answers d b (Some x) j (bodies.member_of true ts b (deeper_members true ts b) i)
+  answers : {d : ℕ} {x : Member} {i j : ℕ} → IsOneMember ts d x i j → (b : ℕ) → Answers d b (Some x) j (bodies.member_of ts b (deeper_members ts b) i)
   answers (attribute {i} q e x el) b =
       named_answers i q (member_attribute ts (start ts false i) (after ts false i) e (nested ts false (after ts false (after ts false i)) b (c_expr ts x (eol_stop ts el) b)) el)
   answers (block {i} {j} {n} {o} h ls br nl bs cl el) b =
@@ -87,5 +87,5 @@ module _ (ts : List Token) where
   answers (line_block {i} h ls br x cl el) b =
       named_answers i h (member_block ts (start ts false i) (after ts false i) ls br cl el b (λ a. c_on_line ts x cl a))
 
-  pub member_answers : {d : ℕ} {x : Member} {i j : ℕ} → IsOneMember ts d x i j → bodies.member_of true ts d (deeper_members true ts d) i ≡ done (Some x) j
+  pub member_answers : {d : ℕ} {x : Member} {i j : ℕ} → IsOneMember ts d x i j → bodies.member_of ts d (deeper_members ts d) i ≡ done (Some x) j
   member_answers {d} h = found_at (omega arith) (answers h d)

@@ -27,6 +27,6 @@ AreSeen rules pairs xs = (i : ℕ) (x : SeenMember) → slice_get xs i ≡ Some 
 -- the member, or none, that the parser reads from one place up to another, with what is found in it
 abbrev pub IsNext : RuleSet → List Pair → ℕ → Option SeenMember → ℕ → Type 0
 IsNext rules pairs from None past =
-    member_of true (tokens_of pairs) MAX_NESTING (deeper_members true (tokens_of pairs) MAX_NESTING)
+    member_of (tokens_of pairs) MAX_NESTING (deeper_members (tokens_of pairs) MAX_NESTING)
     from ≡ Ok (None, past)
 IsNext rules pairs from (Some x) past = (x.from ≡ from) × (x.past ≡ past) × IsSeen rules pairs x

@@ -106,10 +106,10 @@ pub fn body(
     requires { AreSeen rules old.now.pairs seen.now }
     ensures seen { IfOk result
         (λ found. AreRead rules scanned.now.pairs
-        (spec.members true (tokens_of scanned.now.pairs) MAX_NESTING at.old) at.new found) }
+        (spec.members (tokens_of scanned.now.pairs) MAX_NESTING at.old) at.new found) }
     ensures fault { IfErr result
         (λ e. e ≢ fault.Memory
-        → spec.members true (tokens_of scanned.now.pairs) MAX_NESTING at.old ≡ Err e) }
+        → spec.members (tokens_of scanned.now.pairs) MAX_NESTING at.old ≡ Err e) }
 {
     let reader = Reader::new(alloc, scanned);
     let mut found = Gathered {

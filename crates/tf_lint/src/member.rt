@@ -95,7 +95,7 @@ fn new_member(
     ensures next { IfOk result (λ x. IsNext rules scanned.now.pairs at.old x at.new) }
     ensures fault { let ts = tokens_of scanned.now.pairs in
         IfErr result (λ e. e ≢ fault.Memory
-        → spec.member_of true ts MAX_NESTING (spec.deeper_members true ts MAX_NESTING) at.old
+        → spec.member_of ts MAX_NESTING (spec.deeper_members ts MAX_NESTING) at.old
         ≡ Err e) }
 {
     let from = *at;
@@ -192,7 +192,7 @@ pub fn next_member(
     ensures next { IfOk result (λ x. IsNext rules scanned.now.pairs at.old x at.new) }
     ensures fault { let ts = tokens_of scanned.now.pairs in
         IfErr result (λ e. e ≢ fault.Memory
-        → spec.member_of true ts MAX_NESTING (spec.deeper_members true ts MAX_NESTING) at.old
+        → spec.member_of ts MAX_NESTING (spec.deeper_members ts MAX_NESTING) at.old
         ≡ Err e) }
 {
     let Some(x) = old_member(alloc, old, scanned, seen, index, *at)? else {

@@ -7,7 +7,8 @@ ghost use Rattle.tf_lint.specs.Reading.{NotRead};
 
 use crate::fault::FixFault;
 use hcl_scan::{Scanned, scan};
-use hcl_tree::{check, parse};
+use hcl_check::check;
+use hcl_tree::parse;
 use std::alloc::Global;
 use tf_fix::Parsed;
 

@@ -48,11 +48,11 @@ fn file(
     requires { AreSeen rules old.now.pairs seen.now }
     ensures found { IfOk result
         (λ found. (t : Tree)
-        × (spec.file true (tokens_of scanned.now.pairs) MAX_NESTING at.old ≡ Ok (t, at.new))
+        × (spec.file (tokens_of scanned.now.pairs) MAX_NESTING at.old ≡ Ok (t, at.new))
         × AreOf rules scanned.now.pairs t.body.members found) }
     ensures fault { IfErr result
         (λ e. e ≢ fault.Memory
-        → spec.file true (tokens_of scanned.now.pairs) MAX_NESTING at.old ≡ Err e) }
+        → spec.file (tokens_of scanned.now.pairs) MAX_NESTING at.old ≡ Err e) }
 {
     let reader = Reader::new(alloc, scanned);
     let _is_mark = reader.eat(Kind::Mark, at);

@@ -35,7 +35,7 @@ returns-in_err-x-clause-fault c =
     let so_far = c.loop-turn.invariant in
     let n = c.len-turn-end.result - (c.loop-turn._turn + 1) in
     let e = turn_left (λ k. left ts MAX_NESTING k so_far.0 c.loop-turn.at) c.loop-turn-test.true so_far.1 in
-    residual c.from_residual.result c.in_err-x.field-0.0 (λ (f : TokenFault). f ≢ Memory → members true ts MAX_NESTING c.args.at.now ≡ Err f) c.from_residual.ensures
+    residual c.from_residual.result c.in_err-x.field-0.0 (λ (f : TokenFault). f ≢ Memory → members ts MAX_NESTING c.args.at.now ≡ Err f) c.from_residual.ensures
     (λ other. begins ts MAX_NESTING c.args.at.now ∙ (e ∙ at_fault ts MAX_NESTING n so_far.0 c.loop-turn.at (rw c.new-reader.ensures at c.line.ensures) c.if-line.false (c.in_err-x.ensures.fault other)))
 
 pub returns-in_default-clause-seen : goal.returns-in_default-clause-seen

@@ -10,5 +10,5 @@ abbrev pub invariant-loop-turn : goal.invariant-loop-turn
 invariant-loop-turn l =
     let ts = tokens_of l.scanned.pairs in
     (ms : List Member)
-    × (members_from true ts MAX_NESTING (deeper_members true ts MAX_NESTING) (length ts) [] l.fn.at ≡ members_from true ts MAX_NESTING (deeper_members true ts MAX_NESTING) (l._turn-end - l._turn) ms l.at)
+    × (members_from ts MAX_NESTING (deeper_members ts MAX_NESTING) (length ts) [] l.fn.at ≡ members_from ts MAX_NESTING (deeper_members ts MAX_NESTING) (l._turn-end - l._turn) ms l.at)
     × AreOf l.rules l.scanned.pairs ms l.found

@@ -1,5 +1,5 @@
 -- One finding more.
-use Rattle.std.proofs.Common.{◌≡◌, List, rules, subst, sym}
+use Rattle.std.proofs.Common.{◌≡◌, ◌∙◌, List, rules, subst, sym}
 use Rattle.std.specs.Prelude.{IfSome, string_bytes}
 use Rattle.hcl_token.specs.Place.{place_of}
 use Rattle.hcl_token.specs.Tokens.{Pair}

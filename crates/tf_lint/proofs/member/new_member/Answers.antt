@@ -10,7 +10,7 @@ pub returns-clause-next : goal.returns-clause-next
 returns-clause-next c =
     let ts = tokens_of c.args.scanned.now.pairs in
     let x = c.in-Some.x in
-    let read : member_of true ts MAX_NESTING (deeper_members true ts MAX_NESTING) c.args.at.now
+    let read : member_of ts MAX_NESTING (deeper_members ts MAX_NESTING) c.args.at.now
     ≡ Ok (Some x, c.member.new.at) = search rules in
     let stands = member_derives ts MAX_NESTING c.args.at.now x c.member.new.at read in
     let seen = c.in_ok-looked_at.ensures in (

@@ -16,7 +16,7 @@ returns-in_err-members-clause-fault c =
     let ts = tokens_of c.args.scanned.now.pairs in
     let i = c.args.at.now in
     let f = c.in_err-members.field-0.0 in
-    residual c.from_residual.result f (λ (e : TokenFault). e ≢ Memory → spec.file true ts MAX_NESTING i ≡ Err e) c.from_residual.ensures
+    residual c.from_residual.result f (λ (e : TokenFault). e ≢ Memory → spec.file ts MAX_NESTING i ≡ Err e) c.from_residual.ensures
     (body_refused ts MAX_NESTING i f c.eat-is_mark.new.at (rw c.new-reader.ensures at c.eat-is_mark.ensures.after) c.in_err-members.ensures.fault)
 
 pub returns-in_err-ended-clause-fault : goal.returns-in_err-ended-clause-fault
@@ -25,7 +25,7 @@ returns-in_err-ended-clause-fault c =
     let i = c.args.at.now in
     let f = c.in_err-ended.field-0.0 in
     let seen = c.in_ok-members.ensures.seen in
-    residual c.from_residual-in_err-ended.result f (λ (e : TokenFault). e ≢ Memory → spec.file true ts MAX_NESTING i ≡ Err e) c.from_residual-in_err-ended.ensures
+    residual c.from_residual-in_err-ended.result f (λ (e : TokenFault). e ≢ Memory → spec.file ts MAX_NESTING i ≡ Err e) c.from_residual-in_err-ended.ensures
     (λ _. end_refused ts MAX_NESTING i seen.0 f c.eat-is_mark.new.at c.body.new.at c.eat-is_comment.new.at (rw c.new-reader.ensures at c.eat-is_mark.ensures.after) seen.1 (rw c.new-reader.ensures at c.eat-is_comment.ensures.after) (rw c.new-reader.ensures at c.in_err-ended.ensures))
 
 pub returns-clause-found : goal.returns-clause-found
