@@ -11,7 +11,7 @@ ghost use Rattle.hcl_scan.specs.declared.fault.ScanFault.TheVariants.{Memory};
 
 use crate::cut::cut_of;
 use crate::fault::ScanFault;
-use hcl_token::{Item, Kind, Place, Places, Token, TokenList, Tokens};
+use hcl_token::{Item, Kind, Lines, Place, Places, Token, TokenList, Tokens};
 use std::alloc::Global;
 use std::marker::Model;
 
@@ -211,5 +211,12 @@ impl<'t> Scanned<'t> {
         ensures { result ≡ self.now.pairs }
     {
         self.tokens.places()
+    }
+
+    /// The lines of tokens that are asked for one after another, from 1.
+    pub fn lines(&self) -> Lines<'_>
+        ensures { result ≡ self.now.pairs }
+    {
+        self.tokens.lines()
     }
 }

@@ -1,4 +1,5 @@
 pub mod JoinLemmas
+pub mod CountLemmas
 pub mod ClusterLemmas
 pub mod OrderLemmas
 pub mod LineLemmas

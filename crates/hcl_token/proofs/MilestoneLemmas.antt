@@ -1,8 +1,6 @@
 -- How far a place can be from the front, and the places that are kept.
-use Rattle.std.proofs.Common.{inl, inr, ◌≡◌, ℕ, ◌+◌, ◌-◌, ◌*◌, ◌/◌, ◌<◌, ◌≤◌, true, false, List, [], ◌∷◌, ◌++◌, length, take, get_or, slice_range, min, IsUtf8, count_by, refl, sym, ap, subst, ◌∙◌, arith, length-append}
+use Rattle.std.proofs.Common.{◌≡◌, ℕ, ◌+◌, ◌-◌, ◌<◌, ◌≤◌, true, false, List, [], ◌∷◌, length, take, slice_range, IsUtf8, count_by, refl, sym, ap, subst, ◌∙◌, arith}
 use Rattle.std.specs.List.{list_any}
-use Rattle.std.proofs.lemmas.Bool.{cases_lt}
-use Rattle.std.proofs.lemmas.List.{get_or_append_left, get_or_push}
 use Rattle.std.proofs.lemmas.List.Sums.{count_by-le-length}
 use Rattle.hcl_token.specs.declared.place.Place.{Place}
 use Rattle.hcl_token.specs.declared.token.Token.{Token}
@@ -12,10 +10,10 @@ use Rattle.hcl_token.specs.Place.{clusters, is_lf, is_mark, last_line}
 use Rattle.hcl_token.specs.Inner.Milestones.{IsOrdered, IsReached, IsStretch, after_piece, after_pair, after_pairs, first_place, gap_at, has_mark}
 use Rattle.hcl_token.specs.Inner.Plain.{is_plain}
 use Rattle.hcl_token.proofs.ClusterLemmas.{clusters-le}
-use Rattle.hcl_token.proofs.OrderLemmas.{text_is-slice, length-range, gap-first, gap-le, length-pairs, order-le, order-slice, pairs-take, utf8-slice}
+use Rattle.hcl_token.proofs.OrderLemmas.{text_is-slice, length-range, gap-first, gap-le, order-le, order-slice, pairs-take, utf8-slice}
 use Rattle.hcl_token.proofs.LineLemmas.{any_from_count, shorter_last_line, utf8_last_line}
 use Rattle.hcl_token.proofs.PlaceLemmas.{column-none, column-some}
-use Rattle.hcl_token.proofs.StretchLemmas.{after_pairs-slice, plain_stretch, stretch_others}
+use Rattle.hcl_token.proofs.StretchLemmas.{plain_stretch, stretch_others}
 
 -- the last line of a piece with an LF has fewer clusters than the piece has bytes
 pub last_column : (piece : List ℕ) → IsUtf8 piece → 0 < count_by is_lf piece → clusters (last_line piece) < length piece

@@ -2,9 +2,9 @@
 
 ghost use Rattle.std.specs.Prelude.{◌≡◌, ℕ, true, ◌+◌, ◌^◌, ◌<◌, ◌≤◌, [], ◌∷◌, length, slice_range, take, count_by, IsUtf8};
 ghost use Rattle.hcl_token.specs.Items.{pair_at, pairs_from, pairs_of};
-ghost use Rattle.hcl_token.specs.Inner.Milestones.{IsAt, IsReached, IsStretch, after_pair, after_piece, after_pairs, first_place, gap_at, has_mark};
+ghost use Rattle.hcl_token.specs.Inner.Milestones.{IsAt, IsOnLine, IsReached, IsStretch, after_pair, after_piece, after_pairs, first_place, gap_at, has_mark};
 ghost use Rattle.hcl_token.specs.Inner.Plain.{is_plain};
-ghost use Rattle.hcl_token.specs.Place.{is_lf, is_mark, last_line, place_of};
+ghost use Rattle.hcl_token.specs.Place.{is_lf, is_mark, last_line, line_of, place_of};
 
 use crate::graphemes::{clusters, is_plain};
 use crate::kind::Kind;
@@ -18,6 +18,9 @@ const MOST_SHORT: usize = 255;
 /// So many bytes at a time are counted of a longer piece: a multiple of 32, so that none of them is
 /// done alone.
 const STEP: usize = 224;
+
+/// The place at the beginning of a text.
+pub(crate) const FIRST: Place = Place { line: 1, column: 1 };
 
 /// The bytes of a text from one place to another.
 pub(crate) fn part(text: &[u8], from: u32, to: u32) -> &[u8]
@@ -199,4 +202,29 @@ pub(crate) fn token_place(text: &[u8], tokens: &[Token], i: usize, at: Place) ->
     let token = tokens[i];
     let begins = gap_at(tokens, i);
     after_piece(at, part(text, begins, token.start()))
+}
+
+/// The line of the gap before token `to`, where that of the gap before token `from` is `line`. A
+/// byte order mark may count for nothing in a place, so tokens with one are not counted as bytes.
+pub(crate) fn gap_line(text: &[u8], tokens: &[Token], from: usize, line: usize, to: usize) -> usize
+    requires at { (last : ℕ) × IsOnLine text.now tokens.now last from line }
+    requires order { from ≤ to }
+    requires within { to ≤ length tokens.now }
+    ensures { result ≡ (after_pairs first_place (take to (pairs_of text.now tokens.now))).line }
+{
+    if has_mark(stretch(tokens, from, to)) {
+        return gap_place(text, tokens, 0, FIRST, to).line;
+    }
+    line + line_ends(part(text, gap_at(tokens, from), gap_at(tokens, to)))
+}
+
+/// The line of token `i`, where that of the gap before it is `line`.
+pub(crate) fn token_line(text: &[u8], tokens: &[Token], i: usize, line: usize) -> usize
+    requires at { (last : ℕ) × IsOnLine text.now tokens.now last i line }
+    requires within { i < length tokens.now }
+    ensures { result ≡ line_of (pairs_of text.now tokens.now) i }
+{
+    let token = tokens[i];
+    let begins = gap_at(tokens, i);
+    line + line_ends(part(text, begins, token.start()))
 }

@@ -6,7 +6,7 @@ ghost use Rattle.hcl_token.specs.Items.{pairs_of};
 ghost use Rattle.hcl_token.specs.Inner.Milestones.{IsAt, IsOrdered};
 ghost use Rattle.hcl_token.specs.Place.{place_of};
 
-use crate::milestone::{gap_place, token_place};
+use crate::milestone::{FIRST, gap_place, token_place};
 use crate::place::Place;
 use crate::token::Token;
 use std::marker::Model;
@@ -30,8 +30,6 @@ impl<'s> Model for Places<'s> {
     ghost invariant = { λ p. (last : ℕ) × IsAt p.text.now p.tokens.now last p.from p.at };
 }
 
-const FRONT: Place = Place { line: 1, column: 1 };
-
 impl<'s> Places<'s> {
     pub(crate) fn new(text: &'s [u8], tokens: &'s [Token]) -> Places<'s>
         requires { (last : ℕ) × IsOrdered text.now tokens.now last }
@@ -41,7 +39,7 @@ impl<'s> Places<'s> {
             text,
             tokens,
             from: 0,
-            at: FRONT,
+            at: FIRST,
         }
     }
 
@@ -52,7 +50,7 @@ impl<'s> Places<'s> {
         ensures same { self.new ≡ self.old }
     {
         let at = if i < self.from {
-            gap_place(self.text, self.tokens, 0, FRONT, i)
+            gap_place(self.text, self.tokens, 0, FIRST, i)
         } else {
             gap_place(self.text, self.tokens, self.from, self.at, i)
         };

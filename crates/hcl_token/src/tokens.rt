@@ -13,6 +13,7 @@ use crate::graphemes::clusters;
 use crate::item::Item;
 use crate::join_table::joins;
 use crate::kind::Kind;
+use crate::lines::Lines;
 use crate::milestone::{gap_at, part, stretch};
 use crate::place::Place;
 use crate::places::Places;
@@ -219,5 +220,11 @@ impl<'t> Tokens<'t> {
         ensures { result ≡ self.now.pairs }
     {
         Places::new(self.text, &self.tokens)
+    }
+    /// The lines of tokens that are asked for one after another, from 1.
+    pub fn lines(&self) -> Lines<'_>
+        ensures { result ≡ self.now.pairs }
+    {
+        Lines::new(self.text, &self.tokens)
     }
 }

@@ -66,3 +66,8 @@ pub record IsOrdered (text : List ℕ) (tokens : List Token) (last_at : ℕ) : T
 pub record IsAt (text : List ℕ) (tokens : List Token) (last_at from : ℕ) (at : Place) : Type 0 where
   pub ordered : IsOrdered text tokens last_at
   pub is : at ≡ after_pairs first_place (take from (pairs_of text tokens))
+
+-- the line of the gap before a token, found from the front on
+pub record IsOnLine (text : List ℕ) (tokens : List Token) (last_at from line : ℕ) : Type 0 where
+  pub ordered : IsOrdered text tokens last_at
+  pub is : line ≡ (after_pairs first_place (take from (pairs_of text tokens))).line

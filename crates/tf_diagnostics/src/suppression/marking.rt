@@ -8,7 +8,7 @@ ghost use Rattle.tf_diagnostics.specs.Inner.Marks.{Ascend, Rise, hits, is_hit, s
 
 use crate::suppression::comment::rules_silenced;
 use crate::suppression::mark::Mark;
-use hcl_scan::{Places, Scanned};
+use hcl_scan::{Lines, Scanned};
 use std::alloc::{AllocError, Global};
 
 /// Adds a mark behind those of earlier lines; on the line of the last, the two become one, so that
@@ -45,13 +45,13 @@ fn push_mark(marks: &mut Vec<Mark>, mark: Mark) -> Result<(), AllocError>
 fn mark_comment(
     marks: &mut Vec<Mark>,
     scanned: &Scanned<'_>,
-    places: &mut Places<'_>,
+    lines: &mut Lines<'_>,
     i: usize,
 ) -> Result<(), AllocError>
-    requires places { places.old ≡ scanned.now.pairs }
+    requires lines { lines.old ≡ scanned.now.pairs }
     requires within { i < length scanned.now.pairs }
     requires before { Ascend 0 marks.old.items (line_of scanned.now.pairs i) }
-    ensures places { places.new ≡ places.old }
+    ensures lines { lines.new ≡ lines.old }
     ensures after { OnOk result (Ascend 0 marks.new.items (line_of scanned.now.pairs i)) }
     ensures hit { OnOk result
         ((rule : Rule) (line : ℕ)
@@ -61,7 +61,7 @@ fn mark_comment(
     match rules_silenced(scanned.kind(i), scanned.spelling(i)) {
         None => Ok(()),
         Some(rules) => {
-            let line = places.of(i).line;
+            let line = lines.of(i);
             add_mark(marks, Mark { line, rules })?;
             Ok(())
         }
@@ -83,9 +83,9 @@ pub fn marks_of(
         ≡ silences_among scanned.now.pairs rule line silencing.now) }
 {
     let mut marks = Vec::new(alloc);
-    let mut places = scanned.places();
+    let mut lines = scanned.lines();
     for i in silencing {
-        mark_comment(&mut marks, scanned, &mut places, *i)?;
+        mark_comment(&mut marks, scanned, &mut lines, *i)?;
     }
     Ok(marks)
 }

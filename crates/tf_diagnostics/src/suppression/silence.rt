@@ -105,10 +105,10 @@ fn unmarked_first(scanned: &Scanned<'_>, found: &mut [Finding], marks: &[Mark]) 
     let mut kept = 0;
     let mut rest = marks;
     let mut reached = 0;
-    let mut places = scanned.places();
+    let mut lines = scanned.lines();
     for i in 0..found.len() {
         let f = found[i];
-        let line = places.of(f.first()).line;
+        let line = lines.of(f.first());
         rest = left_at(marks, rest, reached, line);
         reached = line;
         kept = keep(found, kept, f, is_hit(rest, f.rule(), line));

@@ -1,4 +1,4 @@
-use Rattle.std.proofs.Common.{◌≡◌, ◌+◌, ◌-◌, ℕ, List, sym, ap, subst, ◌∙◌, arith, slice_range, take}
+use Rattle.std.proofs.Common.{◌≡◌, ◌+◌, ◌-◌, List, sym, ap, subst, ◌∙◌, arith, slice_range, take}
 use Rattle.hcl_token.specs.declared.place.Place.{Place}
 use Rattle.hcl_token.specs.declared.token.Token.{Token}
 use Rattle.hcl_token.specs.Items.{pairs_from, pairs_of}

@@ -1,4 +1,4 @@
-use Rattle.std.proofs.Common.{◌≡◌, ℕ, List, length, sym, ap, ap₂, subst, ◌∙◌, arith, slice_range, IsUtf8}
+use Rattle.std.proofs.Common.{length, sym, ap, ap₂, subst, ◌∙◌, arith, slice_range, IsUtf8}
 use Rattle.hcl_token.specs.declared.place.Place.{Place}
 use Rattle.hcl_token.specs.declared.token.Token.{Token}
 use Rattle.hcl_token.specs.Items.{pair_at, pairs_of}

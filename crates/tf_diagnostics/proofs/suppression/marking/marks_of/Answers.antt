@@ -28,7 +28,7 @@ loop-i-preserved c =
     let at = rise_next numbers i next (length pairs) within rise in
     let token = slice_index_or numbers i 0 in
     record {
-      places = c.in_ok-mark_comment.ensures.places ∙ c.loop-i.invariant.places;
+      lines = c.in_ok-mark_comment.ensures.lines ∙ c.loop-i.invariant.lines;
       order = (token + 1, at.1, ascend_more 0 _ _ _ c.in_ok-mark_comment.ensures.after (line_next pairs token));
       hit = λ rule line.
           let rest = silences_among pairs rule line (drop (i + 1) numbers) in

@@ -6,7 +6,7 @@ use Rattle.tf_diagnostics.proofs.suppression.marking.marks_of.Given as goal
 
 abbrev pub invariant-loop-i : goal.invariant-loop-i
 invariant-loop-i l = record {
-  places : l.places ≡ l.fn.scanned.pairs;
+  lines : l.lines ≡ l.fn.scanned.pairs;
   order : (next : ℕ) × Rise next (drop l.i-index l.fn.silencing) (length l.fn.scanned.pairs) × Ascend 0 l.marks.items (line_of l.fn.scanned.pairs next);
   hit : (rule : Rule) (line : ℕ)
       → (is_hit rule line l.marks.items || silences_among l.fn.scanned.pairs rule line (drop l.i-index l.fn.silencing)) ≡ silences_among l.fn.scanned.pairs rule line l.fn.silencing;

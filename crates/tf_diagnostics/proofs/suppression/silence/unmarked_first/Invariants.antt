@@ -13,7 +13,7 @@ invariant-loop-i l = record {
   sound : AreSound (length l.fn.scanned.pairs) (drop l.i l.found);
   order : (b : ℕ) × Ascend 0 l.rest b;
   same : (rule : Rule) (at : ℕ) → l.reached ≤ at → is_hit rule at l.rest ≡ is_hit rule at l.fn.marks;
-  places : l.places ≡ l.fn.scanned.pairs;
+  lines : l.lines ≡ l.fn.scanned.pairs;
   kept : take l.kept l.found ++ filter (λ (f : Finding). not (is_hit f.rule (line_of l.fn.scanned.pairs f.first) l.fn.marks)) (drop l.i l.found)
       ≡ filter (λ (f : Finding). not (is_hit f.rule (line_of l.fn.scanned.pairs f.first) l.fn.marks)) l.initial.found;
 }
