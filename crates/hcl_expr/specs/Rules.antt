@@ -59,6 +59,13 @@ module _ (t : Here) where
   abbrev pub expect : Kind → Step (Unit {0})
   expect kind = r.expect t.tokens t.inside kind
 
+  -- nothing comes next
+  abbrev pub ended : Step (Unit {0})
+  ended i = b.ended t.tokens (tokens.next t.tokens false i) i
+
+  abbrev pub eol : Step (Unit {0})
+  eol = b.eol t.tokens
+
   abbrev pub operator : ℕ → Step (Option Operator)
   operator level = p.operator t.tokens t.inside level
 

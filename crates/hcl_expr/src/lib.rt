@@ -15,3 +15,4 @@ mod terms;
 mod words;
 
 pub use reader::Reader;
+pub use stream::same_kind;

@@ -83,4 +83,28 @@ impl<'s, 't> Reader<'s, 't> {
         self.on_lines().expect(Kind::CloseBrace, at)?;
         Ok(false)
     }
+
+    /// Refuses a token that comes next.
+    pub fn ended(&self, at: &mut usize) -> Result<(), TokenFault>
+        ensures { Gives (spec.ended self.now at.old) result at.new }
+    {
+        let lines = self.on_lines();
+        match lines.next(*at) {
+            Some(_kind) => Err(lines.refuse(*at)),
+            None => Ok(()),
+        }
+    }
+
+    /// Takes the end of a line: a line end with the comment before it, or the end of the text after
+    /// a comment or none.
+    #[tactic(auto, unfolding(hcl_grammar::specs::Pure::BodyParser::eol))]
+    pub fn eol(&self, at: &mut usize) -> Result<(), TokenFault>
+        ensures { Gives (spec.eol self.now at.old) result at.new }
+    {
+        if self.line(at) {
+            return Ok(());
+        }
+        let _is_comment = self.on_lines().eat(Kind::LineComment, at);
+        self.ended(at)
+    }
 }

@@ -4,6 +4,7 @@ use Rattle.std.proofs.lemmas.Bool.{cases_Bool, cases_lt, cases_eq, cond-true, co
 use Rattle.std.proofs.lemmas.Str.{IsUtf8-from_is_utf8, is_utf8-from_IsUtf8}
 use Rattle.std.specs.Str.{IsValidUpTo, is_utf8}
 use Rattle.std.specs.Str.Lossy.{valid_len_up_to, utf8_valid_len}
+use Rattle.bstr.proofs.lemmas.LossyLemmas.{utf8_valid_len-cases}
 use Rattle.hcl_token.specs.declared.kind.Kind.{Kind}
 use Rattle.hcl_token.specs.declared.token.Token.{Token}
 use Rattle.hcl_token.specs.Items.{pairs_of}
@@ -55,47 +56,6 @@ go_on (suc fuel) text items at modes places short u c enough =
           (after f.0 (slice_range text start (start + f.1)) modes) (places_after f.0 start modes places) short u more.1 (omega (arith, more.0, enough))
     ] refl
 
--- ---- a text is UTF-8 up to its end, or up to a place
-
-longest_front : (bs : List ℕ) (m : ℕ)
-    → IsUtf8 (take (valid_len_up_to bs m) bs) × ((k : ℕ) → valid_len_up_to bs m < k → k ≤ m → ¬ (IsUtf8 (take k bs)))
-longest_front bs zero = (([], (refl, refl)), λ k above within. absurd (omega arith))
-longest_front bs (suc m) =
-    let rest = longest_front bs m in
-    ⊎_elim
-    (λ yes.
-    let is : valid_len_up_to bs (suc m) ≡ suc m = cond-true _ _ _ yes in
-    (subst (λ n. IsUtf8 (take n bs)) (sym is) (IsUtf8-from_is_utf8 _ yes), λ k above within. absurd (omega arith)))
-    (λ no.
-    let is : valid_len_up_to bs (suc m) ≡ valid_len_up_to bs m = cond-false _ _ _ no in (
-      subst (λ n. IsUtf8 (take n bs)) (sym is) rest.0,
-      λ k above within u. ⊎_elim
-          (λ (top : m < k).
-          let same : k ≡ suc m = omega arith in
-          true≢false (sym (is_utf8-from_IsUtf8 _ (subst (λ n. IsUtf8 (take n bs)) same u)) ∙ no))
-          (λ (low : k ≤ m). rest.1 k (omega arith) low u)
-          (cases_lt m k),
-    ))
-    (cases_Bool (is_utf8 (take (suc m) bs)))
-
-utf8_or_not : (bs : List ℕ) → IsUtf8 bs ⊎ IsValidUpTo bs (utf8_valid_len bs)
-unfolding utf8_valid_len
-utf8_or_not bs =
-    let n = utf8_valid_len bs in
-    let front = longest_front bs (length bs) in
-    ⊎_elim
-    (λ (short : n < length bs). inr (record {
-      short = short;
-      front = front.0;
-      longest = λ m above u. ⊎_elim
-          (λ (past : length bs < m).
-          front.1 (length bs) short (omega arith) (subst IsUtf8 (take_all m bs (omega arith) ∙ sym (take_all (length bs) bs (omega arith))) u))
-          (λ (within : m ≤ length bs). front.1 m above within u)
-          (cases_lt (length bs) m);
-    }))
-    (λ (whole : length bs ≤ n). inl (subst IsUtf8 (take_all n bs whole) front.0))
-    (cases_lt n (length bs))
-
 pub cut_or_fault : (text : List ℕ) → HasCut text ⊎ HasFault text
 cut_or_fault text =
     ⊎_elim
@@ -103,5 +63,5 @@ cut_or_fault text =
     (λ (short : length text ≤ MAX_TEXT). ⊎_elim
     (λ u. go_on (suc (length text)) text (front_items text) (front_length text) [] [] short u (started text u) (omega arith))
     (λ v. inr (NotUtf8 (utf8_valid_len text), inr (inl (utf8_valid_len text, refl, short, v))))
-    (utf8_or_not text))
+    (utf8_valid_len-cases text))
     (cases_lt MAX_TEXT (length text))

@@ -2,3 +2,4 @@ pub mod Longer
 pub mod Rows
 pub mod Apart
 pub mod OneParse
+pub mod OwnTokens

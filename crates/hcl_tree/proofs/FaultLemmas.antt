@@ -15,11 +15,7 @@ use Rattle.hcl_grammar.specs.Tokens.{Token}
 use Rattle.hcl_grammar.specs.declared.bounds.TheConstants.{MAX_NESTING}
 use Rattle.hcl_grammar_laws.specs.Pure.Answering.{FileAnswers, IsAnswer}
 use Rattle.hcl_text_laws.specs.Parses.{Parses}
-use Rattle.hcl_tree.specs.Faults.{IsMemory, IsMemoryOrDeep, in_bytes}
-
--- the text's own tokens are those of its cut
-pub own_tokens : (s : CutText) (t : Tree) (p : Parses s.text t) → s.pairs ≡ p.pairs → IsFile (tokens_of s.pairs) MAX_NESTING t
-own_tokens s t p e = subst (λ (ps : List Pair). IsFile (tokens_of ps) MAX_NESTING t) (sym e) p.derived
+use Rattle.hcl_text_laws.specs.Faults.{IsMemory, IsMemoryOrDeep, in_bytes}
 
 -- what is read by a reader of a text is read of the text's own tokens
 its_reading : (ts : List Token) {here : Here} {r q : Result Tree TokenFault} (new : ℕ) → here ≡ record { tokens = ts; inside = false; depth = MAX_NESTING } → r ≡ q

@@ -1,5 +1,5 @@
 -- For proofs: the rules of the pure parser of bodies, over a text as it is read at one place.
-use Rattle.std.specs.Prelude.{ℕ, suc, false, List, [], length, Option}
+use Rattle.std.specs.Prelude.{ℕ, suc, List, [], length, Option}
 use Rattle.hcl_expr.specs.Rules.{Here}
 use Rattle.hcl_grammar.specs.declared.tree.Content.{Content}
 use Rattle.hcl_grammar.specs.declared.tree.Label.{Label}
@@ -7,16 +7,8 @@ use Rattle.hcl_grammar.specs.declared.tree.Member.{Member}
 use Rattle.hcl_grammar.specs.declared.tree.Tree.{Tree}
 use Rattle.hcl_grammar.specs.Pure.BodyParser as b
 use Rattle.hcl_grammar.specs.Pure.Reading.{Step}
-use Rattle.hcl_grammar.specs.Tokens as tokens
 
 module _ (t : Here) where
-  -- nothing comes next
-  abbrev pub ended : Step (Unit {0})
-  ended i = b.ended t.tokens (tokens.next t.tokens false i) i
-
-  abbrev pub eol : Step (Unit {0})
-  eol = b.eol t.tokens
-
   abbrev pub quoted_label : ℕ → Step Label
   quoted_label first = b.quoted_label t.tokens first
 

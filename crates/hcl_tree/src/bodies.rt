@@ -3,7 +3,7 @@
 //! HCL native syntax specification, Structural Elements.
 
 ghost use Rattle.std.specs.Prelude.{◌≡◌, length, []};
-ghost use Rattle.hcl_grammar.specs.Pure.Reading.{Gives, Reads};
+ghost use Rattle.hcl_grammar.specs.Pure.Reading.{Reads};
 ghost use Rattle.hcl_grammar_laws.specs.Members.{IsMember};
 ghost use Rattle.hcl_tree.specs.Rules as spec;
 
@@ -15,30 +15,6 @@ use hcl_grammar::tree::{Content, Member};
 use hcl_nodes::nodes;
 use hcl_token::Kind;
 use plain_tree::Items;
-
-/// Refuses a token that comes next.
-pub fn ended(reader: &Reader<'_, '_>, at: &mut usize) -> Result<(), TokenFault>
-    ensures { Gives (spec.ended reader.now at.old) result at.new }
-{
-    let lines = reader.on_lines();
-    match lines.next(*at) {
-        Some(_kind) => Err(lines.refuse(*at)),
-        None => Ok(()),
-    }
-}
-
-/// Takes the end of a line: a line end with the comment before it, or the end of the text behind a
-/// comment or none.
-#[tactic(auto, unfolding(hcl_grammar::specs::Pure::BodyParser::eol))]
-fn eol(reader: &Reader<'_, '_>, at: &mut usize) -> Result<(), TokenFault>
-    ensures { Gives (spec.eol reader.now at.old) result at.new }
-{
-    if reader.line(at) {
-        return Ok(());
-    }
-    let _is_comment = reader.on_lines().eat(Kind::LineComment, at);
-    ended(reader, at)
-}
 
 /// At most one attribute, of a block on one line.
 #[tactic(auto, unfolding(hcl_grammar::specs::Pure::BodyParser::on_line))]
@@ -62,7 +38,7 @@ fn attribute(reader: &Reader<'_, '_>, first: usize, at: &mut usize) -> Result<Me
     ensures { Reads (spec.attribute reader.now first at.old) result at.new }
 {
     let value = reader.on_lines().boxed(Goal::Whole, at)?;
-    eol(reader, at)?;
+    reader.eol(at)?;
     Ok(Member::Attribute(nodes::attribute(first, *at, value)))
 }
 
@@ -105,7 +81,7 @@ fn block(reader: &Reader<'_, '_>, first: usize, at: &mut usize) -> Result<Member
     let braces = reader.enter(opening, at)?;
     let content = block_content(&braces, at)?;
     lines.expect(Kind::CloseBrace, at)?;
-    eol(reader, at)?;
+    reader.eol(at)?;
     Ok(nodes::block(first, *at, labels, content)?)
 }
 

@@ -5,13 +5,12 @@
 #![tactic(auto)]
 
 mod bodies;
-mod fault;
 mod labels;
 mod parsing;
 
-pub use bodies::{ended, member};
-pub use fault::ParseFault;
+pub use bodies::member;
 pub use hcl_expr::Reader;
 pub use hcl_grammar::tree::{Attribute, Block, Body, Expr, Template, Term, Tree};
 pub use hcl_grammar::{MAX_NESTING, tree};
-pub use parsing::{in_bytes, parse};
+pub use hcl_text_laws::ParseFault;
+pub use parsing::parse;

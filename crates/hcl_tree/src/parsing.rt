@@ -8,17 +8,17 @@ ghost use Rattle.hcl_grammar.specs.Pure.Reading.{Reads};
 ghost use Rattle.hcl_grammar.specs.declared.tree.Tree as tree;
 ghost use Rattle.hcl_text_laws.specs.Parses.{Parses};
 ghost use Rattle.hcl_scan.specs.Follows.{tokens_of};
+ghost use Rattle.hcl_text_laws.specs.Faults.{IsMemory, IsMemoryOrDeep};
 ghost use Rattle.hcl_tree.specs.Rules as spec;
-ghost use Rattle.hcl_tree.specs.Faults.{IsMemory, IsMemoryOrDeep, start_of, in_bytes};
 
-use crate::bodies::{ended, members};
-use crate::fault::ParseFault;
+use crate::bodies::members;
 use hcl_expr::Reader;
 use hcl_grammar::MAX_NESTING;
 use hcl_grammar::fault::TokenFault;
 use hcl_grammar::tree::Tree;
 use hcl_nodes::nodes;
 use hcl_scan::Scanned;
+use hcl_text_laws::{ParseFault, in_bytes};
 use hcl_token::Kind;
 use std::alloc::Global;
 
@@ -33,35 +33,9 @@ fn file(reader: &Reader<'_, '_>, at: &mut usize) -> Result<Tree, TokenFault>
     let members = members(reader, at)?;
     let to = *at;
     let _is_comment = lines.eat(Kind::LineComment, at);
-    ended(reader, at)?;
+    reader.ended(at)?;
     let first = lines.first_of(from, to);
     Ok(nodes::tree(reader.len(), nodes::body(first, to, members)))
-}
-
-/// The byte where a token begins; the length of the text, if there is none.
-fn start_of(scanned: &Scanned<'_>, number: usize) -> usize
-    ensures { result ≡ start_of scanned.now number }
-{
-    if number < scanned.len() {
-        scanned.item(number).start as usize
-    } else {
-        scanned.text().len()
-    }
-}
-
-/// A fault by the number of its token, as one by its byte.
-pub fn in_bytes(scanned: &Scanned<'_>, fault: TokenFault) -> ParseFault
-    ensures { result ≡ in_bytes scanned.now fault }
-{
-    match fault {
-        TokenFault::Syntax(number) => ParseFault::Syntax {
-            at: start_of(scanned, number),
-        },
-        TokenFault::TooDeep(number) => ParseFault::TooDeep {
-            at: start_of(scanned, number),
-        },
-        TokenFault::Memory => ParseFault::Memory,
-    }
 }
 
 /// The tree of a text, if it parses: if its tokens follow the grammar, with at most 100 constructs

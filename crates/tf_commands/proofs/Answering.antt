@@ -1,8 +1,8 @@
 -- One text has one cut or one fault, and a fix makes one text of it, so each command has one answer.
 use Rattle.std.proofs.Common.{◌≡◌, ◌∙◌, ◌≤◌, ◌<◌, ◌⊎◌, ℕ, List, [], ◌∷◌, length, Result, Ok, Err, refl, sym, ap, subst, inl, inr, arith}
 use Rattle.hcl_token.specs.Tokens.{Pair}
-use Rattle.hcl_tree.specs.declared.fault.ParseFault.{ParseFault}
-use Rattle.hcl_tree.specs.declared.fault.ParseFault.TheVariants.{Syntax, TooDeep}
+use Rattle.hcl_text_laws.specs.declared.fault.ParseFault.{ParseFault}
+use Rattle.hcl_text_laws.specs.declared.fault.ParseFault.TheVariants.{Syntax, TooDeep}
 use Rattle.hcl_scan.specs.declared.fault.ScanFault.{ScanFault}
 use Rattle.hcl_scan.specs.Cut.{IsCut, MAX_TEXT}
 use Rattle.hcl_scan.specs.Fault.{IsFault}

@@ -10,8 +10,8 @@ use Rattle.hcl_scan.specs.Fault.{IsFault}
 use Rattle.hcl_scan.specs.declared.fault.ScanFault.{ScanFault}
 use Rattle.hcl_scan.specs.declared.fault.ScanFault.TheVariants as scan
 use Rattle.hcl_scan.specs.Follows.{tokens_of}
-use Rattle.hcl_tree.specs.Faults.{IsMemory, IsMemoryOrDeep}
-use Rattle.hcl_tree.specs.declared.fault.ParseFault.{ParseFault}
+use Rattle.hcl_text_laws.specs.Faults.{IsMemory, IsMemoryOrDeep}
+use Rattle.hcl_text_laws.specs.declared.fault.ParseFault.{ParseFault}
 use Rattle.hcl_token.specs.CutText.{CutText}
 use Rattle.tf_diagnostics.specs.Findings.{AreFindings}
 use Rattle.tf_lint.specs.Seen.{AreSeen}

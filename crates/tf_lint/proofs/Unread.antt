@@ -10,9 +10,9 @@ use Rattle.hcl_grammar.specs.declared.tree.Tree.{Tree}
 use Rattle.hcl_grammar.specs.Bodies.{IsFile}
 use Rattle.hcl_grammar.specs.declared.bounds.TheConstants.{MAX_NESTING}
 use Rattle.hcl_text_laws.specs.Parses.{Parses}
-use Rattle.hcl_tree.specs.declared.fault.ParseFault.{ParseFault}
-use Rattle.hcl_tree.specs.declared.fault.ParseFault.TheVariants as parse
-use Rattle.hcl_tree.specs.Faults.{IsMemory, IsMemoryOrDeep}
+use Rattle.hcl_text_laws.specs.declared.fault.ParseFault.{ParseFault}
+use Rattle.hcl_text_laws.specs.declared.fault.ParseFault.TheVariants as parse
+use Rattle.hcl_text_laws.specs.Faults.{IsMemory, IsMemoryOrDeep}
 use Rattle.tf_lint.specs.declared.fault.FixFault.{FixFault}
 use Rattle.tf_lint.specs.declared.fault.FixFault.TheVariants.{Scan, Parse, FixBroken, TooLong, Memory}
 use Rattle.tf_lint.specs.Faults.{fault_of_parse}

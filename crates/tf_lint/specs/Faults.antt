@@ -1,7 +1,7 @@
 -- Faults of the layers below as those of a fix: want of memory is always one of its own.
 use Rattle.hcl_scan.specs.declared.fault.ScanFault.{ScanFault}
 use Rattle.hcl_scan.specs.declared.fault.ScanFault.TheVariants.{TooLong, NotUtf8, BadCharacter, BadEscape, OpenString, OpenTemplate, OpenHeredoc, OpenComment, Memory}
-use Rattle.hcl_tree.specs.declared.fault.ParseFault.{ParseFault}
+use Rattle.hcl_text_laws.specs.declared.fault.ParseFault.{ParseFault}
 use Rattle.tf_fix.specs.declared.fault.LintFault.{LintFault}
 use Rattle.tf_lint.specs.declared.fault.FixFault.{FixFault}
 

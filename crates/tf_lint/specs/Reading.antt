@@ -7,8 +7,8 @@ use Rattle.hcl_scan.specs.Follows.{tokens_of}
 use Rattle.hcl_grammar.specs.declared.tree.Tree.{Tree}
 use Rattle.hcl_grammar.specs.Bodies.{IsFile}
 use Rattle.hcl_text_laws.specs.Parses.{Parses}
-use Rattle.hcl_tree.specs.declared.fault.ParseFault.{ParseFault}
-use Rattle.hcl_tree.specs.declared.fault.ParseFault.TheVariants.{Syntax, TooDeep, Memory}
+use Rattle.hcl_text_laws.specs.declared.fault.ParseFault.{ParseFault}
+use Rattle.hcl_text_laws.specs.declared.fault.ParseFault.TheVariants.{Syntax, TooDeep, Memory}
 use Rattle.tf_lint.specs.declared.fault.FixFault.{FixFault}
 
 -- the text does not parse

@@ -6,8 +6,8 @@ ghost use Rattle.tf_fix.specs.Reading.{Reads};
 ghost use Rattle.tf_lint.specs.Reading.{NotRead};
 
 use crate::fault::FixFault;
-use hcl_scan::{Scanned, scan};
 use hcl_check::check;
+use hcl_scan::{Scanned, scan};
 use hcl_tree::parse;
 use std::alloc::Global;
 use tf_fix::Parsed;

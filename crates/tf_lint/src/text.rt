@@ -9,8 +9,8 @@ ghost use Rattle.hcl_grammar.specs.declared.tree.Tree.{Tree};
 ghost use Rattle.hcl_grammar.specs.declared.bounds.TheConstants.{MAX_NESTING};
 ghost use Rattle.hcl_text_laws.specs.Parses.{Parses};
 ghost use Rattle.hcl_scan.specs.Follows.{tokens_of};
-ghost use Rattle.hcl_tree.specs.Faults.{IsMemory, IsMemoryOrDeep};
-ghost use Rattle.hcl_tree.specs.declared.fault.ParseFault.TheVariants.{Memory};
+ghost use Rattle.hcl_text_laws.specs.Faults.{IsMemory, IsMemoryOrDeep};
+ghost use Rattle.hcl_text_laws.specs.declared.fault.ParseFault.TheVariants.{Memory};
 ghost use Rattle.tf_diagnostics.specs.Findings.{AreAtNodesAndBlocks, AreFindings};
 ghost use Rattle.tf_lint.specs.Inner.Seeing.{AreOf};
 ghost use Rattle.tf_lint.specs.Seen.{AreSeen};
@@ -20,8 +20,9 @@ use crate::body::{Gathered, add_all, body};
 use crate::member::SeenMember;
 use hcl_grammar::fault::TokenFault;
 use hcl_scan::Scanned;
+use hcl_text_laws::in_bytes;
 use hcl_token::Kind;
-use hcl_tree::{MAX_NESTING, ParseFault, Reader, ended, in_bytes};
+use hcl_tree::{MAX_NESTING, ParseFault, Reader};
 use std::alloc::Global;
 use tf_diagnostics::complete_findings;
 use tf_rule::{Finding, RuleSet};
@@ -58,7 +59,7 @@ fn file(
     let _is_mark = reader.eat(Kind::Mark, at);
     let members = body(alloc, scanned, rules, old, seen, keep, at)?;
     let _is_comment = reader.eat(Kind::LineComment, at);
-    ended(&reader, at)?;
+    reader.ended(at)?;
     Ok(members)
 }
 

@@ -4,16 +4,8 @@ ghost use Rattle.std.specs.Prelude.{◌≡◌, ◌≢◌, ◌<◌, ◌≤◌, �
 ghost use Rattle.hcl_scan.specs.Follows.{tokens_of};
 ghost use Rattle.tf_reuse.specs.Keeping.{SameTokens};
 
+use hcl_expr::same_kind;
 use hcl_scan::Scanned;
-use hcl_token::Kind;
-
-/// Whether two kinds are one.
-fn same_kind(a: Kind, b: Kind) -> bool
-    ensures same { result ≡ true → a ≡ b }
-    ensures other { result ≡ false → a ≢ b }
-{
-    a == b
-}
 
 /// Whether two spellings are one.
 fn same_spelling(a: &[u8], b: &[u8]) -> bool

@@ -1,5 +1,6 @@
 use Rattle.hcl_scan.specs.Follows.{tokens_of}
-use Rattle.hcl_tree.proofs.FaultLemmas.{its_answer, own_tokens, memory_in_bytes, deep_in_bytes}
+use Rattle.hcl_text_laws.proofs.OwnTokens.{own_tokens}
+use Rattle.hcl_tree.proofs.FaultLemmas.{its_answer, memory_in_bytes, deep_in_bytes}
 use Rattle.hcl_tree.proofs.parsing.parse.Goals as goal
 
 pub returns-in-Ok-clause-parses : goal.returns-in-Ok-clause-parses

@@ -2,9 +2,9 @@
 use Rattle.std.proofs.Common.{◌≡◌, List, ℕ, sym, subst}
 use Rattle.std.specs.Prelude.{Result, IfErr}
 use Rattle.hcl_text_laws.specs.Parses.{Parses}
-use Rattle.hcl_tree.specs.Faults.{IsMemory, IsMemoryOrDeep}
-use Rattle.hcl_tree.specs.declared.fault.ParseFault.TheVariants as parse
-use Rattle.hcl_tree.specs.declared.fault.ParseFault.{ParseFault}
+use Rattle.hcl_text_laws.specs.Faults.{IsMemory, IsMemoryOrDeep}
+use Rattle.hcl_text_laws.specs.declared.fault.ParseFault.TheVariants as parse
+use Rattle.hcl_text_laws.specs.declared.fault.ParseFault.{ParseFault}
 use Rattle.hcl_check.specs.Telling.{IsTooDeep}
 use Rattle.tf_lint.specs.declared.fault.FixFault.{FixFault}
 use Rattle.tf_lint.specs.Reading.{NotRead}

@@ -1,7 +1,8 @@
 use Rattle.std.proofs.Common.{Ok, Err}
 use Rattle.hcl_grammar.specs.declared.bounds.TheConstants.{MAX_NESTING}
 use Rattle.hcl_scan.specs.Follows.{tokens_of}
-use Rattle.hcl_tree.proofs.FaultLemmas.{own_tokens, memory_in_bytes, deep_in_bytes}
+use Rattle.hcl_text_laws.proofs.OwnTokens.{own_tokens}
+use Rattle.hcl_tree.proofs.FaultLemmas.{memory_in_bytes, deep_in_bytes}
 use Rattle.tf_diagnostics.specs.Findings.{AreFindings}
 use Rattle.tf_lint.specs.declared.text.Seen.{Seen}
 use Rattle.tf_lint.proofs.FileLemmas.{if_ok}

@@ -5,8 +5,8 @@ use Rattle.hcl_token.specs.CutText.{CutText, item_of}
 use Rattle.hcl_token.specs.declared.item.Item.{Item}
 use Rattle.hcl_grammar.specs.declared.fault.TokenFault.{TokenFault}
 use Rattle.hcl_grammar.specs.declared.fault.TokenFault.TheVariants as token
-use Rattle.hcl_tree.specs.declared.fault.ParseFault.{ParseFault}
-use Rattle.hcl_tree.specs.declared.fault.ParseFault.TheVariants as fault
+use Rattle.hcl_text_laws.specs.declared.fault.ParseFault.{ParseFault}
+use Rattle.hcl_text_laws.specs.declared.fault.ParseFault.TheVariants as fault
 
 abbrev pub IsMemory : ParseFault → Type 0
 IsMemory fault.Memory = Unit {0}

@@ -1,0 +1,51 @@
+//! Why a text does not parse.
+
+ghost use Rattle.std.specs.Prelude.{◌≡◌};
+ghost use Rattle.hcl_text_laws.specs.Faults.{start_of, in_bytes};
+
+use hcl_grammar::fault::TokenFault;
+use hcl_scan::Scanned;
+use thiserror::Error;
+
+/// Why a text does not parse, and where. Places count bytes from 0.
+///
+/// The text is read from left to right, and the first fault that is met is told.
+#[derive(Clone, Copy, Debug, PartialEq, Eq, Error)]
+pub enum ParseFault {
+    /// The first token that the grammar does not let stand here; the length of the text, where it
+    /// ends too early.
+    #[error("byte {at}: syntax error")]
+    Syntax { at: usize },
+    /// The token that opens the 101st construct in one another.
+    #[error("byte {at}: nested more than 100 deep")]
+    TooDeep { at: usize },
+    /// A growth was refused.
+    #[error("out of memory")]
+    Memory,
+}
+
+/// The byte where a token begins; the length of the text, if there is none.
+fn start_of(scanned: &Scanned<'_>, number: usize) -> usize
+    ensures { result ≡ start_of scanned.now number }
+{
+    if number < scanned.len() {
+        scanned.item(number).start as usize
+    } else {
+        scanned.text().len()
+    }
+}
+
+/// A fault by the number of its token, as one by its byte.
+pub fn in_bytes(scanned: &Scanned<'_>, fault: TokenFault) -> ParseFault
+    ensures { result ≡ in_bytes scanned.now fault }
+{
+    match fault {
+        TokenFault::Syntax(number) => ParseFault::Syntax {
+            at: start_of(scanned, number),
+        },
+        TokenFault::TooDeep(number) => ParseFault::TooDeep {
+            at: start_of(scanned, number),
+        },
+        TokenFault::Memory => ParseFault::Memory,
+    }
+}
