@@ -1,7 +1,7 @@
 //! One step of a fix: from what a rule has found in a text to the exact edits that mend it.
 //!
-//! `fix_step` makes the edits of one rule's step over a text that parses, `found_step` those of one
-//! that was searched already. `taken` counts the findings that one step takes, `mended_edits` makes
+//! `fix_step` makes the edits of one rule's step over a text and its tree, `found_step` those over
+//! what was found already. `taken` counts the findings that one step takes, `mended_edits` makes
 //! its edits. `laws` says what text they lead to.
 #![tactic(auto)]
 

@@ -1,6 +1,6 @@
 //! The step of one rule.
 
-ghost use Rattle.std.specs.Prelude.{◌≡◌, ◌≤◌, ◌⊎◌, true, length, IfOk, IfErr};
+ghost use Rattle.std.specs.Prelude.{◌≡◌, ◌≤◌, ◌⊎◌, ℕ, true, length, IfOk, IfErr};
 ghost use Rattle.hcl_scan.specs.Cut.{MAX_TEXT};
 ghost use Rattle.tf_fix.specs.Reading.{Reads};
 ghost use Rattle.tf_rule.specs.Findings.{AreSound};
@@ -12,9 +12,9 @@ ghost use Rattle.tf_fix.specs.declared.fault.LintFault.TheVariants.{TooLong, Mem
 use crate::fault::LintFault;
 use crate::laws::taken_are_few;
 use crate::mending::mended_edits;
-use crate::parsed::Parsed;
 use crate::taking::taken;
 use edit_list::Edits;
+use hcl_grammar::tree::Tree;
 use hcl_scan::Scanned;
 use hcl_text_laws::laws::parsed_apart;
 use std::alloc::Global;
@@ -31,24 +31,37 @@ pub struct Mended {
     pub edits: Edits,
 }
 
-/// One rule's fix of a text that parses: of what the rule finds, all is mended that can be and
-/// shares no token with what was taken before it, exactly by the stated edits.
+/// The edits of one rule's fix of a text that parses, whose tree is lent with it: of what the rule
+/// finds, all is fixed that can be and shares no token with what was fixed before it.
 ///
-/// `TooLong` where the new text would have more than 16,777,216 bytes, and `Memory`. Whether the
-/// new text parses is not asked.
-pub fn fix_step(alloc: Global, parsed: &Parsed<'_>, rule: Rule) -> Result<Mended, LintFault>
-    requires { Reads parsed.now.scanned.text parsed.now }
-    ensures step { IfOk result (λ mended. IsFixStep rule parsed.now mended.count mended.edits) }
-    ensures few { IfOk result (λ mended. mended.count ≤ MAX_TEXT) }
+/// # Errors
+///
+/// `TooLong` if the new text would have more than 16,777,216 bytes, and `Memory`. It is not an
+/// error that the new text does not parse.
+pub fn fix_step(
+    alloc: Global,
+    scanned: &Scanned<'_>,
+    tree: &Tree,
+    rule: Rule,
+) -> Result<Edits, LintFault>
+    requires { Reads scanned.now.text (record { scanned = scanned.now; tree = tree.now }) }
+    ensures step { IfOk result
+        (λ edits. (count : ℕ)
+        × IsFixStep rule (record { scanned = scanned.now; tree = tree.now }) count edits) }
     ensures fault { IfErr result (λ fault. (fault ≡ Memory)
-        ⊎ ((fault ≡ TooLong) × IsTooLong rule parsed.now)) }
+        ⊎ ((fault ≡ TooLong)
+        × IsTooLong rule (record { scanned = scanned.now; tree = tree.now }))) }
 {
     let only = RuleSet::only(rule);
-    let found = findings(alloc, &parsed.scanned, &parsed.tree, only)?;
-    found_step(alloc, &parsed.scanned, only, &found, rule)
+    let found = findings(alloc, scanned, tree, only)?;
+    match found_step(alloc, scanned, only, &found, rule) {
+        Ok(Mended { count: _, edits }) => Ok(edits),
+        Err(fault) => Err(fault),
+    }
 }
 
-/// The same over what was found in a text by the rules of a set that has the rule.
+/// The edits of one rule's fix of a text in which the rules of a set that has the rule found this,
+/// and how many findings they fix.
 pub fn found_step(
     alloc: Global,
     scanned: &Scanned<'_>,
