@@ -46,7 +46,7 @@ fn again(row: &Row, out: &mut Answer) {
 fn cut_again(old: &Scanned<'_>, text: &[u8], piece: Replaced, out: &mut Answer) {
     parsed_apart();
     let _old_text = old.text();
-    match hcl_tree::check(out.alloc, old) {
+    match hcl_check::check(out.alloc, old) {
         Ok(()) => match scan_again(out.alloc, Vec::new(out.alloc), text, old, &[piece]) {
             Ok(scanned) => cut(&scanned, out),
             Err(fault) => out.refuse(&fault),

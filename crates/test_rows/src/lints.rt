@@ -101,17 +101,13 @@ pub fn searched(row: &Row, scanned: &Scanned<'_>, tree: &Tree, out: &mut Answer)
 }
 
 fn tell_findings(found: &[Finding], scanned: &Scanned<'_>, out: &mut Answer) {
-    match scanned.places(out.alloc) {
-        Ok(places) => {
-            for finding in found {
-                if finding.first() >= scanned.len() {
-                    return out.put("no such token");
-                }
-                tell_finding(finding, places.of(finding.first()), out);
-                out.put("; ");
-            }
+    let mut places = scanned.places();
+    for finding in found {
+        if finding.first() >= scanned.len() {
+            return out.put("no such token");
         }
-        Err(fault) => out.refuse(&fault),
+        tell_finding(finding, places.of(finding.first()), out);
+        out.put("; ");
     }
 }
 

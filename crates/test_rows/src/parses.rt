@@ -19,11 +19,23 @@ pub fn answer(row: &Row, out: &mut Answer) {
 pub fn read(row: &Row, text: &[u8], out: &mut Answer) {
     match scan(out.alloc, text) {
         Ok(scanned) => match parse(out.alloc, &scanned) {
-            Ok(tree) => tell(row, &scanned, &tree, out),
-            Err(fault) => out.show(&fault),
+            Ok(tree) => {
+                check_says(&scanned, None, out);
+                tell(row, &scanned, &tree, out);
+            }
+            Err(fault) => {
+                check_says(&scanned, Some(fault), out);
+                out.show(&fault);
+            }
         },
         Err(fault) => out.refuse(&fault),
     }
+}
+
+/// The parser that makes no tree has the same answer, with the same fault at the same byte.
+fn check_says(scanned: &Scanned<'_>, fault: Option<ParseFault>, out: &mut Answer) {
+    let is_said = hcl_check::check(out.alloc, scanned).err() == fault;
+    out.hold(is_said, "the check says otherwise");
 }
 
 /// That there is a tree, or how many tokens it has, how many its body, and how many members that

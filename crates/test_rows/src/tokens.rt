@@ -69,17 +69,20 @@ fn gap(gap: &[u8], out: &mut Answer) {
     out.put(")");
 }
 
-/// The line and the column of each token.
+/// The line and the column of each token, which are told alike in all ways.
 fn places(scanned: &Scanned<'_>, out: &mut Answer) {
-    match scanned.places(out.alloc) {
-        Ok(places) => {
-            for i in 0..scanned.len() {
-                let place = places.of(i);
-                let (line, column) = (place.line, place.column);
-                let _ = write!(out, "{line}:{column} ");
-            }
-        }
-        Err(fault) => out.refuse(&fault),
+    let mut places = scanned.places();
+    let mut lines = scanned.lines();
+    for i in 0..scanned.len() {
+        let place = places.of(i);
+        let (line, column) = (place.line, place.column);
+        let _ = write!(out, "{line}:{column} ");
+        out.hold(lines.of(i) == line, "another line");
+    }
+    if !scanned.is_empty() {
+        let first = scanned.place_of(0);
+        out.hold(places.of(0) == first, "another place of the first token");
+        out.hold(lines.of(0) == first.line, "another line of the first token");
     }
 }
 
