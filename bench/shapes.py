@@ -122,8 +122,8 @@ SHAPES = {
     # the same where a long token stands before the first operand, from which the issues' columns are counted
     "equality-behind-text": (100000, lambda n: 'x = ["' + "a" * (10 * n) + '", b' + " == []" * n + "]\n"),
     "equality-behind-wide-text": (100000, lambda n: 'x = ["' + "ä" * (5 * n) + '", b' + " == []" * n + "]\n"),
-    # and where that token has letters with combining marks, and 60 issues come after it
-    "issues-behind-marked-text": (1300000, lambda n: 'x = ["' + "e\u0301" * n + '", b' + " == []" * 60 + "]\n"),
+    # long tokens of letters with combining marks, each with 60 issues behind it in the same line
+    "issues-behind-marked-text": (190, lambda n: lines(n, lambda i: f'a{i} = ["' + "e\u0301" * 7000 + '", b' + ".0" * 60 + "]\n")),
     # 70,000 silencing comments, and 280,000; 100,000 on one line, and 400,000; one with very many names
     "silenced": (70000, lambda n: lines(n, lambda i: f"# tflint-ignore: terraform_deprecated_index\na{i} = b.0\n")),
     "silenced-on-a-line": (100000, lambda n: "x = [" + lines(n, lambda i: "/* tflint-ignore: all */ b.0, ") + "]\n"),

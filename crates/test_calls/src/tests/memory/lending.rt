@@ -4,7 +4,7 @@ use super::begin;
 use super::inputs::{FIRST, JOURNAL, LAST, LINE, TEXT, bytes_of, edits_of, journal_of, roomy};
 use crate::tests::{Host, given};
 use edit_record::{Edit, Edits, Journal, Record, Word};
-use hcl_scan::{Item, Kind, MAX_TEXT, ScanFault, Scanned, scan};
+use hcl_scan::{Item, Kind, MAX_TEXT, Place, ScanFault, Scanned, scan};
 use std::io;
 use std::io::{Error, ErrorKind, Read, Write};
 use tf_lint::{Rule, RuleSet};
@@ -67,6 +67,35 @@ fn makes(scanned: &Scanned<'_>, text: &[u8]) -> bool {
         }
     }
     left == scanned.last_gap()
+}
+
+/// The place of the comment, which is the fourth token of the line: by itself, in order, and after
+/// a later one.
+#[test]
+fn no_memory_places(rt: HostRuntime) {
+    let scanned = given(&rt, scan(rt.alloc(), LINE));
+    begin(&rt);
+    assert!(rt; scanned.len() == 5);
+    assert!(rt; are_its_places(&scanned));
+}
+
+fn are_its_places(scanned: &Scanned<'_>) -> bool {
+    if scanned.len() != 5 {
+        return false;
+    }
+    let right = Place { line: 1, column: 7 };
+    let mut places = scanned.places();
+    let mut lines = scanned.lines();
+    let last = places.of(4);
+    scanned.place_of(3) == right
+        && places.of(3) == right
+        && last
+            == (Place {
+                line: 1,
+                column: 13,
+            })
+        && lines.of(4) == 1
+        && lines.of(3) == 1
 }
 
 /// A text that is too long, and one that is not UTF-8.

@@ -1,13 +1,13 @@
 //! Calls on one text: its tokens, its tree, its layout, its issues.
 
 use super::alike::are_same_edits;
-use super::inputs::{LINE, SHORT, TEXT, changed, session_of};
+use super::inputs::{SHORT, TEXT, changed, session_of};
 use super::{answered, begin};
 use crate::tests::given;
 use hcl_layout::LayoutFault;
-use hcl_scan::{ScanFault, Scanned};
+use hcl_scan::ScanFault;
 use hcl_tree::ParseFault;
-use std::alloc::{AllocError, Global};
+use std::alloc::AllocError;
 use tf_lint::{FixFault, LintFault, NewText, Place, Rule, RuleSet, lines_of_issues, read_text};
 use tf_session::Command;
 
@@ -21,24 +21,6 @@ fn scan(rt: HostRuntime) {
         let scanned = answered(&rt, answer, ScanFault::Memory, true);
         assert!(rt; scanned.len() == count);
     }
-}
-
-/// The place of the comment, which is the fourth token of the line.
-fn comment_place(alloc: Global, scanned: &Scanned<'_>) -> Result<Option<Place>, AllocError> {
-    let places = scanned.places(alloc)?;
-    if scanned.len() != 5 {
-        return Ok(None);
-    }
-    Ok(Some(places.of(3)))
-}
-
-#[test]
-fn places(rt: HostRuntime) {
-    let scanned = given(&rt, hcl_scan::scan(rt.alloc(), LINE));
-    begin(&rt);
-    let answer = comment_place(rt.alloc(), &scanned);
-    let place = answered(&rt, answer, AllocError, true);
-    assert!(rt; place == Some(Place { line: 1, column: 7 }));
 }
 
 #[test]
@@ -125,15 +107,17 @@ fn fix_step(rt: HostRuntime) {
     let parsed = given(&rt, read_text(rt.alloc(), TEXT));
     let mut steps = Vec::new(rt.alloc());
     for rule in Rule::ALL {
-        let right = given(&rt, tf_lint::fix_step(rt.alloc(), &parsed, rule));
+        let right = given(
+            &rt,
+            tf_lint::fix_step(rt.alloc(), &parsed.scanned, &parsed.tree, rule),
+        );
         given(&rt, steps.push((rule, right)));
     }
     begin(&rt);
     for (rule, right) in &steps {
-        let answer = tf_lint::fix_step(rt.alloc(), &parsed, *rule);
+        let answer = tf_lint::fix_step(rt.alloc(), &parsed.scanned, &parsed.tree, *rule);
         let made = answered(&rt, answer, LintFault::Memory, true);
-        assert!(rt; made.count == right.count);
-        assert!(rt; are_same_edits(&made.edits, &right.edits));
+        assert!(rt; are_same_edits(&made, right));
     }
 }
 
