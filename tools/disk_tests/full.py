@@ -10,7 +10,8 @@ from scenes import COMMANDS, TEXT, Scene, long_text, name_of
 # How many runs there are at least.
 LEAST = {"btrfs": 130, "ext4": 500, "tmpfs": 500}
 # Small files on a disk that copies, and how many of them are removed.
-SPARES, REMOVED = 32, [0, 1, 2, 3, 4, 6, 8, 16, 32]
+SPARES, REMOVED = 64, [*range(0, 32, 2), 32, 48, 64]
+SPARE_SIZE = 1 << 16
 
 
 def fill_file(name, count, piece):
@@ -70,7 +71,7 @@ class CopyingDisk(Disk):
     def __init__(self, folder):
         super().__init__(folder)
         # most of it is filled once
-        fill_file(self.filler, 4, bytes(1 << 20))
+        fill_file(self.filler, 8, bytes(1 << 20))
         for size in (1 << 20, 1 << 16, 1 << 12):
             fill_file(f"{folder}/most", None, bytes(size))
         self.free()
@@ -82,7 +83,7 @@ class CopyingDisk(Disk):
     def fill(self, way, left):
         """Fills the disk, and removes small files."""
         for number in range(SPARES):
-            fill_file(f"{self.folder}/spare{number}", 1, bytes(16384))
+            fill_file(f"{self.folder}/spare{number}", 1, bytes(SPARE_SIZE))
         for size in (1 << 20, 1 << 16, 1 << 12):
             fill_file(self.filler, None, bytes(size))
         for number in range(left):

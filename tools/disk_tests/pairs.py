@@ -1,6 +1,8 @@
 """A second command runs at each call of a first: whole, killed at each of its own calls, or held
-there until the first has ended."""
+there until the first has ended. Then two run at once."""
 import os
+import random
+import subprocess
 import time
 
 import images
@@ -18,6 +20,9 @@ PAIRS = [
     ("fix fmt", "revert", "revert"),
 ]
 WAIT = "do sleep 0.0005; done"
+# How often two commands run at once, of which one in 200 may meet the last instant of the other,
+# and by how many seconds the second may be later.
+RACES, LONGEST_DELAY = 400, 0.003
 
 
 class Pair:
@@ -29,8 +34,17 @@ class Pair:
         self.log = f"{self.disk}/second"
         scene.begin()
         self.calls = self.program.calls(scene.folder, first)
+        self.instant = self.last_instant()
         orders = [(), (first,), (second,), (first, second), (second, first)]
         self.whole = {self.after(*order) for order in orders}
+
+    def last_instant(self):
+        """Returns the numbers of the calls from the last look at the new journal to the rename: what
+        takes the place of a new file then is put."""
+        end = self.calls.index(RENAME) + 1
+        looks = [at for at in range(1, end) if self.calls[at - 1] == "statx main.tf.tfundo.new"]
+        # the first look is that of the recovery
+        return range(looks[-1] + 1 if len(looks) > 1 else end, end + 1)
 
     def after(self, *commands):
         """Returns FILE and journal after commands that run one after the other."""
@@ -58,7 +72,8 @@ class Pair:
         if number > len(calls):
             return False
         met = calls[number - 1] if number else "no call"
-        self.judge(ran, self.calls[at - 1], f"{self.second} {how} at {met}", met)
+        is_instant = at in self.instant or how == "held" and met == RENAME
+        self.judge(ran, is_instant, f"{self.calls[at - 1]}, {self.second} {how} at {met}")
         return True
 
     def hold(self, at, number):
@@ -74,23 +89,56 @@ class Pair:
             time.sleep(0.0005)
         return ran
 
-    def judge(self, ran, call, second, met):
+    def judge(self, ran, is_instant, met):
         """Judges what two commands have left."""
         scene = self.scene
-        where = (self.first, "of", scene, "at", call, "and", second, "status", ran.returncode)
+        where = (self.first, "of", scene, "at", met, "status", ran.returncode)
         where += (ran.stderr.decode().strip(), "left", scene.leftovers())
         text = scene.state()[0]
         self.program.recover(scene.folder)
-        state = scene.state()
-        is_instant = call == RENAME or " held " in second and met == RENAME
-        is_text = state[0] == text and text in {whole[0] for whole in self.whole}
-        name = "whole" if state in self.whole else "journal unfit" if is_text else "FILE torn"
+        name = self.name(text)
         self.check.see(name + (" in the last instant" if is_instant and name != "whole" else ""))
         if not is_instant:
-            self.check.require(is_text, "FILE is not whole", *where)
+            self.check.require(name == "whole", name, *where)
             self.check.require(text or ran.returncode, "FILE is empty, status 0", *where)
-            self.check.require(state in self.whole or not is_text, "journal unfit", *where)
         self.check.require(not scene.leftovers(), "left", *where)
+
+    def name(self, text):
+        """Says what FILE and journal are; FILE had a text before the last command."""
+        state = self.scene.state()
+        if state[0] != text or text not in {whole[0] for whole in self.whole}:
+            return "FILE is torn"
+        return "whole" if state in self.whole else "the journal does not fit"
+
+    def race(self, chance):
+        """Runs both at once, the second a moment later; judges what they leave."""
+        self.scene.begin()
+        quiet = {"stdout": subprocess.DEVNULL, "stderr": subprocess.DEVNULL}
+        running = []
+        for command in (self.first, self.second):
+            words = self.program.words(command)
+            running.append(subprocess.Popen(words, cwd=self.scene.folder, **quiet))
+            time.sleep(chance.random() * LONGEST_DELAY)
+        statuses = [one.wait() for one in running]
+        text = self.scene.state()[0]
+        self.program.recover(self.scene.folder)
+        name = self.name(text)
+        self.check.see(name)
+        self.check.require(name != "FILE is torn", name, *statuses)
+        self.check.require(not self.scene.leftovers(), "left", *statuses)
+
+
+def race(program, history, first, second):
+    """Runs two commands at once, again and again."""
+    check = Check(f"pairs, {first} and {second} at once", "races", RACES)
+    chance = random.Random(f"{first} {second}")
+    with images.new_disk(program, f"race-{first}-{second}", KIND) as disk:
+        both = Pair(check, Scene(program, f"{disk}/s", "name", history), first, second)
+        for _ in range(RACES):
+            both.race(chance)
+    unfit = check.outcomes["the journal does not fit"]
+    check.require(unfit <= RACES // 200, f"the journal does not fit, {unfit} times")
+    return check
 
 
 def pair(program, history, first, second):
@@ -110,3 +158,4 @@ def pair(program, history, first, second):
 
 
 JOBS = [(pair, *both) for both in PAIRS]
+JOBS += [(race, "fix", "fmt", "fmt"), (race, "fix", "fmt", "revert")]
