@@ -39,8 +39,8 @@ class Pair:
         self.whole = {self.after(*order) for order in orders}
 
     def last_instant(self):
-        """Returns the numbers of the calls from the last look at the new journal to the rename: what
-        takes the place of a new file then is put."""
+        """Returns the numbers of the calls that follow the last look at the new journal, up to the
+        rename: what takes the place of a new file in that time is put."""
         end = self.calls.index(RENAME) + 1
         looks = [at for at in range(1, end) if self.calls[at - 1] == "statx main.tf.tfundo.new"]
         # the first look is that of the recovery
