@@ -1,7 +1,7 @@
 //! Makes the system calls that save a file with its journal, in the order of `tf_saving`.
 
 use crate::adoption::can_adopt;
-use crate::new_file::{copy_attributes, create_new, is_same_file};
+use crate::new_file::{copy_attributes, create_new, find_own_new};
 use crate::parts::{put_part, session_part, unwritten};
 use crate::places::{Places, tells_absence};
 use crate::saving::NewBytes;
@@ -14,6 +14,19 @@ use std::rt::Files;
 use tf_saving::{Call, End, Part, Reply, Step};
 use tf_session::RunFault;
 
+/// What is known of a part's new file.
+#[derive(Drop)]
+pub enum NewFile<F: Drop> {
+    /// An interrupted command may have left one.
+    Left,
+    /// This command has created none; another may have.
+    NotCreated,
+    /// Its creation failed, and may have been done all the same.
+    InDoubt,
+    /// It stays open until it replaces the old one, so that no other file gets its inode meanwhile.
+    Created(F),
+}
+
 /// One of the two files that are saved.
 #[derive(Drop)]
 pub struct PartFile<'a, F: Drop> {
@@ -25,9 +38,7 @@ pub struct PartFile<'a, F: Drop> {
     pub new: &'a str,
     /// The name of the text's file.
     pub text: &'a str,
-    /// The new file, from its creation on. It stays open until it is compared, so that no other
-    /// file gets its inode meanwhile.
-    pub created: Option<F>,
+    pub new_file: NewFile<F>,
     bytes: &'a [u8],
     /// How many bytes were written.
     sent: usize,
@@ -36,37 +47,50 @@ pub struct PartFile<'a, F: Drop> {
     is_out_of_memory: bool,
 }
 
-/// Makes the calls from this step on. Returns whether the new files have replaced the old ones: if
-/// they can't, both are to be written in place.
+/// Makes the calls of a save. Returns whether the new files have replaced the old ones: if they
+/// can't, both are to be written in place.
 ///
 /// # Errors
 /// `Write` with the part and the number of its bytes that were written; `Read` where it is not
-/// known what the next recovery will find; `Memory`.
-pub fn follow<R: Files>(
+/// known what the next recovery will find.
+pub fn replace<R: Files>(
     rt: &R,
     alloc: Global,
     places: &Places<'_>,
     bytes: NewBytes<'_>,
     read: Option<Snapshot>,
-    first: Step,
 ) -> Result<bool, RunFault> {
-    let mut text = text_file::<R::File>(places, bytes.text, read);
-    let mut journal = journal_file::<R::File>(places, bytes.journal);
-    let end = end_of(rt, alloc, &mut text, &mut journal, first);
+    let mut text = text_file::<R::File>(places, bytes.text, read, NewFile::NotCreated);
+    let mut journal = journal_file::<R::File>(places, bytes.journal, NewFile::NotCreated);
+    let end = end_of(rt, alloc, &mut text, &mut journal, Step::SAVE);
     outcome(end, &text, &journal)
+}
+
+/// Makes the calls of a recovery.
+///
+/// # Errors
+/// `Read` where it is not known what was interrupted; `Write` of the journal where a new one can't
+/// be removed or renamed; `Memory`.
+pub fn recover<R: Files>(rt: &R, alloc: Global, places: &Places<'_>) -> Result<(), RunFault> {
+    let mut text = text_file::<R::File>(places, &[], None, NewFile::Left);
+    let mut journal = journal_file::<R::File>(places, &[], NewFile::Left);
+    let end = end_of(rt, alloc, &mut text, &mut journal, Step::RECOVER);
+    outcome(end, &text, &journal)?;
+    Ok(())
 }
 
 fn text_file<'a, F: Drop>(
     places: &'a Places<'_>,
     bytes: &'a [u8],
     read: Option<Snapshot>,
+    new_file: NewFile<F>,
 ) -> PartFile<'a, F> {
     PartFile {
         given: places.text,
         own: places.real_text.as_str(),
         new: places.new_text.as_str(),
         text: places.text,
-        created: None,
+        new_file,
         bytes,
         sent: 0,
         read,
@@ -74,13 +98,17 @@ fn text_file<'a, F: Drop>(
     }
 }
 
-fn journal_file<'a, F: Drop>(places: &'a Places<'_>, bytes: &'a [u8]) -> PartFile<'a, F> {
+fn journal_file<'a, F: Drop>(
+    places: &'a Places<'_>,
+    bytes: &'a [u8],
+    new_file: NewFile<F>,
+) -> PartFile<'a, F> {
     PartFile {
         given: places.journal.as_str(),
         own: places.journal.as_str(),
         new: places.new_journal.as_str(),
         text: places.text,
-        created: None,
+        new_file,
         bytes,
         sent: 0,
         read: None,
@@ -157,7 +185,7 @@ fn make<R: Files>(rt: &R, alloc: Global, file: &mut PartFile<'_, R::File>, call:
         Call::Compare => compare(rt, file),
         Call::CanAdopt => adopt(rt, alloc, file),
         Call::Rename(_) => rename(rt, file),
-        Call::Remove(_) => reply_to(fs::remove_file(rt, file.new)),
+        Call::Remove(_) => remove(rt, file),
     }
 }
 
@@ -181,7 +209,7 @@ fn open<R: Files>(rt: &R, name: &str) -> Reply {
 }
 
 fn write<F: Write + Drop>(part: Part, file: &mut PartFile<'_, F>) -> Reply {
-    let Some(created) = &mut file.created else {
+    let NewFile::Created(created) = &mut file.new_file else {
         return Reply::Failed;
     };
     match put_part(session_part(part), file.bytes, created) {
@@ -198,9 +226,9 @@ fn write<F: Write + Drop>(part: Part, file: &mut PartFile<'_, F>) -> Reply {
 }
 
 fn sync<F: OpenFile + Drop>(file: &mut PartFile<'_, F>) -> Reply {
-    match &file.created {
-        Some(created) => reply_to(created.sync_all()),
-        None => Reply::Failed,
+    match &file.new_file {
+        NewFile::Created(created) => reply_to(created.sync_all()),
+        _ => Reply::Failed,
     }
 }
 
@@ -227,11 +255,12 @@ fn reply_to_sync(answer: io::Result<()>) -> Reply {
 
 /// Nothing of what was written is to be reported where another program has changed a file.
 fn compare_new<R: Files>(rt: &R, file: &mut PartFile<'_, R::File>) -> Reply {
-    if is_same_file(rt, file) {
-        Reply::Done
-    } else {
-        file.sent = 0;
-        Reply::Failed
+    match find_own_new(rt, file) {
+        Reply::Done => Reply::Done,
+        _ => {
+            file.sent = 0;
+            Reply::Failed
+        }
     }
 }
 
@@ -256,10 +285,22 @@ fn adopt<R: Files>(rt: &R, alloc: Global, journal: &mut PartFile<'_, R::File>) -
     }
 }
 
-/// Nothing is renamed over what is mounted.
+/// Renames no file that another command is known to have created since, and nothing over what is
+/// mounted.
 fn rename<R: Files>(rt: &R, file: &PartFile<'_, R::File>) -> Reply {
+    if matches!(find_own_new(rt, file), Reply::NotFound) {
+        return Reply::Failed;
+    }
     match fs::rename(rt, file.new, file.own) {
         Err(error) if error.kind() == ErrorKind::ResourceBusy => Reply::CannotReplace,
         answer => reply_to(answer),
+    }
+}
+
+/// Removes no file that another command is known to have created since.
+fn remove<R: Files>(rt: &R, file: &PartFile<'_, R::File>) -> Reply {
+    match find_own_new(rt, file) {
+        Reply::NotFound => Reply::NotFound,
+        _ => reply_to(fs::remove_file(rt, file.new)),
     }
 }

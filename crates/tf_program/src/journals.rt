@@ -1,7 +1,8 @@
 //! Files that have their journals beside them.
 
+use crate::calls::recover;
 use crate::places::{Places, is_absent, tells_absence};
-use crate::saving::{NewBytes, recover, save};
+use crate::saving::{NewBytes, save};
 use crate::snapshot::Snapshot;
 use std::alloc::Global;
 use std::io::{ErrorKind, Read};

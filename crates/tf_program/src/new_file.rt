@@ -1,6 +1,6 @@
 //! The new file that is to replace an old one.
 
-use crate::calls::PartFile;
+use crate::calls::{NewFile, PartFile};
 use crate::places::tells_absence;
 use std::fs::{self, Metadata, OpenFile, OpenOptions};
 use std::io::{self, ErrorKind};
@@ -24,11 +24,15 @@ pub fn create_new<R: Files>(rt: &R, file: &mut PartFile<'_, R::File>) -> Reply {
     options.write(true).create_new(true).mode(PRIVATE);
     match options.open(rt, file.new) {
         Ok(created) => {
-            file.created = Some(created);
+            file.new_file = NewFile::Created(created);
             Reply::Done
         }
         Err(error) if error.kind() == ErrorKind::AlreadyExists => reply_if_taken(rt, file.new),
-        Err(error) => reply_to_refusal(&error),
+        Err(error) if is_ruled_out(&error) => Reply::CannotReplace,
+        Err(_) => {
+            file.new_file = NewFile::InDoubt;
+            Reply::Failed
+        }
     }
 }
 
@@ -47,13 +51,21 @@ fn reply_if_taken<R: Files>(rt: &R, name: &str) -> Reply {
     }
 }
 
-/// Returns whether a refusal says that no new file may be here, or that one can't be like the old.
+/// Returns the reply to a call that failed with this error.
 fn reply_to_refusal(error: &io::Error) -> Reply {
-    match error.kind() {
-        ErrorKind::PermissionDenied | ErrorKind::ReadOnlyFilesystem | ErrorKind::InvalidFilename =>
-            Reply::CannotReplace,
-        _ => Reply::Failed,
+    if is_ruled_out(error) {
+        Reply::CannotReplace
+    } else {
+        Reply::Failed
     }
+}
+
+/// Returns whether this error says that no new file may be here, or that one can't be like the old.
+fn is_ruled_out(error: &io::Error) -> bool {
+    matches!(
+        error.kind(),
+        ErrorKind::PermissionDenied | ErrorKind::ReadOnlyFilesystem | ErrorKind::InvalidFilename
+    )
 }
 
 /// Gives the new file the owner, group and mode of the old one; to a first journal those of the
@@ -63,8 +75,8 @@ pub fn copy_attributes<R: Files>(rt: &R, file: &PartFile<'_, R::File>) -> Reply 
         Err(error) if tells_absence(&error) => fs::metadata(rt, file.text),
         found => found,
     };
-    match (old, &file.created) {
-        (Ok(old), Some(created)) => make_like(rt, &old, file.new, created),
+    match (old, &file.new_file) {
+        (Ok(old), NewFile::Created(created)) => make_like(rt, &old, file.new, created),
         _ => Reply::Failed,
     }
 }
@@ -88,13 +100,26 @@ fn make_like<R: Files>(rt: &R, old: &Metadata, name: &str, created: &R::File) ->
     }
 }
 
-/// Returns whether the file of the new file's name is the one that was created.
-pub fn is_same_file<R: Files>(rt: &R, file: &PartFile<'_, R::File>) -> bool {
-    let Some(created) = &file.created else {
-        return false;
-    };
-    match (created.metadata(), fs::symlink_metadata(rt, file.new)) {
-        (Ok(created), Ok(found)) => created.dev() == found.dev() && created.ino() == found.ino(),
-        _ => false,
+/// Looks whether the file of the new file's name is this command's own: `NotFound` where there is
+/// none, or another one. A recovery takes any for its own.
+pub fn find_own_new<R: Files>(rt: &R, file: &PartFile<'_, R::File>) -> Reply {
+    match &file.new_file {
+        NewFile::Left | NewFile::InDoubt => Reply::Done,
+        NewFile::NotCreated => Reply::NotFound,
+        NewFile::Created(created) => find_created(rt, created, file.new),
+    }
+}
+
+fn find_created<R: Files>(rt: &R, created: &R::File, name: &str) -> Reply {
+    match (created.metadata(), fs::symlink_metadata(rt, name)) {
+        (Ok(created), Ok(found)) => {
+            if created.dev() == found.dev() && created.ino() == found.ino() {
+                Reply::Done
+            } else {
+                Reply::NotFound
+            }
+        }
+        (Ok(_), Err(error)) if tells_absence(&error) => Reply::NotFound,
+        _ => Reply::Failed,
     }
 }

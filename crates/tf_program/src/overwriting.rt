@@ -29,9 +29,9 @@ pub fn overwrite<R: Files>(
 ) -> Result<(), RunFault> {
     let old_journal = Old::under(rt, alloc, &places.journal)?;
     let old_text = Old::under(rt, alloc, places.text)?;
-    // the bytes to put back are those that were read
-    if Snapshot::of(rt, places.text) != read {
-        return Err(unwritten(Part::Text, 0));
+    if let Err(fault) = prepare(rt, places, read) {
+        old_journal.remove_new(rt, &places.journal);
+        return Err(fault);
     }
     let put = write_both(rt, places, bytes);
     if put.is_err() {
@@ -41,10 +41,20 @@ pub fn overwrite<R: Files>(
     put
 }
 
+/// Creates the journal where there is none. The text is compared once more after it: the bytes to put
+/// back are those that were read.
+fn prepare<R: Files>(rt: &R, places: &Places<'_>, read: Option<Snapshot>) -> Result<(), RunFault> {
+    create_journal(rt, places)?;
+    if Snapshot::of(rt, places.text) == read {
+        Ok(())
+    } else {
+        Err(unwritten(Part::Text, 0))
+    }
+}
+
 /// Until both are written no byte is cut off. So a disk that is full is met before anything is
 /// lost, or after bytes that can be put back with no more space.
 fn write_both<R: Files>(rt: &R, places: &Places<'_>, bytes: NewBytes<'_>) -> Result<(), RunFault> {
-    create_journal(rt, places)?;
     let journal = write_over(rt, Part::Journal, bytes.journal, &places.journal)?;
     let text = write_over(rt, Part::Text, bytes.text, places.text)?;
     cut(Part::Text, &text, bytes.text.len())?;
@@ -134,6 +144,13 @@ impl Old {
             }
             Err(_) if is_absent(rt, name) => Ok(Old::Nothing),
             _ => Ok(Old::Other),
+        }
+    }
+
+    /// Removes what is under the name if nothing was there.
+    fn remove_new<R: Files>(&self, rt: &R, name: &str) {
+        if matches!(self, Old::Nothing) {
+            let _ = fs::remove_file(rt, name);
         }
     }
 

@@ -1,12 +1,11 @@
 //! Saves a text with its journal, so that after an error both files are as they were.
 
-use crate::calls::follow;
+use crate::calls::replace;
 use crate::overwriting::overwrite;
 use crate::places::Places;
 use crate::snapshot::Snapshot;
 use std::alloc::Global;
 use std::rt::Files;
-use tf_saving::Step;
 use tf_session::RunFault;
 
 /// The bytes that a file and its journal are to have.
@@ -29,23 +28,9 @@ pub fn save<R: Files>(
     bytes: NewBytes<'_>,
     read: Option<Snapshot>,
 ) -> Result<(), RunFault> {
-    let is_replaced = follow(rt, alloc, places, bytes, read, Step::SAVE)?;
+    let is_replaced = replace(rt, alloc, places, bytes, read)?;
     if is_replaced {
         return Ok(());
     }
     overwrite(rt, alloc, places, bytes, read)
-}
-
-/// Recovers from a command that was interrupted, so that text and journal are both old or both new.
-///
-/// # Errors
-/// `Read` where it is not known what was interrupted; `Write` of the journal where a new journal
-/// can't be removed or renamed.
-pub fn recover<R: Files>(rt: &R, alloc: Global, places: &Places<'_>) -> Result<(), RunFault> {
-    let nothing = NewBytes {
-        journal: &[],
-        text: &[],
-    };
-    follow(rt, alloc, places, nothing, None, Step::RECOVER)?;
-    Ok(())
 }

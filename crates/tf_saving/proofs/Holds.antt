@@ -63,23 +63,27 @@ ChangesNothing (Error part) = Unit {0}
 ChangesNothing Unknown = ⊥
 ChangesNothing Late = ⊥
 
+-- there is a new text with this content, and no new journal
+abbrev pub HasNewText : Pair → File → Disk → Type 0
+HasNewText p file d = IsUnrenamed p d × (d.text.current.new ≡ Some file) × InAll HasNoNew d.journal
+
 -- in a save
 abbrev pub HoldsWhileSaving : Pair → Contents → Step → Disk → Type 0
 HoldsWhileSaving old s OpenJournal d = IsStable old d
 HoldsWhileSaving old s OpenText d = IsStable old d
 HoldsWhileSaving old s SyncEarlierRename d = IsStable old d
 HoldsWhileSaving old s CreateText d = IsUnrenamed old d
-HoldsWhileSaving old s CopyTextAttributes d = IsUnrenamed old d × (d.text.current.new ≡ Some Empty) × InAll HasNoNew d.journal
-HoldsWhileSaving old s SyncTextName d = IsUnrenamed old d × (d.text.current.new ≡ Some Empty) × InAll HasNoNew d.journal
+HoldsWhileSaving old s CopyTextAttributes d = HasNewText old Empty d
+HoldsWhileSaving old s WriteText d = HasNewText old Empty d
+HoldsWhileSaving old s SyncText d = HasNewText old (Unsynced s.text) d
+HoldsWhileSaving old s SyncTextName d = HasNewText old (Durable s.text) d
 HoldsWhileSaving old s CreateJournal d =
     InAll (OwnsWithNew old.text) d.text
-    × (d.text.current.new ≡ Some Empty)
+    × (d.text.current.new ≡ Some (Durable s.text))
     × InAll (OwnsAlone old.journal) d.journal
-HoldsWhileSaving old s CopyJournalAttributes d = HasNewFiles old Empty Empty d
-HoldsWhileSaving old s WriteJournal d = HasNewFiles old Empty Empty d
-HoldsWhileSaving old s SyncJournal d = HasNewFiles old Empty (Unsynced s.journal) d
-HoldsWhileSaving old s WriteText d = HasNewFiles old Empty (Durable s.journal) d
-HoldsWhileSaving old s SyncText d = HasNewFiles old (Unsynced s.text) (Durable s.journal) d
+HoldsWhileSaving old s CopyJournalAttributes d = HasNewFiles old (Durable s.text) Empty d
+HoldsWhileSaving old s WriteJournal d = HasNewFiles old (Durable s.text) Empty d
+HoldsWhileSaving old s SyncJournal d = HasNewFiles old (Durable s.text) (Unsynced s.journal) d
 HoldsWhileSaving old s SyncJournalName d = HasNewFiles old (Durable s.text) (Durable s.journal) d
 HoldsWhileSaving old s CompareNewJournal d = IsReady old s d
 HoldsWhileSaving old s CompareNewText d = IsReady old s d

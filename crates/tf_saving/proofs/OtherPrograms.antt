@@ -187,14 +187,14 @@ leaving_goes checks c OpenJournal d fate e h = on_chosen (IsLeaving) (reply (Ope
 leaving_goes checks c OpenText d fate e h = on_chosen (IsLeaving) (reply (Open Text) d fate) SyncEarlierRename (Ended (Error Text)) (Ended (Error Text)) tt tt tt
 leaving_goes checks c SyncEarlierRename d fate e h = on_unless (IsLeaving) (reply (SyncDirectory Journal) d fate) CreateText CompareInPlace (Ended (Error Journal)) tt tt tt
 leaving_goes checks c CreateText d fate e h = on_unless (IsLeaving) (reply (CreateNew Text) d fate) CopyTextAttributes CompareInPlace (RemoveJournal (Error Text)) tt tt tt
-leaving_goes checks c CopyTextAttributes d fate e h = on_unless (IsLeaving) (reply (CopyAttributes Text) d fate) SyncTextName (RemoveText InPlace) (RemoveText (Error Text)) tt tt tt
+leaving_goes checks c CopyTextAttributes d fate e h = on_unless (IsLeaving) (reply (CopyAttributes Text) d fate) WriteText (RemoveText InPlace) (RemoveText (Error Text)) tt tt tt
 leaving_goes checks c SyncTextName d fate e h = on_unless (IsLeaving) (reply (SyncDirectory Text) d fate) CreateJournal (RemoveText InPlace) (RemoveText (Error Text)) tt tt tt
 leaving_goes checks c CreateJournal d fate e h = on_unless (IsLeaving) (reply (CreateNew Journal) d fate) CopyJournalAttributes (RemoveText InPlace) (RemoveJournal (Error Journal)) tt tt tt
 leaving_goes checks c CopyJournalAttributes d fate e h = on_unless (IsLeaving) (reply (CopyAttributes Journal) d fate) WriteJournal (RemoveJournal InPlace) (RemoveJournal (Error Journal)) tt tt tt
 leaving_goes checks c WriteJournal d fate e h = on_chosen (IsLeaving) (reply (Write Journal) d fate) SyncJournal (RemoveJournal (Error Journal)) (RemoveJournal (Error Journal)) tt tt tt
-leaving_goes checks c SyncJournal d fate e h = on_chosen (IsLeaving) (reply (Sync Journal) d fate) WriteText (RemoveJournal (Error Journal)) (RemoveJournal (Error Journal)) tt tt tt
-leaving_goes checks c WriteText d fate e h = on_chosen (IsLeaving) (reply (Write Text) d fate) SyncText (RemoveJournal (Error Text)) (RemoveJournal (Error Text)) tt tt tt
-leaving_goes checks c SyncText d fate e h = on_chosen (IsLeaving) (reply (Sync Text) d fate) SyncJournalName (RemoveJournal (Error Text)) (RemoveJournal (Error Text)) tt tt tt
+leaving_goes checks c SyncJournal d fate e h = on_chosen (IsLeaving) (reply (Sync Journal) d fate) SyncJournalName (RemoveJournal (Error Journal)) (RemoveJournal (Error Journal)) tt tt tt
+leaving_goes checks c WriteText d fate e h = on_chosen (IsLeaving) (reply (Write Text) d fate) SyncText (RemoveText (Error Text)) (RemoveText (Error Text)) tt tt tt
+leaving_goes checks c SyncText d fate e h = on_chosen (IsLeaving) (reply (Sync Text) d fate) SyncTextName (RemoveText (Error Text)) (RemoveText (Error Text)) tt tt tt
 leaving_goes checks c SyncJournalName d fate e h = on_unless (IsLeaving) (reply (SyncDirectory Journal) d fate) CompareNewJournal (RemoveJournal InPlace) (RemoveJournal (Error Journal)) tt tt tt
 leaving_goes checks c CompareNewJournal d fate e h = on_chosen (IsLeaving) (reply (CompareNew Journal) d fate) CompareNewText (RemoveJournal (Error Journal)) (RemoveJournal (Error Journal)) tt tt tt
 leaving_goes checks c CompareNewText d fate e h = on_chosen (IsLeaving) (reply (CompareNew Text) d fate) CompareText (RemoveJournal (Error Text)) (RemoveJournal (Error Text)) tt tt tt
@@ -274,14 +274,14 @@ keeping_puts_nothing part step h = absurd h
 
 keeping_goes : (checks : Checks) (part : Part) → checks.is_ours part ≡ false → (step : Step) (d : Disk) (fate : Fate) → d.checks ≡ checks → IsKeeping part step → HoldsAfter (IsKeeping part) step d fate (call_of step)
 keeping_goes checks part c CreateText d fate e h = on_unless (IsKeeping part) (reply (CreateNew Text) d fate) CopyTextAttributes CompareInPlace (RemoveJournal (Error Text)) tt tt tt
-keeping_goes checks part c CopyTextAttributes d fate e h = on_unless (IsKeeping part) (reply (CopyAttributes Text) d fate) SyncTextName (RemoveText InPlace) (RemoveText (Error Text)) tt tt tt
+keeping_goes checks part c CopyTextAttributes d fate e h = on_unless (IsKeeping part) (reply (CopyAttributes Text) d fate) WriteText (RemoveText InPlace) (RemoveText (Error Text)) tt tt tt
 keeping_goes checks part c SyncTextName d fate e h = on_unless (IsKeeping part) (reply (SyncDirectory Text) d fate) CreateJournal (RemoveText InPlace) (RemoveText (Error Text)) tt tt tt
 keeping_goes checks part c CreateJournal d fate e h = on_unless (IsKeeping part) (reply (CreateNew Journal) d fate) CopyJournalAttributes (RemoveText InPlace) (RemoveJournal (Error Journal)) tt tt tt
 keeping_goes checks part c CopyJournalAttributes d fate e h = on_unless (IsKeeping part) (reply (CopyAttributes Journal) d fate) WriteJournal (RemoveJournal InPlace) (RemoveJournal (Error Journal)) tt tt tt
 keeping_goes checks part c WriteJournal d fate e h = on_chosen (IsKeeping part) (reply (Write Journal) d fate) SyncJournal (RemoveJournal (Error Journal)) (RemoveJournal (Error Journal)) tt tt tt
-keeping_goes checks part c SyncJournal d fate e h = on_chosen (IsKeeping part) (reply (Sync Journal) d fate) WriteText (RemoveJournal (Error Journal)) (RemoveJournal (Error Journal)) tt tt tt
-keeping_goes checks part c WriteText d fate e h = on_chosen (IsKeeping part) (reply (Write Text) d fate) SyncText (RemoveJournal (Error Text)) (RemoveJournal (Error Text)) tt tt tt
-keeping_goes checks part c SyncText d fate e h = on_chosen (IsKeeping part) (reply (Sync Text) d fate) SyncJournalName (RemoveJournal (Error Text)) (RemoveJournal (Error Text)) tt tt tt
+keeping_goes checks part c SyncJournal d fate e h = on_chosen (IsKeeping part) (reply (Sync Journal) d fate) SyncJournalName (RemoveJournal (Error Journal)) (RemoveJournal (Error Journal)) tt tt tt
+keeping_goes checks part c WriteText d fate e h = on_chosen (IsKeeping part) (reply (Write Text) d fate) SyncText (RemoveText (Error Text)) (RemoveText (Error Text)) tt tt tt
+keeping_goes checks part c SyncText d fate e h = on_chosen (IsKeeping part) (reply (Sync Text) d fate) SyncTextName (RemoveText (Error Text)) (RemoveText (Error Text)) tt tt tt
 keeping_goes checks part c SyncJournalName d fate e h = on_unless (IsKeeping part) (reply (SyncDirectory Journal) d fate) CompareNewJournal (RemoveJournal InPlace) (RemoveJournal (Error Journal)) tt tt tt
 keeping_goes checks Text c CompareNewJournal d fate e h = on_chosen (IsKeeping Text) (reply (CompareNew Journal) d fate) CompareNewText (RemoveJournal (Error Journal)) (RemoveJournal (Error Journal)) tt tt tt
 keeping_goes checks Journal c CompareNewJournal d Succeeds e h = on_changed (IsKeeping Journal) (d.checks.is_ours Journal) CompareNewText (RemoveJournal (Error Journal)) (RemoveJournal (Error Journal)) (ap (λ (l : Checks). l.is_ours Journal) e ∙ c) tt
@@ -339,11 +339,11 @@ edited_saving p s file CreateText d u h = edited_unrenamed p (record { step = Cr
 edited_saving p s file CopyTextAttributes d u h = (edited_unrenamed p (record { step = CopyTextAttributes; disk = d }) file h.0, h.1, h.2)
 edited_saving p s file SyncTextName d u h = (edited_unrenamed p (record { step = SyncTextName; disk = d }) file h.0, h.1, h.2)
 edited_saving p s file CreateJournal d u h = (edited_owns_with p (record { step = CreateJournal; disk = d }) file h.0, h.1, h.2)
-edited_saving p s file CopyJournalAttributes d u h = edited_new p Empty Empty (record { step = CopyJournalAttributes; disk = d }) file h
-edited_saving p s file WriteJournal d u h = edited_new p Empty Empty (record { step = WriteJournal; disk = d }) file h
-edited_saving p s file SyncJournal d u h = edited_new p Empty (Unsynced s.journal) (record { step = SyncJournal; disk = d }) file h
-edited_saving p s file WriteText d u h = edited_new p Empty (Durable s.journal) (record { step = WriteText; disk = d }) file h
-edited_saving p s file SyncText d u h = edited_new p (Unsynced s.text) (Durable s.journal) (record { step = SyncText; disk = d }) file h
+edited_saving p s file CopyJournalAttributes d u h = edited_new p (Durable s.text) Empty (record { step = CopyJournalAttributes; disk = d }) file h
+edited_saving p s file WriteJournal d u h = edited_new p (Durable s.text) Empty (record { step = WriteJournal; disk = d }) file h
+edited_saving p s file SyncJournal d u h = edited_new p (Durable s.text) (Unsynced s.journal) (record { step = SyncJournal; disk = d }) file h
+edited_saving p s file WriteText d u h = (edited_unrenamed p (record { step = WriteText; disk = d }) file h.0, h.1, h.2)
+edited_saving p s file SyncText d u h = (edited_unrenamed p (record { step = SyncText; disk = d }) file h.0, h.1, h.2)
 edited_saving p s file SyncJournalName d u h = edited_new p (Durable s.text) (Durable s.journal) (record { step = SyncJournalName; disk = d }) file h
 edited_saving p s file CompareNewJournal d u h = (edited_new p (Durable s.text) (Durable s.journal) (record { step = CompareNewJournal; disk = d }) file h.0, h.1)
 edited_saving p s file CompareNewText d u h = (edited_new p (Durable s.text) (Durable s.journal) (record { step = CompareNewText; disk = d }) file h.0, h.1)
@@ -377,8 +377,8 @@ leaving_recovers p s CreateJournal d l h = inl (made_unrenamed p s d h)
 leaving_recovers p s CopyJournalAttributes d l h = inl (new_unrenamed p _ _ d h)
 leaving_recovers p s WriteJournal d l h = inl (new_unrenamed p _ _ d h)
 leaving_recovers p s SyncJournal d l h = inl (new_unrenamed p _ _ d h)
-leaving_recovers p s WriteText d l h = inl (new_unrenamed p _ _ d h)
-leaving_recovers p s SyncText d l h = inl (new_unrenamed p _ _ d h)
+leaving_recovers p s WriteText d l h = inl h.0
+leaving_recovers p s SyncText d l h = inl h.0
 leaving_recovers p s SyncJournalName d l h = inl (new_unrenamed p _ _ d h)
 leaving_recovers p s CompareNewJournal d l h = inl (new_unrenamed p _ _ d h.0)
 leaving_recovers p s CompareNewText d l h = inl (new_unrenamed p _ _ d h.0)

@@ -3,7 +3,7 @@ use Rattle.std.proofs.Common.{◌≡◌, ◌⊎◌, true, false, Option, Some, N
 use Rattle.tf_saving.specs.Disk.{File, Durable, Unsynced, Empty, Torn, Names, Directory, Checks, Disk, Contents, with_new, directory_synced, new_after_power_loss, after_power_loss, when_done}
 use Rattle.tf_saving.specs.Runs.{Pair, as_files}
 use Rattle.tf_saving.specs.Stable.{InAll, MayHaveStray, HasOnlyStray, Owns, HasNoNew, HasNew, OwnsWithNew, OwnsAlone, IsUnrenamed, HoldsJournal, IsRenamed, RecoversTo, IsStable, IsRenaming, IsOldOrNew}
-use Rattle.tf_saving.proofs.Holds.{EndsAt, HoldsForOne, HoldsWhileRenaming, HasNewFiles, IsReady, HoldsWhileSaving}
+use Rattle.tf_saving.proofs.Holds.{EndsAt, HoldsForOne, HoldsWhileRenaming, HasNewFiles, HasNewText, IsReady, HoldsWhileSaving}
 use Rattle.tf_saving.specs.declared.call.Part.{Part}
 use Rattle.tf_saving.specs.declared.call.Part.TheVariants.{Text, Journal}
 use Rattle.tf_saving.specs.declared.call.Call.TheVariants.{SyncDirectory}
@@ -109,9 +109,9 @@ files_synced p x y Text s d b =
 files_synced p x y Journal s d b =
     record { names = b.names; text = b.text; journals = kept_names (Owns p.journal) (owns_lost p.journal) d.journal b.journals; journal = b.journal }
 
-no_files_synced : (part : Part) (s : Contents) (d : Disk) → InAll HasNoNew d.journal → InAll HasNoNew (when_done (SyncDirectory part) s d).journal
-no_files_synced Text s d h = h
-no_files_synced Journal s d h = kept_names HasNoNew no_new_lost d.journal h
+no_new_synced : (part : Part) (s : Contents) (d : Disk) → InAll HasNoNew d.journal → InAll HasNoNew (when_done (SyncDirectory part) s d).journal
+no_new_synced Text s d h = h
+no_new_synced Journal s d h = kept_names HasNoNew no_new_lost d.journal h
 
 seen_journal : (P : Names → Type 0) (part : Part) (s : Contents) (d : Disk) → P d.journal.current → P (when_done (SyncDirectory part) s d).journal.current
 seen_journal P Text s d h = h
@@ -135,7 +135,7 @@ one_synced p part s SyncRename d h = (renamed_synced p part s d h.0, seen_journa
 one_synced p part s RenameJournal d h = (renamed_synced p part s d h.0, seen_journal HasNew part s d h.1)
 one_synced p part s (RemoveJournal end) d h = unrenamed_synced p part s d h
 one_synced p part s (SyncRemoval end) d h = (unrenamed_synced p part s d h.0, seen_journal HasNoNew part s d h.1)
-one_synced p part s (RemoveText end) d h = (unrenamed_synced p part s d h.0, no_files_synced part s d h.1)
+one_synced p part s (RemoveText end) d h = (unrenamed_synced p part s d h.0, no_new_synced part s d h.1)
 one_synced p part s CompareInPlace d h = stable_synced p part s d h
 one_synced p part s (Ended end) d h = ends_synced p part s end d h
 one_synced p part s step d h = absurd h
@@ -170,23 +170,23 @@ tidy_synced : (text : Part) (s : Contents) (d : Disk) → HasNoNew d.text.curren
 tidy_synced Text s d h = h
 tidy_synced Journal s d h = h
 
-unrenamed_empty : (p : Pair) (part : Part) (s : Contents) (d : Disk) → HoldsWhileSaving p s CopyTextAttributes d → HoldsWhileSaving p s CopyTextAttributes (when_done (SyncDirectory part) s d)
-unrenamed_empty p Text s d h = (unrenamed_synced p Text s d h.0, h.1, no_files_synced Text s d h.2)
-unrenamed_empty p Journal s d h = (unrenamed_synced p Journal s d h.0, h.1, no_files_synced Journal s d h.2)
+new_text_synced : (p : Pair) (file : File) (part : Part) (s : Contents) (d : Disk) → HasNewText p file d → HasNewText p file (when_done (SyncDirectory part) s d)
+new_text_synced p file Text s d h = (unrenamed_synced p Text s d h.0, h.1, no_new_synced Text s d h.2)
+new_text_synced p file Journal s d h = (unrenamed_synced p Journal s d h.0, h.1, no_new_synced Journal s d h.2)
 
 pub saving_synced : (p : Pair) (part : Part) (s : Contents) (step : Step) (d : Disk) → HoldsWhileSaving p s step d → HoldsWhileSaving p s step (when_done (SyncDirectory part) s d)
 saving_synced p part s OpenJournal d h = stable_synced p part s d h
 saving_synced p part s OpenText d h = stable_synced p part s d h
 saving_synced p part s SyncEarlierRename d h = stable_synced p part s d h
 saving_synced p part s CreateText d h = unrenamed_synced p part s d h
-saving_synced p part s CopyTextAttributes d h = unrenamed_empty p part s d h
-saving_synced p part s SyncTextName d h = unrenamed_empty p part s d h
+saving_synced p part s CopyTextAttributes d h = new_text_synced p Empty part s d h
+saving_synced p part s WriteText d h = new_text_synced p Empty part s d h
+saving_synced p part s SyncText d h = new_text_synced p (Unsynced s.text) part s d h
+saving_synced p part s SyncTextName d h = new_text_synced p (Durable s.text) part s d h
 saving_synced p part s CreateJournal d h = made_synced p part s d h
 saving_synced p part s CopyJournalAttributes d h = files_synced p _ _ part s d h
 saving_synced p part s WriteJournal d h = files_synced p _ _ part s d h
 saving_synced p part s SyncJournal d h = files_synced p _ _ part s d h
-saving_synced p part s WriteText d h = files_synced p _ _ part s d h
-saving_synced p part s SyncText d h = files_synced p _ _ part s d h
 saving_synced p part s SyncJournalName d h = files_synced p _ _ part s d h
 saving_synced p part s CompareNewJournal d h = ready_synced p part s d h
 saving_synced p part s CompareNewText d h = ready_synced p part s d h
@@ -197,7 +197,7 @@ saving_synced p part s SyncRename d h = renaming_synced p (as_files s) part s d 
 saving_synced p part s RenameJournal d h = (renamed_synced (as_files s) part s d h.0, seen_journal HasNew part s d h.1)
 saving_synced p part s (RemoveJournal end) d h = (unrenamed_synced p part s d h.0, h.1)
 saving_synced p part s (SyncRemoval end) d h = (unrenamed_synced p part s d h.0, seen_journal HasNoNew part s d h.1, h.2)
-saving_synced p part s (RemoveText end) d h = (unrenamed_synced p part s d h.0, no_files_synced part s d h.1, h.2)
+saving_synced p part s (RemoveText end) d h = (unrenamed_synced p part s d h.0, no_new_synced part s d h.1, h.2)
 saving_synced p part s CompareInPlace d h = stable_synced p part s d h
 saving_synced p part s (Ended Success) d h = (stable_synced (as_files s) part s d h.0, tidy_synced part s d h.1)
 saving_synced p part s (Ended InPlace) d h = stable_synced p part s d h

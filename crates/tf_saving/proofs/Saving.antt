@@ -4,7 +4,7 @@ use Rattle.tf_saving.specs.Disk.{File, Durable, Unsynced, Empty, Torn, Names, Di
 use Rattle.tf_saving.specs.Steps.{choose, choose_or_in_place, finish}
 use Rattle.tf_saving.specs.Runs.{Fate, Succeeds, Fails, IsRuledOut, FailsOnceDone, AnotherSyncs, Pair, as_files, stepped}
 use Rattle.tf_saving.specs.Stable.{InAll, Owns, HasNoNew, HasNew, OwnsWithNew, OwnsAlone, IsUnrenamed, HoldsJournal, IsAdoptable, IsRenamed, RecoversTo, IsStable, IsRenaming, IsOldOrNew}
-use Rattle.tf_saving.proofs.Holds.{HoldsWhileRenaming, HasNewFiles, IsReady, ChangesNothing, HoldsWhileSaving, HoldsForNew, HoldsInRecovery}
+use Rattle.tf_saving.proofs.Holds.{HoldsWhileRenaming, HasNewFiles, HasNewText, IsReady, ChangesNothing, HoldsWhileSaving, HoldsForNew, HoldsInRecovery}
 use Rattle.tf_saving.specs.declared.call.Part.{Part}
 use Rattle.tf_saving.specs.declared.call.Part.TheVariants.{Text, Journal}
 use Rattle.tf_saving.specs.declared.step.End.{End}
@@ -92,7 +92,7 @@ make_text p s d (Some file) e b = unrenamed_stable p d b
 
 text_name_kept : (p : Pair) (s : Contents) (d : Disk) → HoldsWhileSaving p s SyncTextName d → HoldsWhileSaving p s CreateJournal (with_directory Text (directory_synced d.text) d)
 text_name_kept p s d h =
-    (((h.0.text.0, (Empty, h.1)), ((h.0.text.0, (Torn, ap new_after_power_loss h.1)), tt)), h.1, always_both (Owns p.journal) HasNoNew d.journal h.0.journal h.2)
+    (((h.0.text.0, (Durable s.text, h.1)), ((h.0.text.0, (Durable s.text, ap new_after_power_loss h.1)), tt)), h.1, always_both (Owns p.journal) HasNoNew d.journal h.0.journal h.2)
 
 pub made_unrenamed : (p : Pair) (s : Contents) (d : Disk) → HoldsWhileSaving p s CreateJournal d → IsUnrenamed p d
 made_unrenamed p s d h =
@@ -113,33 +113,34 @@ make_journal p s d None e h =
     })
 make_journal p s d (Some file) e h = absurd (let is = h.2.0.1 in cc)
 
-journal_written : (p : Pair) (s : Contents) (d : Disk) → HasNewFiles p Empty Empty d
-    → HasNewFiles p Empty (Unsynced s.journal) (with_directory Journal (new_written s.journal (Some Empty) d.journal) d)
+text_written : (p : Pair) (s : Contents) (d : Disk) → HasNewText p Empty d
+    → HasNewText p (Unsynced s.text) (with_directory Text (new_written s.text (Some Empty) d.text) d)
+text_written p s d h = (record { text = h.0.text; journal = h.0.journal; no_lone_journal = inl h.2 }, refl, h.2)
+
+text_synced : (p : Pair) (s : Contents) (d : Disk) → HasNewText p (Unsynced s.text) d
+    → HasNewText p (Durable s.text) (with_directory Text (new_synced (Some (Unsynced s.text)) d.text) d)
+text_synced p s d h = (
+  record {
+    text = (h.0.text.0, each_or_changed (Owns p.text) (Owns p.text) (if_new (Durable s.text)) (λ n o. own_in n.new (Durable s.text) p.text n o) (λ n o. o) d.text.possible h.0.text.1);
+    journal = h.0.journal;
+    no_lone_journal = inl h.2;
+  },
+  refl,
+  h.2,
+)
+
+journal_written : (p : Pair) (s : Contents) (d : Disk) → HasNewFiles p (Durable s.text) Empty d
+    → HasNewFiles p (Durable s.text) (Unsynced s.journal) (with_directory Journal (new_written s.journal (Some Empty) d.journal) d)
 journal_written p s d b = record { names = b.names; text = b.text; journals = (b.journals.0, b.journals.1); journal = refl }
 
-journal_synced : (p : Pair) (s : Contents) (d : Disk) → HasNewFiles p Empty (Unsynced s.journal) d
-    → HasNewFiles p Empty (Durable s.journal) (with_directory Journal (new_synced (Some (Unsynced s.journal)) d.journal) d)
+journal_synced : (p : Pair) (s : Contents) (d : Disk) → HasNewFiles p (Durable s.text) (Unsynced s.journal) d
+    → HasNewFiles p (Durable s.text) (Durable s.journal) (with_directory Journal (new_synced (Some (Unsynced s.journal)) d.journal) d)
 journal_synced p s d b =
     record {
       names = b.names;
       text = b.text;
       journals = (b.journals.0, each_or_changed (Owns p.journal) (Owns p.journal) (if_new (Durable s.journal)) (λ n h. own_in n.new (Durable s.journal) p.journal n h) (λ n h. h) d.journal.possible b.journals.1);
       journal = refl;
-    }
-
-text_written : (p : Pair) (s : Contents) (d : Disk) → HasNewFiles p Empty (Durable s.journal) d
-    → HasNewFiles p (Unsynced s.text) (Durable s.journal) (with_directory Text (new_written s.text (Some Empty) d.text) d)
-text_written p s d b =
-    record { names = ((b.names.0.0, (Unsynced s.text, refl)), b.names.1); text = refl; journals = b.journals; journal = b.journal }
-
-text_synced : (p : Pair) (s : Contents) (d : Disk) → HasNewFiles p (Unsynced s.text) (Durable s.journal) d
-    → HasNewFiles p (Durable s.text) (Durable s.journal) (with_directory Text (new_synced (Some (Unsynced s.text)) d.text) d)
-text_synced p s d b =
-    record {
-      names = ((b.names.0.0, (Durable s.text, refl)), each_or_changed (OwnsWithNew p.text) (OwnsWithNew p.text) (if_new (Durable s.text)) (owns_with_in p.text (Durable s.text)) (λ n h. h) d.text.possible b.names.1);
-      text = refl;
-      journals = b.journals;
-      journal = b.journal;
     }
 
 journal_name_kept : (p : Pair) (s : Contents) (d : Disk) → HasNewFiles p (Durable s.text) (Durable s.journal) d
@@ -195,22 +196,17 @@ rename_journal_saved : (p : Pair) (s : Contents) (d : Disk) (new : Option File) 
 rename_journal_saved p s d None e placed taken = absurd (let is = taken.1 in cc)
 rename_journal_saved p s d (Some file) e placed taken = (rename_journal (as_files s) d (Some file) e placed taken, (placed.text.0.1, refl))
 
-journal_torn : (p : Pair) (d : Disk) → HasNewFiles p Empty Empty d → IsUnrenamed p (with_directory Journal (new_torn (Some Empty) d.journal) d)
-journal_torn p d b =
-    let begun : IsUnrenamed p d = new_unrenamed p Empty Empty d b in
+journal_torn : (p : Pair) (text : File) (d : Disk) → HasNewFiles p text Empty d → IsUnrenamed p (with_directory Journal (new_torn (Some Empty) d.journal) d)
+journal_torn p text d b =
+    let unrenamed : IsUnrenamed p d = new_unrenamed p text Empty d b in
     record {
-      text = begun.text;
+      text = unrenamed.text;
       journal = (b.journals.0, b.journals.1);
       no_lone_journal = inr (always_weaker (OwnsWithNew p.text) HasNew (λ n h. h.1) d.text b.names);
     }
 
-text_torn : (p : Pair) (y : File) (d : Disk) → HasNewFiles p Empty y d → IsUnrenamed p (with_directory Text (new_torn (Some Empty) d.text) d)
-text_torn p y d b =
-    record {
-      text = (b.names.0.0, each_weaker (OwnsWithNew p.text) (Owns p.text) (owns_of_owns_with p.text) d.text.possible b.names.1);
-      journal = b.journals;
-      no_lone_journal = inr ((Torn, refl), each_weaker (OwnsWithNew p.text) HasNew (λ n h. h.1) d.text.possible b.names.1);
-    }
+text_torn : (p : Pair) (d : Disk) → HasNewText p Empty d → IsUnrenamed p (with_directory Text (new_torn (Some Empty) d.text) d)
+text_torn p d h = record { text = h.0.text; journal = h.0.journal; no_lone_journal = inl h.2 }
 
 text_made : (p : Pair) (d : Disk) (new : Option File) → d.text.current.new ≡ new → IsUnrenamed p d → IsUnrenamed p (with_directory Text (created new d.text) d)
 text_made p d None e b =
@@ -225,8 +221,8 @@ journal_made : (p : Pair) (s : Contents) (d : Disk) (new : Option File) → d.jo
     → IsUnrenamed p (with_directory Journal (created new d.journal) d) × ChangesNothing (Error Journal)
 journal_made p s d None e h =
     let after = with_directory Journal (created None d.journal) d in
-    let k : HasNewFiles p Empty Empty after = make_journal p s d None e h in
-    (new_unrenamed p Empty Empty after k, tt)
+    let k : HasNewFiles p (Durable s.text) Empty after = make_journal p s d None e h in
+    (new_unrenamed p (Durable s.text) Empty after k, tt)
 journal_made p s d (Some file) e h = (made_unrenamed p s d h, tt)
 
 pub rename_or_not : (p : Pair) (s : Contents) (d : Disk) → HasNewFiles p (Durable s.text) (Durable s.journal) d ⊎ IsRenaming p (as_files s) d → IsOldOrNew p (as_files s) d
@@ -278,6 +274,14 @@ saving_stepped p s CopyTextAttributes d Succeeds f h = h
 saving_stepped p s CopyTextAttributes d Fails f h = (h.0, h.2, tt)
 saving_stepped p s CopyTextAttributes d IsRuledOut f h = (h.0, h.2, tt)
 saving_stepped p s CopyTextAttributes d FailsOnceDone f h = (h.0, h.2, tt)
+saving_stepped p s WriteText d Succeeds f h = rw h.1 (text_written p s d h)
+saving_stepped p s WriteText d Fails f h = rw h.1 (text_torn p d h, h.2, tt)
+saving_stepped p s WriteText d IsRuledOut f h = rw h.1 (text_torn p d h, h.2, tt)
+saving_stepped p s WriteText d FailsOnceDone f h = rw h.1 ((text_written p s d h).0, h.2, tt)
+saving_stepped p s SyncText d Succeeds f h = rw h.1 (text_synced p s d h)
+saving_stepped p s SyncText d Fails f h = (h.0, h.2, tt)
+saving_stepped p s SyncText d IsRuledOut f h = (h.0, h.2, tt)
+saving_stepped p s SyncText d FailsOnceDone f h = rw h.1 ((text_synced p s d h).0, h.2, tt)
 saving_stepped p s SyncTextName d Succeeds f h = text_name_kept p s d h
 saving_stepped p s SyncTextName d Fails f h = (h.0, h.2, tt)
 saving_stepped p s SyncTextName d IsRuledOut f h = (h.0, h.2, tt)
@@ -287,25 +291,17 @@ saving_stepped p s CreateJournal d Fails f h = (made_unrenamed p s d h, tt)
 saving_stepped p s CreateJournal d IsRuledOut f h = (made_unrenamed p s d h, always_weaker (OwnsAlone p.journal) HasNoNew (λ n k. k.1) d.journal h.2, tt)
 saving_stepped p s CreateJournal d FailsOnceDone f h = journal_made p s d d.journal.current.new refl h
 saving_stepped p s CopyJournalAttributes d Succeeds f h = h
-saving_stepped p s CopyJournalAttributes d Fails f h = (new_unrenamed p Empty Empty d h, tt)
-saving_stepped p s CopyJournalAttributes d IsRuledOut f h = (new_unrenamed p Empty Empty d h, tt)
-saving_stepped p s CopyJournalAttributes d FailsOnceDone f h = (new_unrenamed p Empty Empty d h, tt)
+saving_stepped p s CopyJournalAttributes d Fails f h = (new_unrenamed p (Durable s.text) Empty d h, tt)
+saving_stepped p s CopyJournalAttributes d IsRuledOut f h = (new_unrenamed p (Durable s.text) Empty d h, tt)
+saving_stepped p s CopyJournalAttributes d FailsOnceDone f h = (new_unrenamed p (Durable s.text) Empty d h, tt)
 saving_stepped p s WriteJournal d Succeeds f h = rw h.journal (journal_written p s d h)
-saving_stepped p s WriteJournal d Fails f h = rw h.journal (journal_torn p d h, tt)
-saving_stepped p s WriteJournal d IsRuledOut f h = rw h.journal (journal_torn p d h, tt)
-saving_stepped p s WriteJournal d FailsOnceDone f h = rw h.journal (new_unrenamed p Empty (Unsynced s.journal) (with_directory Journal (new_written s.journal (Some Empty) d.journal) d) (journal_written p s d h), tt)
+saving_stepped p s WriteJournal d Fails f h = rw h.journal (journal_torn p (Durable s.text) d h, tt)
+saving_stepped p s WriteJournal d IsRuledOut f h = rw h.journal (journal_torn p (Durable s.text) d h, tt)
+saving_stepped p s WriteJournal d FailsOnceDone f h = rw h.journal (new_unrenamed p (Durable s.text) (Unsynced s.journal) (with_directory Journal (new_written s.journal (Some Empty) d.journal) d) (journal_written p s d h), tt)
 saving_stepped p s SyncJournal d Succeeds f h = rw h.journal (journal_synced p s d h)
-saving_stepped p s SyncJournal d Fails f h = (new_unrenamed p Empty (Unsynced s.journal) d h, tt)
-saving_stepped p s SyncJournal d IsRuledOut f h = (new_unrenamed p Empty (Unsynced s.journal) d h, tt)
-saving_stepped p s SyncJournal d FailsOnceDone f h = rw h.journal (new_unrenamed p Empty (Durable s.journal) (with_directory Journal (new_synced (Some (Unsynced s.journal)) d.journal) d) (journal_synced p s d h), tt)
-saving_stepped p s WriteText d Succeeds f h = rw h.text (text_written p s d h)
-saving_stepped p s WriteText d Fails f h = rw h.text (text_torn p (Durable s.journal) d h, tt)
-saving_stepped p s WriteText d IsRuledOut f h = rw h.text (text_torn p (Durable s.journal) d h, tt)
-saving_stepped p s WriteText d FailsOnceDone f h = rw h.text (new_unrenamed p (Unsynced s.text) (Durable s.journal) (with_directory Text (new_written s.text (Some Empty) d.text) d) (text_written p s d h), tt)
-saving_stepped p s SyncText d Succeeds f h = rw h.text (text_synced p s d h)
-saving_stepped p s SyncText d Fails f h = (new_unrenamed p (Unsynced s.text) (Durable s.journal) d h, tt)
-saving_stepped p s SyncText d IsRuledOut f h = (new_unrenamed p (Unsynced s.text) (Durable s.journal) d h, tt)
-saving_stepped p s SyncText d FailsOnceDone f h = rw h.text (new_unrenamed p (Durable s.text) (Durable s.journal) (with_directory Text (new_synced (Some (Unsynced s.text)) d.text) d) (text_synced p s d h), tt)
+saving_stepped p s SyncJournal d Fails f h = (new_unrenamed p (Durable s.text) (Unsynced s.journal) d h, tt)
+saving_stepped p s SyncJournal d IsRuledOut f h = (new_unrenamed p (Durable s.text) (Unsynced s.journal) d h, tt)
+saving_stepped p s SyncJournal d FailsOnceDone f h = rw h.journal (new_unrenamed p (Durable s.text) (Durable s.journal) (with_directory Journal (new_synced (Some (Unsynced s.journal)) d.journal) d) (journal_synced p s d h), tt)
 saving_stepped p s SyncJournalName d Succeeds f h = journal_name_kept p s d h
 saving_stepped p s SyncJournalName d Fails f h = (new_unrenamed p (Durable s.text) (Durable s.journal) d h, tt)
 saving_stepped p s SyncJournalName d IsRuledOut f h = (new_unrenamed p (Durable s.text) (Durable s.journal) d h, tt)

@@ -14,7 +14,7 @@ pub enum End {
     InPlace,
     /// A call failed for this part. Both files are unchanged.
     Error(Part),
-    /// A call failed that tells in which state the files are, so nothing more was changed. The next
+    /// A call failed that shows in which state the files are, so nothing more was changed. The next
     /// recovery finds both old or both new.
     Unknown,
     /// The text is new; the next recovery puts the new journal in place.
@@ -35,13 +35,13 @@ pub enum Step {
     SyncEarlierRename,
     CreateText,
     CopyTextAttributes,
+    WriteText,
+    SyncText,
     SyncTextName,
     CreateJournal,
     CopyJournalAttributes,
     WriteJournal,
     SyncJournal,
-    WriteText,
-    SyncText,
     SyncJournalName,
     // look whether another program has changed a file meanwhile
     CompareNewJournal,
@@ -94,12 +94,12 @@ impl Step {
             Step::OpenText => Ok(Call::Open(Part::Text)),
             Step::CreateText => Ok(Call::CreateNew(Part::Text)),
             Step::CopyTextAttributes => Ok(Call::CopyAttributes(Part::Text)),
+            Step::WriteText => Ok(Call::Write(Part::Text)),
+            Step::SyncText => Ok(Call::Sync(Part::Text)),
             Step::CreateJournal => Ok(Call::CreateNew(Part::Journal)),
             Step::CopyJournalAttributes => Ok(Call::CopyAttributes(Part::Journal)),
             Step::WriteJournal => Ok(Call::Write(Part::Journal)),
             Step::SyncJournal => Ok(Call::Sync(Part::Journal)),
-            Step::WriteText => Ok(Call::Write(Part::Text)),
-            Step::SyncText => Ok(Call::Sync(Part::Text)),
             Step::SyncEarlierRename | Step::SyncJournalName | Step::SyncRemoval(_) => {
                 Ok(Call::SyncDirectory(Part::Journal))
             }
@@ -166,8 +166,10 @@ impl Step {
                 reply.choose_or_in_place(Step::CopyTextAttributes, Step::CompareInPlace, drop_text)
             }
             Step::CopyTextAttributes => {
-                reply.choose_or_in_place(Step::SyncTextName, text_in_place, text_alone)
+                reply.choose_or_in_place(Step::WriteText, text_in_place, text_alone)
             }
+            Step::WriteText => reply.choose(Step::SyncText, text_alone, text_alone),
+            Step::SyncText => reply.choose(Step::SyncTextName, text_alone, text_alone),
             Step::SyncTextName => {
                 reply.choose_or_in_place(Step::CreateJournal, text_in_place, text_alone)
             }
@@ -178,9 +180,7 @@ impl Step {
                 reply.choose_or_in_place(Step::WriteJournal, in_place, drop_journal)
             }
             Step::WriteJournal => reply.choose(Step::SyncJournal, drop_journal, drop_journal),
-            Step::SyncJournal => reply.choose(Step::WriteText, drop_journal, drop_journal),
-            Step::WriteText => reply.choose(Step::SyncText, drop_text, drop_text),
-            Step::SyncText => reply.choose(Step::SyncJournalName, drop_text, drop_text),
+            Step::SyncJournal => reply.choose(Step::SyncJournalName, drop_journal, drop_journal),
             Step::SyncJournalName => {
                 reply.choose_or_in_place(Step::CompareNewJournal, in_place, drop_journal)
             }
