@@ -9,6 +9,9 @@ import images
 from program import Check
 from scenes import RENAME, Scene, read, write
 
+# The second rename of a save.
+JOURNAL_RENAME = "rename main.tf.tfundo.new"
+
 # A disk that gives the number of a removed file to the next one, as most do.
 KIND = "ext4"
 PAIRS = [
@@ -40,11 +43,13 @@ class Pair:
 
     def last_instant(self):
         """Returns the numbers of the calls that follow the last look at the new journal, up to the
-        rename: what takes the place of a new file in that time is put."""
+        rename of the text, and that of the journal's rename, which follows its own look: what takes
+        the place of a new file in that time is renamed."""
         end = self.calls.index(RENAME) + 1
         looks = [at for at in range(1, end) if self.calls[at - 1] == "statx main.tf.tfundo.new"]
         # the first look is that of the recovery
-        return range(looks[-1] + 1 if len(looks) > 1 else end, end + 1)
+        first = looks[-1] + 1 if len(looks) > 1 else end
+        return {*range(first, end + 1), self.calls.index(JOURNAL_RENAME) + 1}
 
     def after(self, *commands):
         """Returns FILE and journal after commands that run one after the other."""
