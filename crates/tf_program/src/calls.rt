@@ -184,7 +184,8 @@ fn make<R: Files>(rt: &R, alloc: Global, file: &mut PartFile<'_, R::File>, call:
         Call::CompareNew(_) => compare_new(rt, file),
         Call::Compare => compare(rt, file),
         Call::CanAdopt => adopt(rt, alloc, file),
-        Call::Rename(_) => rename(rt, file),
+        Call::Rename(Part::Text) => rename(rt, file),
+        Call::Rename(Part::Journal) => rename_journal(rt, file),
         Call::Remove(_) => remove(rt, file),
     }
 }
@@ -285,15 +286,20 @@ fn adopt<R: Files>(rt: &R, alloc: Global, journal: &mut PartFile<'_, R::File>) -
     }
 }
 
-/// Renames no file that another command is known to have created since, and nothing over what is
-/// mounted.
+/// Nothing is renamed over what is mounted. No look comes before the rename of the text, which
+/// follows the comparison of its file at once.
 fn rename<R: Files>(rt: &R, file: &PartFile<'_, R::File>) -> Reply {
-    if matches!(find_own_new(rt, file), Reply::NotFound) {
-        return Reply::Failed;
-    }
     match fs::rename(rt, file.new, file.own) {
         Err(error) if error.kind() == ErrorKind::ResourceBusy => Reply::CannotReplace,
         answer => reply_to(answer),
+    }
+}
+
+/// Renames no journal that another command is known to have created since.
+fn rename_journal<R: Files>(rt: &R, journal: &PartFile<'_, R::File>) -> Reply {
+    match find_own_new(rt, journal) {
+        Reply::NotFound => Reply::Failed,
+        _ => rename(rt, journal),
     }
 }
 
