@@ -18,6 +18,7 @@ pub mod HerePlaces
 pub mod HereSound
 pub mod IdentLemmas
 pub mod Longest
+pub mod MarkLfs
 pub mod MarkerLemmas
 pub mod Neighbours
 pub mod NestedLemmas

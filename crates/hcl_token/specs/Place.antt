@@ -1,7 +1,7 @@
 -- Lines and columns of tokens, counted from 1.
 -- Unicode Standard Annex #29, extended grapheme clusters.
-use Rattle.std.specs.Prelude.{ℕ, zero, suc, ◌+◌, Bool, true, false, List, [], ◌∷◌, length, sum_by, count_by, ◌==◌, if◌then◌else◌}
-use Rattle.std.specs.List.{list_any, concat}
+use Rattle.std.specs.Prelude.{◌≡◌, ℕ, zero, suc, ◌+◌, Bool, true, false, List, [], ◌∷◌, length, sum_by, count_by, ◌==◌, if◌then◌else◌}
+use Rattle.std.specs.List.{All, list_any, concat}
 use Rattle.unicode_segmentation.specs.Grapheme.{graphemes}
 use Rattle.hcl_token.specs.declared.kind.Kind.{Kind}
 use Rattle.hcl_token.specs.declared.kind.Kind.TheVariants.{Mark}
@@ -22,6 +22,11 @@ is_mark _ = false
 -- what of a token counts: nothing of the byte order mark, all of any other token
 abbrev pub counted : Pair → List ℕ
 counted p = if is_mark p.kind then [] else p.spelling
+
+-- no byte order mark has an LF: all LFs before a token count
+abbrev pub MarksHaveNoLf : List Pair → Type 0
+MarksHaveNoLf pairs =
+    All (λ (p : Pair). is_mark p.kind ≡ true → count_by is_lf p.spelling ≡ 0) pairs
 
 -- what counts before token i: the gaps and the tokens before it, piece by piece, and its own gap
 abbrev pub pieces_before : List Pair → ℕ → List (List ℕ)

@@ -4,7 +4,7 @@ ghost use Rattle.std.specs.Prelude.{◌≡◌, ◌<◌, ℕ, List, length};
 ghost use Rattle.hcl_token.specs.Tokens.{Pair};
 ghost use Rattle.hcl_token.specs.Items.{pairs_of};
 ghost use Rattle.hcl_token.specs.Inner.Milestones.{IsOnLine, IsOrdered};
-ghost use Rattle.hcl_token.specs.Place.{line_of};
+ghost use Rattle.hcl_token.specs.Place.{MarksHaveNoLf, line_of};
 
 use crate::milestone::{gap_line, token_line};
 use crate::token::Token;
@@ -32,7 +32,8 @@ impl<'s> Model for Lines<'s> {
 
 impl<'s> Lines<'s> {
     pub(crate) fn new(text: &'s [u8], tokens: &'s [Token]) -> Lines<'s>
-        requires { (last : ℕ) × IsOrdered text.now tokens.now last }
+        requires order { (last : ℕ) × IsOrdered text.now tokens.now last }
+        requires marks { MarksHaveNoLf (pairs_of text.now tokens.now) }
         ensures { result ≡ pairs_of text.now tokens.now }
     {
         Lines {

@@ -204,17 +204,14 @@ pub(crate) fn token_place(text: &[u8], tokens: &[Token], i: usize, at: Place) ->
     after_piece(at, part(text, begins, token.start()))
 }
 
-/// The line of the gap before token `to`, where that of the gap before token `from` is `line`. A
-/// byte order mark may count for nothing in a place, so tokens with one are not counted as bytes.
+/// The line of the gap before token `to`, where that of the gap before token `from` is `line`. No
+/// byte order mark has a line feed, so no look at the kinds of the tokens is needed.
 pub(crate) fn gap_line(text: &[u8], tokens: &[Token], from: usize, line: usize, to: usize) -> usize
     requires at { (last : ℕ) × IsOnLine text.now tokens.now last from line }
     requires order { from ≤ to }
     requires within { to ≤ length tokens.now }
     ensures { result ≡ (after_pairs first_place (take to (pairs_of text.now tokens.now))).line }
 {
-    if has_mark(stretch(tokens, from, to)) {
-        return gap_place(text, tokens, 0, FIRST, to).line;
-    }
     line + line_ends(part(text, gap_at(tokens, from), gap_at(tokens, to)))
 }
 

@@ -4,7 +4,7 @@ ghost use Rattle.std.specs.Prelude.{◌≡◌, ◌+◌, ◌<◌, ◌≤◌, ◌�
 ghost use Rattle.hcl_token.specs.declared.tokens.TheConstants.{MAX_TEXT};
 ghost use Rattle.hcl_token.specs.CutText.{CutText, AreUtf8, kind_of, spelling_of, gap_of, clusters_of, item_of, joins_of, stretch_of};
 ghost use Rattle.hcl_token.specs.Items.{InOrder, cut_text, pairs_of};
-ghost use Rattle.hcl_token.specs.Place.{place_of};
+ghost use Rattle.hcl_token.specs.Place.{MarksHaveNoLf, place_of};
 ghost use Rattle.hcl_token.specs.Inner.Milestones.{IsOrdered};
 ghost use Rattle.hcl_token.specs.Lists.{AreTokensOf};
 ghost use Rattle.hcl_token.specs.Tokens.{whole_text};
@@ -221,8 +221,11 @@ impl<'t> Tokens<'t> {
     {
         Places::new(self.text, &self.tokens)
     }
-    /// The lines of tokens that are asked for one after another, from 1.
+
+    /// The lines of tokens that are asked for one after another, from 1. They are told by line
+    /// feeds alone, of which a byte order mark must have none.
     pub fn lines(&self) -> Lines<'_>
+        requires { MarksHaveNoLf self.now.pairs }
         ensures { result ≡ self.now.pairs }
     {
         Lines::new(self.text, &self.tokens)

@@ -7,7 +7,7 @@ use Rattle.hcl_token.specs.declared.tokens.TheConstants.{MAX_TEXT}
 use Rattle.hcl_token.specs.Tokens.{Pair}
 use Rattle.hcl_token.specs.Items.{pairs_from, pairs_of, InOrder}
 use Rattle.hcl_token.specs.CutText.{AreUtf8}
-use Rattle.hcl_token.specs.Place.{clusters, is_lf, is_mark, last_line}
+use Rattle.hcl_token.specs.Place.{MarksHaveNoLf, clusters, is_lf, is_mark, last_line}
 
 -- the place at the front of a text
 abbrev pub first_place : Place
@@ -70,4 +70,5 @@ pub record IsAt (text : List ℕ) (tokens : List Token) (last_at from : ℕ) (at
 -- the line of the gap before a token, found from the front on
 pub record IsOnLine (text : List ℕ) (tokens : List Token) (last_at from line : ℕ) : Type 0 where
   pub ordered : IsOrdered text tokens last_at
+  pub marks : MarksHaveNoLf (pairs_of text tokens)
   pub is : line ≡ (after_pairs first_place (take from (pairs_of text tokens))).line

@@ -1,6 +1,6 @@
-use Rattle.std.proofs.Common.{ap, ap₂, sym, ◌∙◌, arith, slice_range, count_by, length}
+use Rattle.std.proofs.Common.{ap, ap₂, ◌∙◌, arith, slice_range, count_by, length}
 use Rattle.hcl_token.specs.Place.{is_lf}
-use Rattle.hcl_token.specs.Inner.Milestones.{gap_at, has_mark}
+use Rattle.hcl_token.specs.Inner.Milestones.{gap_at}
 use Rattle.hcl_token.proofs.CountLemmas.{line_over, line_reached}
 use Rattle.hcl_token.proofs.OrderLemmas.{gap-le, length-range, order-le, order-slice}
 use Rattle.hcl_token.proofs.milestone.gap_line.Goals as goal
@@ -41,10 +41,9 @@ returns c =
     let text = c.args.text.now in
     let tokens = c.args.tokens.now in
     let bytes = c.part.ensures ∙ ap₂ (slice_range text) c.gap_at.ensures c.gap_at-2.ensures in
-    let none = sym (c.has_mark.ensures ∙ ap has_mark c.stretch.ensures) ∙ c.if-has_mark.false in
     omega (
       arith,
       c.line_ends.ensures.value,
       ap (count_by is_lf) bytes,
-      line_over text tokens c.requires.at.0 c.args.from c.args.to c.args.line c.requires.at.1 c.requires.order none,
+      line_over text tokens c.requires.at.0 c.args.from c.args.to c.args.line c.requires.at.1 c.requires.order,
     )

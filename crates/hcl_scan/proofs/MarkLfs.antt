@@ -1,0 +1,36 @@
+-- No byte order mark of a cut has an LF: one stands at the front of a text, and no lexeme is one.
+use Rattle.std.proofs.Common.{◌≡◌, ℕ, Bool, true, false, List, [], ◌∷◌, ◌++◌, count_by, if◌then◌else◌, refl, sym, subst, false≢true, ◌∙◌}
+use Rattle.std.proofs.lemmas.List.Elements.{All-append, All-cons, All-nil}
+use Rattle.hcl_token.specs.declared.kind.Kind.{Kind}
+use Rattle.hcl_token.specs.declared.kind.Kind.TheVariants.{Mark}
+use Rattle.hcl_token.specs.Tokens.{Pair}
+use Rattle.hcl_token.specs.Place.{MarksHaveNoLf, is_lf, is_mark}
+use Rattle.hcl_scan.specs.Characters.{begins}
+use Rattle.hcl_scan.specs.Modes.{Mode, mode_of, after}
+use Rattle.hcl_scan.specs.Lexeme.{stands_in}
+use Rattle.hcl_scan.specs.Cut.{CutsFrom, IsCut, byte_order_mark, front_of}
+
+abbrev MarkHasNoLf : Pair → Type 0
+MarkHasNoLf p = is_mark p.kind ≡ true → count_by is_lf p.spelling ≡ 0
+
+no_mark : (mode : Mode) (kind : Kind) → stands_in mode kind ≡ true → is_mark kind ≡ false
+no_mark mode Mark h = absurd (false≢true h)
+no_mark mode kind h = refl
+
+cut_marks : (ps : List Pair) (modes left : List Mode) (rest : List ℕ) → CutsFrom modes ps rest left → MarksHaveNoLf ps
+cut_marks [] modes left rest c = All-nil MarkHasNoLf
+cut_marks (p ∷ ps) modes left rest c =
+    let none : is_mark p.kind ≡ false = no_mark (mode_of modes) p.kind c.1.0.0 in
+    All-cons MarkHasNoLf p ps (λ e. absurd (false≢true (sym none ∙ e))) (cut_marks ps (after p.kind p.spelling modes) left rest c.2)
+
+front_marks : (text : List ℕ) → MarksHaveNoLf (front_of text)
+front_marks text =
+    elim (begins byte_order_mark text) as (λ b. MarksHaveNoLf (if b then record { gap = []; kind = Mark; spelling = byte_order_mark } ∷ [] else [])) [
+      | true ↦ All-cons MarkHasNoLf (record { gap = []; kind = Mark; spelling = byte_order_mark }) [] (λ _. refl) (All-nil MarkHasNoLf)
+      | false ↦ All-nil MarkHasNoLf
+    ]
+
+pub marks_have_no_lf : (text : List ℕ) (pairs : List Pair) (last : List ℕ) → IsCut text pairs last → MarksHaveNoLf pairs
+marks_have_no_lf text pairs last c =
+    subst MarksHaveNoLf (sym c.cuts.front)
+    (All-append MarkHasNoLf (front_of text) c.cuts.body (front_marks text) (cut_marks c.cuts.body [] [] last c.cuts.cuts))
