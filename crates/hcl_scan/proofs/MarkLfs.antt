@@ -1,5 +1,5 @@
 -- No byte order mark of a cut has an LF: one stands at the front of a text, and no lexeme is one.
-use Rattle.std.proofs.Common.{◌≡◌, ℕ, true, false, List, [], ◌∷◌, ◌++◌, count_by, if◌then◌else◌, refl, sym, subst, ◌∙◌}
+use Rattle.std.proofs.Common.{◌≡◌, ℕ, true, false, List, [], ◌∷◌, count_by, if◌then◌else◌, refl, sym, subst, ◌∙◌}
 use Rattle.std.proofs.lemmas.Bool.{false≢true}
 use Rattle.std.proofs.lemmas.List.Elements.{All-append, All-cons, All-nil}
 use Rattle.hcl_token.specs.declared.kind.Kind.{Kind}
