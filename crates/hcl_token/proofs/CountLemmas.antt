@@ -13,14 +13,15 @@ use Rattle.hcl_token.proofs.PlaceLemmas.{place_found}
 use Rattle.hcl_token.proofs.StretchLemmas.{after_pairs-slice}
 use Rattle.hcl_token.proofs.MilestoneLemmas.{front_reached}
 
+-- all LFs of a pair count: those of a byte order mark would not
 abbrev LfsCount : Pair → Type 0
 LfsCount p = is_mark p.kind ≡ true → count_by is_lf p.spelling ≡ 0
 
--- a pair whose LFs count all, or which has none
+-- the line behind a pair, by the LFs of its gap and its spelling
 counted_pair : (at : Place) (p : Pair) → LfsCount p → (after_pair at p).line ≡ at.line + count_by is_lf p.gap + count_by is_lf p.spelling
-counted_pair at p plain =
+counted_pair at p counts =
     elim (is_mark p.kind) as (λ v. is_mark p.kind ≡ v → (after_pair at p).line ≡ at.line + count_by is_lf p.gap + count_by is_lf p.spelling) [
-      | true ↦ λ e. rw e (omega (arith, plain e))
+      | true ↦ λ e. rw e (omega (arith, counts e))
       | false ↦ λ e. rw e refl
     ] refl
 
