@@ -1,4 +1,5 @@
--- No byte order mark of a cut has an LF: one stands at the front of a text, and no lexeme is one.
+-- No byte order mark among the tokens of a text has an LF: it can only be the first token, and no
+-- lexeme is one.
 use Rattle.std.proofs.Common.{◌≡◌, ℕ, true, false, List, [], ◌∷◌, count_by, if◌then◌else◌, refl, sym, subst, ◌∙◌}
 use Rattle.std.proofs.lemmas.Bool.{false≢true}
 use Rattle.std.proofs.lemmas.List.Elements.{All-append, All-cons, All-nil}
@@ -18,14 +19,14 @@ no_mark : (mode : Mode) (kind : Kind) → stands_in mode kind ≡ true → is_ma
 no_mark mode Mark h = absurd (false≢true h)
 no_mark mode kind h = refl
 
-cut_marks : (ps : List Pair) (modes left : List Mode) (rest : List ℕ) → CutsFrom modes ps rest left → MarksHaveNoLf ps
-cut_marks [] modes left rest c = All-nil MarkHasNoLf
-cut_marks (p ∷ ps) modes left rest c =
+body_marks : (ps : List Pair) (modes left : List Mode) (rest : List ℕ) → CutsFrom modes ps rest left → MarksHaveNoLf ps
+body_marks [] modes left rest c = All-nil MarkHasNoLf
+body_marks (p ∷ ps) modes left rest c =
     let none : is_mark p.kind ≡ false = no_mark (mode_of modes) p.kind c.1.0.0 in
-    All-cons MarkHasNoLf p ps (λ e. absurd (false≢true (sym none ∙ e))) (cut_marks ps (after p.kind p.spelling modes) left rest c.2)
+    All-cons MarkHasNoLf p ps (λ e. absurd (false≢true (sym none ∙ e))) (body_marks ps (after p.kind p.spelling modes) left rest c.2)
 
-front_marks : (text : List ℕ) → MarksHaveNoLf (front_of text)
-front_marks text =
+prefix_marks : (text : List ℕ) → MarksHaveNoLf (front_of text)
+prefix_marks text =
     elim (begins byte_order_mark text) as (λ b. MarksHaveNoLf (if b then record { gap = []; kind = Mark; spelling = byte_order_mark } ∷ [] else [])) [
       | true ↦ All-cons MarkHasNoLf (record { gap = []; kind = Mark; spelling = byte_order_mark }) [] (λ _. refl) (All-nil MarkHasNoLf)
       | false ↦ All-nil MarkHasNoLf
@@ -34,4 +35,4 @@ front_marks text =
 pub marks_have_no_lf : (text : List ℕ) (pairs : List Pair) (last : List ℕ) → IsCut text pairs last → MarksHaveNoLf pairs
 marks_have_no_lf text pairs last c =
     subst MarksHaveNoLf (sym c.cuts.front)
-    (All-append MarkHasNoLf (front_of text) c.cuts.body (front_marks text) (cut_marks c.cuts.body [] [] last c.cuts.cuts))
+    (All-append MarkHasNoLf (front_of text) c.cuts.body (prefix_marks text) (body_marks c.cuts.body [] [] last c.cuts.cuts))

@@ -46,8 +46,8 @@ marks-slice : (text : List ℕ) (tokens : List Token) (from to : ℕ) → MarksH
     → MarksHaveNoLf (pairs_from text (gap_at tokens from) (slice_range tokens from to))
 marks-slice text tokens from to marks =
     let at : ℕ = gap_at tokens from in
-    let behind = subst MarksHaveNoLf (pairs-drop text tokens 0 from) (All-drop LfsCount from (pairs_of text tokens) marks) in
-    subst MarksHaveNoLf (pairs-take text (drop from tokens) at (to - from)) (All-take LfsCount (to - from) (pairs_from text at (drop from tokens)) behind)
+    let after_from = subst MarksHaveNoLf (pairs-drop text tokens 0 from) (All-drop LfsCount from (pairs_of text tokens) marks) in
+    subst MarksHaveNoLf (pairs-take text (drop from tokens) at (to - from)) (All-take LfsCount (to - from) (pairs_from text at (drop from tokens)) after_from)
 
 pub line_over : (text : List ℕ) (tokens : List Token) (last from to line : ℕ) → IsOnLine text tokens last from line → from ≤ to
     → line + count_by is_lf (slice_range text (gap_at tokens from) (gap_at tokens to)) ≡ (after_pairs first_place (take to (pairs_of text tokens))).line

@@ -222,8 +222,8 @@ impl<'t> Tokens<'t> {
         Places::new(self.text, &self.tokens)
     }
 
-    /// The lines of tokens that are asked for one after another, from 1. They are told by line
-    /// feeds alone, of which a byte order mark must have none.
+    /// Returns a cursor over the lines of tokens, from 1. It counts line feeds alone, so no byte
+    /// order mark may have one.
     pub fn lines(&self) -> Lines<'_>
         requires { MarksHaveNoLf self.now.pairs }
         ensures { result ≡ self.now.pairs }
