@@ -3,8 +3,8 @@ pub mod Steps
 pub mod Undoing
 pub mod Parts
 pub mod Pairs
-pub mod Following
-pub mod Stopping
-pub mod JournalStops
+pub mod Composition
+pub mod FirstMismatch
+pub mod JournalResults
 pub mod PieceLemmas
 pub mod ListLemmas

@@ -2,19 +2,19 @@
 use Rattle.std.proofs.Common.{◌≡◌, ℕ, ◌+◌, ◌-◌, ◌≤◌, List, [], ◌∷◌, ◌++◌, length, take, drop, refl, arith, sym, ap, ◌∙◌, append_assoc}
 use Rattle.std.proofs.lemmas.List.{append_cancel_left, take-append-drop, length-take-le}
 use Rattle.edit_list.specs.declared.direction.Direction.TheVariants.{Forward}
-use Rattle.edit_list.specs.Pieces.{Entry}
-use Rattle.edit_list.specs.Made.{ArePlaced}
-use Rattle.edit_list.specs.Inner.Goes.{Goes}
+use Rattle.edit_list.specs.Pieces.{EditEntry}
+use Rattle.edit_list.specs.Validity.{AreDisjoint}
+use Rattle.edit_list.specs.Inner.Walks.{Walks}
 use Rattle.edit_list.proofs.Parts.{fronts, Ends, pass, pass_back, pass_new, long, end_of}
 
 -- t goes to v by what is left of both lists, over a text between; the first list added bytes that the second has not
 -- reached, or the second removed bytes that the first has not reached
-pub record Both (la lb : ℕ) (pa : List ℕ) (af : ℕ) (xs : List Entry) (pb : List ℕ) (bf : ℕ) (ys : List Entry) (t v : List ℕ) : Type 0 where
+pub record Both (la lb : ℕ) (pa : List ℕ) (af : ℕ) (xs : List EditEntry) (pb : List ℕ) (bf : ℕ) (ys : List EditEntry) (t v : List ℕ) : Type 0 where
   pub mid_first : List ℕ
   pub mid_second : List ℕ
   pub same : pa ++ mid_first ≡ pb ++ mid_second
-  pub first : Goes Forward af xs (Ends la) t mid_first
-  pub second : Goes Forward bf ys (Ends lb) mid_second v
+  pub first : Walks Forward af xs (Ends la) t mid_first
+  pub second : Walks Forward bf ys (Ends lb) mid_second v
 
 -- K is x to y, and then L
 pub record Moved (x y : List ℕ) (L : List ℕ → List ℕ → Type 0) (t v : List ℕ) : Type 0 where
@@ -30,7 +30,7 @@ pub record Passes (x y : List ℕ) (K L : List ℕ → List ℕ → Type 0) : Ty
 
 module _ (la lb : ℕ) where
   -- the next edit of the first list
-  pub passes_first : (e : Entry) (xs : List Entry) (pb : List ℕ) (af bf : ℕ) (ys : List Entry) → af ≤ e.at → e.at - af ≤ length pb
+  pub passes_first : (e : EditEntry) (xs : List EditEntry) (pb : List ℕ) (af bf : ℕ) (ys : List EditEntry) → af ≤ e.at → e.at - af ≤ length pb
       → Passes (take (e.at - af) pb ++ e.removed) [] (Both la lb [] af (e ∷ xs) pb bf ys) (Both la lb e.added (e.at + length e.removed) xs (drop (e.at - af) pb) bf ys)
   passes_first e xs pb af bf ys later within =
       let d = e.at - af in
@@ -60,7 +60,7 @@ module _ (la lb : ℕ) where
       }
 
   -- the next edit of the second list
-  pub passes_second : (e : Entry) (ys : List Entry) (pa : List ℕ) (af bf : ℕ) (xs : List Entry) → bf ≤ e.at → e.at - bf ≤ length pa
+  pub passes_second : (e : EditEntry) (ys : List EditEntry) (pa : List ℕ) (af bf : ℕ) (xs : List EditEntry) → bf ≤ e.at → e.at - bf ≤ length pa
       → Passes [] (take (e.at - bf) pa ++ e.added) (Both la lb pa af xs [] bf (e ∷ ys)) (Both la lb (drop (e.at - bf) pa) af xs e.removed (e.at + length e.removed) ys)
   passes_second e ys pa af bf xs later within =
       let d = e.at - bf in
@@ -90,7 +90,7 @@ module _ (la lb : ℕ) where
       }
 
   -- bytes that the first list added and the second removes
-  pub passes_met : (x pa pb : List ℕ) (af : ℕ) (xs : List Entry) (bf : ℕ) (ys : List Entry) → Passes [] [] (Both la lb (x ++ pa) af xs (x ++ pb) bf ys) (Both la lb pa af xs pb bf ys)
+  pub passes_met : (x pa pb : List ℕ) (af : ℕ) (xs : List EditEntry) (bf : ℕ) (ys : List EditEntry) → Passes [] [] (Both la lb (x ++ pa) af xs (x ++ pb) bf ys) (Both la lb pa af xs pb bf ys)
   passes_met x pa pb af xs bf ys = record {
     go = λ t v h. record {
       t_rest = t;
@@ -103,7 +103,7 @@ module _ (la lb : ℕ) where
   }
 
   -- bytes that the first list added and the second keeps
-  pub passes_first_left : (pa : List ℕ) (af : ℕ) (xs : List Entry) (bf : ℕ) (ys : List Entry) → ArePlaced lb (bf + length pa) ys → Passes [] pa (Both la lb pa af xs [] bf ys) (Both la lb [] af xs [] (bf + length pa) ys)
+  pub passes_first_left : (pa : List ℕ) (af : ℕ) (xs : List EditEntry) (bf : ℕ) (ys : List EditEntry) → AreDisjoint lb (bf + length pa) ys → Passes [] pa (Both la lb pa af xs [] bf ys) (Both la lb [] af xs [] (bf + length pa) ys)
   passes_first_left pa af xs bf ys p = record {
     go = λ t v h.
         let q = pass lb bf pa ys h.mid_first v p (rw h.same h.second) in
@@ -112,7 +112,7 @@ module _ (la lb : ℕ) where
   }
 
   -- bytes that the second list removed and the first keeps
-  pub passes_second_left : (pb : List ℕ) (af : ℕ) (xs : List Entry) (bf : ℕ) (ys : List Entry) → ArePlaced la (af + length pb) xs → Passes pb [] (Both la lb [] af xs pb bf ys) (Both la lb [] (af + length pb) xs [] bf ys)
+  pub passes_second_left : (pb : List ℕ) (af : ℕ) (xs : List EditEntry) (bf : ℕ) (ys : List EditEntry) → AreDisjoint la (af + length pb) xs → Passes pb [] (Both la lb [] af xs pb bf ys) (Both la lb [] (af + length pb) xs [] bf ys)
   passes_second_left pb af xs bf ys p = record {
     go = λ t v h.
         let q = pass_new la af pb xs t h.mid_second p (rw (← h.same) h.first) in
@@ -125,13 +125,13 @@ module _ (la lb : ℕ) where
     pub skip_go : (t v : List ℕ) → K t v → (w : List ℕ) × (length w ≡ n) × Moved w w L t v
     pub skip_back : (w t v : List ℕ) → length w ≡ n → L t v → K (w ++ t) (w ++ v)
 
-  skip_at : (n af bf : ℕ) (xs ys : List Entry) → ArePlaced la (af + n) xs → ArePlaced lb (bf + n) ys → (w r t v : List ℕ) → length w ≡ n → t ≡ w ++ r → Both la lb [] af xs [] bf ys t v → (w : List ℕ) × (length w ≡ n) × Moved w w (Both la lb [] (af + n) xs [] (bf + n) ys) t v
+  skip_at : (n af bf : ℕ) (xs ys : List EditEntry) → AreDisjoint la (af + n) xs → AreDisjoint lb (bf + n) ys → (w r t v : List ℕ) → length w ≡ n → t ≡ w ++ r → Both la lb [] af xs [] bf ys t v → (w : List ℕ) × (length w ≡ n) × Moved w w (Both la lb [] (af + n) xs [] (bf + n) ys) t v
   skip_at n af bf xs ys p q w r t v wl e h =
       let f = pass la af w xs r h.mid_first (rw wl p) (rw (← e) h.first) in
       let s = pass lb bf w ys f.u_rest v (rw wl q) (rw (← f.u_is, h.same) h.second) in
       (w, wl, record { t_rest = r; v_rest = s.u_rest; t_is = e; v_is = s.u_is; rest = record { mid_first = f.u_rest; mid_second = f.u_rest; same = refl; first = rw (← wl) f.rest; second = rw (← wl) s.rest } })
 
-  pub skips : (n af bf : ℕ) (xs ys : List Entry) → ArePlaced la (af + n) xs → ArePlaced lb (bf + n) ys → Skips n (Both la lb [] af xs [] bf ys) (Both la lb [] (af + n) xs [] (bf + n) ys)
+  pub skips : (n af bf : ℕ) (xs ys : List EditEntry) → AreDisjoint la (af + n) xs → AreDisjoint lb (bf + n) ys → Skips n (Both la lb [] af xs [] bf ys) (Both la lb [] (af + n) xs [] (bf + n) ys)
   skips n af bf xs ys p q = record {
     skip_go = λ t v h.
         let l = long la af n xs t h.mid_first p h.first in
@@ -152,9 +152,9 @@ pub record Alike (K L : List ℕ → List ℕ → Type 0) : Type 0 where
 pub alike_then : (K L M : List ℕ → List ℕ → Type 0) → Alike K L → Alike L M → Alike K M
 alike_then K L M p q = record { go = λ t v h. q.go t v (p.go t v h); back = λ t v h. p.back t v (q.back t v h) }
 
-pub goes_map : (from : ℕ) (es : List Entry) (K L : ℕ → List ℕ → List ℕ → Type 0) → ((t v : List ℕ) → K (end_of from es) t v → L (end_of from es) t v) → (t v : List ℕ) → Goes Forward from es K t v → Goes Forward from es L t v
-goes_map from [] K L f t v g = f t v g
-goes_map from (e ∷ es) K L f t v g = record { kept = g.kept; t_rest = g.t_rest; u_rest = g.u_rest; gap = g.gap; t_is = g.t_is; u_is = g.u_is; rest = goes_map (e.at + length e.removed) es K L f g.t_rest g.u_rest g.rest }
+pub walks_map : (from : ℕ) (es : List EditEntry) (K L : ℕ → List ℕ → List ℕ → Type 0) → ((t v : List ℕ) → K (end_of from es) t v → L (end_of from es) t v) → (t v : List ℕ) → Walks Forward from es K t v → Walks Forward from es L t v
+walks_map from [] K L f t v g = f t v g
+walks_map from (e ∷ es) K L f t v g = record { kept = g.kept; t_rest = g.t_rest; u_rest = g.u_rest; gap = g.gap; t_is = g.t_is; u_is = g.u_is; rest = walks_map (e.at + length e.removed) es K L f g.t_rest g.u_rest g.rest }
 
-pub goes_alike : (from : ℕ) (es : List Entry) (K L : ℕ → List ℕ → List ℕ → Type 0) → Alike (K (end_of from es)) (L (end_of from es)) → Alike (Goes Forward from es K) (Goes Forward from es L)
-goes_alike from es K L a = record { go = goes_map from es K L a.go; back = goes_map from es L K a.back }
+pub walks_alike : (from : ℕ) (es : List EditEntry) (K L : ℕ → List ℕ → List ℕ → Type 0) → Alike (K (end_of from es)) (L (end_of from es)) → Alike (Walks Forward from es K) (Walks Forward from es L)
+walks_alike from es K L a = record { go = walks_map from es K L a.go; back = walks_map from es L K a.back }

@@ -1,11 +1,11 @@
 -- The changed pieces of a text are a list of edits, unless the new text is too long. Crates that make edits piece by
 -- piece may cite this file; the clauses of `laws` say the same.
 use Rattle.std.proofs.Common.{◌≡◌, ℕ, ◌+◌, ◌≤◌, ◌<◌, ◌==◌, ◌&&◌, false, List, [], ◌∷◌, length, None, refl, arith, length-append, nat_lt, rules}
-use Rattle.edit_list.specs.Pieces.{Entry, Piece, old_text, new_text, changes_from, removed_len, added_len}
+use Rattle.edit_list.specs.Pieces.{EditEntry, Piece, old_text, new_text, changed_entries, removed_len, added_len}
 use Rattle.edit_list.specs.Pieces.Piece.{Kept, Changed}
-use Rattle.edit_list.specs.Made.{first_fault, edit_fault}
-use Rattle.edit_list.specs.Pieced.{AreChanges, PiecesTurn, PiecesMake}
-use Rattle.edit_list.specs.Inner.Turning.{goes_from_pieces, lengths}
+use Rattle.edit_list.specs.Validity.{first_fault, edit_fault}
+use Rattle.edit_list.specs.PieceEdits.{ChangesAreNonempty, PiecesTransform, PiecesMakeValidEdits}
+use Rattle.edit_list.specs.Inner.WalkExact.{walks_from_pieces, lengths}
 use Rattle.edit_list.specs.declared.edits.TheConstants.{MAX_TEXT}
 
 not_empty : (k l : ℕ) → 0 < k + l → ((k == 0) && (l == 0)) ≡ false
@@ -14,7 +14,7 @@ not_empty k l some = grind (arith, some)
 same_tests : (old new added removed : ℕ) → new + removed ≡ old + added → nat_lt (MAX_TEXT + removed) (old + added) ≡ nat_lt MAX_TEXT new
 same_tests old new added removed e = grind (arith, e)
 
-pub right_fault : (old_len end i : ℕ) (e : Entry) → end ≤ e.at → e.at + length e.removed ≤ old_len → 0 < length e.removed + length e.added
+pub right_fault : (old_len end i : ℕ) (e : EditEntry) → end ≤ e.at → e.at + length e.removed ≤ old_len → 0 < length e.removed + length e.added
     → edit_fault old_len end i e ≡ None
 right_fault old_len end i e later within some =
     let filled = not_empty (length e.removed) (length e.added) some in
@@ -22,8 +22,8 @@ right_fault old_len end i e later within some =
     let not_past : nat_lt old_len (e.at + length e.removed) ≡ false = search (rules, within) in
     rw (filled, not_before, not_past) refl
 
-pub no_fault : (ps : List Piece) (old_len end from i : ℕ) → AreChanges ps → end ≤ from → from + length (old_text ps) ≡ old_len
-    → first_fault old_len end i (changes_from from ps) ≡ None
+pub no_fault : (ps : List Piece) (old_len end from i : ℕ) → ChangesAreNonempty ps → end ≤ from → from + length (old_text ps) ≡ old_len
+    → first_fault old_len end i (changed_entries from ps) ≡ None
 no_fault [] old_len end from i are later within = refl
 no_fault (Kept b ∷ ps) old_len end from i are later within =
     let both = length-append b (old_text ps) in
@@ -36,16 +36,16 @@ no_fault (Changed r n ∷ ps) old_len end from i are later within =
 
 -- the new text has the length that the edits tell
 pub piece_lengths : (ps : List Piece)
-    → length (new_text ps) + removed_len (changes_from 0 ps) ≡ length (old_text ps) + added_len (changes_from 0 ps)
-piece_lengths ps = lengths 0 (changes_from 0 ps) (old_text ps) (new_text ps) (goes_from_pieces 0 ps)
+    → length (new_text ps) + removed_len (changed_entries 0 ps) ≡ length (old_text ps) + added_len (changed_entries 0 ps)
+piece_lengths ps = lengths 0 (changed_entries 0 ps) (old_text ps) (new_text ps) (walks_from_pieces 0 ps)
 
-pub pieces_make : (ps : List Piece) → AreChanges ps → length (old_text ps) ≤ MAX_TEXT → PiecesMake ps
+pub pieces_make : (ps : List Piece) → ChangesAreNonempty ps → length (old_text ps) ≤ MAX_TEXT → PiecesMakeValidEdits ps
 pieces_make ps are short =
     let fits : nat_lt MAX_TEXT (length (old_text ps)) ≡ false = search (rules, short) in
     let right = no_fault ps (length (old_text ps)) 0 0 0 are (omega arith) (omega arith) in
     let sums = piece_lengths ps in
-    let same : nat_lt (MAX_TEXT + removed_len (changes_from 0 ps)) (length (old_text ps) + added_len (changes_from 0 ps)) ≡ nat_lt MAX_TEXT (length (new_text ps)) = same_tests _ _ _ _ sums in
+    let same : nat_lt (MAX_TEXT + removed_len (changed_entries 0 ps)) (length (old_text ps) + added_len (changed_entries 0 ps)) ≡ nat_lt MAX_TEXT (length (new_text ps)) = same_tests _ _ _ _ sums in
     rw (fits, right, same) refl
 
-pub pieces_turn : (ps : List Piece) → PiecesTurn ps
+pub pieces_turn : (ps : List Piece) → PiecesTransform ps
 pieces_turn ps = record { len = refl; pieces = ps; old_is = refl; new_is = refl; edits_are = refl }

@@ -3,8 +3,8 @@ use Rattle.std.proofs.Common.{◌≡◌, ℕ, ◌+◌, ◌-◌, ◌≤◌, List,
 use Rattle.std.proofs.lemmas.List.{take_more, take_all}
 use Rattle.edit_list.specs.declared.change.Refused.{Refused}
 use Rattle.edit_list.specs.declared.change.Refused.TheVariants.{Length, Differs, Memory}
-use Rattle.edit_list.specs.Many.{◌>>=◌, backward_all}
-use Rattle.edit_list.specs.Refusals.{Gives}
+use Rattle.edit_list.specs.Sequence.{◌>>=◌, backward_all}
+use Rattle.edit_list.specs.ChangeResults.{AgreesWith}
 
 bind_bind : (r : Result (List ℕ) Refused) (f g : List ℕ → Result (List ℕ) Refused) → ((r >>= f) >>= g) ≡ (r >>= λ x. f x >>= g)
 bind_bind (Ok x) f g = refl
@@ -28,7 +28,7 @@ module _ {C : Type 0} (backward : C → List ℕ → Result (List ℕ) Refused) 
   pub undo_goes : (cs : List C) (c : C) (u v : List ℕ) (all : Result (List ℕ) Refused) → 1 ≤ length cs → c ≡ get_or cs (length cs - 1) c → backward c u ≡ Ok v → backward_all backward cs u ≡ all → backward_all backward (take (length cs - 1) cs) v ≡ all
   undo_goes cs c u v all n is e h = sym (at_last cs c u n is ∙ ap (λ r. r >>= backward_all backward (take (length cs - 1) cs)) e) ∙ h
 
-  pub undo_stops : (cs : List C) (c : C) (u : List ℕ) (all : Result (List ℕ) Refused) (e : Refused) → 1 ≤ length cs → c ≡ get_or cs (length cs - 1) c → Gives (Err e) (backward c u) → backward_all backward cs u ≡ all → Gives (Err e) all
+  pub undo_stops : (cs : List C) (c : C) (u : List ℕ) (all : Result (List ℕ) Refused) (e : Refused) → 1 ≤ length cs → c ≡ get_or cs (length cs - 1) c → AgreesWith (Err e) (backward c u) → backward_all backward cs u ≡ all → AgreesWith (Err e) all
   undo_stops cs c u all Memory n is g h = tt
   undo_stops cs c u all (Length a b) n is g h = sym h ∙ at_last cs c u n is ∙ ap (λ r. r >>= backward_all backward (take (length cs - 1) cs)) g
   undo_stops cs c u all (Differs a b) n is g h = sym h ∙ at_last cs c u n is ∙ ap (λ r. r >>= backward_all backward (take (length cs - 1) cs)) g

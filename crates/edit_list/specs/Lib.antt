@@ -1,8 +1,8 @@
 pub mod Pieces
-pub mod Made
-pub mod Pieced
-pub mod Refusals
-pub mod Many
+pub mod Validity
+pub mod PieceEdits
+pub mod ChangeResults
+pub mod Sequence
 pub mod Journal
-pub mod JournalRefusals
+pub mod JournalResults
 pub mod Inner

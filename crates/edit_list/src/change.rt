@@ -1,7 +1,7 @@
 ghost use Rattle.std.specs.Prelude.{◌≡◌, ◌≢◌, ◌↔◌, List, ℕ, Result, Ok, Err};
 ghost use Rattle.edit_list.specs.declared.change.Refused.TheVariants.{Memory};
 ghost use Rattle.edit_list.specs.declared.change.Refused.{Refused};
-ghost use Rattle.edit_list.specs.Refusals.{Gives};
+ghost use Rattle.edit_list.specs.ChangeResults.{AgreesWith};
 
 use std::alloc::{AllocError, AllocFailed, Global};
 use thiserror::Error;
@@ -12,8 +12,8 @@ pub enum Refused {
     /// The text has another length than the change asks, in bytes.
     #[error("record expects {expected} bytes, found {found}")]
     Length { expected: usize, found: usize },
-    /// The text has other bytes than this edit asks, which is the first such edit. Steps and edits
-    /// count from 0.
+    /// The text does not have the bytes that an edit expects. `edit` is the first such edit; steps
+    /// and edits are numbered from 0.
     #[error("record does not stand, step {step} edit {edit}")]
     Differs { step: usize, edit: usize },
     /// There was no memory for the other text.
@@ -37,11 +37,10 @@ impl<T: Drop> From<AllocFailed<T>> for Refused {
     }
 }
 
-/// What turns texts into others, and back.
+/// A change of a text that can be applied and undone.
 ///
-/// For each change a text has at most one text on its other side, whichever side it is on, and both
-/// calls find it exactly where there is one. They change nothing, and borrow the text that they are
-/// given.
+/// A change is one-to-one: `apply` has at most one result for a text, and so has `undo`, and each
+/// returns it if there is one. Neither changes the text that it borrows.
 pub trait Change {
     /// The change turns the first text into the second.
     ghost turns: { Self → List ℕ → List ℕ → Type 0 };
@@ -54,11 +53,11 @@ pub trait Change {
 
     /// The new text of this old one.
     fn apply(&self, alloc: Global, text: &[u8]) -> Result<Vec<u8>, Refused>
-        ensures { Gives result (forward self.now text.now) };
+        ensures { AgreesWith result (forward self.now text.now) };
 
     /// The old text of this new one.
     fn undo(&self, alloc: Global, text: &[u8]) -> Result<Vec<u8>, Refused>
-        ensures { Gives result (backward self.now text.now) };
+        ensures { AgreesWith result (backward self.now text.now) };
 
     /// A text has a new one exactly where the change turns it into that.
     ghost applies: { (c : Self) (t u : List ℕ) → (forward c t ≡ Ok u) ↔ turns c t u };

@@ -1,55 +1,55 @@
 ghost use Rattle.std.specs.Prelude.{◌≡◌, ◌+◌, ◌≤◌, ◌<◌, length, IfOk, IfErr};
-ghost use Rattle.edit_list.specs.Inner.Texts.{removed_of, added_of, IsCut};
-ghost use Rattle.edit_list.specs.declared.edit.TheConstants.{SHORT};
+ghost use Rattle.edit_list.specs.Inner.Storage.{removed_of, added_of, IsValidStorage};
+ghost use Rattle.edit_list.specs.declared.edit.TheConstants.{INLINE_CAPACITY};
 
 use std::alloc::{AllocError, Global};
 use std::fmt::{self, Debug};
 use std::marker::Model;
 use thiserror::Error;
 
-/// How many bytes may lie in the edit itself, removed and added ones together: what is left of 16
-/// bytes beside their two lengths.
-const SHORT: usize = 13;
+/// The most bytes, removed and added together, that an edit stores inline. With the two lengths and
+/// the tag they fill 16 bytes.
+const INLINE_CAPACITY: usize = 13;
 
-/// At this place of the old text, counted in bytes from 0, the removed bytes become the added ones.
+/// Replaces the bytes `removed` at offset `at` of the old text by `added`.
 ///
-/// It takes 24 bytes, and no other memory where the bytes that go and come are 13 at most.
+/// An edit takes 24 bytes. It allocates only if the two texts together have more than 13 bytes.
 #[derive(Drop)]
 pub struct Edit {
     at: usize,
-    texts: Texts,
+    storage: Storage,
 }
 
 // A text full of issues has an edit for each, most of a few bytes.
 const _: () = prove!(size_of::<Edit>() == 24);
 
-/// What an edit removes, and behind it what it adds. The first `cut` bytes are those that go.
+/// The removed bytes followed by the added ones. The first `removed_end` bytes are the removed ones.
 #[derive(Drop)]
-enum Texts {
-    Few {
-        cut: u8,
+enum Storage {
+    Inline {
+        removed_end: u8,
         len: u8,
-        bytes: [u8; SHORT],
+        bytes: [u8; INLINE_CAPACITY],
     },
-    Many(Box<Long>),
+    Heap(Box<HeapBytes>),
 }
 
 #[derive(Drop)]
-struct Long {
-    cut: usize,
+struct HeapBytes {
+    removed_end: usize,
     bytes: Vec<u8>,
 }
 
 impl Model for Edit {
-    ghost use Rattle.edit_list.specs.Pieces.{Entry};
-    ghost use Rattle.edit_list.specs.Inner.Texts.{removed_of, added_of, IsCut};
+    ghost use Rattle.edit_list.specs.Pieces.{EditEntry};
+    ghost use Rattle.edit_list.specs.Inner.Storage.{removed_of, added_of, IsValidStorage};
 
-    ghost Value = { Entry };
+    ghost Value = { EditEntry };
 
     ghost view = { λ e.
-        record { at = e.at; removed = removed_of e.texts; added = added_of e.texts } };
+        record { at = e.at; removed = removed_of e.storage; added = added_of e.storage } };
 
-    ghost invariant = { λ e. IsCut e.texts };
+    ghost invariant = { λ e. IsValidStorage e.storage };
 }
 
 impl Edit {
@@ -57,14 +57,16 @@ impl Edit {
     pub fn new(alloc: Global, at: usize, removed: &[u8], added: &[u8]) -> Result<Self, AllocError>
         ensures edit { IfOk result
             (λ e. e ≡ record { at = at; removed = removed.now; added = added.now }) }
-        ensures asked { IfErr result (λ _. SHORT < length removed.now + length added.now) }
+        ensures allocates { IfErr result (λ _. INLINE_CAPACITY < length removed.now + length added.now) }
     {
-        let texts = if removed.len() <= SHORT && added.len() <= SHORT - removed.len() {
-            few(removed, added)
+        let storage = if removed.len() <= INLINE_CAPACITY
+            && added.len() <= INLINE_CAPACITY - removed.len()
+        {
+            store_inline(removed, added)
         } else {
-            many(alloc, removed, added)?
+            store_on_heap(alloc, removed, added)?
         };
-        Ok(Edit { at, texts })
+        Ok(Edit { at, storage })
     }
 
     /// Where the edit stands in the old text, in bytes from 0.
@@ -75,7 +77,7 @@ impl Edit {
     }
 
     /// Puts the edit at another place. It takes no memory.
-    pub fn put(&mut self, at: usize)
+    pub fn set_at(&mut self, at: usize)
         ensures { self.new ≡ record { at = at; removed = self.old.removed; added = self.old.added } }
     {
         self.at = at;
@@ -85,9 +87,13 @@ impl Edit {
     pub fn removed(&self) -> &[u8]
         ensures { result.now ≡ self.now.removed }
     {
-        match &self.texts {
-            Texts::Few { cut, bytes, .. } => &bytes[..*cut as usize],
-            Texts::Many(long) => &long.bytes[..long.cut],
+        match &self.storage {
+            Storage::Inline {
+                removed_end,
+                bytes,
+                ..
+            } => &bytes[..*removed_end as usize],
+            Storage::Heap(long) => &long.bytes[..long.removed_end],
         }
     }
 
@@ -95,47 +101,51 @@ impl Edit {
     pub fn added(&self) -> &[u8]
         ensures { result.now ≡ self.now.added }
     {
-        match &self.texts {
-            Texts::Few { cut, len, bytes } => &bytes[*cut as usize..*len as usize],
-            Texts::Many(long) => &long.bytes[long.cut..],
+        match &self.storage {
+            Storage::Inline {
+                removed_end,
+                len,
+                bytes,
+            } => &bytes[*removed_end as usize..*len as usize],
+            Storage::Heap(long) => &long.bytes[long.removed_end..],
         }
     }
 }
 
 /// Both texts in the edit itself.
-fn few(removed: &[u8], added: &[u8]) -> Texts
-    requires { length removed.now + length added.now ≤ SHORT }
+fn store_inline(removed: &[u8], added: &[u8]) -> Storage
+    requires { length removed.now + length added.now ≤ INLINE_CAPACITY }
     ensures removed { removed_of result ≡ removed.now }
     ensures added { added_of result ≡ added.now }
-    ensures sound { IsCut result }
+    ensures valid { IsValidStorage result }
 {
-    let cut = removed.len();
-    let len = cut + added.len();
-    let mut bytes = [0; SHORT];
-    bytes[..cut].copy_from_slice(removed);
-    bytes[cut..len].copy_from_slice(added);
-    Texts::Few {
-        cut: cut as u8,
+    let removed_end = removed.len();
+    let len = removed_end + added.len();
+    let mut bytes = [0; INLINE_CAPACITY];
+    bytes[..removed_end].copy_from_slice(removed);
+    bytes[removed_end..len].copy_from_slice(added);
+    Storage::Inline {
+        removed_end: removed_end as u8,
         len: len as u8,
         bytes,
     }
 }
 
 /// Both texts in memory of their own.
-fn many(alloc: Global, removed: &[u8], added: &[u8]) -> Result<Texts, AllocError>
-    ensures removed { IfOk result (λ texts. removed_of texts ≡ removed.now) }
-    ensures added { IfOk result (λ texts. added_of texts ≡ added.now) }
-    ensures sound { IfOk result IsCut }
+fn store_on_heap(alloc: Global, removed: &[u8], added: &[u8]) -> Result<Storage, AllocError>
+    ensures removed { IfOk result (λ storage. removed_of storage ≡ removed.now) }
+    ensures added { IfOk result (λ storage. added_of storage ≡ added.now) }
+    ensures valid { IfOk result IsValidStorage }
 {
     let len = removed.len().saturating_add(added.len());
     let mut bytes = Vec::with_capacity(alloc, len)?;
     bytes.extend_from_slice(removed)?;
     bytes.extend_from_slice(added)?;
-    let long = Long {
-        cut: removed.len(),
+    let long = HeapBytes {
+        removed_end: removed.len(),
         bytes,
     };
-    Ok(Texts::Many(Box::new(alloc, long)?))
+    Ok(Storage::Heap(Box::new(alloc, long)?))
 }
 
 impl Debug for Edit {

@@ -1,7 +1,7 @@
 ghost use Rattle.std.specs.Prelude.{◌≡◌, ◌+◌};
 
 use crate::direction::Direction;
-use crate::pass::turned_text;
+use crate::pass::apply_edits;
 use crate::{BadEdits, Change, Edit, Refused};
 use std::alloc::Global;
 use std::marker::Model;
@@ -19,25 +19,25 @@ pub struct Edits {
 
 impl Model for Edits {
     ghost use Rattle.edit_list.specs.Pieces.{EditList};
-    ghost use Rattle.edit_list.specs.Made.{AreEdits};
+    ghost use Rattle.edit_list.specs.Validity.{AreValidEdits};
 
     ghost Value = { EditList };
 
     ghost view = { λ e. record { old_len = e.old_len; entries = e.edits.items } };
 
-    ghost invariant = { λ e. AreEdits e.old_len e.new_len e.edits.items };
+    ghost invariant = { λ e. AreValidEdits e.old_len e.new_len e.edits.items };
 }
 
 impl Edits {
     ghost use Rattle.edit_list.specs.Pieces.{as_list, removed_len, added_len};
-    ghost use Rattle.edit_list.specs.Made.{made, AreEdits, new_len};
+    ghost use Rattle.edit_list.specs.Validity.{make_edits, AreValidEdits, new_len};
 
     /// The edits as a list for texts of `old_len` bytes. A text has at most [`MAX_TEXT`] bytes.
     ///
     /// Refused are, in this order: an old length over that; the first edit that is empty, begins
     /// before the end of the one before, or ends past the text; and a new length over the limit.
     pub fn make(old_len: usize, edits: Vec<Edit>) -> Result<Self, BadEdits>
-        ensures { result ≡ made old_len edits.items }
+        ensures { result ≡ make_edits old_len edits.items }
     {
         if old_len > MAX_TEXT {
             return Err(BadEdits::TooLong);
@@ -71,8 +71,8 @@ impl Edits {
     }
 
     /// The edits as a list, where it is known that they are one: nothing is tested again.
-    pub fn of_placed(old_len: usize, new_len: usize, edits: Vec<Edit>) -> Self
-        requires { AreEdits old_len new_len edits.items }
+    pub fn from_valid(old_len: usize, new_len: usize, edits: Vec<Edit>) -> Self
+        requires { AreValidEdits old_len new_len edits.items }
         ensures { result ≡ as_list old_len edits.items }
     {
         Edits {
@@ -101,7 +101,7 @@ impl Edits {
     /// The edits, in order.
     pub fn edits(&self) -> &[Edit]
         ensures same { result.now ≡ self.now.entries }
-        ensures placed { AreEdits self.now.old_len (new_len self.now) result.now }
+        ensures disjoint { AreValidEdits self.now.old_len (new_len self.now) result.now }
     {
         self.edits.as_slice()
     }
@@ -109,7 +109,7 @@ impl Edits {
     /// The same, handed out.
     pub fn into_edits(self) -> Vec<Edit>
         ensures same { result.items ≡ self.entries }
-        ensures placed { AreEdits self.old_len (new_len self) result.items }
+        ensures disjoint { AreValidEdits self.old_len (new_len self) result.items }
     {
         self.edits
     }
@@ -117,18 +117,18 @@ impl Edits {
 
 impl Change for Edits {
     ghost use Rattle.std.specs.Prelude.{IfErr};
-    ghost use Rattle.edit_list.specs.Pieces.{Turns};
-    ghost use Rattle.edit_list.specs.Refusals.{CallAnswers, Gives, HasLen};
-    ghost use Rattle.edit_list.specs.Inner.Walk.{answer};
+    ghost use Rattle.edit_list.specs.Pieces.{Transforms};
+    ghost use Rattle.edit_list.specs.ChangeResults.{IsChangeCallResult, AgreesWith, HasExpectedLen};
+    ghost use Rattle.edit_list.specs.Inner.Walk.{apply_edits};
     ghost use Rattle.edit_list.specs.Inner.Exact.{forward_exact, backward_exact, answer_never_memory};
     ghost use Rattle.edit_list.specs.declared.change.Refused.TheVariants.{Memory};
     ghost use Rattle.edit_list.specs.declared.direction.Direction.TheVariants.{Forward, Backward};
 
-    ghost turns = { Turns };
+    ghost turns = { Transforms };
 
-    ghost forward = { answer Forward };
+    ghost forward = { apply_edits Forward };
 
-    ghost backward = { answer Backward };
+    ghost backward = { apply_edits Backward };
 
     ghost applies = { forward_exact };
 
@@ -137,11 +137,11 @@ impl Change for Edits {
     ghost never_memory = { λ e t. (answer_never_memory Forward e t, answer_never_memory Backward e t) };
 
     fn apply(&self, alloc: Global, text: &[u8]) -> Result<Vec<u8>, Refused>
-        ensures gives { Gives result (answer Forward self.now text.now) }
-        ensures memory { IfErr result (λ e. e ≡ Memory → HasLen Forward self.now text.now) }
-        ensures pieces { CallAnswers Forward self.now text.now result }
+        ensures agrees { AgreesWith result (apply_edits Forward self.now text.now) }
+        ensures memory { IfErr result (λ e. e ≡ Memory → HasExpectedLen Forward self.now text.now) }
+        ensures pieces { IsChangeCallResult Forward self.now text.now result }
     {
-        turned_text(
+        apply_edits(
             alloc,
             Direction::Forward,
             self.old_len,
@@ -152,11 +152,11 @@ impl Change for Edits {
     }
 
     fn undo(&self, alloc: Global, text: &[u8]) -> Result<Vec<u8>, Refused>
-        ensures gives { Gives result (answer Backward self.now text.now) }
-        ensures memory { IfErr result (λ e. e ≡ Memory → HasLen Backward self.now text.now) }
-        ensures pieces { CallAnswers Backward self.now text.now result }
+        ensures agrees { AgreesWith result (apply_edits Backward self.now text.now) }
+        ensures memory { IfErr result (λ e. e ≡ Memory → HasExpectedLen Backward self.now text.now) }
+        ensures pieces { IsChangeCallResult Backward self.now text.now result }
     {
-        turned_text(
+        apply_edits(
             alloc,
             Direction::Backward,
             self.old_len,

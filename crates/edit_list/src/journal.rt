@@ -1,6 +1,6 @@
 ghost use Rattle.std.specs.Prelude.{◌≡◌, ◌≤◌, ◌+◌, [], ◌∷◌, ◌++◌, length, take, OnOk, OnErr, IfErr, IsNone, option_to_list};
 
-use crate::many::{applied, undone};
+use crate::sequence::{apply_records, undo_records};
 use crate::{Change, Record, Refused};
 use std::alloc::{AllocFailed, Global};
 use std::marker::Model;
@@ -13,9 +13,9 @@ pub struct Journal {
 
 impl Model for Journal {
     ghost use Rattle.std.specs.Prelude.{List};
-    ghost use Rattle.edit_list.specs.Journal.{Entered};
+    ghost use Rattle.edit_list.specs.Journal.{JournalEntry};
 
-    ghost Value = { List Entered };
+    ghost Value = { List JournalEntry };
 
     ghost view = { λ j. j.records.items };
 }
@@ -34,7 +34,7 @@ impl Journal {
     /// is as before.
     pub fn push(&mut self, last: Record) -> Result<(), AllocFailed<Record>>
         ensures ok { OnOk result (self.new ≡ self.old ++ last ∷ []) }
-        ensures err { OnErr result (self.new ≡ self.old) }
+        ensures unchanged { OnErr result (self.new ≡ self.old) }
         ensures back { IfErr result (λ e. e.value ≡ last) }
     {
         self.records.push(last)
@@ -68,13 +68,13 @@ impl Journal {
 }
 
 impl Change for Journal {
-    ghost use Rattle.edit_list.specs.Journal.{journal_turns, journal_forward, journal_backward};
-    ghost use Rattle.edit_list.specs.JournalRefusals.{JournalCallAnswers};
-    ghost use Rattle.edit_list.specs.Refusals.{Gives};
+    ghost use Rattle.edit_list.specs.Journal.{journal_transforms, journal_forward, journal_backward};
+    ghost use Rattle.edit_list.specs.JournalResults.{IsJournalCallResult};
+    ghost use Rattle.edit_list.specs.ChangeResults.{AgreesWith};
     ghost use Rattle.edit_list.specs.Inner.JournalExact.{journal_applies, journal_undoes, journal_never_memory};
     ghost use Rattle.edit_list.specs.declared.direction.Direction.TheVariants.{Forward, Backward};
 
-    ghost turns = { journal_turns };
+    ghost turns = { journal_transforms };
 
     ghost forward = { journal_forward };
 
@@ -87,16 +87,16 @@ impl Change for Journal {
     ghost never_memory = { journal_never_memory };
 
     fn apply(&self, alloc: Global, text: &[u8]) -> Result<Vec<u8>, Refused>
-        ensures gives { Gives result (journal_forward self.now text.now) }
-        ensures pieces { JournalCallAnswers Forward self.now text.now result }
+        ensures agrees { AgreesWith result (journal_forward self.now text.now) }
+        ensures pieces { IsJournalCallResult Forward self.now text.now result }
     {
-        applied(alloc, &self.records, text)
+        apply_records(alloc, &self.records, text)
     }
 
     fn undo(&self, alloc: Global, text: &[u8]) -> Result<Vec<u8>, Refused>
-        ensures gives { Gives result (journal_backward self.now text.now) }
-        ensures pieces { JournalCallAnswers Backward self.now text.now result }
+        ensures agrees { AgreesWith result (journal_backward self.now text.now) }
+        ensures pieces { IsJournalCallResult Backward self.now text.now result }
     {
-        undone(alloc, &self.records, text)
+        undo_records(alloc, &self.records, text)
     }
 }

@@ -12,13 +12,13 @@ mod edit;
 mod edits;
 mod journal;
 pub mod laws;
-mod many;
 mod pass;
 mod record;
+mod sequence;
 
 pub use change::{Change, Refused};
 pub use edit::{BadEdits, Edit};
 pub use edits::{Edits, MAX_TEXT};
 pub use journal::Journal;
-pub use many::{apply_all, undo_all};
 pub use record::{Record, Word};
+pub use sequence::{apply_all, undo_all};

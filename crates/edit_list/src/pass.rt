@@ -1,9 +1,9 @@
 //! One pass over a text and the edits, in either direction.
 ghost use Rattle.std.specs.Prelude.{◌≡◌, IfErr};
 ghost use Rattle.edit_list.specs.Pieces.{as_list};
-ghost use Rattle.edit_list.specs.Made.{AreEdits};
-ghost use Rattle.edit_list.specs.Refusals.{Gives, HasLen};
-ghost use Rattle.edit_list.specs.Inner.Walk.{read_bytes, written_bytes, answer};
+ghost use Rattle.edit_list.specs.Validity.{AreValidEdits};
+ghost use Rattle.edit_list.specs.ChangeResults.{AgreesWith, HasExpectedLen};
+ghost use Rattle.edit_list.specs.Inner.Walk.{read_bytes, written_bytes, apply_edits};
 ghost use Rattle.edit_list.specs.declared.change.Refused.TheVariants.{Memory};
 
 use crate::direction::Direction;
@@ -30,12 +30,11 @@ fn written_bytes(direction: Direction, edit: &Edit) -> &[u8]
     }
 }
 
-/// The text on the other side of `text`: the new one of an old text, or, going back, the old one of
-/// a new text.
+/// Applies the edits to `text`, or undoes them if `direction` is `Backward`.
 ///
-/// What lies between two edits is the same on both sides, so the rest of the text alone says where
-/// the next edit is, and no place is shifted.
-pub(crate) fn turned_text(
+/// The bytes between two edits are the same in both texts, so the distance to the next edit is
+/// enough: no offset has to be adjusted.
+pub(crate) fn apply_edits(
     alloc: Global,
     direction: Direction,
     old_len: usize,
@@ -43,10 +42,10 @@ pub(crate) fn turned_text(
     edits: &[Edit],
     text: &[u8],
 ) -> Result<Vec<u8>, Refused>
-    requires { AreEdits old_len new_len edits.now }
-    ensures gives { Gives result (answer direction (as_list old_len edits.now) text.now) }
+    requires { AreValidEdits old_len new_len edits.now }
+    ensures agrees { AgreesWith result (apply_edits direction (as_list old_len edits.now) text.now) }
     ensures memory { IfErr result
-        (λ e. e ≡ Memory → HasLen direction (as_list old_len edits.now) text.now) }
+        (λ e. e ≡ Memory → HasExpectedLen direction (as_list old_len edits.now) text.now) }
 {
     let (expected, len) = match direction {
         Direction::Forward => (old_len, new_len),

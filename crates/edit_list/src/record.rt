@@ -19,15 +19,15 @@ pub struct Record {
 }
 
 impl Model for Record {
-    ghost use Rattle.edit_list.specs.Journal.{Entered};
+    ghost use Rattle.edit_list.specs.Journal.{JournalEntry};
 
-    ghost Value = { Entered };
+    ghost Value = { JournalEntry };
 
     ghost view = { λ r. record { word = r.word; edits = r.edits } };
 }
 
 impl Record {
-    ghost use Rattle.edit_list.specs.Journal.{Entered};
+    ghost use Rattle.edit_list.specs.Journal.{JournalEntry};
 
     /// The record of a command that made these edits.
     pub fn make(word: Word, edits: Edits) -> Self
@@ -53,13 +53,13 @@ impl Record {
 
 impl Change for Record {
     ghost use Rattle.std.specs.Prelude.{IfErr};
-    ghost use Rattle.edit_list.specs.Journal.{record_turns, record_forward, record_backward};
-    ghost use Rattle.edit_list.specs.Refusals.{CallAnswers, Gives, HasLen};
+    ghost use Rattle.edit_list.specs.Journal.{record_transforms, record_forward, record_backward};
+    ghost use Rattle.edit_list.specs.ChangeResults.{IsChangeCallResult, AgreesWith, HasExpectedLen};
     ghost use Rattle.edit_list.specs.Inner.JournalExact.{record_applies, record_undoes, record_never_memory};
     ghost use Rattle.edit_list.specs.declared.change.Refused.TheVariants.{Memory};
     ghost use Rattle.edit_list.specs.declared.direction.Direction.TheVariants.{Forward, Backward};
 
-    ghost turns = { record_turns };
+    ghost turns = { record_transforms };
 
     ghost forward = { record_forward };
 
@@ -72,17 +72,17 @@ impl Change for Record {
     ghost never_memory = { record_never_memory };
 
     fn apply(&self, alloc: Global, text: &[u8]) -> Result<Vec<u8>, Refused>
-        ensures gives { Gives result (record_forward self.now text.now) }
-        ensures memory { IfErr result (λ e. e ≡ Memory → HasLen Forward self.now.edits text.now) }
-        ensures pieces { CallAnswers Forward self.now.edits text.now result }
+        ensures agrees { AgreesWith result (record_forward self.now text.now) }
+        ensures memory { IfErr result (λ e. e ≡ Memory → HasExpectedLen Forward self.now.edits text.now) }
+        ensures pieces { IsChangeCallResult Forward self.now.edits text.now result }
     {
         self.edits.apply(alloc, text)
     }
 
     fn undo(&self, alloc: Global, text: &[u8]) -> Result<Vec<u8>, Refused>
-        ensures gives { Gives result (record_backward self.now text.now) }
-        ensures memory { IfErr result (λ e. e ≡ Memory → HasLen Backward self.now.edits text.now) }
-        ensures pieces { CallAnswers Backward self.now.edits text.now result }
+        ensures agrees { AgreesWith result (record_backward self.now text.now) }
+        ensures memory { IfErr result (λ e. e ≡ Memory → HasExpectedLen Backward self.now.edits text.now) }
+        ensures pieces { IsChangeCallResult Backward self.now.edits text.now result }
     {
         self.edits.undo(alloc, text)
     }

@@ -6,25 +6,25 @@ use Rattle.std.specs.List.{flat_map, AllByRecursion}
 use Rattle.std.proofs.lemmas.Bool.{eqb-true, ltb-false, le-ltb}
 use Rattle.std.proofs.lemmas.List.{take-append-drop, length-take}
 use Rattle.std.proofs.Math.Seq.{take-append_seam, drop-append_seam}
-use Rattle.edit_list.specs.Pieces.{Entry}
+use Rattle.edit_list.specs.Pieces.{EditEntry}
 use Rattle.edit_record.specs.Text.{space, newline, number_text, edit_text}
-use Rattle.edit_record.specs.Inner.Reading.{behind, most, number_at, bytes_at, edit_at, edits_at}
+use Rattle.edit_record.specs.Inner.Reading.{strip, max_number, number_at, bytes_at, edit_at, edits_at}
 use Rattle.edit_record.proofs.Choices.{none_else, some_if, some_is, through, through_one, goes_on, part}
 use Rattle.edit_record.proofs.Many.{many_take, many_again}
 use Rattle.edit_record.proofs.Numbers.{number_takes, number_again}
 
-pub behind_takes : (p t rest : List ℕ) → behind p t ≡ Some rest → t ≡ p ++ rest
-behind_takes [] t rest e = some_is t rest e
-behind_takes (c ∷ p) [] rest e = absurd cc
-behind_takes (c ∷ p) (b ∷ t) rest e =
-    let s = some_if (c == b) (behind p t) rest e in
+pub after_takes : (p t rest : List ℕ) → strip p t ≡ Some rest → t ≡ p ++ rest
+after_takes [] t rest e = some_is t rest e
+after_takes (c ∷ p) [] rest e = absurd cc
+after_takes (c ∷ p) (b ∷ t) rest e =
+    let s = some_if (c == b) (strip p t) rest e in
     let same : c ≡ b = eqb-true c b s.0 in
-    let i = behind_takes p t rest s.1 in
+    let i = after_takes p t rest s.1 in
     cc
 
-pub behind_again : (p rest : List ℕ) → behind p (p ++ rest) ≡ Some rest
-behind_again [] rest = refl
-behind_again (c ∷ p) rest = rw (eq-eqb c c refl) (behind_again p rest)
+pub after_again : (p rest : List ℕ) → strip p (p ++ rest) ≡ Some rest
+after_again [] rest = refl
+after_again (c ∷ p) rest = rw (eq-eqb c c refl) (after_again p rest)
 
 pub bytes_take : (n : ℕ) (t s rest : List ℕ) → bytes_at n t ≡ Some (s, rest) → (t ≡ s ++ rest) × (length s ≡ n)
 unfolding bytes_at
@@ -41,57 +41,57 @@ bytes_again s rest =
     rw (lt, take-append_seam s rest, drop-append_seam s rest) refl
 
 -- each number of the edit can be written
-pub record HasText (e : Entry) : Type 0 where
-  pub at : e.at ≤ most
-  pub removed : length e.removed ≤ most
-  pub added : length e.added ≤ most
+pub record HasText (e : EditEntry) : Type 0 where
+  pub at : e.at ≤ max_number
+  pub removed : length e.removed ≤ max_number
+  pub added : length e.added ≤ max_number
 
 regroup : (a b c d e f rest : List ℕ) → (a ++ b ++ c ++ d ++ e ++ f) ++ rest ≡ a ++ (b ++ (c ++ (d ++ (e ++ (f ++ rest)))))
 regroup a b c d e f rest = simp append_assoc
 
-pub edit_takes : (t : List ℕ) (x : Entry) (rest : List ℕ) → edit_at t ≡ Some (x, rest) → t ≡ edit_text x ++ rest
+pub edit_takes : (t : List ℕ) (x : EditEntry) (rest : List ℕ) → edit_at t ≡ Some (x, rest) → t ≡ edit_text x ++ rest
 unfolding edit_at
 edit_takes t x rest e =
-    through (number_at 0 most space t) _ (x, rest) e λ at t1 at_is e1.
-    through (number_at 0 most space t1) _ (x, rest) e1 λ r t2 r_is e2.
-    through (number_at 0 most newline t2) _ (x, rest) e2 λ w t3 w_is e3.
+    through (number_at 0 max_number space t) _ (x, rest) e λ at t1 at_is e1.
+    through (number_at 0 max_number space t1) _ (x, rest) e1 λ r t2 r_is e2.
+    through (number_at 0 max_number newline t2) _ (x, rest) e2 λ w t3 w_is e3.
     through (bytes_at r t3) _ (x, rest) e3 λ removed t4 removed_is e4.
     through (bytes_at w t4) _ (x, rest) e4 λ added t5 added_is e5.
-    through_one (behind (newline ∷ []) t5) _ (x, rest) e5 λ t6 end_is e6.
-    let found : Entry × List ℕ = (record { at = at; removed = removed; added = added }, t6) in
+    through_one (strip (newline ∷ []) t5) _ (x, rest) e5 λ t6 end_is e6.
+    let found : EditEntry × List ℕ = (record { at = at; removed = removed; added = added }, t6) in
     let p1 = bytes_take r t3 removed t4 removed_is in
     let p2 = bytes_take w t4 added t5 added_is in
-    let n0 = (number_takes 0 most space t (at, t1) (omega arith) at_is).0 in
-    let n1 = (number_takes 0 most space t1 (r, t2) (omega arith) r_is).0 in
-    let n2 = (number_takes 0 most newline t2 (w, t3) (omega arith) w_is).0 in
+    let n0 = (number_takes 0 max_number space t (at, t1) (omega arith) at_is).0 in
+    let n1 = (number_takes 0 max_number space t1 (r, t2) (omega arith) r_is).0 in
+    let n2 = (number_takes 0 max_number newline t2 (w, t3) (omega arith) w_is).0 in
     let m1 : t1 ≡ number_text space (length removed) ++ t2 = n1 ∙ ap (λ (k : ℕ). number_text space k ++ t2) (sym p1.1) in
     let m2 : t2 ≡ number_text newline (length added) ++ t3 = n2 ∙ ap (λ (k : ℕ). number_text newline k ++ t3) (sym p2.1) in
-    let s4 = part added t4 t5 _ p2.0 (behind_takes (newline ∷ []) t5 t6 end_is) in
+    let s4 = part added t4 t5 _ p2.0 (after_takes (newline ∷ []) t5 t6 end_is) in
     let s2 = part (number_text newline (length added)) t2 t3 _ m2 (part removed t3 t4 _ p1.0 s4) in
     let s0 = part (number_text space at) t t1 _ n0 (part (number_text space (length removed)) t1 t2 _ m1 s2) in
     let whole = s0 ∙ sym (regroup (number_text space at) (number_text space (length removed)) (number_text newline (length added)) removed added (newline ∷ []) t6) in
-    subst (λ (y : Entry × List ℕ). t ≡ edit_text y.0 ++ y.1) (some_is found (x, rest) e6) whole
+    subst (λ (y : EditEntry × List ℕ). t ≡ edit_text y.0 ++ y.1) (some_is found (x, rest) e6) whole
 
 -- and its numbers are within their limits
-pub edit_fits : (t : List ℕ) (x : Entry) (rest : List ℕ) → edit_at t ≡ Some (x, rest) → HasText x
+pub edit_fits : (t : List ℕ) (x : EditEntry) (rest : List ℕ) → edit_at t ≡ Some (x, rest) → HasText x
 unfolding edit_at
 edit_fits t x rest e =
-    through (number_at 0 most space t) _ (x, rest) e λ at t1 at_is e1.
-    through (number_at 0 most space t1) _ (x, rest) e1 λ r t2 r_is e2.
-    through (number_at 0 most newline t2) _ (x, rest) e2 λ w t3 w_is e3.
+    through (number_at 0 max_number space t) _ (x, rest) e λ at t1 at_is e1.
+    through (number_at 0 max_number space t1) _ (x, rest) e1 λ r t2 r_is e2.
+    through (number_at 0 max_number newline t2) _ (x, rest) e2 λ w t3 w_is e3.
     through (bytes_at r t3) _ (x, rest) e3 λ removed t4 removed_is e4.
     through (bytes_at w t4) _ (x, rest) e4 λ added t5 added_is e5.
-    through_one (behind (newline ∷ []) t5) _ (x, rest) e5 λ t6 end_is e6.
-    let found : Entry × List ℕ = (record { at = at; removed = removed; added = added }, t6) in
+    through_one (strip (newline ∷ []) t5) _ (x, rest) e5 λ t6 end_is e6.
+    let found : EditEntry × List ℕ = (record { at = at; removed = removed; added = added }, t6) in
     let p1 = bytes_take r t3 removed t4 removed_is in
     let p2 = bytes_take w t4 added t5 added_is in
-    let n0 = number_takes 0 most space t (at, t1) (omega arith) at_is in
-    let n1 = number_takes 0 most space t1 (r, t2) (omega arith) r_is in
-    let n2 = number_takes 0 most newline t2 (w, t3) (omega arith) w_is in
+    let n0 = number_takes 0 max_number space t (at, t1) (omega arith) at_is in
+    let n1 = number_takes 0 max_number space t1 (r, t2) (omega arith) r_is in
+    let n2 = number_takes 0 max_number newline t2 (w, t3) (omega arith) w_is in
     let fits : HasText found.0 = record { at = n0.2; removed = omega (arith, p1.1, n1.2); added = omega (arith, p2.1, n2.2) } in
-    subst (λ (y : Entry × List ℕ). HasText y.0) (some_is found (x, rest) e6) fits
+    subst (λ (y : EditEntry × List ℕ). HasText y.0) (some_is found (x, rest) e6) fits
 
-pub edit_again : (e : Entry) (rest : List ℕ) → HasText e → edit_at (edit_text e ++ rest) ≡ Some (e, rest)
+pub edit_again : (e : EditEntry) (rest : List ℕ) → HasText e → edit_at (edit_text e ++ rest) ≡ Some (e, rest)
 unfolding edit_at
 edit_again e rest fits =
     let t5 = newline ∷ rest in
@@ -101,24 +101,24 @@ edit_again e rest fits =
     let t1 = number_text space (length e.removed) ++ t2 in
     let t0 = number_text space e.at ++ t1 in
     let read : edit_at t0 ≡ Some (e, rest) =
-    goes_on (number_at 0 most space t0) _ (e.at, t1) _ (number_again 0 most space e.at t1 (omega arith) refl (omega arith) fits.at)
-    (goes_on (number_at 0 most space t1) _ (length e.removed, t2) _ (number_again 0 most space (length e.removed) t2 (omega arith) refl (omega arith) fits.removed)
-    (goes_on (number_at 0 most newline t2) _ (length e.added, t3) _ (number_again 0 most newline (length e.added) t3 (omega arith) refl (omega arith) fits.added)
+    goes_on (number_at 0 max_number space t0) _ (e.at, t1) _ (number_again 0 max_number space e.at t1 (omega arith) refl (omega arith) fits.at)
+    (goes_on (number_at 0 max_number space t1) _ (length e.removed, t2) _ (number_again 0 max_number space (length e.removed) t2 (omega arith) refl (omega arith) fits.removed)
+    (goes_on (number_at 0 max_number newline t2) _ (length e.added, t3) _ (number_again 0 max_number newline (length e.added) t3 (omega arith) refl (omega arith) fits.added)
     (goes_on (bytes_at (length e.removed) t3) _ (e.removed, t4) _ (bytes_again e.removed t4)
     (goes_on (bytes_at (length e.added) t4) _ (e.added, t5) _ (bytes_again e.added t5)
     refl)))) in
     ap edit_at (regroup (number_text space e.at) (number_text space (length e.removed)) (number_text newline (length e.added)) e.removed e.added (newline ∷ []) rest) ∙ read
 
-pub edits_take : (n : ℕ) (t : List ℕ) (es : List Entry) (rest : List ℕ) → edits_at n t ≡ Some (es, rest) → (t ≡ flat_map edit_text es ++ rest) × (length es ≡ n)
+pub edits_take : (n : ℕ) (t : List ℕ) (es : List EditEntry) (rest : List ℕ) → edits_at n t ≡ Some (es, rest) → (t ≡ flat_map edit_text es ++ rest) × (length es ≡ n)
 unfolding edits_at
 edits_take n t es rest e = let m = many_take edit_at edit_text (λ _. Unit {0}) (λ t x r h. (edit_takes t x r h, tt)) n t es rest e in (m.0, m.1)
 
-pub edits_again : (es : List Entry) (rest : List ℕ) → AllByRecursion HasText es → edits_at (length es) (flat_map edit_text es ++ rest) ≡ Some (es, rest)
+pub edits_again : (es : List EditEntry) (rest : List ℕ) → AllByRecursion HasText es → edits_at (length es) (flat_map edit_text es ++ rest) ≡ Some (es, rest)
 unfolding edits_at
 edits_again = many_again edit_at edit_text HasText edit_again
 
 -- what std says of strip_prefix
-pub stripped : (p t : List ℕ) (r : Option (Bor (List ℕ))) → MatchOption r ((rest : List ℕ) → t ≢ p ++ rest) (λ x. t ≡ p ++ x.now) → option_map (λ x. x.now) r ≡ behind p t
-stripped p t (Some x) h = sym (ap (behind p) h ∙ behind_again p x.now)
+pub stripped : (p t : List ℕ) (r : Option (Bor (List ℕ))) → MatchOption r ((rest : List ℕ) → t ≢ p ++ rest) (λ x. t ≡ p ++ x.now) → option_map (λ x. x.now) r ≡ strip p t
+stripped p t (Some x) h = sym (ap (strip p) h ∙ after_again p x.now)
 stripped p t None h =
-    elim (behind p t) as (λ o. behind p t ≡ o → None ≡ o) [ Some rest ↦ λ e. absurd (h rest (behind_takes p t rest e)) | None ↦ λ e. refl ] refl
+    elim (strip p t) as (λ o. strip p t ≡ o → None ≡ o) [ Some rest ↦ λ e. absurd (h rest (after_takes p t rest e)) | None ↦ λ e. refl ] refl

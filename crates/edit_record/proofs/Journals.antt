@@ -5,26 +5,26 @@ use Rattle.std.proofs.lemmas.Bool.{eqb-true}
 use Rattle.std.specs.List.{flat_map, AllByRecursion}
 use Rattle.std.proofs.lemmas.List.{append-nil, nil_from_length}
 use Rattle.std.proofs.lemmas.List.Concat.{flat_map-cons}
-use Rattle.edit_list.specs.Journal.{Entered}
-use Rattle.edit_squash.specs.Grouping.{SquashAll}
+use Rattle.edit_list.specs.Journal.{JournalEntry}
+use Rattle.edit_squash.specs.SquashLists.{SquashAll}
 use Rattle.edit_squash.proofs.Groupings.{squash_as_one}
-use Rattle.edit_record.specs.declared.fault.Stop.{Stop}
-use Rattle.edit_record.specs.declared.fault.Stop.TheVariants as stops
-use Rattle.edit_record.specs.Text.{IsMade, word_text, list_text, number_text, newline, record_text, journal_text, IsText, OldRecord, steps, step_text, old_record_text, MigrateAll, IsOldText, IsJournal}
+use Rattle.edit_record.specs.declared.fault.DecodeStop.{DecodeStop}
+use Rattle.edit_record.specs.declared.fault.DecodeStop.TheVariants as stops
+use Rattle.edit_record.specs.Text.{IsValidList, word_text, list_text, number_text, newline, record_text, journal_text, IsCurrentText, OldRecord, steps, step_text, old_record_text, MigrateAllTo, IsOldText, IsJournalText}
 use Rattle.edit_record.specs.Inner.Reading.{record_at, old_record_at}
-use Rattle.edit_record.specs.Inner.Growing.{grows}
-use Rattle.edit_record.specs.Inner.Finding.{Gives, Finds, Stopped, OldAt, RecordAt, RecordsAt, Reads}
+use Rattle.edit_record.specs.Inner.Allocating.{allocates}
+use Rattle.edit_record.specs.Inner.ParseResults.{AgreesWith, ParsesAs, IsStopFor, OldRecordAt, RecordAt, RecordsAt, IsReadResult}
 use Rattle.edit_record.proofs.Choices.{some_is}
-use Rattle.edit_record.proofs.Growing.{Begun, runs_out}
+use Rattle.edit_record.proofs.Allocating.{Begun, runs_out}
 use Rattle.edit_record.proofs.Records.{three, four, record_takes, record_again, old_takes, old_again}
 
 module _ {X Y : Type 0} (view : X → Y) (rest : X → List ℕ) where
-  pub finds_alike : (R S : Y → List ℕ → Type 0) → ((y : Y) (t : List ℕ) → R y t ↔ S y t) → (takes : Bool) (r : Result X Stop) → Finds view rest takes r R → Finds view rest takes r S
+  pub finds_alike : (R S : Y → List ℕ → Type 0) → ((y : Y) (t : List ℕ) → R y t ↔ S y t) → (takes : Bool) (r : Result X DecodeStop) → ParsesAs view rest takes r R → ParsesAs view rest takes r S
   finds_alike R S same takes (Ok x) h = (same (view x) (rest x)).0 h
   finds_alike R S same takes (Err stops.Memory) h = h
   finds_alike R S same takes (Err (stops.Bad kind left)) h = λ y t s. h y t ((same y t).1 s)
 
-  pub finds_read : (read : Option (Y × List ℕ)) (takes : Bool) (r : Result X Stop) → Gives (λ x. (view x, rest x)) takes r read → Finds view rest takes r (λ y t. read ≡ Some (y, t))
+  pub finds_read : (read : Option (Y × List ℕ)) (takes : Bool) (r : Result X DecodeStop) → AgreesWith (λ x. (view x, rest x)) takes r read → ParsesAs view rest takes r (λ y t. read ≡ Some (y, t))
   finds_read read takes (Ok x) h = h
   finds_read read takes (Err stops.Memory) h = h
   finds_read read takes (Err (stops.Bad kind left)) h = λ y t s. none_some (sym h ∙ s)
@@ -32,23 +32,23 @@ module _ {X Y : Type 0} (view : X → Y) (rest : X → List ℕ) where
       none_some : {A : Type 0} {x : A} → None ≡ Some x → ⊥
       none_some e = absurd cc
 
-pub new_alike : (t : List ℕ) (r : Entered) (rest : List ℕ) → (record_at t ≡ Some (r, rest)) ↔ RecordAt false t r rest
+pub new_alike : (t : List ℕ) (r : JournalEntry) (rest : List ℕ) → (record_at t ≡ Some (r, rest)) ↔ RecordAt false t r rest
 new_alike t r rest = (λ h. record_takes t r rest h, λ h. ap record_at h.0 ∙ record_again r rest h.1)
 
-pub old_alike : (t : List ℕ) (r : Entered) (rest : List ℕ) → OldAt t r rest ↔ RecordAt true t r rest
+pub old_alike : (t : List ℕ) (r : JournalEntry) (rest : List ℕ) → OldRecordAt t r rest ↔ RecordAt true t r rest
 old_alike t r rest = (
-  λ h. let k = old_takes t h.0 rest h.1 in (h.0, k.0, record { made = k.1.made; few = k.1.few; word = h.2; squashed = h.3 }),
-  λ h. (h.0, ap old_record_at h.1 ∙ old_again h.0 rest (record { made = h.2.made; few = h.2.few }), h.2.word, h.2.squashed),
+  λ h. let k = old_takes t h.0 rest h.1 in (h.0, k.0, record { made = k.1.made; within_limit = k.1.within_limit; word = h.2; squashed = h.3 }),
+  λ h. (h.0, ap old_record_at h.1 ∙ old_again h.0 rest (record { made = h.2.made; within_limit = h.2.within_limit }), h.2.word, h.2.squashed),
 )
 
-one_entered : (r s : Entered) → r.word ≡ s.word → r.edits ≡ s.edits → r ≡ s
+one_entered : (r s : JournalEntry) → r.word ≡ s.word → r.edits ≡ s.edits → r ≡ s
 one_entered r s w e = λ i. record { word = w i; edits = e i }
 
 -- At a front stands one record at most.
-pub record_one : (old : Bool) (t : List ℕ) (r s : Entered) (rest more : List ℕ) → RecordAt old t r rest → RecordAt old t s more → (r ≡ s) × (rest ≡ more)
+pub record_one : (old : Bool) (t : List ℕ) (r s : JournalEntry) (rest more : List ℕ) → RecordAt old t r rest → RecordAt old t s more → (r ≡ s) × (rest ≡ more)
 record_one false t r s rest more h k =
     let e = some_is (r, rest) (s, more) (sym ((new_alike t r rest).1 h) ∙ (new_alike t s more).1 k) in
-    (ap (λ (x : Entered × List ℕ). x.0) e, ap (λ (x : Entered × List ℕ). x.1) e)
+    (ap (λ (x : JournalEntry × List ℕ). x.0) e, ap (λ (x : JournalEntry × List ℕ). x.1) e)
 record_one true t r s rest more h k =
     let a = (old_alike t r rest).1 h in
     let b = (old_alike t s more).1 k in
@@ -64,7 +64,7 @@ head_of : Bool → List ℕ
 head_of false = codes "tfrec 2 "
 head_of true = codes "tfrec 1 "
 
-record_begins : (old : Bool) (t : List ℕ) (r : Entered) (rest : List ℕ) → RecordAt old t r rest → (x : List ℕ) × (t ≡ head_of old ++ x) × (length rest ≤ length x)
+record_begins : (old : Bool) (t : List ℕ) (r : JournalEntry) (rest : List ℕ) → RecordAt old t r rest → (x : List ℕ) × (t ≡ head_of old ++ x) × (length rest ≤ length x)
 unfolding head_of
 record_begins false t r rest h =
     let x = word_text r.word ++ (list_text r.edits ++ (codes "end\n" ++ rest)) in (
@@ -86,59 +86,59 @@ unfolding head_of
 head_len false x = omega arith
 head_len true x = omega arith
 
-pub record_shorter : (old : Bool) (t : List ℕ) (r : Entered) (rest : List ℕ) → RecordAt old t r rest → length rest < length t
+pub record_shorter : (old : Bool) (t : List ℕ) (r : JournalEntry) (rest : List ℕ) → RecordAt old t r rest → length rest < length t
 record_shorter old t r rest h =
     let b = record_begins old t r rest h in
     let l = head_len old b.0 in
     rw b.1 (omega (arith, b.2))
 
 -- A text is the records in front, and then the rest, whatever it is.
-abbrev pub Begins : Bool → List ℕ → List Entered → List ℕ → Type 0
-Begins old text front rest = (ss : List Entered) → RecordsAt old text ss ↔ ((rs : List Entered) × (ss ≡ front ++ rs) × RecordsAt old rest rs)
+abbrev pub Begins : Bool → List ℕ → List JournalEntry → List ℕ → Type 0
+Begins old text front rest = (ss : List JournalEntry) → RecordsAt old text ss ↔ ((rs : List JournalEntry) × (ss ≡ front ++ rs) × RecordsAt old rest rs)
 
-next_of : (old : Bool) (front : List Entered) (rest after : List ℕ) (r : Entered) → RecordAt old rest r after → (ss rs : List Entered) → ss ≡ front ++ rs → RecordsAt old rest rs
-    → (more : List Entered) × (ss ≡ (front ++ r ∷ []) ++ more) × RecordsAt old after more
+next_of : (old : Bool) (front : List JournalEntry) (rest after : List ℕ) (r : JournalEntry) → RecordAt old rest r after → (ss rs : List JournalEntry) → ss ≡ front ++ rs → RecordsAt old rest rs
+    → (more : List JournalEntry) × (ss ≡ (front ++ r ∷ []) ++ more) × RecordsAt old after more
 next_of old front rest after r h ss [] e k = absurd (omega (arith, record_shorter old rest r after h, ap length k))
 next_of old front rest after r h ss (s ∷ rs) e k =
     let one = record_one old rest s r k.0 after k.1 h in
-    (rs, e ∙ ap (λ (x : Entered). front ++ x ∷ rs) one.0 ∙ sym (append_assoc front (r ∷ []) rs), subst (λ (x : List ℕ). RecordsAt old x rs) one.1 k.2)
+    (rs, e ∙ ap (λ (x : JournalEntry). front ++ x ∷ rs) one.0 ∙ sym (append_assoc front (r ∷ []) rs), subst (λ (x : List ℕ). RecordsAt old x rs) one.1 k.2)
 
-pub begins_on : (old : Bool) (text : List ℕ) (front : List Entered) (rest after : List ℕ) (r : Entered) → Begins old text front rest → RecordAt old rest r after → Begins old text (front ++ r ∷ []) after
+pub begins_on : (old : Bool) (text : List ℕ) (front : List JournalEntry) (rest after : List ℕ) (r : JournalEntry) → Begins old text front rest → RecordAt old rest r after → Begins old text (front ++ r ∷ []) after
 begins_on old text front rest after r so_far h ss = (
   λ k. let b = (so_far ss).0 k in next_of old front rest after r h ss b.0 b.1 b.2,
   λ k. (so_far ss).1 (r ∷ k.0, k.1 ∙ append_assoc front (r ∷ []) k.0, (after, h, k.2)),
 )
 
-pub begins_none : (old : Bool) (text : List ℕ) (front : List Entered) (rest : List ℕ) → Begins old text front rest → 0 < length rest → ((r : Entered) (after : List ℕ) → RecordAt old rest r after → ⊥) → (ss : List Entered) → RecordsAt old text ss → ⊥
+pub begins_none : (old : Bool) (text : List ℕ) (front : List JournalEntry) (rest : List ℕ) → Begins old text front rest → 0 < length rest → ((r : JournalEntry) (after : List ℕ) → RecordAt old rest r after → ⊥) → (ss : List JournalEntry) → RecordsAt old text ss → ⊥
 begins_none old text front rest so_far some none ss h =
     let b = (so_far ss).0 h in
     no b.0 b.2
   where
-    no : (rs : List Entered) → RecordsAt old rest rs → ⊥
+    no : (rs : List JournalEntry) → RecordsAt old rest rs → ⊥
     no [] k = omega (arith, ap length k, some)
     no (r ∷ rs) k = none r k.0 k.1
 
-pub begins_all : (old : Bool) (text : List ℕ) (front : List Entered) (rest : List ℕ) → Begins old text front rest → rest ≡ [] → RecordsAt old text front
+pub begins_all : (old : Bool) (text : List ℕ) (front : List JournalEntry) (rest : List ℕ) → Begins old text front rest → rest ≡ [] → RecordsAt old text front
 begins_all old text front rest so_far done = (so_far front).1 ([], sym (append-nil front), done)
 
 -- the records one after another are the text of a journal
-pub text_from : (t : List ℕ) (rs : List Entered) → RecordsAt false t rs → IsText t rs
+pub text_from : (t : List ℕ) (rs : List JournalEntry) → RecordsAt false t rs → IsCurrentText t rs
 text_from t [] h = record { made = tt; is = h }
 text_from t (r ∷ rs) h =
     let i = text_from h.0 rs h.2 in
     record { made = (h.1.1, i.made); is = h.1.0 ∙ ap (λ (x : List ℕ). record_text r ++ x) i.is ∙ sym (flat_map-cons record_text r rs) }
 
-pub from_text : (t : List ℕ) (rs : List Entered) → AllByRecursion (λ r. IsMade r.edits) rs → t ≡ journal_text rs → RecordsAt false t rs
+pub from_text : (t : List ℕ) (rs : List JournalEntry) → AllByRecursion (λ r. IsValidList r.edits) rs → t ≡ journal_text rs → RecordsAt false t rs
 from_text t [] made is = is
 from_text t (r ∷ rs) made is = (journal_text rs, (is ∙ flat_map-cons record_text r rs, made.0), from_text (journal_text rs) rs made.1 refl)
 
-pub old_text_from : (t : List ℕ) (rs : List Entered) → RecordsAt true t rs → IsOldText t rs
+pub old_text_from : (t : List ℕ) (rs : List JournalEntry) → RecordsAt true t rs → IsOldText t rs
 old_text_from t [] h = record { olds = []; migrated = tt; is = h }
 old_text_from t (r ∷ rs) h =
     let i = old_text_from h.0 rs h.2 in
     record { olds = h.1.0 ∷ i.olds; migrated = (h.1.2, i.migrated); is = h.1.1 ∙ ap (λ (x : List ℕ). old_record_text h.1.0 ++ x) i.is ∙ sym (flat_map-cons old_record_text h.1.0 i.olds) }
 
-pub from_old_text : (t : List ℕ) (olds : List OldRecord) (rs : List Entered) → MigrateAll olds rs → t ≡ flat_map old_record_text olds → RecordsAt true t rs
+pub from_old_text : (t : List ℕ) (olds : List OldRecord) (rs : List JournalEntry) → MigrateAllTo olds rs → t ≡ flat_map old_record_text olds → RecordsAt true t rs
 from_old_text t [] [] migrated is = is
 from_old_text t [] (r ∷ rs) migrated is = absurd migrated
 from_old_text t (old ∷ olds) [] migrated is = absurd migrated
@@ -150,38 +150,38 @@ pub record IsVersion (old : Bool) (t : List ℕ) : Type 0 where
   pub is_old : old ≡ true → t ≡ codes "tfrec 1" ++ drop 7 t
   pub else : (x : List ℕ) → t ≡ codes "tfrec 1" ++ x → old ≡ true
 
-pub journal_from : (old : Bool) (t : List ℕ) (rs : List Entered) → RecordsAt old t rs → IsJournal t rs
+pub journal_from : (old : Bool) (t : List ℕ) (rs : List JournalEntry) → RecordsAt old t rs → IsJournalText t rs
 journal_from false t rs h = inl (text_from t rs h)
 journal_from true t rs h = inr (old_text_from t rs h)
 
 not_both : (t x y : List ℕ) → t ≡ codes "tfrec 1" ++ x → t ≡ codes "tfrec 2 " ++ y → ⊥
 not_both t x y a b = let e : ◌≡◌ {A = ℕ} 49 50 = ap (λ (l : List ℕ). get_or l 6 0) (sym a ∙ b) in omega (arith, e)
 
-kept_new : (old : Bool) (t : List ℕ) (rs : List Entered) → IsVersion old t → RecordsAt false t rs → RecordsAt old t rs
+kept_new : (old : Bool) (t : List ℕ) (rs : List JournalEntry) → IsVersion old t → RecordsAt false t rs → RecordsAt old t rs
 unfolding head_of
 kept_new false t rs version h = h
 kept_new true t [] version h = absurd (let e = sym (version.is_old refl) ∙ h in omega (arith, ap length e))
 kept_new true t (r ∷ rs) version h = let b = record_begins false t r h.0 h.1 in absurd (not_both t (drop 7 t) b.0 (version.is_old refl) b.1)
 
-kept_old : (old : Bool) (t : List ℕ) (rs : List Entered) → IsVersion old t → RecordsAt true t rs → RecordsAt old t rs
+kept_old : (old : Bool) (t : List ℕ) (rs : List JournalEntry) → IsVersion old t → RecordsAt true t rs → RecordsAt old t rs
 unfolding head_of
 kept_old true t rs version h = h
 kept_old false t [] version h = h
 kept_old false t (r ∷ rs) version h = let b = record_begins true t r h.0 h.1 in let e = version.else (32 ∷ b.0) b.1 in absurd cc
 
-pub from_journal : (old : Bool) (t : List ℕ) (rs : List Entered) → IsVersion old t → IsJournal t rs → RecordsAt old t rs
+pub from_journal : (old : Bool) (t : List ℕ) (rs : List JournalEntry) → IsVersion old t → IsJournalText t rs → RecordsAt old t rs
 from_journal old t rs version (inl h) = kept_new old t rs version (from_text t rs h.made h.is)
 from_journal old t rs version (inr h) = kept_old old t rs version (from_old_text t h.olds rs h.migrated h.is)
 
 pub version_is : (old : Bool) (t : List ℕ) → (old ≡ true → t ≡ codes "tfrec 1" ++ drop 7 t) × ((x : List ℕ) → t ≡ codes "tfrec 1" ++ x → old ≡ true) → IsVersion old t
 version_is old t h = record { is_old = h.0; else = h.1 }
 
-module _ (old : Bool) (text : List ℕ) (front : List Entered) (rest : List ℕ) (so_far : Begins old text front rest) where
-  pub reads_stop : Begun text rest → IsVersion old text → 0 < length rest → (stop : Stop) → Stopped (grows old rest) stop (RecordAt old rest) → Reads text (Err stop)
+module _ (old : Bool) (text : List ℕ) (front : List JournalEntry) (rest : List ℕ) (so_far : Begins old text front rest) where
+  pub reads_stop : Begun text rest → IsVersion old text → 0 < length rest → (stop : DecodeStop) → IsStopFor (allocates old rest) stop (RecordAt old rest) → IsReadResult text (Err stop)
   reads_stop begun version some stops.Memory taken = runs_out old text rest begun taken
   reads_stop begun version some (stops.Bad kind left) none = λ rs h. begins_none old text front rest so_far some none rs (from_journal old text rs version h)
 
-  pub reads_all : rest ≡ [] → Reads text (Ok front)
+  pub reads_all : rest ≡ [] → IsReadResult text (Ok front)
   reads_all done = journal_from old text front (begins_all old text front rest so_far done)
 
 pub some_left : (t : List ℕ) → false ≡ (length t == 0) → 0 < length t
@@ -190,5 +190,5 @@ some_left t e = grind (arith, e)
 pub none_left : (t : List ℕ) → true ≡ (length t == 0) → t ≡ []
 none_left t e = nil_from_length t (eqb-true (length t) 0 (sym e))
 
-pub not_empty : (old : Bool) (t : List ℕ) (r : Entered) (rest : List ℕ) → t ≡ [] → RecordAt old t r rest → ⊥
+pub not_empty : (old : Bool) (t : List ℕ) (r : JournalEntry) (rest : List ℕ) → t ≡ [] → RecordAt old t r rest → ⊥
 not_empty old t r rest e h = omega (arith, record_shorter old t r rest h, ap length e)

@@ -3,17 +3,17 @@ use Rattle.std.proofs.Common.{◌≡◌, ◌↔◌, ℕ, List, [], ◌∷◌, �
 use Rattle.std.specs.Prelude.{codes}
 use Rattle.std.specs.List.{AllByRecursion}
 use Rattle.std.proofs.lemmas.List.Concat.{flat_map-cons}
-use Rattle.edit_list.specs.Pieces.{Turns}
-use Rattle.edit_list.specs.Many.{TurnsAll}
-use Rattle.edit_list.specs.Journal.{Entered, journal_turns}
+use Rattle.edit_list.specs.Pieces.{Transforms}
+use Rattle.edit_list.specs.Sequence.{TransformsInOrder}
+use Rattle.edit_list.specs.Journal.{JournalEntry, journal_transforms}
 use Rattle.edit_squash.proofs.Groupings.{squash_as_one}
-use Rattle.edit_record.specs.Text.{IsMade, record_text, journal_text, IsText, OldRecord, Migrates, MigrateAll, old_turns, IsJournal}
-use Rattle.edit_record.specs.Inner.Reading.{behind}
-use Rattle.edit_record.specs.Inner.Finding.{RecordsAt}
-use Rattle.edit_record.proofs.Fields.{behind_takes, behind_again}
+use Rattle.edit_record.specs.Text.{IsValidList, record_text, journal_text, IsCurrentText, OldRecord, MigratesTo, MigrateAllTo, old_transforms, IsJournalText}
+use Rattle.edit_record.specs.Inner.Reading.{strip}
+use Rattle.edit_record.specs.Inner.ParseResults.{RecordsAt}
+use Rattle.edit_record.proofs.Fields.{after_takes, after_again}
 use Rattle.edit_record.proofs.Journals.{record_one, IsVersion, not_empty, from_journal, from_text, text_from}
 
-records_one : (old : Bool) (t : List ℕ) (rs ss : List Entered) → RecordsAt old t rs → RecordsAt old t ss → rs ≡ ss
+records_one : (old : Bool) (t : List ℕ) (rs ss : List JournalEntry) → RecordsAt old t rs → RecordsAt old t ss → rs ≡ ss
 records_one old t [] [] h k = refl
 records_one old t [] (s ∷ ss) h k = absurd (not_empty old t s k.0 h k.1)
 records_one old t (r ∷ rs) [] h k = absurd (not_empty old t r h.0 k h.1)
@@ -22,51 +22,51 @@ records_one old t (r ∷ rs) (s ∷ ss) h k =
     let later = records_one old h.0 rs ss h.2 (subst (λ (x : List ℕ). RecordsAt old x ss) (sym one.1) k.2) in
     (λ i. one.0 i ∷ later i)
 
-is_front : (t x : List ℕ) → t ≡ codes "tfrec 1" ++ x → t ≡ codes "tfrec 1" ++ drop 7 t
-is_front t x e = e ∙ ap (λ (y : List ℕ). codes "tfrec 1" ++ drop 7 y) (sym e)
+is_prefix : (t x : List ℕ) → t ≡ codes "tfrec 1" ++ x → t ≡ codes "tfrec 1" ++ drop 7 t
+is_prefix t x e = e ∙ ap (λ (y : List ℕ). codes "tfrec 1" ++ drop 7 y) (sym e)
 
 none_some : {A : Type 0} {x : A} → None ≡ Some x → ⊥
 none_some e = absurd cc
 
-none_is : (t x : List ℕ) → behind (codes "tfrec 1") t ≡ None → t ≡ codes "tfrec 1" ++ x → false ≡ true
-none_is t x e k = let found = ap (behind (codes "tfrec 1")) k ∙ behind_again (codes "tfrec 1") x in absurd (none_some (sym e ∙ found))
+none_is : (t x : List ℕ) → strip (codes "tfrec 1") t ≡ None → t ≡ codes "tfrec 1" ++ x → false ≡ true
+none_is t x e k = let found = ap (strip (codes "tfrec 1")) k ∙ after_again (codes "tfrec 1") x in absurd (none_some (sym e ∙ found))
 
 version_of : (t : List ℕ) → (old : Bool) × IsVersion old t
 version_of t =
-    elim (behind (codes "tfrec 1") t) as (λ o. behind (codes "tfrec 1") t ≡ o → (old : Bool) × IsVersion old t) [
-      | Some x ↦ λ e. (true, record { is_old = λ _. is_front t x (behind_takes (codes "tfrec 1") t x e); else = λ _ _. refl })
+    elim (strip (codes "tfrec 1") t) as (λ o. strip (codes "tfrec 1") t ≡ o → (old : Bool) × IsVersion old t) [
+      | Some x ↦ λ e. (true, record { is_old = λ _. is_prefix t x (after_takes (codes "tfrec 1") t x e); else = λ _ _. refl })
       | None ↦ λ e. (false, record { is_old = λ f. absurd cc; else = λ x k. none_is t x e k })
     ] refl
 
-pub one_journal : (t : List ℕ) (rs ss : List Entered) → IsJournal t rs → IsJournal t ss → rs ≡ ss
+pub one_journal : (t : List ℕ) (rs ss : List JournalEntry) → IsJournalText t rs → IsJournalText t ss → rs ≡ ss
 one_journal t rs ss h k =
     let f = version_of t in
     records_one f.0 t rs ss (from_journal f.0 t rs f.1 h) (from_journal f.0 t ss f.1 k)
 
-first_alike : (r : Entered) (t more : List ℕ) (rs ss : List Entered) → IsMade r.edits → ((later : List Entered) → RecordsAt false t later → (others : List Entered) × (later ≡ rs ++ others) × RecordsAt false more others)
-    → RecordsAt false (record_text r ++ t) ss → (others : List Entered) × (ss ≡ (r ∷ rs) ++ others) × RecordsAt false more others
+first_alike : (r : JournalEntry) (t more : List ℕ) (rs ss : List JournalEntry) → IsValidList r.edits → ((later : List JournalEntry) → RecordsAt false t later → (others : List JournalEntry) × (later ≡ rs ++ others) × RecordsAt false more others)
+    → RecordsAt false (record_text r ++ t) ss → (others : List JournalEntry) × (ss ≡ (r ∷ rs) ++ others) × RecordsAt false more others
 first_alike r t more rs [] made on k = absurd (not_empty false (record_text r ++ t) r t k (refl, made))
 first_alike r t more rs (s ∷ ss) made on k =
     let one = record_one false (record_text r ++ t) r s t k.0 (refl, made) k.1 in
     let i = on ss (subst (λ (x : List ℕ). RecordsAt false x ss) (sym one.1) k.2) in
     (i.0, (λ j. sym one.0 j ∷ i.1 j), i.2)
 
-begin_alike : (rs ss : List Entered) (more : List ℕ) → AllByRecursion (λ r. IsMade r.edits) rs → RecordsAt false (journal_text rs ++ more) ss → (others : List Entered) × (ss ≡ rs ++ others) × RecordsAt false more others
+begin_alike : (rs ss : List JournalEntry) (more : List ℕ) → AllByRecursion (λ r. IsValidList r.edits) rs → RecordsAt false (journal_text rs ++ more) ss → (others : List JournalEntry) × (ss ≡ rs ++ others) × RecordsAt false more others
 begin_alike [] ss more made h = (ss, refl, h)
 begin_alike (r ∷ rs) ss more made h =
     let text : journal_text (r ∷ rs) ++ more ≡ record_text r ++ (journal_text rs ++ more) = ap (λ (x : List ℕ). x ++ more) (flat_map-cons record_text r rs) ∙ append_assoc (record_text r) (journal_text rs) more in
     first_alike r (journal_text rs ++ more) more rs ss made.0 (λ later k. begin_alike rs later more made.1 k) (subst (λ (x : List ℕ). RecordsAt false x ss) text h)
 
-pub begins_alike : (front more : List ℕ) (rs ss : List Entered) → IsText front rs → IsText (front ++ more) ss → (others : List Entered) × (ss ≡ rs ++ others) × IsText more others
+pub begins_alike : (front more : List ℕ) (rs ss : List JournalEntry) → IsCurrentText front rs → IsCurrentText (front ++ more) ss → (others : List JournalEntry) × (ss ≡ rs ++ others) × IsCurrentText more others
 begins_alike front more rs ss h k =
     let text = ap (λ (x : List ℕ). x ++ more) h.is in
     let b = begin_alike rs ss more h.made (subst (λ (x : List ℕ). RecordsAt false x ss) text (from_text (front ++ more) ss k.made k.is)) in
     (b.0, b.1, text_from more b.0 b.2)
 
-one_alike : (old : OldRecord) (r : Entered) → Migrates old r → (t u : List ℕ) → Turns r.edits t u ↔ old_turns old t u
-one_alike old r b = (squash_as_one old.first old.others).alike r.edits b.squashed
+one_alike : (old : OldRecord) (r : JournalEntry) → MigratesTo old r → (t u : List ℕ) → Transforms r.edits t u ↔ old_transforms old t u
+one_alike old r b = (squash_as_one old.first old.others).equivalent r.edits b.squashed
 
-pub turn_alike : (olds : List OldRecord) (rs : List Entered) → MigrateAll olds rs → (t u : List ℕ) → journal_turns rs t u ↔ TurnsAll old_turns olds t u
+pub turn_alike : (olds : List OldRecord) (rs : List JournalEntry) → MigrateAllTo olds rs → (t u : List ℕ) → journal_transforms rs t u ↔ TransformsInOrder old_transforms olds t u
 turn_alike [] [] b t u = (λ h. h, λ h. h)
 turn_alike [] (r ∷ rs) b t u = absurd b
 turn_alike (old ∷ olds) [] b t u = absurd b

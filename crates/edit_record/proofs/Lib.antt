@@ -4,8 +4,8 @@ pub mod Numbers
 pub mod Fields
 pub mod Making
 pub mod Records
-pub mod Growing
+pub mod Allocating
 pub mod Steps
 pub mod Journals
 pub mod LawsOfText
-pub mod Putting
+pub mod Writing

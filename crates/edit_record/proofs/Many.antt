@@ -3,20 +3,20 @@ use Rattle.std.proofs.Common.{◌≡◌, ℕ, zero, suc, ◌+◌, ◌-◌, ◌�
 use Rattle.std.specs.List.{flat_map, AllByRecursion}
 use Rattle.std.proofs.lemmas.List.{append-nil}
 use Rattle.std.proofs.lemmas.List.Concat.{flat_map-cons}
-use Rattle.edit_record.specs.declared.fault.Stop.{Stop}
-use Rattle.edit_record.specs.declared.fault.Stop.TheVariants as stops
-use Rattle.edit_record.specs.Inner.Finding.{Stops}
-use Rattle.edit_record.specs.Inner.Reading.{◌>>=◌, many_at}
+use Rattle.edit_record.specs.declared.fault.DecodeStop.{DecodeStop}
+use Rattle.edit_record.specs.declared.fault.DecodeStop.TheVariants as stops
+use Rattle.edit_record.specs.Inner.ParseResults.{IsStop}
+use Rattle.edit_record.specs.Inner.Reading.{◌>>=◌, repeat_at}
 use Rattle.edit_record.proofs.Choices.{some_is, through, goes_on}
 
 module _ {X : Type 0} (p : List ℕ → Option (X × List ℕ)) (text : X → List ℕ) (Fits : X → Type 0) where
   pub many_take : ((t : List ℕ) (x : X) (rest : List ℕ) → p t ≡ Some (x, rest) → (t ≡ text x ++ rest) × Fits x)
-      → (n : ℕ) (t : List ℕ) (xs : List X) (rest : List ℕ) → many_at p n t ≡ Some (xs, rest) → (t ≡ flat_map text xs ++ rest) × (length xs ≡ n) × AllByRecursion Fits xs
+      → (n : ℕ) (t : List ℕ) (xs : List X) (rest : List ℕ) → repeat_at p n t ≡ Some (xs, rest) → (t ≡ flat_map text xs ++ rest) × (length xs ≡ n) × AllByRecursion Fits xs
   many_take takes zero t xs rest e =
       subst (λ (y : List X × List ℕ). (t ≡ flat_map text y.0 ++ y.1) × (length y.0 ≡ 0) × AllByRecursion Fits y.0) (some_is ([], t) (xs, rest) e) (refl, refl, tt)
   many_take takes (suc n) t xs rest e =
       through (p t) _ (xs, rest) e λ first t1 first_is e1.
-      through (many_at p n t1) _ (xs, rest) e1 λ others t2 others_are e2.
+      through (repeat_at p n t1) _ (xs, rest) e1 λ others t2 others_are e2.
       let f = takes t first t1 first_is in
       let i = many_take takes n t1 others t2 others_are in
       let whole : t ≡ flat_map text (first ∷ others) ++ t2 =
@@ -25,39 +25,39 @@ module _ {X : Type 0} (p : List ℕ → Option (X × List ℕ)) (text : X → Li
       subst (λ (y : List X × List ℕ). (t ≡ flat_map text y.0 ++ y.1) × (length y.0 ≡ suc n) × AllByRecursion Fits y.0) (some_is (first ∷ others, t2) (xs, rest) e2) (whole, ap suc i.1, (f.1, i.2))
 
   pub many_again : ((x : X) (rest : List ℕ) → Fits x → p (text x ++ rest) ≡ Some (x, rest))
-      → (xs : List X) (rest : List ℕ) → AllByRecursion Fits xs → many_at p (length xs) (flat_map text xs ++ rest) ≡ Some (xs, rest)
+      → (xs : List X) (rest : List ℕ) → AllByRecursion Fits xs → repeat_at p (length xs) (flat_map text xs ++ rest) ≡ Some (xs, rest)
   many_again again [] rest fits = refl
   many_again again (x ∷ xs) rest fits =
       let t1 = flat_map text xs ++ rest in
       let parts : flat_map text (x ∷ xs) ++ rest ≡ text x ++ t1 = ap (λ (y : List ℕ). y ++ rest) (flat_map-cons text x xs) ∙ append_assoc (text x) (flat_map text xs) rest in
-      ap (many_at p (suc (length xs))) parts
+      ap (repeat_at p (suc (length xs))) parts
       ∙ goes_on (p (text x ++ t1)) _ (x, t1) _ (again x t1 fits.0)
-      (goes_on (many_at p (length xs) t1) _ (xs, rest) _ (many_again again xs rest fits.1) refl)
+      (goes_on (repeat_at p (length xs) t1) _ (xs, rest) _ (many_again again xs rest fits.1) refl)
 
 -- what was read before, and what is still read
-abbrev pub with_front : {X : Type 0} → List X → Option (List X × List ℕ) → Option (List X × List ℕ)
-with_front front read = read >>= λ x. Some (front ++ x.0, x.1)
+abbrev pub with_prefix : {X : Type 0} → List X → Option (List X × List ℕ) → Option (List X × List ℕ)
+with_prefix front read = read >>= λ x. Some (front ++ x.0, x.1)
 
-regroup : {X : Type 0} (front : List X) (x : X) (read : Option (List X × List ℕ)) → with_front front (read >>= λ y. Some (x ∷ y.0, y.1)) ≡ with_front (front ++ x ∷ []) read
+regroup : {X : Type 0} (front : List X) (x : X) (read : Option (List X × List ℕ)) → with_prefix front (read >>= λ y. Some (x ∷ y.0, y.1)) ≡ with_prefix (front ++ x ∷ []) read
 regroup front x (Some y) = ap (λ xs. Some (xs, y.1)) (sym (append_assoc front (x ∷ []) y.0))
 regroup front x None = refl
 
 module _ {X : Type 0} (p : List ℕ → Option (X × List ℕ)) (front : List X) (count i : ℕ) (t : List ℕ) (total : Option (List X × List ℕ)) where
-  pub one_more : (x : X) (after : List ℕ) → i < count → p t ≡ Some (x, after) → with_front front (many_at p (count - i) t) ≡ total → with_front (front ++ x ∷ []) (many_at p (count - (i + 1)) after) ≡ total
+  pub one_more : (x : X) (after : List ℕ) → i < count → p t ≡ Some (x, after) → with_prefix front (repeat_at p (count - i) t) ≡ total → with_prefix (front ++ x ∷ []) (repeat_at p (count - (i + 1)) after) ≡ total
   one_more x after lt is so_far =
       let k : count - i ≡ suc (count - (i + 1)) = omega arith in
-      let one : with_front front (many_at p (count - i) t) ≡ with_front (front ++ x ∷ []) (many_at p (count - (i + 1)) after) = rw (k, is) (regroup front x (many_at p (count - (i + 1)) after)) in
+      let one : with_prefix front (repeat_at p (count - i) t) ≡ with_prefix (front ++ x ∷ []) (repeat_at p (count - (i + 1)) after) = rw (k, is) (regroup front x (repeat_at p (count - (i + 1)) after)) in
       sym one ∙ so_far
 
-  pub no_more : (here takes : Bool) (e : Stop) → i < count → (here ≡ true → takes ≡ true) → Stops here e (p t) → with_front front (many_at p (count - i) t) ≡ total → Stops takes e total
+  pub no_more : (here takes : Bool) (e : DecodeStop) → i < count → (here ≡ true → takes ≡ true) → IsStop here e (p t) → with_prefix front (repeat_at p (count - i) t) ≡ total → IsStop takes e total
   no_more here takes stops.Memory lt more is so_far = more is
   no_more here takes (stops.Bad kind left) lt more is so_far =
       let k : count - i ≡ suc (count - (i + 1)) = omega arith in
-      let one : with_front front (many_at p (count - i) t) ≡ None = rw (k, is) refl in
+      let one : with_prefix front (repeat_at p (count - i) t) ≡ None = rw (k, is) refl in
       sym so_far ∙ one
 
-  pub all_done : count ≤ i → with_front front (many_at p (count - i) t) ≡ total → total ≡ Some (front, t)
+  pub all_done : count ≤ i → with_prefix front (repeat_at p (count - i) t) ≡ total → total ≡ Some (front, t)
   all_done le so_far =
       let k : count - i ≡ 0 = omega arith in
-      let one : with_front front (many_at p (count - i) t) ≡ Some (front, t) = rw k (ap (λ xs. Some (xs, t)) (append-nil front)) in
+      let one : with_prefix front (repeat_at p (count - i) t) ≡ Some (front, t) = rw k (ap (λ xs. Some (xs, t)) (append-nil front)) in
       sym so_far ∙ one

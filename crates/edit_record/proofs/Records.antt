@@ -7,61 +7,61 @@ use Rattle.edit_list.specs.declared.edit.BadEdits.{BadEdits}
 use Rattle.edit_list.specs.declared.record.Word.{Word}
 use Rattle.edit_list.specs.declared.record.Word.TheVariants.{Fmt, Fix}
 use Rattle.edit_list.specs.Pieces.{EditList, as_list}
-use Rattle.edit_list.specs.Made.{made}
-use Rattle.edit_list.specs.Journal.{Entered}
-use Rattle.edit_record.specs.Text.{space, newline, number_text, edit_text, list_text, word_text, record_text, IsMade, OldRecord, steps, step_text, old_record_text}
-use Rattle.edit_record.specs.Inner.Reading.{behind, most, number_at, edits_at, if_made, list_at, word_of, word_at, record_at, step_at, steps_at, OldHead, old_head_at, old_record_at}
+use Rattle.edit_list.specs.Validity.{make_edits}
+use Rattle.edit_list.specs.Journal.{JournalEntry}
+use Rattle.edit_record.specs.Text.{space, newline, number_text, edit_text, list_text, word_text, record_text, IsValidList, OldRecord, steps, step_text, old_record_text}
+use Rattle.edit_record.specs.Inner.Reading.{strip, max_number, number_at, edits_at, if_valid, edit_list_at, word_of, word_at, record_at, step_at, steps_at, OldHead, old_head_at, old_record_at}
 use Rattle.edit_record.proofs.Choices.{some_is, through, through_one, goes_on, part}
 use Rattle.edit_record.proofs.Many.{many_take, many_again}
 use Rattle.edit_record.proofs.Numbers.{number_takes, number_again}
-use Rattle.edit_record.proofs.Fields.{behind_takes, edits_take, edits_again}
-use Rattle.edit_record.proofs.Making.{made_is, made_again, has_numbers}
+use Rattle.edit_record.proofs.Fields.{after_takes, edits_take, edits_again}
+use Rattle.edit_record.proofs.Making.{valid_is, valid_again, has_numbers}
 
-made_found : (r : Result EditList BadEdits) (t rest : List ℕ) (e : EditList) → if_made r t ≡ Some (e, rest) → (r ≡ Ok e) × (t ≡ rest)
-made_found (Ok x) t rest e h = let p = some_is (x, t) (e, rest) h in (ap (λ (y : EditList × List ℕ). Ok y.0) p, ap (λ (y : EditList × List ℕ). y.1) p)
-made_found (Err d) t rest e h = absurd cc
+valid_found : (r : Result EditList BadEdits) (t rest : List ℕ) (e : EditList) → if_valid r t ≡ Some (e, rest) → (r ≡ Ok e) × (t ≡ rest)
+valid_found (Ok x) t rest e h = let p = some_is (x, t) (e, rest) h in (ap (λ (y : EditList × List ℕ). Ok y.0) p, ap (λ (y : EditList × List ℕ). y.1) p)
+valid_found (Err d) t rest e h = absurd cc
 
 two : (a b c rest : List ℕ) → (a ++ b ++ c) ++ rest ≡ a ++ (b ++ (c ++ rest))
 two a b c rest = simp append_assoc
 
-pub list_takes : (t : List ℕ) (e : EditList) (rest : List ℕ) → list_at t ≡ Some (e, rest) → (t ≡ list_text e ++ rest) × IsMade e
-unfolding list_at
+pub list_takes : (t : List ℕ) (e : EditList) (rest : List ℕ) → edit_list_at t ≡ Some (e, rest) → (t ≡ list_text e ++ rest) × IsValidList e
+unfolding edit_list_at
 list_takes t e rest h =
-    through (number_at 0 most space t) _ (e, rest) h λ old_len t1 old_len_is h1.
-    through (number_at 0 most newline t1) _ (e, rest) h1 λ count t2 count_is h2.
+    through (number_at 0 max_number space t) _ (e, rest) h λ old_len t1 old_len_is h1.
+    through (number_at 0 max_number newline t1) _ (e, rest) h1 λ count t2 count_is h2.
     through (edits_at count t2) _ (e, rest) h2 λ es t3 es_is h3.
-    let m = made_found (made old_len es) t3 rest e h3 in
-    let i = made_is old_len es e m.0 in
-    let n0 = (number_takes 0 most space t (old_len, t1) (omega arith) old_len_is).0 in
-    let n1 = (number_takes 0 most newline t1 (count, t2) (omega arith) count_is).0 in
+    let m = valid_found (make_edits old_len es) t3 rest e h3 in
+    let i = valid_is old_len es e m.0 in
+    let n0 = (number_takes 0 max_number space t (old_len, t1) (omega arith) old_len_is).0 in
+    let n1 = (number_takes 0 max_number newline t1 (count, t2) (omega arith) count_is).0 in
     let es_take = edits_take count t2 es t3 es_is in
     let m1 : t1 ≡ number_text newline (length es) ++ t2 = n1 ∙ ap (λ (k : ℕ). number_text newline k ++ t2) (sym es_take.1) in
     let whole = part (number_text space old_len) t t1 _ n0 (part (number_text newline (length es)) t1 t2 _ m1 es_take.0) ∙ sym (two (number_text space old_len) (number_text newline (length es)) (flat_map edit_text es) t3) in
     (subst (λ (x : EditList). t ≡ list_text x ++ rest) i.0 (whole ∙ ap (λ (x : List ℕ). list_text (as_list old_len es) ++ x) m.1), i.1)
 
-pub list_again : (e : EditList) (rest : List ℕ) → IsMade e → list_at (list_text e ++ rest) ≡ Some (e, rest)
-unfolding list_at
+pub list_again : (e : EditList) (rest : List ℕ) → IsValidList e → edit_list_at (list_text e ++ rest) ≡ Some (e, rest)
+unfolding edit_list_at
 list_again e rest made_e =
     let n = has_numbers e made_e in
     let t2 = flat_map edit_text e.entries ++ rest in
     let t1 = number_text newline (length e.entries) ++ t2 in
     let t0 = number_text space e.old_len ++ t1 in
-    let last : if_made (made e.old_len e.entries) rest ≡ Some (e, rest) = rw (made_again e made_e) refl in
-    let read : list_at t0 ≡ Some (e, rest) =
-    goes_on (number_at 0 most space t0) _ (e.old_len, t1) _ (number_again 0 most space e.old_len t1 (omega arith) refl (omega arith) n.old_len)
-    (goes_on (number_at 0 most newline t1) _ (length e.entries, t2) _ (number_again 0 most newline (length e.entries) t2 (omega arith) refl (omega arith) n.count)
+    let last : if_valid (make_edits e.old_len e.entries) rest ≡ Some (e, rest) = rw (valid_again e made_e) refl in
+    let read : edit_list_at t0 ≡ Some (e, rest) =
+    goes_on (number_at 0 max_number space t0) _ (e.old_len, t1) _ (number_again 0 max_number space e.old_len t1 (omega arith) refl (omega arith) n.old_len)
+    (goes_on (number_at 0 max_number newline t1) _ (length e.entries, t2) _ (number_again 0 max_number newline (length e.entries) t2 (omega arith) refl (omega arith) n.count)
     (goes_on (edits_at (length e.entries) t2) _ (e.entries, rest) _ (edits_again e.entries rest n.edits) last)) in
-    ap list_at (two (number_text space e.old_len) (number_text newline (length e.entries)) (flat_map edit_text e.entries) rest) ∙ read
+    ap edit_list_at (two (number_text space e.old_len) (number_text newline (length e.entries)) (flat_map edit_text e.entries) rest) ∙ read
 
 -- the word without the space behind it
 bare : Word → List ℕ
 bare Fmt = codes "fmt"
 bare Fix = codes "fix"
 
-word_found : (fmt fix : Option (List ℕ)) (t t1 : List ℕ) (w : Word) → behind (codes "fmt") t ≡ fmt → behind (codes "fix") t ≡ fix → word_of fmt fix ≡ Some (w, t1) → t ≡ bare w ++ t1
+word_found : (fmt fix : Option (List ℕ)) (t t1 : List ℕ) (w : Word) → strip (codes "fmt") t ≡ fmt → strip (codes "fix") t ≡ fix → word_of fmt fix ≡ Some (w, t1) → t ≡ bare w ++ t1
 unfolding bare
-word_found (Some x) fix t t1 w fmt_is fix_is e = subst (λ (y : Word × List ℕ). t ≡ bare y.0 ++ y.1) (some_is (Fmt, x) (w, t1) e) (behind_takes (codes "fmt") t x fmt_is)
-word_found None (Some x) t t1 w fmt_is fix_is e = subst (λ (y : Word × List ℕ). t ≡ bare y.0 ++ y.1) (some_is (Fix, x) (w, t1) e) (behind_takes (codes "fix") t x fix_is)
+word_found (Some x) fix t t1 w fmt_is fix_is e = subst (λ (y : Word × List ℕ). t ≡ bare y.0 ++ y.1) (some_is (Fmt, x) (w, t1) e) (after_takes (codes "fmt") t x fmt_is)
+word_found None (Some x) t t1 w fmt_is fix_is e = subst (λ (y : Word × List ℕ). t ≡ bare y.0 ++ y.1) (some_is (Fix, x) (w, t1) e) (after_takes (codes "fix") t x fix_is)
 word_found None None t t1 w fmt_is fix_is e = absurd cc
 
 with_space : (w : Word) (rest : List ℕ) → bare w ++ (space ∷ rest) ≡ word_text w ++ rest
@@ -72,9 +72,9 @@ with_space Fix rest = refl
 pub word_takes : (t : List ℕ) (w : Word) (rest : List ℕ) → word_at t ≡ Some (w, rest) → t ≡ word_text w ++ rest
 unfolding word_at
 word_takes t w rest e =
-    through (word_of (behind (codes "fmt") t) (behind (codes "fix") t)) _ (w, rest) e λ word t1 word_is e1.
-    through_one (behind (space ∷ []) t1) _ (w, rest) e1 λ t2 space_is e2.
-    let whole = part (bare word) t t1 _ (word_found _ _ t t1 word refl refl word_is) (behind_takes (space ∷ []) t1 t2 space_is) ∙ with_space word t2 in
+    through (word_of (strip (codes "fmt") t) (strip (codes "fix") t)) _ (w, rest) e λ word t1 word_is e1.
+    through_one (strip (space ∷ []) t1) _ (w, rest) e1 λ t2 space_is e2.
+    let whole = part (bare word) t t1 _ (word_found _ _ t t1 word refl refl word_is) (after_takes (space ∷ []) t1 t2 space_is) ∙ with_space word t2 in
     subst (λ (y : Word × List ℕ). t ≡ word_text y.0 ++ y.1) (some_is (word, t2) (w, rest) e2) whole
 
 pub word_again : (w : Word) (rest : List ℕ) → word_at (word_text w ++ rest) ≡ Some (w, rest)
@@ -85,21 +85,21 @@ word_again Fix rest = refl
 pub three : (a b c d rest : List ℕ) → (a ++ b ++ c ++ d) ++ rest ≡ a ++ (b ++ (c ++ (d ++ rest)))
 three a b c d rest = simp append_assoc
 
-pub record_takes : (t : List ℕ) (r : Entered) (rest : List ℕ) → record_at t ≡ Some (r, rest) → (t ≡ record_text r ++ rest) × IsMade r.edits
+pub record_takes : (t : List ℕ) (r : JournalEntry) (rest : List ℕ) → record_at t ≡ Some (r, rest) → (t ≡ record_text r ++ rest) × IsValidList r.edits
 unfolding record_at
 record_takes t r rest h =
-    through_one (behind (codes "tfrec 2 ") t) _ (r, rest) h λ t1 head_is h1.
+    through_one (strip (codes "tfrec 2 ") t) _ (r, rest) h λ t1 head_is h1.
     through (word_at t1) _ (r, rest) h1 λ word t2 word_is h2.
-    through (list_at t2) _ (r, rest) h2 λ edits t3 edits_are h3.
-    through_one (behind (codes "end\n") t3) _ (r, rest) h3 λ t4 end_is h4.
-    let found : Entered × List ℕ = (record { word = word; edits = edits }, t4) in
+    through (edit_list_at t2) _ (r, rest) h2 λ edits t3 edits_are h3.
+    through_one (strip (codes "end\n") t3) _ (r, rest) h3 λ t4 end_is h4.
+    let found : JournalEntry × List ℕ = (record { word = word; edits = edits }, t4) in
     let l = list_takes t2 edits t3 edits_are in
-    let rest_is = part (word_text word) t1 t2 _ (word_takes t1 word t2 word_is) (part (list_text edits) t2 t3 _ l.0 (behind_takes (codes "end\n") t3 t4 end_is)) in
-    let whole = part (codes "tfrec 2 ") t t1 _ (behind_takes (codes "tfrec 2 ") t t1 head_is) rest_is
+    let rest_is = part (word_text word) t1 t2 _ (word_takes t1 word t2 word_is) (part (list_text edits) t2 t3 _ l.0 (after_takes (codes "end\n") t3 t4 end_is)) in
+    let whole = part (codes "tfrec 2 ") t t1 _ (after_takes (codes "tfrec 2 ") t t1 head_is) rest_is
     ∙ sym (three (codes "tfrec 2 ") (word_text word) (list_text edits) (codes "end\n") t4) in
-    subst (λ (y : Entered × List ℕ). (t ≡ record_text y.0 ++ y.1) × IsMade y.0.edits) (some_is found (r, rest) h4) (whole, l.1)
+    subst (λ (y : JournalEntry × List ℕ). (t ≡ record_text y.0 ++ y.1) × IsValidList y.0.edits) (some_is found (r, rest) h4) (whole, l.1)
 
-pub record_again : (r : Entered) (rest : List ℕ) → IsMade r.edits → record_at (record_text r ++ rest) ≡ Some (r, rest)
+pub record_again : (r : JournalEntry) (rest : List ℕ) → IsValidList r.edits → record_at (record_text r ++ rest) ≡ Some (r, rest)
 unfolding record_at
 record_again r rest made_r =
     let t3 = codes "end\n" ++ rest in
@@ -108,32 +108,32 @@ record_again r rest made_r =
     let t0 = codes "tfrec 2 " ++ t1 in
     let read : record_at t0 ≡ Some (r, rest) =
     goes_on (word_at t1) _ (r.word, t2) _ (word_again r.word t2)
-    (goes_on (list_at t2) _ (r.edits, t3) _ (list_again r.edits t3 made_r) refl) in
+    (goes_on (edit_list_at t2) _ (r.edits, t3) _ (list_again r.edits t3 made_r) refl) in
     ap record_at (three (codes "tfrec 2 ") (word_text r.word) (list_text r.edits) (codes "end\n") rest) ∙ read
 
-pub step_takes : (t : List ℕ) (e : EditList) (rest : List ℕ) → step_at t ≡ Some (e, rest) → (t ≡ step_text e ++ rest) × IsMade e
+pub step_takes : (t : List ℕ) (e : EditList) (rest : List ℕ) → step_at t ≡ Some (e, rest) → (t ≡ step_text e ++ rest) × IsValidList e
 unfolding step_at
 step_takes t e rest h =
-    through_one (behind (codes "step ") t) _ (e, rest) h λ t1 head_is h1.
+    through_one (strip (codes "step ") t) _ (e, rest) h λ t1 head_is h1.
     let l = list_takes t1 e rest h1 in
-    (part (codes "step ") t t1 _ (behind_takes (codes "step ") t t1 head_is) l.0, l.1)
+    (part (codes "step ") t t1 _ (after_takes (codes "step ") t t1 head_is) l.0, l.1)
 
-pub step_again : (e : EditList) (rest : List ℕ) → IsMade e → step_at (step_text e ++ rest) ≡ Some (e, rest)
+pub step_again : (e : EditList) (rest : List ℕ) → IsValidList e → step_at (step_text e ++ rest) ≡ Some (e, rest)
 unfolding step_at
 step_again e rest made_e = list_again e rest made_e
 
-pub steps_take : (n : ℕ) (t : List ℕ) (es : List EditList) (rest : List ℕ) → steps_at n t ≡ Some (es, rest) → (t ≡ flat_map step_text es ++ rest) × (length es ≡ n) × AllByRecursion IsMade es
+pub steps_take : (n : ℕ) (t : List ℕ) (es : List EditList) (rest : List ℕ) → steps_at n t ≡ Some (es, rest) → (t ≡ flat_map step_text es ++ rest) × (length es ≡ n) × AllByRecursion IsValidList es
 unfolding steps_at
-steps_take = many_take step_at step_text IsMade step_takes
+steps_take = many_take step_at step_text IsValidList step_takes
 
-pub steps_again : (es : List EditList) (rest : List ℕ) → AllByRecursion IsMade es → steps_at (length es) (flat_map step_text es ++ rest) ≡ Some (es, rest)
+pub steps_again : (es : List EditList) (rest : List ℕ) → AllByRecursion IsValidList es → steps_at (length es) (flat_map step_text es ++ rest) ≡ Some (es, rest)
 unfolding steps_at
-steps_again = many_again step_at step_text IsMade step_again
+steps_again = many_again step_at step_text IsValidList step_again
 
 -- an old record whose lists can be made, and that has so many of them that their number can be read
 pub record IsOld (r : OldRecord) : Type 0 where
-  pub made : AllByRecursion IsMade (steps r)
-  pub few : length (steps r) ≤ 64
+  pub made : AllByRecursion IsValidList (steps r)
+  pub within_limit : length (steps r) ≤ 64
 
 pub four : (a b c d e rest : List ℕ) → (a ++ b ++ c ++ d ++ e) ++ rest ≡ a ++ (b ++ (c ++ (d ++ (e ++ rest))))
 four a b c d e rest = simp append_assoc
@@ -147,8 +147,8 @@ unfolding old_record_at old_head_at
 old_takes t r rest h =
     through (old_head_at t) _ (r, rest) h λ head t4 head_is h1.
     through (steps_at head.others t4) _ (r, rest) h1 λ others t5 others_are h2.
-    through_one (behind (codes "end\n") t5) _ (r, rest) h2 λ t6 end_is h3.
-    through_one (behind (codes "tfrec 1 ") t) _ (head, t4) head_is λ t1 begins g1.
+    through_one (strip (codes "end\n") t5) _ (r, rest) h2 λ t6 end_is h3.
+    through_one (strip (codes "tfrec 1 ") t) _ (head, t4) head_is λ t1 begins g1.
     through (word_at t1) _ (head, t4) g1 λ word t2 word_is g2.
     through (number_at 1 64 newline t2) _ (head, t4) g2 λ count t3 count_is g3.
     through (step_at t3) _ (head, t4) g3 λ first t4' first_is g4.
@@ -164,10 +164,10 @@ old_takes t r rest h =
     ∙ ap (λ (y : List ℕ). y ++ t5) (sym (flat_map-cons step_text first others)) in
     let count_of : count ≡ length (steps old) = omega (arith, n.1, ss.1, count_eq) in
     let m2 : t2 ≡ number_text newline (length (steps old)) ++ t3 = n.0 ∙ ap (λ (k : ℕ). number_text newline k ++ t3) count_of in
-    let rest_is = part (word_text word) t1 t2 _ (word_takes t1 word t2 word_is) (part (number_text newline (length (steps old))) t2 t3 _ m2 (part (flat_map step_text (steps old)) t3 t5 _ all_are (behind_takes (codes "end\n") t5 t6 end_is))) in
-    let whole = part (codes "tfrec 1 ") t t1 _ (behind_takes (codes "tfrec 1 ") t t1 begins) rest_is
+    let rest_is = part (word_text word) t1 t2 _ (word_takes t1 word t2 word_is) (part (number_text newline (length (steps old))) t2 t3 _ m2 (part (flat_map step_text (steps old)) t3 t5 _ all_are (after_takes (codes "end\n") t5 t6 end_is))) in
+    let whole = part (codes "tfrec 1 ") t t1 _ (after_takes (codes "tfrec 1 ") t t1 begins) rest_is
     ∙ sym (four (codes "tfrec 1 ") (word_text word) (number_text newline (length (steps old))) (flat_map step_text (steps old)) (codes "end\n") t6) in
-    let old_is : IsOld old = record { made = (s.1, ss.2); few = omega (arith, n.2, count_of) } in
+    let old_is : IsOld old = record { made = (s.1, ss.2); within_limit = omega (arith, n.2, count_of) } in
     let found_eq : (old, t6) ≡ (r, rest) = found_is others t6 (r, rest) (record { word = word; first = first; others = count - 1 }, t4') (head, t4) head_eq (some_is (record { word = head.word; first = head.first; others = others }, t6) (r, rest) h3) in
     subst (λ (y : OldRecord × List ℕ). (t ≡ old_record_text y.0 ++ y.1) × IsOld y.0) found_eq (whole, old_is)
 
@@ -188,7 +188,7 @@ old_again r rest old =
     let head : OldHead = record { word = r.word; first = r.first; others = length (steps r) - 1 } in
     let head_is : old_head_at t0 ≡ Some (head, t4) =
     goes_on (word_at t1) _ (r.word, t2) _ (word_again r.word t2)
-    (goes_on (number_at 1 64 newline t2) _ (length (steps r), t3) _ (number_again 1 64 newline (length (steps r)) t3 (omega arith) refl some old.few)
+    (goes_on (number_at 1 64 newline t2) _ (length (steps r), t3) _ (number_again 1 64 newline (length (steps r)) t3 (omega arith) refl some old.within_limit)
     (goes_on (step_at t3) _ (r.first, t4) _ first_is refl)) in
     let read : old_record_at t0 ≡ Some (r, rest) =
     goes_on (old_head_at t0) _ (head, t4) _ head_is

@@ -3,16 +3,16 @@ use Rattle.std.proofs.Common.{◌≡◌, ◌↔◌, ℕ, suc, ◌+◌, ◌-◌, 
 use Rattle.std.specs.Prelude.{codes, ◌||◌}
 use Rattle.std.proofs.lemmas.Bool.{false≢true}
 use Rattle.edit_list.specs.Pieces.{EditList}
-use Rattle.edit_list.specs.Journal.{Entered}
+use Rattle.edit_list.specs.Journal.{JournalEntry}
 use Rattle.edit_squash.specs.Squash.{IsSquash}
-use Rattle.edit_squash.specs.Grouping.{SquashAll}
+use Rattle.edit_squash.specs.SquashLists.{SquashAll}
 use Rattle.edit_squash.proofs.Groupings.{squash_as_one}
-use Rattle.edit_record.specs.declared.fault.Stop.{Stop}
-use Rattle.edit_record.specs.declared.fault.Stop.TheVariants as stops
+use Rattle.edit_record.specs.declared.fault.DecodeStop.{DecodeStop}
+use Rattle.edit_record.specs.declared.fault.DecodeStop.TheVariants as stops
 use Rattle.edit_record.specs.Text.{OldRecord}
-use Rattle.edit_record.specs.Inner.Reading.{behind, many_at, step_at, steps_at, OldHead, old_head_at, old_record_at}
-use Rattle.edit_record.specs.Inner.Growing.{found, old_head_grows, steps_grow, old_grows}
-use Rattle.edit_record.specs.Inner.Finding.{Stops, Stopped, Joins, SquashAt, OldAt}
+use Rattle.edit_record.specs.Inner.Reading.{strip, repeat_at, step_at, steps_at, OldHead, old_head_at, old_record_at}
+use Rattle.edit_record.specs.Inner.Allocating.{is_some_and, old_head_allocates, steps_allocate, old_record_allocates}
+use Rattle.edit_record.specs.Inner.ParseResults.{IsStop, IsStopFor, IsSquashOrStop, SquashAt, OldRecordAt}
 use Rattle.edit_record.proofs.Choices.{some_is, through, through_one, goes_on}
 
 pub squash_unique : (a b c d : EditList) → IsSquash a b c → IsSquash a b d → c ≡ d
@@ -27,22 +27,22 @@ onward : (a next both : EditList) (n : ℕ) (t after : List ℕ) → step_at t �
 unfolding steps_at
 onward a next both n t after next_is both_is e rest h = (
   next ∷ h.0,
-  goes_on (step_at t) _ (next, after) _ next_is (goes_on (many_at step_at n after) _ (h.0, rest) _ h.1 refl),
+  goes_on (step_at t) _ (next, after) _ next_is (goes_on (repeat_at step_at n after) _ (h.0, rest) _ h.1 refl),
   (both, both_is, h.2),
 )
 
 back : (a next both : EditList) (n : ℕ) (t after : List ℕ) → step_at t ≡ Some (next, after) → IsSquash a next both
-    → (e : EditList) (rest : List ℕ) (others : List EditList) → many_at step_at (suc n) t ≡ Some (others, rest) → SquashAll a others e → SquashAt both n after e rest
+    → (e : EditList) (rest : List ℕ) (others : List EditList) → repeat_at step_at (suc n) t ≡ Some (others, rest) → SquashAll a others e → SquashAt both n after e rest
 unfolding steps_at
 back a next both n t after next_is both_is e rest others others_are all =
     through (step_at t) _ (others, rest) others_are λ first t1 first_is e1.
-    through (many_at step_at n t1) _ (others, rest) e1 λ later t2 later_are e2.
+    through (repeat_at step_at n t1) _ (others, rest) e1 λ later t2 later_are e2.
     let same : (next, after) ≡ (first, t1) = some_is _ _ (sym next_is ∙ first_is) in
     let made : (first ∷ later, t2) ≡ (others, rest) = some_is _ _ e2 in
     let all' : SquashAll a (first ∷ later) e = subst (λ (x : List EditList × List ℕ). SquashAll a x.0 e) (sym made) all in
     let first_eq : next ≡ first = ap (λ (x : EditList × List ℕ). x.0) same in
     let both_eq : all'.0 ≡ both = squash_unique a next all'.0 both (subst (λ (x : EditList). IsSquash a x all'.0) (sym first_eq) all'.1) both_is in
-    let later_is : many_at step_at n after ≡ Some (later, t2) = ap (λ (x : EditList × List ℕ). many_at step_at n x.1) same ∙ later_are in
+    let later_is : repeat_at step_at n after ≡ Some (later, t2) = ap (λ (x : EditList × List ℕ). repeat_at step_at n x.1) same ∙ later_are in
     (later, later_is ∙ ap (λ (x : List EditList × List ℕ). Some (later, x.1)) made, subst (λ (x : EditList). SquashAll x later e) both_eq all'.2)
 
 pub one_step : (a next both b : EditList) (count i m : ℕ) (t after u : List ℕ) → i < count → step_at t ≡ Some (next, after) → IsSquash a next both
@@ -67,7 +67,7 @@ none_squashed : (a next : EditList) (n : ℕ) (t after : List ℕ) → step_at t
 unfolding steps_at
 none_squashed a next n t after next_is none e rest h =
     through (step_at t) _ (h.0, rest) h.1 λ first t1 first_is e1.
-    through (many_at step_at n t1) _ (h.0, rest) e1 λ later t2 later_are e2.
+    through (repeat_at step_at n t1) _ (h.0, rest) e1 λ later t2 later_are e2.
     let same : (next, after) ≡ (first, t1) = some_is _ _ (sym next_is ∙ first_is) in
     let made : (first ∷ later, t2) ≡ (h.0, rest) = some_is _ _ e2 in
     let all : SquashAll a (first ∷ later) e = subst (λ (x : List EditList × List ℕ). SquashAll a x.0 e) (sym made) h.2 in
@@ -75,13 +75,13 @@ none_squashed a next n t after next_is none e rest h =
     none all.0 (subst (λ (x : EditList). IsSquash a x all.0) (sym first_eq) all.1)
 
 module _ (a b : EditList) (count i m : ℕ) (t u : List ℕ) (lt : i < count) (so_far : Alike a (count - i) t b m u) where
-  pub no_step : (here takes : Bool) (stop : Stop) → (here ≡ true → takes ≡ true) → Stops here stop (step_at t) → Stopped takes stop (SquashAt b m u)
+  pub no_step : (here takes : Bool) (stop : DecodeStop) → (here ≡ true → takes ≡ true) → IsStop here stop (step_at t) → IsStopFor takes stop (SquashAt b m u)
   no_step here takes stops.Memory more none = more none
   no_step here takes (stops.Bad kind left) more none =
       let k : count - i ≡ suc (count - (i + 1)) = omega arith in
       λ e rest h. none_read a (count - (i + 1)) t none e rest (subst (λ (n : ℕ). SquashAt a n t e rest) k ((so_far e rest).1 h))
 
-  pub no_squash : (takes : Bool) (next : EditList) (after : List ℕ) (stop : Stop) → takes ≡ true → step_at t ≡ Some (next, after) → Joins a next (Err stop) → Stopped takes stop (SquashAt b m u)
+  pub no_squash : (takes : Bool) (next : EditList) (after : List ℕ) (stop : DecodeStop) → takes ≡ true → step_at t ≡ Some (next, after) → IsSquashOrStop a next (Err stop) → IsStopFor takes stop (SquashAt b m u)
   no_squash takes next after stops.Memory taken next_is none = taken
   no_squash takes next after (stops.Bad kind left) taken next_is none =
       let k : count - i ≡ suc (count - (i + 1)) = omega arith in
@@ -94,37 +94,37 @@ all_steps a b count i m t u le so_far =
     (so_far a t).0 (subst (λ (n : ℕ). SquashAt a n t a t) (sym k) ([], refl, refl))
 
 -- where memory is taken for the steps behind the head
-others_grow : (t t1 : List ℕ) (head : OldHead) (b : Bool) → old_head_at t ≡ Some (head, t1) → steps_grow head.others t1 ≡ true → (b || found (old_head_at t) (λ h. steps_grow h.0.others h.1)) ≡ true
-others_grow t t1 head true head_is taken = refl
-others_grow t t1 head false head_is taken = rw head_is taken
+others_allocate : (t t1 : List ℕ) (head : OldHead) (b : Bool) → old_head_at t ≡ Some (head, t1) → steps_allocate head.others t1 ≡ true → (b || is_some_and (old_head_at t) (λ h. steps_allocate h.0.others h.1)) ≡ true
+others_allocate t t1 head true head_is taken = refl
+others_allocate t t1 head false head_is taken = rw head_is taken
 
 -- an old record, by its front, its other steps, and its end
-none_old : (t : List ℕ) → old_record_at t ≡ None → (r : Entered) (rest : List ℕ) → OldAt t r rest → ⊥
+none_old : (t : List ℕ) → old_record_at t ≡ None → (r : JournalEntry) (rest : List ℕ) → OldRecordAt t r rest → ⊥
 none_old t none r rest h = none_some (sym none ∙ h.1)
   where
     none_some : {A : Type 0} {x : A} → None ≡ Some x → ⊥
     none_some e = absurd cc
 
-pub no_head : (t : List ℕ) (stop : Stop) → Stops (old_head_grows t) stop (old_head_at t) → Stopped (old_grows t) stop (OldAt t)
+pub no_head : (t : List ℕ) (stop : DecodeStop) → IsStop (old_head_allocates t) stop (old_head_at t) → IsStopFor (old_record_allocates t) stop (OldRecordAt t)
 unfolding old_record_at
 no_head t stops.Memory none = rw none refl
 no_head t (stops.Bad kind left) none =
     let nothing : old_record_at t ≡ None = rw none refl in
     none_old t nothing
 
-pub no_others : (t t1 : List ℕ) (head : OldHead) (stop : Stop) → old_head_at t ≡ Some (head, t1) → Stopped (steps_grow head.others t1) stop (SquashAt head.first head.others t1) → Stopped (old_grows t) stop (OldAt t)
+pub no_others : (t t1 : List ℕ) (head : OldHead) (stop : DecodeStop) → old_head_at t ≡ Some (head, t1) → IsStopFor (steps_allocate head.others t1) stop (SquashAt head.first head.others t1) → IsStopFor (old_record_allocates t) stop (OldRecordAt t)
 unfolding old_record_at
-no_others t t1 head stops.Memory head_is none = others_grow t t1 head (old_head_grows t) head_is none
+no_others t t1 head stops.Memory head_is none = others_allocate t t1 head (old_head_allocates t) head_is none
 no_others t t1 head (stops.Bad kind left) head_is none = λ r rest h.
-    through (old_head_at t) _ (h.0, rest) h.1 λ found u found_is e1.
-    through (steps_at found.others u) _ (h.0, rest) e1 λ others t2 others_are e2.
-    through_one (behind (codes "end\n") t2) _ (h.0, rest) e2 λ t3 end_is e3.
-    let same : (head, t1) ≡ (found, u) = some_is _ _ (sym head_is ∙ found_is) in
-    let made : (record { word = found.word; first = found.first; others = others }, t3) ≡ (h.0, rest) = some_is _ _ e3 in
-    let all : SquashAll found.first others r.edits = subst (λ (x : OldRecord × List ℕ). SquashAll x.0.first x.0.others r.edits) (sym made) h.3 in
+    through (old_head_at t) _ (h.0, rest) h.1 λ is_some_and u found_is e1.
+    through (steps_at is_some_and.others u) _ (h.0, rest) e1 λ others t2 others_are e2.
+    through_one (strip (codes "end\n") t2) _ (h.0, rest) e2 λ t3 end_is e3.
+    let same : (head, t1) ≡ (is_some_and, u) = some_is _ _ (sym head_is ∙ found_is) in
+    let made : (record { word = is_some_and.word; first = is_some_and.first; others = others }, t3) ≡ (h.0, rest) = some_is _ _ e3 in
+    let all : SquashAll is_some_and.first others r.edits = subst (λ (x : OldRecord × List ℕ). SquashAll x.0.first x.0.others r.edits) (sym made) h.3 in
     subst (λ (x : OldHead × List ℕ). ((e : EditList) (rest : List ℕ) → SquashAt x.0.first x.0.others x.1 e rest → ⊥)) same none r.edits t2 (others, others_are, all)
 
-pub no_end : (t t1 t2 : List ℕ) (head : OldHead) (edits : EditList) (stop : Stop) → old_head_at t ≡ Some (head, t1) → SquashAt head.first head.others t1 edits t2 → Stops false stop (behind (codes "end\n") t2) → Stopped (old_grows t) stop (OldAt t)
+pub no_end : (t t1 t2 : List ℕ) (head : OldHead) (edits : EditList) (stop : DecodeStop) → old_head_at t ≡ Some (head, t1) → SquashAt head.first head.others t1 edits t2 → IsStop false stop (strip (codes "end\n") t2) → IsStopFor (old_record_allocates t) stop (OldRecordAt t)
 unfolding old_record_at
 no_end t t1 t2 head edits stops.Memory head_is others none = absurd (false≢true none)
 no_end t t1 t2 head edits (stops.Bad kind left) head_is others none =
@@ -132,11 +132,11 @@ no_end t t1 t2 head edits (stops.Bad kind left) head_is others none =
     goes_on (old_head_at t) _ (head, t1) _ head_is (goes_on (steps_at head.others t1) _ (others.0, t2) _ others.1 (rw none refl)) in
     none_old t nothing
 
-pub old_is : (t t1 t2 t3 : List ℕ) (head : OldHead) (edits : EditList) → old_head_at t ≡ Some (head, t1) → SquashAt head.first head.others t1 edits t2 → behind (codes "end\n") t2 ≡ Some t3 → OldAt t (record { word = head.word; edits = edits }) t3
+pub old_is : (t t1 t2 t3 : List ℕ) (head : OldHead) (edits : EditList) → old_head_at t ≡ Some (head, t1) → SquashAt head.first head.others t1 edits t2 → strip (codes "end\n") t2 ≡ Some t3 → OldRecordAt t (record { word = head.word; edits = edits }) t3
 unfolding old_record_at
 old_is t t1 t2 t3 head edits head_is others end_is = (
   record { word = head.word; first = head.first; others = others.0 },
-  goes_on (old_head_at t) _ (head, t1) _ head_is (goes_on (steps_at head.others t1) _ (others.0, t2) _ others.1 (goes_on (behind (codes "end\n") t2) _ t3 _ end_is refl)),
+  goes_on (old_head_at t) _ (head, t1) _ head_is (goes_on (steps_at head.others t1) _ (others.0, t2) _ others.1 (goes_on (strip (codes "end\n") t2) _ t3 _ end_is refl)),
   refl,
   others.2,
 )

@@ -2,61 +2,61 @@
 use Rattle.std.specs.Prelude.{◌≡◌, ℕ, zero, suc, ◌<◌, ◌≤◌, ◌⊎◌, List, ◌++◌, length, codes, Result, Ok, Err}
 use Rattle.edit_list.specs.declared.edits.TheConstants.{MAX_TEXT}
 use Rattle.edit_list.specs.declared.record.Word.{Word}
-use Rattle.edit_list.specs.Pieces.{Entry}
-use Rattle.edit_list.specs.Journal.{Entered}
-use Rattle.edit_record.specs.Text.{space, newline, number_text, word_text, edit_text, IsJournal}
+use Rattle.edit_list.specs.Pieces.{EditEntry}
+use Rattle.edit_list.specs.Journal.{JournalEntry}
+use Rattle.edit_record.specs.Text.{space, newline, number_text, word_text, edit_text, IsJournalText}
 use Rattle.edit_record.specs.declared.fault.RecordFault.{RecordFault}
 use Rattle.edit_record.specs.declared.fault.RecordFault.TheVariants as faults
 
 -- the greatest number that is read: no list has more edits than twice the most bytes of a text
-abbrev pub greatest : ℕ
-greatest = 33554432
+abbrev pub max_number : ℕ
+max_number = 33554432
 
 -- the numbers of an edit are no greater
-pub record NumbersFit (e : Entry) : Type 0 where
-  pub at : e.at ≤ greatest
-  pub removed : length e.removed ≤ greatest
-  pub added : length e.added ≤ greatest
+pub record NumbersFit (e : EditEntry) : Type 0 where
+  pub at : e.at ≤ max_number
+  pub removed : length e.removed ≤ max_number
+  pub added : length e.added ≤ max_number
 
--- What stands behind the head of a list of so many edits of texts of this length: the first of
--- them; or where there are none the mark that follows a list, which with no edits is one exactly
--- where the text is not too long.
-abbrev pub IsNext : ℕ → ℕ → List ℕ → List ℕ → Type 0
-IsNext old_len zero mark next = (next ≡ mark) × (old_len ≤ MAX_TEXT)
-IsNext old_len (suc n) mark next = (e : Entry) × (next ≡ edit_text e) × NumbersFit e
+-- `next` follows the head of a list of n edits of texts of length `old_len`: the text of its first
+-- edit, or, if n is 0, the mark after the list. An empty list is valid if `old_len` is within the
+-- limit.
+abbrev pub FollowsHead : ℕ → ℕ → List ℕ → List ℕ → Type 0
+FollowsHead old_len zero mark next = (next ≡ mark) × (old_len ≤ MAX_TEXT)
+FollowsHead old_len (suc n) mark next = (e : EditEntry) × (next ≡ edit_text e) × NumbersFit e
 
 -- The text begins with the head of a record, and the whole of what stands behind it. Each number is
 -- within its limit.
-pub record TakesMemory (text : List ℕ) : Type 0 where
+pub record ReachesFirstEdit (text : List ℕ) : Type 0 where
   pub word : Word
   pub old_len : ℕ
   pub count : ℕ
-  pub old_len_fits : old_len ≤ greatest
-  pub count_fits : count ≤ greatest
+  pub old_len_fits : old_len ≤ max_number
+  pub count_fits : count ≤ max_number
   pub next : List ℕ
-  pub next_is : IsNext old_len count (codes "end\n") next
+  pub next_is : FollowsHead old_len count (codes "end\n") next
   pub rest : List ℕ
   pub is : text ≡ codes "tfrec 2 "
       ++ (word_text word
       ++ (number_text space old_len ++ (number_text newline count ++ (next ++ rest))))
 
 -- the mark that follows the first of so many steps
-abbrev pub mark_behind : ℕ → List ℕ
-mark_behind (suc (suc n)) = codes "step "
-mark_behind n = codes "end\n"
+abbrev pub mark_after : ℕ → List ℕ
+mark_after (suc (suc n)) = codes "step "
+mark_after n = codes "end\n"
 
 -- the same in version 1, whose head goes on to the first edit of the first step
-pub record OldTakesMemory (text : List ℕ) : Type 0 where
+pub record OldReachesFirstEdit (text : List ℕ) : Type 0 where
   pub word : Word
   pub steps : ℕ
   pub old_len : ℕ
   pub count : ℕ
-  pub some_steps : 0 < steps
-  pub few_steps : steps ≤ 64
-  pub old_len_fits : old_len ≤ greatest
-  pub count_fits : count ≤ greatest
+  pub has_steps : 0 < steps
+  pub steps_within_limit : steps ≤ 64
+  pub old_len_fits : old_len ≤ max_number
+  pub count_fits : count ≤ max_number
   pub next : List ℕ
-  pub next_is : IsNext old_len count (mark_behind steps) next
+  pub next_is : FollowsHead old_len count (mark_after steps) next
   pub rest : List ℕ
   pub is : text ≡ codes "tfrec 1 "
       ++ (word_text word
@@ -64,14 +64,14 @@ pub record OldTakesMemory (text : List ℕ) : Type 0 where
       ++ (codes "step "
       ++ (number_text space old_len ++ (number_text newline count ++ (next ++ rest))))))
 
--- Want of memory can be met here: the first edit has been read whole, or that there is none. No
--- memory is taken before.
-abbrev pub MayRunOut : List ℕ → Type 0
-MayRunOut text = TakesMemory text ⊎ OldTakesMemory text
+-- `decode` can run out of memory on this text: it reaches the end of the first edit, or of an empty
+-- list. Before that it allocates nothing.
+abbrev pub MayAllocate : List ℕ → Type 0
+MayAllocate text = ReachesFirstEdit text ⊎ OldReachesFirstEdit text
 
 -- The journal whose text this is. A fault means that it is the text of none, but for want of
 -- memory.
-abbrev pub Decodes : List ℕ → Result (List Entered) RecordFault → Type 0
-Decodes text (Ok rs) = IsJournal text rs
-Decodes text (Err faults.Memory) = MayRunOut text
-Decodes text (Err e) = (rs : List Entered) → IsJournal text rs → ⊥
+abbrev pub IsDecodeResult : List ℕ → Result (List JournalEntry) RecordFault → Type 0
+IsDecodeResult text (Ok rs) = IsJournalText text rs
+IsDecodeResult text (Err faults.Memory) = MayAllocate text
+IsDecodeResult text (Err e) = (rs : List JournalEntry) → IsJournalText text rs → ⊥

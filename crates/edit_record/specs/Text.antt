@@ -5,11 +5,11 @@ use Rattle.std.specs.Prelude.{◌≡◌, ℕ, ◌≤◌, ◌⊎◌, List, [], �
 use Rattle.std.specs.List.{flat_map, AllByRecursion}
 use Rattle.edit_list.specs.declared.record.Word.{Word}
 use Rattle.edit_list.specs.declared.record.Word.TheVariants.{Fmt, Fix}
-use Rattle.edit_list.specs.Pieces.{Entry, EditList, Turns}
-use Rattle.edit_list.specs.Made.{AreEdits, new_len}
-use Rattle.edit_list.specs.Many.{TurnsAll}
-use Rattle.edit_list.specs.Journal.{Entered}
-use Rattle.edit_squash.specs.Grouping.{SquashAll}
+use Rattle.edit_list.specs.Pieces.{EditEntry, EditList, Transforms}
+use Rattle.edit_list.specs.Validity.{AreValidEdits, new_len}
+use Rattle.edit_list.specs.Sequence.{TransformsInOrder}
+use Rattle.edit_list.specs.Journal.{JournalEntry}
+use Rattle.edit_squash.specs.SquashLists.{SquashAll}
 
 -- ---- what both versions have
 
@@ -27,7 +27,7 @@ number_text stop n = decimal n ++ stop ∷ []
 
 -- an edit: a line with its place, how many bytes it removes and how many it adds; then these bytes,
 -- and the end of the line
-abbrev pub edit_text : Entry → List ℕ
+abbrev pub edit_text : EditEntry → List ℕ
 edit_text e = number_text space e.at ++ number_text space (length e.removed)
     ++ number_text newline (length e.added) ++ e.removed ++ e.added ++ newline ∷ []
 
@@ -44,22 +44,22 @@ word_text Fix = codes "fix "
 
 -- the edits are placed one behind another in texts of their length, and no text is too long:
 -- `Edits` can hold them
-abbrev pub IsMade : EditList → Type 0
-IsMade e = AreEdits e.old_len (new_len e) e.entries
+abbrev pub IsValidList : EditList → Type 0
+IsValidList e = AreValidEdits e.old_len (new_len e) e.entries
 
 -- ---- version 2
 
 -- a record: its mark, its command, its edits, and its end
-abbrev pub record_text : Entered → List ℕ
+abbrev pub record_text : JournalEntry → List ℕ
 record_text r = codes "tfrec 2 " ++ word_text r.word ++ list_text r.edits ++ codes "end\n"
 
 -- a journal: its records one after another, the oldest first, and nothing else
-abbrev pub journal_text : List Entered → List ℕ
+abbrev pub journal_text : List JournalEntry → List ℕ
 journal_text = flat_map record_text
 
 -- this is the text, in version 2, of the journal with these records, all of which `Record` can hold
-pub record IsText (text : List ℕ) (rs : List Entered) : Type 0 where
-  pub made : AllByRecursion (λ r. IsMade r.edits) rs
+pub record IsCurrentText (text : List ℕ) (rs : List JournalEntry) : Type 0 where
+  pub made : AllByRecursion (λ r. IsValidList r.edits) rs
   pub is : text ≡ journal_text rs
 
 -- ---- version 1
@@ -75,8 +75,8 @@ abbrev pub steps : OldRecord → List EditList
 steps r = r.first ∷ r.others
 
 -- it turns texts by its steps one after another
-abbrev pub old_turns : OldRecord → List ℕ → List ℕ → Type 0
-old_turns old = TurnsAll Turns (steps old)
+abbrev pub old_transforms : OldRecord → List ℕ → List ℕ → Type 0
+old_transforms old = TransformsInOrder Transforms (steps old)
 
 abbrev pub step_text : EditList → List ℕ
 step_text e = codes "step " ++ list_text e
@@ -89,27 +89,27 @@ old_record_text r =
 
 -- A record of version 1 becomes one of today: it has 64 steps at most, and squashed from the first
 -- on they are the one list of edits of that record, which has the same command.
-pub record Migrates (old : OldRecord) (r : Entered) : Type 0 where
-  pub made : AllByRecursion IsMade (steps old)
-  pub few : length (steps old) ≤ 64
+pub record MigratesTo (old : OldRecord) (r : JournalEntry) : Type 0 where
+  pub made : AllByRecursion IsValidList (steps old)
+  pub within_limit : length (steps old) ≤ 64
   pub word : old.word ≡ r.word
   pub squashed : SquashAll old.first old.others r.edits
 
 -- each old record becomes the record at its place
-abbrev pub MigrateAll : List OldRecord → List Entered → Type 0
-MigrateAll [] [] = Unit {0}
-MigrateAll [] (r ∷ rs) = ⊥
-MigrateAll (old ∷ olds) [] = ⊥
-MigrateAll (old ∷ olds) (r ∷ rs) = Migrates old r × MigrateAll olds rs
+abbrev pub MigrateAllTo : List OldRecord → List JournalEntry → Type 0
+MigrateAllTo [] [] = Unit {0}
+MigrateAllTo [] (r ∷ rs) = ⊥
+MigrateAllTo (old ∷ olds) [] = ⊥
+MigrateAllTo (old ∷ olds) (r ∷ rs) = MigratesTo old r × MigrateAllTo olds rs
 
 -- this is the text, in version 1, of records that become these
-pub record IsOldText (text : List ℕ) (rs : List Entered) : Type 0 where
+pub record IsOldText (text : List ℕ) (rs : List JournalEntry) : Type 0 where
   pub olds : List OldRecord
-  pub migrated : MigrateAll olds rs
+  pub migrated : MigrateAllTo olds rs
   pub is : text ≡ flat_map old_record_text olds
 
 -- ---- either version
 
 -- This is the text of the journal with these records. All of them are of one version.
-abbrev pub IsJournal : List ℕ → List Entered → Type 0
-IsJournal text rs = IsText text rs ⊎ IsOldText text rs
+abbrev pub IsJournalText : List ℕ → List JournalEntry → Type 0
+IsJournalText text rs = IsCurrentText text rs ⊎ IsOldText text rs

@@ -1,6 +1,6 @@
 //! What is wrong with a text, for callers and for the readers of its parts.
 ghost use Rattle.std.specs.Prelude.{◌≡◌};
-ghost use Rattle.edit_record.specs.declared.fault.Stop.TheVariants.{Memory};
+ghost use Rattle.edit_record.specs.declared.fault.DecodeStop.TheVariants.{Memory};
 
 use std::alloc::{AllocError, AllocFailed};
 use thiserror::Error;
@@ -38,10 +38,10 @@ pub enum RecordFault {
 
 /// What is wrong.
 #[derive(Clone, Copy)]
-pub(crate) enum Kind {
+pub(crate) enum FaultKind {
     Head,
     Number,
-    Cut,
+    CutShort,
     Edits,
     End,
     Steps,
@@ -49,48 +49,48 @@ pub(crate) enum Kind {
 
 /// Why a reader stopped.
 #[derive(Clone, Copy)]
-pub(crate) enum Stop {
+pub(crate) enum DecodeStop {
     Memory,
-    /// What is wrong, and how many bytes of the text there are from the fault on.
-    Bad(Kind, usize),
+    /// The kind of the fault, and the number of bytes from the fault to the end of the text.
+    Bad(FaultKind, usize),
 }
 
-impl Stop {
-    ghost use Rattle.edit_record.specs.Inner.Faults.{IsOut};
+impl DecodeStop {
+    ghost use Rattle.edit_record.specs.Inner.Faults.{MemoryMatches};
 
     /// The fault in a text of this length.
-    pub(crate) fn within(self, len: usize) -> RecordFault
-        ensures { IsOut self result }
+    pub(crate) fn into_fault(self, len: usize) -> RecordFault
+        ensures { MemoryMatches self result }
     {
         match self {
-            Stop::Memory => RecordFault::Memory,
-            Stop::Bad(kind, left) => {
+            DecodeStop::Memory => RecordFault::Memory,
+            DecodeStop::Bad(kind, left) => {
                 let at = len.saturating_sub(left);
                 match kind {
-                    Kind::Head => RecordFault::BadHead { at },
-                    Kind::Number => RecordFault::BadNumber { at },
-                    Kind::Cut => RecordFault::CutShort { at },
-                    Kind::Edits => RecordFault::BadEdits { at },
-                    Kind::End => RecordFault::BadEnd { at },
-                    Kind::Steps => RecordFault::BadSteps { at },
+                    FaultKind::Head => RecordFault::BadHead { at },
+                    FaultKind::Number => RecordFault::BadNumber { at },
+                    FaultKind::CutShort => RecordFault::CutShort { at },
+                    FaultKind::Edits => RecordFault::BadEdits { at },
+                    FaultKind::End => RecordFault::BadEnd { at },
+                    FaultKind::Steps => RecordFault::BadSteps { at },
                 }
             }
         }
     }
 }
 
-impl From<AllocError> for Stop {
+impl From<AllocError> for DecodeStop {
     ghost from_gives = { λ _ e. e ≡ Memory };
 
-    fn from(_e: AllocError) -> Stop {
-        Stop::Memory
+    fn from(_e: AllocError) -> DecodeStop {
+        DecodeStop::Memory
     }
 }
 
-impl<T: Drop> From<AllocFailed<T>> for Stop {
+impl<T: Drop> From<AllocFailed<T>> for DecodeStop {
     ghost from_gives = { λ _ e. e ≡ Memory };
 
-    fn from(_e: AllocFailed<T>) -> Stop {
-        Stop::Memory
+    fn from(_e: AllocFailed<T>) -> DecodeStop {
+        DecodeStop::Memory
     }
 }

@@ -4,17 +4,17 @@
 //! of steps, is still read, and becomes version 2. Places and lengths count bytes from 0.
 #![tactic(auto)]
 
+mod decoder;
+mod encoder;
 mod fault;
 pub mod laws;
-mod parts;
-mod reading;
-mod writing;
+mod readers;
 
+pub use decoder::decode;
 pub use edit_list::{
     BadEdits, Change, Edit, Edits, Journal, Record, Refused, Word, apply_all, undo_all,
 };
 pub use edit_squash::{Unmet, squash};
-pub use edit_swap::{SwapFault, TakeOutFault, swap, take_out};
+pub use edit_swap::{MoveFault, SwapFault, move_to_end, swap};
+pub use encoder::{encode, encoded_len};
 pub use fault::RecordFault;
-pub use reading::decode;
-pub use writing::{encode, encoded_len};

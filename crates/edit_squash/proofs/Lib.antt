@@ -1,9 +1,9 @@
 mod Means
 mod Soundness
-mod Readying
-mod Shaping
+mod Preparing
+mod MergesGroups
 mod Merged
 pub mod Groupings
-mod Determined
-mod Existing
+mod Uniqueness
+mod Existence
 pub mod Examples

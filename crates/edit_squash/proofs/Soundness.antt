@@ -3,9 +3,9 @@ use Rattle.std.proofs.Common.{◌≡◌, ℕ, ◌+◌, ◌-◌, ◌≤◌, ◌<�
 use Rattle.std.proofs.lemmas.Bool.{leb-false, eqb-false}
 use Rattle.std.proofs.lemmas.List.{length-drop, length-take-le}
 use Rattle.std.specs.Prelude.{◌==◌}
-use Rattle.edit_list.specs.Pieces.{Entry}
-use Rattle.edit_list.specs.Made.{ArePlaced}
-use Rattle.edit_squash.specs.Inner.Merge.{State, closed, skipped, with_first, with_second, meeting, met, joins_first, joins_second, Sound, One}
+use Rattle.edit_list.specs.Pieces.{EditEntry}
+use Rattle.edit_list.specs.Validity.{AreDisjoint}
+use Rattle.edit_squash.specs.Inner.Merge.{State, finish_edit, skip_kept, with_first, with_second, common_len, cancel_common, joins_first, joins_second, MergeInvariant, OneIsDone}
 use Rattle.edit_list.proofs.Placed.{placed_room}
 use Rattle.edit_list.proofs.Parts.{placed_longer, placed_push}
 
@@ -18,25 +18,25 @@ apart true n m k none one h =
     ] refl h
 
 module _ (la lb : ℕ) where
-  pub apart_first : (s : State) (xs ys : List Entry) → Sound la lb s xs ys → One s → joins_first s xs ≡ false → ArePlaced la (s.first_end + length s.second_left) xs
+  pub apart_first : (s : State) (xs ys : List EditEntry) → MergeInvariant la lb s xs ys → OneIsDone s → joins_first s xs ≡ false → AreDisjoint la (s.first_end + length s.second_pending) xs
   apart_first s [] ys h one away =
       let p = h.first_placed in let r = placed_room lb s.second_end ys h.second_placed in let b = h.balance in
       omega (arith, p)
   apart_first s (e ∷ xs) ys h one away =
       let p = h.first_placed in
       let later = p.0.later in
-      let l = apart s.has_second (length s.first_left) (length s.second_left) (e.at - s.first_end) h.no_second one away in
+      let l = apart s.has_second (length s.first_pending) (length s.second_pending) (e.at - s.first_end) h.no_second one away in
       (record { later = omega arith; within = p.0.within; some = p.0.some }, p.1)
 
-  pub apart_second : (s : State) (xs ys : List Entry) → Sound la lb s xs ys → One s → joins_second s ys ≡ false → ArePlaced lb (s.second_end + length s.first_left) ys
+  pub apart_second : (s : State) (xs ys : List EditEntry) → MergeInvariant la lb s xs ys → OneIsDone s → joins_second s ys ≡ false → AreDisjoint lb (s.second_end + length s.first_pending) ys
   apart_second s xs [] h one away =
       let p = h.second_placed in let r = placed_room la s.first_end xs h.first_placed in let b = h.balance in
       omega (arith, p)
   apart_second s xs (e ∷ ys) h one away =
       let p = h.second_placed in
       let later = p.0.later in
-      let other : min (length s.second_left) (length s.first_left) ≡ 0 = omega arith in
-      let l = apart s.has_first (length s.second_left) (length s.first_left) (e.at - s.second_end) h.no_first other away in
+      let other : min (length s.second_pending) (length s.first_pending) ≡ 0 = omega arith in
+      let l = apart s.has_first (length s.second_pending) (length s.first_pending) (e.at - s.second_end) h.no_first other away in
       (record { later = omega arith; within = p.0.within; some = p.0.some }, p.1)
 
   some : (n m : ℕ) → ((n == 0) && (m == 0)) ≡ false → 0 < n + m
@@ -46,15 +46,15 @@ module _ (la lb : ℕ) where
         | false ↦ λ e f. let z = eqb-false n 0 e in omega arith
       ] refl t
 
-  put_placed : (n : ℕ) (out : List Entry) (e : Entry) (b : Bool) → ((length e.removed == 0) && (length e.added == 0)) ≡ b → ArePlaced n 0 out → n ≤ e.at → ArePlaced (e.at + length e.removed) 0 (cond b out (out ++ e ∷ []))
+  put_placed : (n : ℕ) (out : List EditEntry) (e : EditEntry) (b : Bool) → ((length e.removed == 0) && (length e.added == 0)) ≡ b → AreDisjoint n 0 out → n ≤ e.at → AreDisjoint (e.at + length e.removed) 0 (cond b out (out ++ e ∷ []))
   put_placed n out e true t p l = placed_longer n (e.at + length e.removed) 0 out (omega arith) p
   put_placed n out e false t p l = placed_push n 0 out e p l (some (length e.removed) (length e.added) t)
 
-  pub sound_closed : (s : State) (xs ys : List Entry) → Sound la lb s xs ys → ArePlaced la (s.first_end + length s.second_left) xs → ArePlaced lb (s.second_end + length s.first_left) ys → Sound la lb (closed s) xs ys
+  pub sound_closed : (s : State) (xs ys : List EditEntry) → MergeInvariant la lb s xs ys → AreDisjoint la (s.first_end + length s.second_pending) xs → AreDisjoint lb (s.second_end + length s.first_pending) ys → MergeInvariant la lb (finish_edit s) xs ys
   sound_closed s xs ys h p q =
       let b = h.balance in let i = h.at_is in
-      let g : Entry = record { at = s.at; removed = s.removed ++ s.second_left; added = s.added ++ s.first_left } in
-      let e : s.at + length (s.removed ++ s.second_left) ≡ s.first_end + length s.second_left = rw length-append (omega arith) in
+      let g : EditEntry = record { at = s.at; removed = s.removed ++ s.second_pending; added = s.added ++ s.first_pending } in
+      let e : s.at + length (s.removed ++ s.second_pending) ≡ s.first_end + length s.second_pending = rw length-append (omega arith) in
       let d = put_placed s.at s.out g ((length g.removed == 0) && (length g.added == 0)) refl h.done (omega arith) in
       record {
         first_fits = h.first_fits;
@@ -68,7 +68,7 @@ module _ (la lb : ℕ) where
         no_second = λ _. refl;
       }
 
-  pub sound_skipped : (n : ℕ) (s : State) (xs ys : List Entry) → Sound la lb s xs ys → length s.removed ≡ 0 → ArePlaced la (s.first_end + n) xs → ArePlaced lb (s.second_end + n) ys → Sound la lb (skipped n s) xs ys
+  pub sound_skipped : (n : ℕ) (s : State) (xs ys : List EditEntry) → MergeInvariant la lb s xs ys → length s.removed ≡ 0 → AreDisjoint la (s.first_end + n) xs → AreDisjoint lb (s.second_end + n) ys → MergeInvariant la lb (skip_kept n s) xs ys
   sound_skipped n s xs ys h z p q =
       let b = h.balance in let i = h.at_is in
       record {
@@ -83,11 +83,11 @@ module _ (la lb : ℕ) where
         no_second = h.no_second;
       }
 
-  pub sound_first : (e : Entry) (s : State) (xs ys : List Entry) → Sound la lb s (e ∷ xs) ys → length s.first_left ≡ 0 → e.at - s.first_end ≤ length s.second_left → Sound la lb (with_first e s) xs ys
+  pub sound_first : (e : EditEntry) (s : State) (xs ys : List EditEntry) → MergeInvariant la lb s (e ∷ xs) ys → length s.first_pending ≡ 0 → e.at - s.first_end ≤ length s.second_pending → MergeInvariant la lb (with_first e s) xs ys
   sound_first e s xs ys h z w =
       let b = h.balance in let i = h.at_is in let p = h.first_placed in let later = p.0.later in
-      let l = length-drop (e.at - s.first_end) s.second_left in
-      let k = length-take-le (e.at - s.first_end) s.second_left w in
+      let l = length-drop (e.at - s.first_end) s.second_pending in
+      let k = length-take-le (e.at - s.first_end) s.second_pending w in
       record {
         first_fits = h.first_fits;
         second_fits = h.second_fits;
@@ -100,10 +100,10 @@ module _ (la lb : ℕ) where
         no_second = λ f. let y = h.no_second f in omega arith;
       }
 
-  pub sound_second : (e : Entry) (s : State) (xs ys : List Entry) → Sound la lb s xs (e ∷ ys) → length s.second_left ≡ 0 → e.at - s.second_end ≤ length s.first_left → Sound la lb (with_second e s) xs ys
+  pub sound_second : (e : EditEntry) (s : State) (xs ys : List EditEntry) → MergeInvariant la lb s xs (e ∷ ys) → length s.second_pending ≡ 0 → e.at - s.second_end ≤ length s.first_pending → MergeInvariant la lb (with_second e s) xs ys
   sound_second e s xs ys h z w =
       let b = h.balance in let p = h.second_placed in let later = p.0.later in
-      let l = length-drop (e.at - s.second_end) s.first_left in
+      let l = length-drop (e.at - s.second_end) s.first_pending in
       record {
         first_fits = h.first_fits;
         second_fits = h.second_fits;
@@ -116,11 +116,11 @@ module _ (la lb : ℕ) where
         no_second = λ f. absurd cc;
       }
 
-  pub sound_met : (s : State) (xs ys : List Entry) → Sound la lb s xs ys → Sound la lb (met s) xs ys
+  pub sound_met : (s : State) (xs ys : List EditEntry) → MergeInvariant la lb s xs ys → MergeInvariant la lb (cancel_common s) xs ys
   sound_met s xs ys h =
       let b = h.balance in
-      let l = length-drop (meeting s) s.first_left in
-      let k = length-drop (meeting s) s.second_left in
+      let l = length-drop (common_len s) s.first_pending in
+      let k = length-drop (common_len s) s.second_pending in
       record {
         first_fits = h.first_fits;
         second_fits = h.second_fits;
@@ -133,8 +133,8 @@ module _ (la lb : ℕ) where
         no_second = λ f. let y = h.no_second f in omega arith;
       }
 
-pub one_met : (s : State) → One (met s)
-one_met s =
-    let l = length-drop (meeting s) s.first_left in
-    let k = length-drop (meeting s) s.second_left in
+pub one_cancelled : (s : State) → OneIsDone (cancel_common s)
+one_cancelled s =
+    let l = length-drop (common_len s) s.first_pending in
+    let k = length-drop (common_len s) s.second_pending in
     omega arith

@@ -2,4 +2,4 @@
 -- one.
 pub mod Merge
 pub mod MergeState
-pub mod Merging
+pub mod MergeResult

@@ -1,4 +1,4 @@
-pub mod Shape
+pub mod Groups
 pub mod Squash
-pub mod Grouping
+pub mod SquashLists
 pub mod Inner

@@ -3,6 +3,6 @@
 
 pub mod laws;
 mod merge;
-mod squashing;
+mod squash_lists;
 
-pub use squashing::{Unmet, squash};
+pub use squash_lists::{Unmet, squash};

@@ -7,15 +7,15 @@ ghost use Rattle.hcl_token.specs.declared.kind.Kind.TheVariants as k;
 ghost use Rattle.hcl_grammar.specs.Operators as operators;
 ghost use Rattle.hcl_grammar.specs.Pure.Climb as climb;
 ghost use Rattle.hcl_grammar.specs.Pure.Reading.{Reads};
-ghost use Rattle.hcl_expr.specs.Rules as spec;
+ghost use Rattle.hcl_expr.specs.ReaderRules as spec;
 
+use crate::lookahead::same_kind;
 use crate::reader::Reader;
-use crate::stream::same_kind;
 use hcl_grammar::fault::TokenFault;
 use hcl_grammar::goal::Goal;
-use hcl_grammar::tree::{Expr, Form, Link, Operator, Prefix};
+use hcl_grammar::tree::{BinaryOperator, Expr, ExprKind, Operation, UnaryOperator};
 use hcl_nodes::nodes;
-use hcl_nodes::operators::{operator_of, prefix_of};
+use hcl_nodes::operators::{binary_operator, unary_operator};
 use hcl_token::Kind;
 use plain_tree::{Boxed, Items};
 
@@ -23,10 +23,10 @@ use plain_tree::{Boxed, Items};
 const LEVELS: usize = 6;
 
 /// The level of an operator; past all levels, if it is none.
-fn level_of(kind: Kind) -> usize
-    ensures { result ≡ climb.level_by (operators.operator_of kind) }
+fn level_of_kind(kind: Kind) -> usize
+    ensures { result ≡ climb.level_of_operator (operators.binary_operator kind) }
 {
-    match operator_of(kind) {
+    match binary_operator(kind) {
         Some((level, _operator)) => level,
         None => LEVELS,
     }
@@ -34,13 +34,13 @@ fn level_of(kind: Kind) -> usize
 
 impl<'s, 't> Reader<'s, 't> {
     /// Takes an operator of the level, if one comes next.
-    #[tactic(auto, unfolding(hcl_grammar::specs::Pure::Parser::operator, hcl_grammar::specs::Tokens::after))]
-    fn operator(&self, level: usize, at: &mut usize) -> Option<Operator>
-        ensures { spec.operator self.now level at.old ≡ Ok (result, at.new) }
+    #[tactic(auto, unfolding(hcl_grammar::specs::Pure::Parser::eat_binary_operator, hcl_grammar::specs::Tokens::after_next))]
+    fn eat_binary_operator(&self, level: usize, at: &mut usize) -> Option<BinaryOperator>
+        ensures { spec.eat_binary_operator self.now level at.old ≡ Ok (result, at.new) }
     {
-        let (number, next) = self.token(*at);
+        let (number, next) = self.next_token(*at);
         let kind = next?;
-        let (of, found) = operator_of(kind)?;
+        let (of, found) = binary_operator(kind)?;
         if of == level {
             *at = number + 1;
             Some(found)
@@ -50,12 +50,12 @@ impl<'s, 't> Reader<'s, 't> {
     }
 
     /// The level of the operator that comes next; past all levels, if none does.
-    #[tactic(auto, unfolding(hcl_grammar::specs::Pure::Climb::binds))]
-    fn binds(&self, at: usize) -> usize
-        ensures { result ≡ spec.binds self.now at }
+    #[tactic(auto, unfolding(hcl_grammar::specs::Pure::Climb::next_level))]
+    fn next_level(&self, at: usize) -> usize
+        ensures { result ≡ spec.next_level self.now at }
     {
-        match self.next(at) {
-            Some(kind) => level_of(kind),
+        match self.next_kind(at) {
+            Some(kind) => level_of_kind(kind),
             None => LEVELS,
         }
     }
@@ -73,7 +73,7 @@ impl<'s, 't> Reader<'s, 't> {
 
     /// The same, in memory of its own.
     #[cycle(nest)]
-    pub fn boxed(&self, goal: Goal, at: &mut usize) -> Result<Boxed<Expr>, TokenFault>
+    pub fn boxed_expr(&self, goal: Goal, at: &mut usize) -> Result<Boxed<Expr>, TokenFault>
         ensures { Reads (spec.expr self.now goal at.old) result at.new }
     {
         let found = self.expr(goal, at)?;
@@ -81,13 +81,13 @@ impl<'s, 't> Reader<'s, 't> {
     }
 
     /// Whether an operand ends a whole expression: neither an operator comes next nor `?`.
-    #[tactic(auto, unfolding(hcl_grammar::specs::Pure::Climb::binds, hcl_grammar::specs::Pure::Reading::sees))]
-    fn ends(&self, at: usize) -> bool
-        ensures quiet { result ≡ true → spec.binds self.now at ≡ 6 }
-        ensures other { result ≡ true → spec.sees self.now k.Question at ≡ false }
+    #[tactic(auto, unfolding(hcl_grammar::specs::Pure::Climb::next_level, hcl_grammar::specs::Pure::Reading::next_is))]
+    fn is_at_expr_end(&self, at: usize) -> bool
+        ensures quiet { result ≡ true → spec.next_level self.now at ≡ 6 }
+        ensures other { result ≡ true → spec.next_is self.now k.Question at ≡ false }
     {
-        match self.next(at) {
-            Some(kind) => level_of(kind) == LEVELS && !same_kind(kind, Kind::Question),
+        match self.next_kind(at) {
+            Some(kind) => level_of_kind(kind) == LEVELS && !same_kind(kind, Kind::Question),
             None => true,
         }
     }
@@ -97,41 +97,45 @@ impl<'s, 't> Reader<'s, 't> {
     fn whole(&self, at: &mut usize) -> Result<Expr, TokenFault>
         ensures { Reads (spec.whole self.now at.old) result at.new }
     {
-        hcl_grammar_laws::laws::climbing();
+        hcl_grammar_laws::laws::precedence_climbing();
         let from = *at;
         let head = self.unary(at)?;
-        if self.ends(*at) {
+        if self.is_at_expr_end(*at) {
             return Ok(head);
         }
-        self.behind(self.start(from), head, at)
+        self.after_operand(self.next_index(from), head, at)
     }
 
     /// What stands behind the first operand of an expression, which begins at token `first`:
     /// operators of all levels, and a conditional.
     #[cycle(nest)]
     #[inline(never)]
-    fn behind(&self, first: usize, head: Expr, at: &mut usize) -> Result<Expr, TokenFault>
-        ensures { Reads (spec.behind self.now first head at.old) result at.new }
+    fn after_operand(&self, first: usize, head: Expr, at: &mut usize) -> Result<Expr, TokenFault>
+        ensures { Reads (spec.after_operand self.now first head at.old) result at.new }
     {
-        let condition = self.rest(self.binds(*at), LEVELS, first, head, at)?;
-        self.choice(first, condition, at)
+        let condition = self.climb_levels(self.next_level(*at), LEVELS, first, head, at)?;
+        self.conditional(first, condition, at)
     }
 
     /// A conditional, behind its condition; where no `?` comes next, the condition alone.
     #[cycle(nest)]
-    fn choice(&self, first: usize, condition: Expr, at: &mut usize) -> Result<Expr, TokenFault>
-        ensures { Reads (spec.choice self.now first condition at.old) result at.new }
+    fn conditional(&self, first: usize, condition: Expr, at: &mut usize) -> Result<Expr, TokenFault>
+        ensures { Reads (spec.conditional self.now first condition at.old) result at.new }
     {
-        let opening = self.start(*at);
+        let opening = self.next_index(*at);
         if !self.eat(Kind::Question, at) {
             return Ok(condition);
         }
         let condition = Boxed::new(self.alloc(), condition)?;
         let inner = self.enter(opening, at)?;
-        let met = inner.boxed(Goal::Whole, at)?;
+        let then_branch = inner.boxed_expr(Goal::Whole, at)?;
         self.expect(Kind::Colon, at)?;
-        let unmet = inner.boxed(Goal::Whole, at)?;
-        nodes::expr(first, *at, Form::Conditional(condition, met, unmet))
+        let else_branch = inner.boxed_expr(Goal::Whole, at)?;
+        nodes::expr(
+            first,
+            *at,
+            ExprKind::Conditional(condition, then_branch, else_branch),
+        )
     }
 
     /// An operand, with the operators of the levels below `level` behind it. Where none follows, no
@@ -141,21 +145,21 @@ impl<'s, 't> Reader<'s, 't> {
         requires { level ≤ 6 }
         ensures { Reads (spec.level self.now level at.old) result at.new }
     {
-        hcl_grammar_laws::laws::climbing();
+        hcl_grammar_laws::laws::precedence_climbing();
         let before = *at;
         let head = self.unary(at)?;
-        let from = self.binds(*at);
+        let from = self.next_level(*at);
         if level <= from {
             return Ok(head);
         }
-        self.rest(from, level, self.start(before), head, at)
+        self.climb_levels(from, level, self.next_index(before), head, at)
     }
 
     /// The operators of the levels below `level`, behind an operand that was read; `from` is the
     /// level of the next one.
     #[cycle(nest)]
-    #[tactic(auto, unfolding(hcl_grammar::specs::Pure::Climb::rest))]
-    fn rest(
+    #[tactic(auto, unfolding(hcl_grammar::specs::Pure::Climb::climb_levels))]
+    fn climb_levels(
         &self,
         from: usize,
         level: usize,
@@ -164,31 +168,31 @@ impl<'s, 't> Reader<'s, 't> {
         at: &mut usize,
     ) -> Result<Expr, TokenFault>
         requires known { level ≤ 6 }
-        requires quiet { from ≤ spec.binds self.now at.old }
-        ensures { Reads (spec.rest self.now level first head at.old) result at.new }
+        requires quiet { from ≤ spec.next_level self.now at.old }
+        ensures { Reads (spec.climb_levels self.now level first head at.old) result at.new }
     {
-        hcl_grammar_laws::laws::climbing();
+        hcl_grammar_laws::laws::precedence_climbing();
         if level <= from {
             return Ok(head);
         }
-        let lower = self.rest(from, level - 1, first, head, at)?;
-        let links = self.links(level - 1, at)?;
-        nodes::chain(self.alloc(), first, *at, lower, links)
+        let lower = self.climb_levels(from, level - 1, first, head, at)?;
+        let links = self.operations(level - 1, at)?;
+        nodes::binary(self.alloc(), first, *at, lower, links)
     }
 
     /// The operators of the level that come next, each with the operand behind it.
     #[cycle(nest)]
-    fn links(&self, level: usize, at: &mut usize) -> Result<Items<Link>, TokenFault>
+    fn operations(&self, level: usize, at: &mut usize) -> Result<Items<Operation>, TokenFault>
         requires { level ≤ 6 }
-        ensures { Reads (spec.links self.now level at.old) result at.new }
+        ensures { Reads (spec.operations self.now level at.old) result at.new }
     {
         let mut found = Items::new(self.alloc());
         for _turn in 0..self.len() {
-            let Some(operator) = self.operator(level, at) else {
+            let Some(operator) = self.eat_binary_operator(level, at) else {
                 return Ok(found);
             };
             let operand = self.level(level, at)?;
-            found.push(nodes::link(operator, operand))?;
+            found.push(nodes::operation(operator, operand))?;
         }
         Ok(found)
     }
@@ -196,27 +200,32 @@ impl<'s, 't> Reader<'s, 't> {
     /// An operand behind the operator before it, which is token `first`.
     #[cycle(nest)]
     #[inline(never)]
-    fn prefixed(&self, first: usize, operator: Prefix, at: &mut usize) -> Result<Expr, TokenFault>
-        ensures { Reads (spec.prefixed self.now first operator at.old) result at.new }
+    fn unary_with(
+        &self,
+        first: usize,
+        operator: UnaryOperator,
+        at: &mut usize,
+    ) -> Result<Expr, TokenFault>
+        ensures { Reads (spec.unary_with self.now first operator at.old) result at.new }
     {
-        let operand = self.enter(first, at)?.boxed(Goal::Operand, at)?;
-        nodes::expr(first, *at, Form::Prefixed(operator, operand))
+        let operand = self.enter(first, at)?.boxed_expr(Goal::Operand, at)?;
+        nodes::expr(first, *at, ExprKind::Unary(operator, operand))
     }
 
     /// An operand: a term with its tails, or one with an operator before it. Its first token is
     /// looked at once. (Inlined, so that its answer is not copied once more.)
     #[cycle(nest)]
     #[inline(always)]
-    #[tactic(auto, unfolding(hcl_grammar::specs::Pure::Parser::unary, hcl_grammar::specs::Pure::Parser::prefix, hcl_grammar::specs::Pure::Parser::post, hcl_grammar::specs::Pure::Parser::term, hcl_grammar::specs::Pure::Reading::bump, hcl_grammar::specs::Tokens::after))]
+    #[tactic(auto, unfolding(hcl_grammar::specs::Pure::Parser::unary, hcl_grammar::specs::Pure::Parser::eat_unary_operator, hcl_grammar::specs::Pure::Parser::post, hcl_grammar::specs::Pure::Parser::term, hcl_grammar::specs::Pure::Reading::bump, hcl_grammar::specs::Tokens::after_next))]
     pub fn unary(&self, at: &mut usize) -> Result<Expr, TokenFault>
         ensures { Reads (spec.unary self.now at.old) result at.new }
     {
-        let (first, next) = self.token(*at);
+        let (first, next) = self.next_token(*at);
         match next {
             Some(kind) => {
                 *at = first + 1;
-                match prefix_of(kind) {
-                    Some(operator) => self.prefixed(first, operator, at),
+                match unary_operator(kind) {
+                    Some(operator) => self.unary_with(first, operator, at),
                     None => self.post(first, kind, at),
                 }
             }

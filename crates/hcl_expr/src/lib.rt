@@ -4,15 +4,15 @@
 //! method of `Reader`; `expr` and `parts` close the cycle of what nests.
 #![tactic(auto)]
 
-mod inner;
+mod collections;
 mod levels;
 mod lines;
+mod lookahead;
 pub mod reader;
-mod stream;
 mod tails;
 mod templates;
 mod terms;
 mod words;
 
+pub use lookahead::same_kind;
 pub use reader::Reader;
-pub use stream::same_kind;

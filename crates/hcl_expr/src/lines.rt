@@ -1,45 +1,45 @@
 //! Line ends, and what separates the elements of an object.
 
 ghost use Rattle.std.specs.Prelude.{◌≡◌, Ok};
-ghost use Rattle.hcl_expr.specs.Rules as spec;
-ghost use Rattle.hcl_grammar.specs.Pure.Reading.{Gives};
+ghost use Rattle.hcl_expr.specs.ReaderRules as spec;
+ghost use Rattle.hcl_grammar.specs.Pure.Reading.{ReadsExactly};
 
+use crate::lookahead::same_kind;
 use crate::reader::Reader;
-use crate::stream::same_kind;
 use hcl_grammar::fault::TokenFault;
 use hcl_token::Kind;
 
 impl<'s, 't> Reader<'s, 't> {
     /// Takes a line end with the comment before it, if it comes next. A comment at the end of the
     /// text is left.
-    #[tactic(auto, unfolding(hcl_grammar::specs::Pure::Parser::line, hcl_grammar::specs::Pure::Reading::sees, hcl_grammar::specs::Pure::Reading::past, hcl_grammar::specs::Tokens::after))]
-    pub fn line(&self, at: &mut usize) -> bool
-        ensures { spec.line self.now at.old ≡ Ok (result, at.new) }
+    #[tactic(auto, unfolding(hcl_grammar::specs::Pure::Parser::eat_newline, hcl_grammar::specs::Pure::Reading::next_is, hcl_grammar::specs::Pure::Reading::after_if_next, hcl_grammar::specs::Tokens::after_next))]
+    pub fn eat_newline(&self, at: &mut usize) -> bool
+        ensures { spec.eat_newline self.now at.old ≡ Ok (result, at.new) }
     {
-        let lines = self.on_lines();
-        let (number, next) = lines.token(*at);
+        let lines = self.outside_brackets();
+        let (number, next) = lines.next_token(*at);
         let Some(kind) = next else {
             return false;
         };
-        let mut behind = number + 1;
+        let mut after = number + 1;
         let is_line = if same_kind(kind, Kind::LineComment) {
-            lines.eat(Kind::LineEnd, &mut behind)
+            lines.eat(Kind::LineEnd, &mut after)
         } else {
             same_kind(kind, Kind::LineEnd)
         };
         if is_line {
-            *at = behind;
+            *at = after;
         }
         is_line
     }
 
     /// Takes a line end with the comment before it, if one of them comes next. Behind a comment
     /// there must be a line end.
-    #[tactic(auto, unfolding(hcl_grammar::specs::Pure::Parser::inner_line))]
-    pub fn inner_line(&self, at: &mut usize) -> Result<bool, TokenFault>
-        ensures { Gives (spec.inner_line self.now at.old) result at.new }
+    #[tactic(auto, unfolding(hcl_grammar::specs::Pure::Parser::eat_inner_newline))]
+    pub fn eat_inner_newline(&self, at: &mut usize) -> Result<bool, TokenFault>
+        ensures { ReadsExactly (spec.eat_inner_newline self.now at.old) result at.new }
     {
-        let lines = self.on_lines();
+        let lines = self.outside_brackets();
         if lines.eat(Kind::LineComment, at) {
             lines.expect(Kind::LineEnd, at)?;
             return Ok(true);
@@ -48,11 +48,11 @@ impl<'s, 't> Reader<'s, 't> {
     }
 
     /// Takes the line ends that come next.
-    pub fn lines(&self, at: &mut usize) -> Result<(), TokenFault>
-        ensures { Gives (spec.lines self.now at.old) result at.new }
+    pub fn skip_newlines(&self, at: &mut usize) -> Result<(), TokenFault>
+        ensures { ReadsExactly (spec.skip_newlines self.now at.old) result at.new }
     {
         for _turn in 0..self.len() {
-            if !self.inner_line(at)? {
+            if !self.eat_inner_newline(at)? {
                 return Ok(());
             }
         }
@@ -60,37 +60,37 @@ impl<'s, 't> Reader<'s, 't> {
     }
 
     /// Takes a separator of elements, if one comes next.
-    #[tactic(auto, unfolding(hcl_grammar::specs::Pure::Parser::separator))]
-    fn separator(&self, at: &mut usize) -> Result<bool, TokenFault>
-        ensures { Gives (spec.separator self.now at.old) result at.new }
+    #[tactic(auto, unfolding(hcl_grammar::specs::Pure::Parser::eat_separator))]
+    fn eat_separator(&self, at: &mut usize) -> Result<bool, TokenFault>
+        ensures { ReadsExactly (spec.eat_separator self.now at.old) result at.new }
     {
-        let is_comma = self.on_lines().eat(Kind::Comma, at);
-        if !is_comma && !self.inner_line(at)? {
+        let is_comma = self.outside_brackets().eat(Kind::Comma, at);
+        if !is_comma && !self.eat_inner_newline(at)? {
             return Ok(false);
         }
-        self.lines(at)?;
+        self.skip_newlines(at)?;
         Ok(true)
     }
 
     /// Takes a separator, else the closing brace.
-    #[tactic(auto, unfolding(hcl_grammar::specs::Pure::Parser::separator_or_end))]
-    pub fn separator_or_end(&self, at: &mut usize) -> Result<bool, TokenFault>
-        ensures { Gives (spec.separator_or_end self.now at.old) result at.new }
+    #[tactic(auto, unfolding(hcl_grammar::specs::Pure::Parser::eat_separator_or_brace))]
+    pub fn eat_separator_or_brace(&self, at: &mut usize) -> Result<bool, TokenFault>
+        ensures { ReadsExactly (spec.eat_separator_or_brace self.now at.old) result at.new }
     {
-        if self.separator(at)? {
+        if self.eat_separator(at)? {
             return Ok(true);
         }
-        self.on_lines().expect(Kind::CloseBrace, at)?;
+        self.outside_brackets().expect(Kind::CloseBrace, at)?;
         Ok(false)
     }
 
     /// Refuses a token that comes next.
-    pub fn ended(&self, at: &mut usize) -> Result<(), TokenFault>
-        ensures { Gives (spec.ended self.now at.old) result at.new }
+    pub fn expect_end(&self, at: &mut usize) -> Result<(), TokenFault>
+        ensures { ReadsExactly (spec.expect_end self.now at.old) result at.new }
     {
-        let lines = self.on_lines();
-        match lines.next(*at) {
-            Some(_kind) => Err(lines.refuse(*at)),
+        let lines = self.outside_brackets();
+        match lines.next_kind(*at) {
+            Some(_kind) => Err(lines.syntax_fault(*at)),
             None => Ok(()),
         }
     }
@@ -99,12 +99,12 @@ impl<'s, 't> Reader<'s, 't> {
     /// a comment or none.
     #[tactic(auto, unfolding(hcl_grammar::specs::Pure::BodyParser::eol))]
     pub fn eol(&self, at: &mut usize) -> Result<(), TokenFault>
-        ensures { Gives (spec.eol self.now at.old) result at.new }
+        ensures { ReadsExactly (spec.eol self.now at.old) result at.new }
     {
-        if self.line(at) {
+        if self.eat_newline(at) {
             return Ok(());
         }
-        let _is_comment = self.on_lines().eat(Kind::LineComment, at);
-        self.ended(at)
+        let _is_comment = self.outside_brackets().eat(Kind::LineComment, at);
+        self.expect_end(at)
     }
 }

@@ -3,14 +3,14 @@
 //! What a place is stands in `specs/Rules`. The place itself goes beside the reader, as `at`.
 
 ghost use Rattle.std.specs.Prelude.{◌≡◌, ◌<◌, ◌+◌, ◌^◌, true, false, length, slice_get, OnSome};
-ghost use Rattle.hcl_expr.specs.Rules as spec;
-ghost use Rattle.hcl_expr.specs.Rules.{Opens, OpensTwo};
-ghost use Rattle.hcl_grammar.specs.Pure.Reading.{Gives};
+ghost use Rattle.hcl_expr.specs.ReaderRules as spec;
+ghost use Rattle.hcl_expr.specs.ReaderRules.{Enters, EntersTwo};
+ghost use Rattle.hcl_grammar.specs.Pure.Reading.{ReadsExactly};
 ghost use Rattle.hcl_grammar.specs.Tokens as tokens;
 ghost use Rattle.hcl_grammar.specs.declared.fault.TokenFault.TheVariants as fault;
 ghost use Rattle.hcl_scan.specs.Follows.{tokens_of};
 
-use crate::stream;
+use crate::lookahead;
 use hcl_grammar::MAX_NESTING;
 use hcl_grammar::fault::TokenFault;
 use hcl_scan::Scanned;
@@ -24,20 +24,20 @@ pub struct Reader<'s, 't> {
     alloc: Global,
     scanned: &'s Scanned<'t>,
     /// Whether line ends and line comments are dropped here.
-    inside: bool,
+    skip_newlines: bool,
     /// How many constructs may still nest.
     depth: usize,
 }
 
 impl<'s, 't> Model for Reader<'s, 't> {
-    ghost use Rattle.hcl_expr.specs.Rules.{Here};
+    ghost use Rattle.hcl_expr.specs.ReaderRules.{ReaderState};
     ghost use Rattle.hcl_scan.specs.Follows.{tokens_of};
 
-    ghost Value = { Here };
+    ghost Value = { ReaderState };
 
     ghost view = { λ r. record {
       tokens = tokens_of r.scanned.now.pairs;
-      inside = r.inside;
+      skip_newlines = r.skip_newlines;
       depth = r.depth;
     } };
 }
@@ -47,14 +47,14 @@ impl<'s, 't> Reader<'s, 't> {
     pub fn new(alloc: Global, scanned: &'s Scanned<'t>) -> Reader<'s, 't>
         ensures { result ≡ record {
           tokens = tokens_of scanned.now.pairs;
-          inside = false;
+          skip_newlines = false;
           depth = MAX_NESTING;
         } }
     {
         Reader {
             alloc,
             scanned,
-            inside: false,
+            skip_newlines: false,
             depth: MAX_NESTING,
         }
     }
@@ -73,40 +73,40 @@ impl<'s, 't> Reader<'s, 't> {
 
     /// The number of the next token that is not dropped, and its kind; the number of all tokens, if
     /// there is none.
-    pub fn token(&self, at: usize) -> (usize, Option<Kind>)
-        ensures number { result.0 ≡ spec.start self.now at }
-        ensures kind { result.1 ≡ spec.next self.now at }
+    pub fn next_token(&self, at: usize) -> (usize, Option<Kind>)
+        ensures number { result.0 ≡ spec.next_index self.now at }
+        ensures kind { result.1 ≡ spec.next_kind self.now at }
         ensures within { OnSome result.1 (result.0 < length self.now.tokens) }
         ensures fits { OnSome result.1 (result.0 + 1 < 2 ^ 64) }
     {
-        stream::next_token(self.scanned, self.inside, at)
+        lookahead::next_token(self.scanned, self.skip_newlines, at)
     }
 
     /// The number of the next token.
-    pub fn start(&self, at: usize) -> usize
-        ensures { result ≡ spec.start self.now at }
+    pub fn next_index(&self, at: usize) -> usize
+        ensures { result ≡ spec.next_index self.now at }
     {
-        self.token(at).0
+        self.next_token(at).0
     }
 
     /// The kind of the next token.
-    pub fn next(&self, at: usize) -> Option<Kind>
-        ensures { result ≡ spec.next self.now at }
+    pub fn next_kind(&self, at: usize) -> Option<Kind>
+        ensures { result ≡ spec.next_kind self.now at }
     {
-        self.token(at).1
+        self.next_token(at).1
     }
 
     /// Takes a token of this kind, if it comes next.
-    #[tactic(auto, unfolding(hcl_grammar::specs::Pure::Reading::sees, hcl_grammar::specs::Pure::Reading::past, hcl_grammar::specs::Tokens::after))]
+    #[tactic(auto, unfolding(hcl_grammar::specs::Pure::Reading::next_is, hcl_grammar::specs::Pure::Reading::after_if_next, hcl_grammar::specs::Tokens::after_next))]
     pub fn eat(&self, kind: Kind, at: &mut usize) -> bool
-        ensures found { result ≡ spec.sees self.now kind at.old }
-        ensures after { at.new ≡ spec.past self.now kind at.old }
+        ensures found { result ≡ spec.next_is self.now kind at.old }
+        ensures after { at.new ≡ spec.after_if_next self.now kind at.old }
     {
-        let (number, next) = self.token(*at);
+        let (number, next) = self.next_token(*at);
         let Some(found) = next else {
             return false;
         };
-        if !stream::same_kind(found, kind) {
+        if !lookahead::same_kind(found, kind) {
             return false;
         }
         *at = number + 1;
@@ -114,21 +114,21 @@ impl<'s, 't> Reader<'s, 't> {
     }
 
     /// That the next token fits nothing.
-    pub fn refuse(&self, at: usize) -> TokenFault
-        ensures { result ≡ fault.Syntax (spec.start self.now at) }
+    pub fn syntax_fault(&self, at: usize) -> TokenFault
+        ensures { result ≡ fault.Syntax (spec.next_index self.now at) }
     {
-        TokenFault::Syntax(self.start(at))
+        TokenFault::Syntax(self.next_index(at))
     }
 
     /// Takes a token of this kind, which must come next.
-    #[tactic(auto, unfolding(hcl_grammar::specs::Pure::Reading::expect, hcl_grammar::specs::Pure::Reading::past))]
+    #[tactic(auto, unfolding(hcl_grammar::specs::Pure::Reading::expect, hcl_grammar::specs::Pure::Reading::after_if_next))]
     pub fn expect(&self, kind: Kind, at: &mut usize) -> Result<(), TokenFault>
-        ensures { Gives (spec.expect self.now kind at.old) result at.new }
+        ensures { ReadsExactly (spec.expect self.now kind at.old) result at.new }
     {
         if self.eat(kind, at) {
             Ok(())
         } else {
-            Err(self.refuse(*at))
+            Err(self.syntax_fault(*at))
         }
     }
 
@@ -139,14 +139,14 @@ impl<'s, 't> Reader<'s, 't> {
         Reader {
             alloc: self.alloc,
             scanned: self.scanned,
-            inside: true,
+            skip_newlines: true,
             depth: self.depth,
         }
     }
 
     /// Opens a construct at this token, if one more may nest.
     pub fn enter(&self, opening: usize, at: &mut usize) -> Result<Reader<'s, 't>, TokenFault>
-        ensures { Opens self.now opening at.old result at.new }
+        ensures { Enters self.now opening at.old result at.new }
     {
         if self.depth == 0 {
             return Err(TokenFault::TooDeep(opening));
@@ -154,19 +154,19 @@ impl<'s, 't> Reader<'s, 't> {
         Ok(Reader {
             alloc: self.alloc,
             scanned: self.scanned,
-            inside: self.inside,
+            skip_newlines: self.skip_newlines,
             depth: self.depth - 1,
         })
     }
 
     /// The same place outside of brackets, where line ends count.
-    pub fn on_lines(&self) -> Reader<'s, 't>
-        ensures { result ≡ spec.on_lines self.now }
+    pub fn outside_brackets(&self) -> Reader<'s, 't>
+        ensures { result ≡ spec.outside_brackets self.now }
     {
         Reader {
             alloc: self.alloc,
             scanned: self.scanned,
-            inside: false,
+            skip_newlines: false,
             depth: self.depth,
         }
     }
@@ -177,7 +177,7 @@ impl<'s, 't> Reader<'s, 't> {
         opening: usize,
         at: &mut usize,
     ) -> Result<(Reader<'s, 't>, Reader<'s, 't>), TokenFault>
-        ensures { OpensTwo self.now opening at.old result at.new }
+        ensures { EntersTwo self.now opening at.old result at.new }
     {
         if self.depth < 2 {
             return Err(TokenFault::TooDeep(opening));
@@ -185,13 +185,13 @@ impl<'s, 't> Reader<'s, 't> {
         let directive = Reader {
             alloc: self.alloc,
             scanned: self.scanned,
-            inside: self.inside,
+            skip_newlines: self.skip_newlines,
             depth: self.depth - 1,
         };
         let braces = Reader {
             alloc: self.alloc,
             scanned: self.scanned,
-            inside: true,
+            skip_newlines: true,
             depth: self.depth - 2,
         };
         Ok((directive, braces))
@@ -202,15 +202,19 @@ impl<'s, 't> Reader<'s, 't> {
         requires { number < length self.now.tokens }
         ensures { result ≡ tokens.is_word word.now (slice_get self.now.tokens number) }
     {
-        stream::is_word(self.scanned, number, word)
+        lookahead::is_word(self.scanned, number, word)
     }
 
     /// The number of the first token of what stands between two places; the first place, if nothing
     /// does.
-    #[tactic(auto, unfolding(hcl_grammar::specs::Tokens::first_of))]
-    pub fn first_of(&self, from: usize, to: usize) -> usize
-        ensures { result ≡ tokens.first_of self.now.tokens self.now.inside from to }
+    #[tactic(auto, unfolding(hcl_grammar::specs::Tokens::first_token_in))]
+    pub fn first_token_in(&self, from: usize, to: usize) -> usize
+        ensures { result ≡ tokens.first_token_in self.now.tokens self.now.skip_newlines from to }
     {
-        if from == to { from } else { self.start(from) }
+        if from == to {
+            from
+        } else {
+            self.next_index(from)
+        }
     }
 }

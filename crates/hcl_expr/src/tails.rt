@@ -3,11 +3,11 @@
 //! HCL native syntax specification, Expressions.
 
 ghost use Rattle.std.specs.Prelude.{◌≡◌, false, None, Ok};
-ghost use Rattle.hcl_grammar.specs.Pure.Reading.{Gives, Reads};
-ghost use Rattle.hcl_expr.specs.Rules as spec;
+ghost use Rattle.hcl_grammar.specs.Pure.Reading.{ReadsExactly, Reads};
+ghost use Rattle.hcl_expr.specs.ReaderRules as spec;
 
+use crate::lookahead::same_kind;
 use crate::reader::Reader;
-use crate::stream::same_kind;
 use hcl_grammar::fault::TokenFault;
 use hcl_grammar::goal::Goal;
 use hcl_grammar::tree::{Expr, Tail, Term};
@@ -17,11 +17,11 @@ use plain_tree::{Boxed, Items};
 
 impl<'s, 't> Reader<'s, 't> {
     /// What stands behind `.`: a name, or `*`.
-    #[tactic(auto, unfolding(hcl_grammar::specs::Pure::Parser::dotted, hcl_grammar::specs::Pure::Reading::sees, hcl_grammar::specs::Pure::Reading::past, hcl_grammar::specs::Pure::Reading::expect, hcl_grammar::specs::Tokens::after))]
-    fn dotted(&self, at: &mut usize) -> Result<Tail, TokenFault>
-        ensures { Gives (spec.dotted self.now at.old) result at.new }
+    #[tactic(auto, unfolding(hcl_grammar::specs::Pure::Parser::dot_tail, hcl_grammar::specs::Pure::Reading::next_is, hcl_grammar::specs::Pure::Reading::after_if_next, hcl_grammar::specs::Pure::Reading::expect, hcl_grammar::specs::Tokens::after_next))]
+    fn dot_tail(&self, at: &mut usize) -> Result<Tail, TokenFault>
+        ensures { ReadsExactly (spec.dot_tail self.now at.old) result at.new }
     {
-        let (number, next) = self.token(*at);
+        let (number, next) = self.next_token(*at);
         let Some(kind) = next else {
             return Err(TokenFault::Syntax(number));
         };
@@ -38,39 +38,39 @@ impl<'s, 't> Reader<'s, 't> {
 
     /// What stands behind `[`, at token `first`: `*`, or an expression.
     #[cycle(nest)]
-    #[tactic(auto, unfolding(hcl_grammar::specs::Pure::Parser::indexed))]
-    fn indexed(&self, first: usize, at: &mut usize) -> Result<Tail, TokenFault>
-        ensures { Reads (spec.indexed self.now first at.old) result at.new }
+    #[tactic(auto, unfolding(hcl_grammar::specs::Pure::Parser::bracket_tail))]
+    fn bracket_tail(&self, first: usize, at: &mut usize) -> Result<Tail, TokenFault>
+        ensures { Reads (spec.bracket_tail self.now first at.old) result at.new }
     {
         let inner = self.enter(first, at)?.in_brackets();
         if inner.eat(Kind::Star, at) {
             inner.expect(Kind::CloseBracket, at)?;
             return Ok(Tail::FullSplat);
         }
-        let key = inner.boxed(Goal::Whole, at)?;
+        let key = inner.boxed_expr(Goal::Whole, at)?;
         inner.expect(Kind::CloseBracket, at)?;
         Ok(Tail::Index(key))
     }
 
     /// A tail, if one comes next.
     #[cycle(nest)]
-    #[tactic(auto, unfolding(hcl_grammar::specs::Pure::Parser::tail_of, hcl_grammar::specs::Tokens::after))]
+    #[tactic(auto, unfolding(hcl_grammar::specs::Pure::Parser::tail_of, hcl_grammar::specs::Tokens::after_next))]
     fn tail(&self, at: &mut usize) -> Result<Option<Tail>, TokenFault>
         ensures { Reads (spec.tail self.now at.old) result at.new }
     {
-        let (first, next) = self.token(*at);
+        let (first, next) = self.next_token(*at);
         match next {
             Some(Kind::Dot) => {
                 *at = first + 1;
-                Ok(Some(self.dotted(at)?))
+                Ok(Some(self.dot_tail(at)?))
             }
             Some(Kind::DotIndex) => {
                 *at = first + 1;
-                Ok(Some(Tail::Legacy(first)))
+                Ok(Some(Tail::LegacyIndex(first)))
             }
             Some(Kind::OpenBracket) => {
                 *at = first + 1;
-                Ok(Some(self.indexed(first, at)?))
+                Ok(Some(self.bracket_tail(first, at)?))
             }
             _ => Ok(None),
         }
@@ -81,7 +81,7 @@ impl<'s, 't> Reader<'s, 't> {
     fn has_tail(&self, at: usize) -> bool
         ensures { result ≡ false → spec.tail self.now at ≡ Ok (None, at) }
     {
-        match self.next(at) {
+        match self.next_kind(at) {
             Some(Kind::Dot) | Some(Kind::DotIndex) | Some(Kind::OpenBracket) => true,
             _ => false,
         }
@@ -89,7 +89,7 @@ impl<'s, 't> Reader<'s, 't> {
 
     /// How many tails to take memory for, where one comes next: more than one if another tail
     /// stands behind a `.` and a name.
-    fn room(&self, at: usize) -> usize {
+    fn tail_capacity(&self, at: usize) -> usize {
         if self.has_tail(at.saturating_add(2)) {
             3
         } else {
@@ -102,7 +102,7 @@ impl<'s, 't> Reader<'s, 't> {
     fn tails(&self, at: &mut usize) -> Result<Items<Tail>, TokenFault>
         ensures { Reads (spec.tails self.now at.old) result at.new }
     {
-        let mut found = Items::with_room(self.alloc(), self.room(*at))?;
+        let mut found = Items::with_capacity(self.alloc(), self.tail_capacity(*at))?;
         for _turn in 0..self.len() {
             let Some(tail) = self.tail(at)? else {
                 return Ok(found);
@@ -115,12 +115,17 @@ impl<'s, 't> Reader<'s, 't> {
     /// A term with the tails that come next.
     #[cycle(nest)]
     #[inline(never)]
-    fn tailed(&self, first: usize, head: Boxed<Term>, at: &mut usize) -> Result<Expr, TokenFault>
-        ensures { Reads (spec.tailed self.now first head at.old) result at.new }
+    fn with_tails(
+        &self,
+        first: usize,
+        head: Boxed<Term>,
+        at: &mut usize,
+    ) -> Result<Expr, TokenFault>
+        ensures { Reads (spec.with_tails self.now first head at.old) result at.new }
     {
         let tails = self.tails(at)?;
         let tails = Boxed::new(self.alloc(), tails)?;
-        nodes::tailed(first, *at, head, tails)
+        nodes::postfix(first, *at, head, tails)
     }
 
     /// A term with its tails, behind its first token, which is `first`. Most have none, which one
@@ -131,9 +136,9 @@ impl<'s, 't> Reader<'s, 't> {
     {
         let head = self.term(first, kind, at)?;
         if !self.has_tail(*at) {
-            return nodes::plain(first, *at, head);
+            return nodes::term_expr(first, *at, head);
         }
         let head = Boxed::new(self.alloc(), head)?;
-        self.tailed(first, head, at)
+        self.with_tails(first, head, at)
     }
 }

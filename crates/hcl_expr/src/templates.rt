@@ -2,8 +2,8 @@
 
 ghost use Rattle.std.specs.Prelude.{[], ◌≡◌, true, false, codes, length};
 ghost use Rattle.hcl_grammar.specs.Pure.Reading as reading;
-ghost use Rattle.hcl_grammar.specs.Pure.Reading.{Gives, Reads};
-ghost use Rattle.hcl_expr.specs.Rules as spec;
+ghost use Rattle.hcl_grammar.specs.Pure.Reading.{ReadsExactly, Reads};
+ghost use Rattle.hcl_expr.specs.ReaderRules as spec;
 
 use crate::reader::Reader;
 use hcl_grammar::fault::TokenFault;
@@ -15,28 +15,28 @@ use plain_tree::Items;
 
 impl<'s, 't> Reader<'s, 't> {
     /// Takes a whole directive that has one word and nothing else.
-    #[tactic(auto, unfolding(hcl_grammar::specs::Pure::Parser::keyword))]
-    fn keyword(&self, word: &[u8], at: &mut usize) -> Result<(), TokenFault>
-        ensures { Gives (spec.keyword self.now word.now at.old) result at.new }
+    #[tactic(auto, unfolding(hcl_grammar::specs::Pure::Parser::keyword_directive))]
+    fn keyword_directive(&self, word: &[u8], at: &mut usize) -> Result<(), TokenFault>
+        ensures { ReadsExactly (spec.keyword_directive self.now word.now at.old) result at.new }
     {
         let braces = self.in_brackets();
         self.expect(Kind::DirectiveOpen, at)?;
-        braces.word(word, at)?;
+        braces.expect_word(word, at)?;
         braces.expect(Kind::SeqClose, at)
     }
 
     /// Takes the next token, if this word stands behind it.
-    #[tactic(auto, unfolding(hcl_grammar::specs::Tokens::after))]
-    fn eat_opening(&self, word: &[u8], at: &mut usize) -> bool
+    #[tactic(auto, unfolding(hcl_grammar::specs::Tokens::after_next))]
+    fn eat_directive_open(&self, word: &[u8], at: &mut usize) -> bool
         ensures found { result
-            ≡ reading.reads self.now.tokens true word.now (spec.after self.now at.old) }
-        ensures taken { result ≡ true → at.new ≡ spec.after self.now at.old }
+            ≡ reading.next_is_word self.now.tokens true word.now (spec.after_next self.now at.old) }
+        ensures taken { result ≡ true → at.new ≡ spec.after_next self.now at.old }
         ensures kept { result ≡ false → at.new ≡ at.old }
     {
-        let (number, next) = self.token(*at);
+        let (number, next) = self.next_token(*at);
         match next {
             Some(_kind) => {
-                let found = self.in_brackets().reads(word, number + 1);
+                let found = self.in_brackets().next_is_word(word, number + 1);
                 if found {
                     *at = number + 1;
                 }
@@ -48,15 +48,15 @@ impl<'s, 't> Reader<'s, 't> {
 
     /// The parts of a template up to this token, which it takes too.
     #[cycle(nest)]
-    #[tactic(auto, unfolding(hcl_grammar::specs::Pure::Parser::closed))]
-    pub fn closed(&self, close: Kind, at: &mut usize) -> Result<Template, TokenFault>
-        ensures { Reads (spec.closed self.now close at.old) result at.new }
+    #[tactic(auto, unfolding(hcl_grammar::specs::Pure::Parser::template_until))]
+    pub fn template_until(&self, close: Kind, at: &mut usize) -> Result<Template, TokenFault>
+        ensures { Reads (spec.template_until self.now close at.old) result at.new }
     {
         let from = *at;
         let parts = self.parts(at)?;
         let to = *at;
         self.expect(close, at)?;
-        let first = self.first_of(from, to);
+        let first = self.first_token_in(from, to);
         Ok(nodes::template(first, to, parts)?)
     }
 
@@ -67,7 +67,7 @@ impl<'s, 't> Reader<'s, 't> {
         ensures { Reads (spec.interp self.now first at.old) result at.new }
     {
         let inner = self.enter(first, at)?.in_brackets();
-        let value = inner.boxed(Goal::Whole, at)?;
+        let value = inner.boxed_expr(Goal::Whole, at)?;
         inner.expect(Kind::SeqClose, at)?;
         Ok(Part::Interp(value))
     }
@@ -75,40 +75,47 @@ impl<'s, 't> Reader<'s, 't> {
     /// What stands where the condition of an `if` directive does not hold, if it says so, and the
     /// directive's end.
     #[cycle(nest)]
-    #[tactic(auto, unfolding(hcl_grammar::specs::Pure::Parser::otherwise))]
-    fn otherwise(&self, at: &mut usize) -> Result<Option<Template>, TokenFault>
-        ensures { Reads (spec.otherwise self.now at.old) result at.new }
+    #[tactic(auto, unfolding(hcl_grammar::specs::Pure::Parser::else_and_endif))]
+    fn else_and_endif(&self, at: &mut usize) -> Result<Option<Template>, TokenFault>
+        ensures { Reads (spec.else_and_endif self.now at.old) result at.new }
     {
-        let mut behind = *at;
-        if !self.eat_opening(b"else", &mut behind) {
-            self.keyword(b"endif", at)?;
+        let mut after = *at;
+        if !self.eat_directive_open(b"else", &mut after) {
+            self.keyword_directive(b"endif", at)?;
             return Ok(None);
         }
-        self.keyword(b"else", at)?;
+        self.keyword_directive(b"else", at)?;
         let from = *at;
         let parts = self.parts(at)?;
         let to = *at;
-        self.keyword(b"endif", at)?;
-        let first = self.first_of(from, to);
+        self.keyword_directive(b"endif", at)?;
+        let first = self.first_token_in(from, to);
         Ok(Some(nodes::template(first, to, parts)?))
     }
 
     /// An `if` directive, after its opening.
     #[cycle(nest)]
-    #[tactic(auto, unfolding(hcl_grammar::specs::Pure::Parser::if_directive, hcl_grammar::specs::Pure::Reading::word))]
+    #[tactic(auto, unfolding(hcl_grammar::specs::Pure::Parser::if_directive, hcl_grammar::specs::Pure::Reading::expect_word))]
     fn if_directive(&self, first: usize, at: &mut usize) -> Result<Part, TokenFault>
-        requires { reading.reads self.now.tokens true (codes "if") at.old ≡ true }
+        requires { reading.next_is_word self.now.tokens true (codes "if") at.old ≡ true }
         ensures { Reads (spec.if_directive self.now first at.old) result at.new }
     {
         let (inner, braces) = self.enter_two(first, at)?;
-        braces.word(b"if", at)?;
-        let condition = braces.boxed(Goal::Whole, at)?;
+        braces.expect_word(b"if", at)?;
+        let condition = braces.boxed_expr(Goal::Whole, at)?;
         braces.expect(Kind::SeqClose, at)?;
         let from = *at;
         let parts = inner.parts(at)?;
-        let met = nodes::template(self.first_of(from, *at), *at, parts)?;
-        let unmet = inner.otherwise(at)?;
-        Ok(nodes::if_part(self.alloc(), first, *at, condition.into_inner(), met, unmet)?)
+        let then_branch = nodes::template(self.first_token_in(from, *at), *at, parts)?;
+        let else_branch = inner.else_and_endif(at)?;
+        Ok(nodes::if_part(
+            self.alloc(),
+            first,
+            *at,
+            condition.into_inner(),
+            then_branch,
+            else_branch,
+        )?)
     }
 
     /// A `for` directive, after its opening.
@@ -122,8 +129,8 @@ impl<'s, 't> Reader<'s, 't> {
         braces.expect(Kind::SeqClose, at)?;
         let from = *at;
         let parts = inner.parts(at)?;
-        let body = nodes::template(self.first_of(from, *at), *at, parts)?;
-        self.keyword(b"endfor", at)?;
+        let body = nodes::template(self.first_token_in(from, *at), *at, parts)?;
+        self.keyword_directive(b"endfor", at)?;
         Ok(nodes::for_part(self.alloc(), first, *at, intro.into_inner(), body)?)
     }
 
@@ -134,10 +141,10 @@ impl<'s, 't> Reader<'s, 't> {
     fn directive(&self, first: usize, at: &mut usize) -> Result<Option<Part>, TokenFault>
         ensures { Reads (spec.directive self.now first at.old) result at.new }
     {
-        if self.eat_opening(b"if", at) {
+        if self.eat_directive_open(b"if", at) {
             return Ok(Some(self.if_directive(first, at)?));
         }
-        if self.eat_opening(b"for", at) {
+        if self.eat_directive_open(b"for", at) {
             return Ok(Some(self.for_directive(first, at)?));
         }
         Ok(None)
@@ -145,11 +152,11 @@ impl<'s, 't> Reader<'s, 't> {
 
     /// A part of a template, if one comes next.
     #[cycle(nest)]
-    #[tactic(auto, unfolding(hcl_grammar::specs::Pure::Parser::part_of, hcl_grammar::specs::Tokens::after))]
+    #[tactic(auto, unfolding(hcl_grammar::specs::Pure::Parser::part_of, hcl_grammar::specs::Tokens::after_next))]
     fn part(&self, at: &mut usize) -> Result<Option<Part>, TokenFault>
         ensures { Reads (spec.part self.now at.old) result at.new }
     {
-        let (first, next) = self.token(*at);
+        let (first, next) = self.next_token(*at);
         match next {
             Some(Kind::QuoteLit) | Some(Kind::HereLit) => {
                 *at = first + 1;

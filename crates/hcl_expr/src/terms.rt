@@ -5,25 +5,25 @@
 ghost use Rattle.std.specs.Prelude.{◌≡◌, ◌||◌};
 ghost use Rattle.hcl_token.specs.declared.kind.Kind.TheVariants as k;
 ghost use Rattle.hcl_grammar.specs.Pure.Reading.{Reads};
-ghost use Rattle.hcl_expr.specs.Rules as spec;
+ghost use Rattle.hcl_expr.specs.ReaderRules as spec;
 
+use crate::lookahead::same_kind;
 use crate::reader::Reader;
-use crate::stream::same_kind;
 use hcl_grammar::fault::TokenFault;
 use hcl_grammar::goal::Goal;
-use hcl_grammar::tree::{Shape, Term};
+use hcl_grammar::tree::{Primary, Term};
 use hcl_nodes::nodes;
 use hcl_token::Kind;
 use plain_tree::Boxed;
 
 impl<'s, 't> Reader<'s, 't> {
     /// Whether `(` or `::` comes next, so that the identifier before it is a function's name.
-    #[tactic(auto, unfolding(hcl_grammar::specs::Pure::Reading::sees))]
+    #[tactic(auto, unfolding(hcl_grammar::specs::Pure::Reading::next_is))]
     fn is_called(&self, at: usize) -> bool
         ensures { result ≡
-            (spec.sees self.now k.OpenParen at || spec.sees self.now k.DoubleColon at) }
+            (spec.next_is self.now k.OpenParen at || spec.next_is self.now k.DoubleColon at) }
     {
-        match self.next(at) {
+        match self.next_kind(at) {
             Some(kind) => same_kind(kind, Kind::OpenParen) || same_kind(kind, Kind::DoubleColon),
             None => false,
         }
@@ -37,9 +37,9 @@ impl<'s, 't> Reader<'s, 't> {
         ensures { Reads (spec.parens self.now first at.old) result at.new }
     {
         let inner = self.enter(first, at)?.in_brackets();
-        let value = inner.boxed(Goal::Whole, at)?;
+        let value = inner.boxed_expr(Goal::Whole, at)?;
         inner.expect(Kind::CloseParen, at)?;
-        nodes::term(first, *at, Shape::Parens(value))
+        nodes::term(first, *at, Primary::Parens(value))
     }
 
     /// A call, behind the first name of the function.
@@ -49,35 +49,35 @@ impl<'s, 't> Reader<'s, 't> {
         ensures { Reads (spec.call self.now first at.old) result at.new }
     {
         let names = self.names(first, at)?;
-        let opening = self.start(*at);
+        let opening = self.next_index(*at);
         self.expect(Kind::OpenParen, at)?;
-        let (arguments, spread) = self.enter(opening, at)?.arguments(at)?;
-        let shape = nodes::call(self.alloc(), names, arguments, spread)?;
+        let (arguments, expand_final) = self.enter(opening, at)?.arguments(at)?;
+        let shape = nodes::call(self.alloc(), names, arguments, expand_final)?;
         nodes::term(first, *at, shape)
     }
 
     /// An identifier, or a call, behind the identifier.
     #[cycle(nest)]
-    #[tactic(auto, unfolding(hcl_grammar::specs::Pure::Parser::named))]
-    fn named(&self, first: usize, at: &mut usize) -> Result<Term, TokenFault>
-        ensures { Reads (spec.named self.now first at.old) result at.new }
+    #[tactic(auto, unfolding(hcl_grammar::specs::Pure::Parser::identifier_or_call))]
+    fn identifier_or_call(&self, first: usize, at: &mut usize) -> Result<Term, TokenFault>
+        ensures { Reads (spec.identifier_or_call self.now first at.old) result at.new }
     {
         if self.is_called(*at) {
             self.call(first, at)
         } else {
-            nodes::term(first, *at, Shape::Identifier)
+            nodes::term(first, *at, Primary::Identifier)
         }
     }
 
     /// What stands behind `[`: a tuple, or a `for`.
     #[cycle(nest)]
     #[inline(never)]
-    #[tactic(auto, unfolding(hcl_grammar::specs::Pure::Parser::bracket))]
-    fn bracket(&self, first: usize, at: &mut usize) -> Result<Term, TokenFault>
-        ensures { Reads (spec.bracket self.now first at.old) result at.new }
+    #[tactic(auto, unfolding(hcl_grammar::specs::Pure::Parser::tuple_or_for))]
+    fn tuple_or_for(&self, first: usize, at: &mut usize) -> Result<Term, TokenFault>
+        ensures { Reads (spec.tuple_or_for self.now first at.old) result at.new }
     {
         let inner = self.enter(first, at)?.in_brackets();
-        if inner.reads(b"for", *at) {
+        if inner.next_is_word(b"for", *at) {
             inner.for_tuple(first, at)
         } else {
             inner.tuple(first, at)
@@ -87,12 +87,12 @@ impl<'s, 't> Reader<'s, 't> {
     /// What stands behind `{`: an object, or a `for`.
     #[cycle(nest)]
     #[inline(never)]
-    #[tactic(auto, unfolding(hcl_grammar::specs::Pure::Parser::brace))]
-    fn brace(&self, first: usize, at: &mut usize) -> Result<Term, TokenFault>
-        ensures { Reads (spec.brace self.now first at.old) result at.new }
+    #[tactic(auto, unfolding(hcl_grammar::specs::Pure::Parser::object_or_for))]
+    fn object_or_for(&self, first: usize, at: &mut usize) -> Result<Term, TokenFault>
+        ensures { Reads (spec.object_or_for self.now first at.old) result at.new }
     {
         let inner = self.enter(first, at)?.in_brackets();
-        if inner.reads(b"for", *at) {
+        if inner.next_is_word(b"for", *at) {
             inner.for_object(first, at)
         } else {
             inner.object(first, at)
@@ -105,9 +105,9 @@ impl<'s, 't> Reader<'s, 't> {
     fn quoted(&self, first: usize, at: &mut usize) -> Result<Term, TokenFault>
         ensures { Reads (spec.quoted self.now first at.old) result at.new }
     {
-        let template = self.enter(first, at)?.closed(Kind::QuoteClose, at)?;
+        let template = self.enter(first, at)?.template_until(Kind::QuoteClose, at)?;
         let template = Boxed::new(self.alloc(), template)?;
-        nodes::term(first, *at, Shape::Quoted(template))
+        nodes::term(first, *at, Primary::Quoted(template))
     }
 
     /// What stands behind the opening of a heredoc.
@@ -117,9 +117,9 @@ impl<'s, 't> Reader<'s, 't> {
     fn heredoc(&self, first: usize, at: &mut usize) -> Result<Term, TokenFault>
         ensures { Reads (spec.heredoc self.now first at.old) result at.new }
     {
-        let template = self.enter(first, at)?.closed(Kind::HereClose, at)?;
+        let template = self.enter(first, at)?.template_until(Kind::HereClose, at)?;
         let template = Boxed::new(self.alloc(), template)?;
-        nodes::term(first, *at, Shape::Heredoc(template))
+        nodes::term(first, *at, Primary::Heredoc(template))
     }
 
     /// A term, behind its first token, which is `first`.
@@ -128,10 +128,10 @@ impl<'s, 't> Reader<'s, 't> {
         ensures { Reads (spec.term_by self.now first kind at.old) result at.new }
     {
         match kind {
-            Kind::Number => nodes::term(first, *at, Shape::Number),
-            Kind::Identifier => self.named(first, at),
-            Kind::OpenBracket => self.bracket(first, at),
-            Kind::OpenBrace => self.brace(first, at),
+            Kind::Number => nodes::term(first, *at, Primary::Number),
+            Kind::Identifier => self.identifier_or_call(first, at),
+            Kind::OpenBracket => self.tuple_or_for(first, at),
+            Kind::OpenBrace => self.object_or_for(first, at),
             Kind::OpenParen => self.parens(first, at),
             Kind::QuoteOpen => self.quoted(first, at),
             Kind::HereOpen => self.heredoc(first, at),

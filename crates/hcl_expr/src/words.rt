@@ -2,8 +2,8 @@
 
 ghost use Rattle.std.specs.Prelude.{[], ◌∷◌, ◌≡◌, true, false, IfOk, length, drop};
 ghost use Rattle.std.specs.Result.{result_map_both};
-ghost use Rattle.hcl_expr.specs.Rules as spec;
-ghost use Rattle.hcl_grammar.specs.Pure.Reading.{Gives, Reads};
+ghost use Rattle.hcl_expr.specs.ReaderRules as spec;
+ghost use Rattle.hcl_grammar.specs.Pure.Reading.{ReadsExactly, Reads};
 
 use crate::reader::Reader;
 use hcl_grammar::fault::TokenFault;
@@ -12,11 +12,11 @@ use plain_tree::Items;
 
 impl<'s, 't> Reader<'s, 't> {
     /// Whether this word comes next.
-    #[tactic(auto, unfolding(hcl_grammar::specs::Pure::Reading::reads, hcl_grammar::specs::Tokens::token))]
-    pub fn reads(&self, word: &[u8], at: usize) -> bool
-        ensures { result ≡ spec.reads self.now word.now at }
+    #[tactic(auto, unfolding(hcl_grammar::specs::Pure::Reading::next_is_word, hcl_grammar::specs::Tokens::next_token))]
+    pub fn next_is_word(&self, word: &[u8], at: usize) -> bool
+        ensures { result ≡ spec.next_is_word self.now word.now at }
     {
-        let (number, next) = self.token(at);
+        let (number, next) = self.next_token(at);
         match next {
             Some(_kind) => self.is_word(number, word),
             None => false,
@@ -24,11 +24,11 @@ impl<'s, 't> Reader<'s, 't> {
     }
 
     /// Takes this word, which must come next.
-    #[tactic(auto, unfolding(hcl_grammar::specs::Pure::Reading::word, hcl_grammar::specs::Pure::Reading::reads, hcl_grammar::specs::Tokens::token, hcl_grammar::specs::Tokens::after))]
-    pub fn word(&self, word: &[u8], at: &mut usize) -> Result<(), TokenFault>
-        ensures { Gives (spec.word self.now word.now at.old) result at.new }
+    #[tactic(auto, unfolding(hcl_grammar::specs::Pure::Reading::expect_word, hcl_grammar::specs::Pure::Reading::next_is_word, hcl_grammar::specs::Tokens::next_token, hcl_grammar::specs::Tokens::after_next))]
+    pub fn expect_word(&self, word: &[u8], at: &mut usize) -> Result<(), TokenFault>
+        ensures { ReadsExactly (spec.expect_word self.now word.now at.old) result at.new }
     {
-        let (number, next) = self.token(*at);
+        let (number, next) = self.next_token(*at);
         match next {
             Some(_kind) => {
                 if !self.is_word(number, word) {
@@ -42,13 +42,13 @@ impl<'s, 't> Reader<'s, 't> {
     }
 
     /// Takes a word, if it comes next.
-    #[tactic(auto, unfolding(hcl_grammar::specs::Pure::Reading::reads, hcl_grammar::specs::Tokens::token, hcl_grammar::specs::Tokens::after))]
+    #[tactic(auto, unfolding(hcl_grammar::specs::Pure::Reading::next_is_word, hcl_grammar::specs::Tokens::next_token, hcl_grammar::specs::Tokens::after_next))]
     pub fn eat_word(&self, word: &[u8], at: &mut usize) -> bool
-        ensures found { result ≡ spec.reads self.now word.now at.old }
-        ensures taken { result ≡ true → at.new ≡ spec.after self.now at.old }
+        ensures found { result ≡ spec.next_is_word self.now word.now at.old }
+        ensures taken { result ≡ true → at.new ≡ spec.after_next self.now at.old }
         ensures kept { result ≡ false → at.new ≡ at.old }
     {
-        let (number, next) = self.token(*at);
+        let (number, next) = self.next_token(*at);
         match next {
             Some(_kind) => {
                 let found = self.is_word(number, word);
@@ -62,16 +62,16 @@ impl<'s, 't> Reader<'s, 't> {
     }
 
     /// The second name of a `for`, if it has one.
-    #[tactic(auto, unfolding(hcl_grammar::specs::Pure::Parser::second))]
-    pub fn second(&self, at: &mut usize) -> Result<Option<usize>, TokenFault>
-        ensures { Gives (spec.second self.now at.old) result at.new }
+    #[tactic(auto, unfolding(hcl_grammar::specs::Pure::Parser::second_name))]
+    pub fn second_name(&self, at: &mut usize) -> Result<Option<usize>, TokenFault>
+        ensures { ReadsExactly (spec.second_name self.now at.old) result at.new }
     {
-        let inside = self.in_brackets();
-        if !inside.eat(Kind::Comma, at) {
+        let bracketed = self.in_brackets();
+        if !bracketed.eat(Kind::Comma, at) {
             return Ok(None);
         }
-        let name = inside.start(*at);
-        inside.expect(Kind::Identifier, at)?;
+        let name = bracketed.next_index(*at);
+        bracketed.expect(Kind::Identifier, at)?;
         Ok(Some(name))
     }
 
@@ -87,7 +87,7 @@ impl<'s, 't> Reader<'s, 't> {
             if !self.eat(Kind::DoubleColon, at) {
                 return Ok(found);
             }
-            let name = self.start(*at);
+            let name = self.next_index(*at);
             self.expect(Kind::Identifier, at)?;
             found.push(name)?;
         }

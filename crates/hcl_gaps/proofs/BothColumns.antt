@@ -6,15 +6,15 @@ use Rattle.hcl_token.specs.declared.kind.Kind.{Kind}
 use Rattle.hcl_token.specs.declared.kind.Kind.TheVariants.{Equal, LineEnd, LineComment, HereOpen, HereClose}
 use Rattle.hcl_token.specs.Tokens.{Pair}
 use Rattle.hcl_token.specs.Place.{clusters}
-use Rattle.hcl_scan.specs.Modes.{Mode, after}
-use Rattle.hcl_scan.specs.Follows.{EndsLine, Behind, FollowsFrom, Follows}
+use Rattle.hcl_scan.specs.Modes.{Mode, modes_after}
+use Rattle.hcl_scan.specs.Follows.{LineEndsHere, AllowsNext, FollowsFrom, Follows}
 use Rattle.hcl_gaps.specs.Kinds.{is_equal, is_line_comment}
-use Rattle.hcl_gaps.specs.Lines.{Line, heredocs_after, ends_line, in_front, lines_from, lines_of}
+use Rattle.hcl_gaps.specs.Lines.{Line, heredocs_after, ends_line, prepend_to_first, lines_from, lines_of}
 use Rattle.hcl_gaps.specs.Space.{spaces}
-use Rattle.hcl_gaps.specs.Cells.{assignment, closing_comment, before_first, before_later, widths, cell_gaps, with_gap, moved, moved_all, aligned}
+use Rattle.hcl_gaps.specs.Cells.{assignment, closing_comment, index_of_first, index_after_first, widths, cell_gaps, with_gap, with_cell_gap, with_cell_gaps, aligned}
 use Rattle.hcl_gaps.specs.Columns.{column_at, column, SameColumn, AreAligned, IsAtLineEnd, CommentsEndLines}
-use Rattle.hcl_gaps.specs.Layout.{set_lines, laid_out_lines}
-use Rattle.hcl_gaps.specs.Inner.Near.{cell_counts}
+use Rattle.hcl_gaps.specs.Layout.{format_lines, layout_lines}
+use Rattle.hcl_gaps.specs.Inner.CodeViews.{is_valid_cell}
 use Rattle.hcl_gaps.specs.declared.cells.Cell.{Cell}
 use Rattle.hcl_gaps.specs.declared.cells.Cell.TheVariants.{Assignment, ClosingComment}
 use Rattle.hcl_gaps.proofs.TokensKept.{SameTokens, Alike, gap_same, equals_alike}
@@ -55,19 +55,19 @@ is_comment : (k : Kind) → is_line_comment k ≡ true → k ≡ LineComment
 is_comment LineComment e = refl
 is_comment k e = absurd (cc)
 
-in_front_ordered : (f : Bool) (p : Pair) (xs : List Line) → AllOrdered xs
-    → (f ≡ false → FirstOrdered p xs) → AllOrdered (in_front f p xs)
+prepend_ordered : (f : Bool) (p : Pair) (xs : List Line) → AllOrdered xs
+    → (f ≡ false → FirstOrdered p xs) → AllOrdered (prepend_to_first f p xs)
 unfolding AllOrdered Ordered NoEquals FirstOrdered
-in_front_ordered f p [] all first = (λ e. (λ c. tt, tt), tt)
-in_front_ordered f p (x ∷ xs) all first = (first, all.1)
+prepend_ordered f p [] all first = (λ e. (λ c. tt, tt), tt)
+prepend_ordered f p (x ∷ xs) all first = (first, all.1)
 
-behind_comment : (p q : Pair) (xs : List Line)
+after_comment : (p q : Pair) (xs : List Line)
     → (is_line_comment p.kind ≡ true → q.kind ≡ LineEnd) → ends_line 0 q.kind ≡ false
-    → AllOrdered (in_front false q xs) → FirstOrdered p (in_front false q xs)
+    → AllOrdered (prepend_to_first false q xs) → FirstOrdered p (prepend_to_first false q xs)
 unfolding AllOrdered FirstOrdered Ordered
-behind_comment p q [] h e all =
+after_comment p q [] h e all =
     (λ c. absurd (let at : ends_line 0 q.kind ≡ true = rw (h c) refl in (cc)), all.0 refl)
-behind_comment p q (x ∷ xs) h e all =
+after_comment p q (x ∷ xs) h e all =
     (λ c. absurd (let at : ends_line 0 q.kind ≡ true = rw (h c) refl in (cc)), all.0 refl)
 
 next_first : (p : Pair) (ps : List Pair) → (p.kind ≡ LineComment → IsAtLineEnd ps)
@@ -80,34 +80,34 @@ next_first p (q ∷ qs) h all = by_end (ends_line 0 q.kind) refl all
     rest = lines_from (heredocs_after 0 q.kind) qs
 
     by_end : (b : Bool) → ends_line 0 q.kind ≡ b
-        → AllOrdered (if b then record { frozen = nat_lt 0 0; pairs = q ∷ [] } ∷ rest else in_front (nat_lt 0 0) q rest)
-        → FirstOrdered p (if b then record { frozen = nat_lt 0 0; pairs = q ∷ [] } ∷ rest else in_front (nat_lt 0 0) q rest)
+        → AllOrdered (if b then record { frozen = nat_lt 0 0; pairs = q ∷ [] } ∷ rest else prepend_to_first (nat_lt 0 0) q rest)
+        → FirstOrdered p (if b then record { frozen = nat_lt 0 0; pairs = q ∷ [] } ∷ rest else prepend_to_first (nat_lt 0 0) q rest)
     by_end true e o = (λ c. (no_equal q.kind e, tt), o.0 refl)
-    by_end false e o = behind_comment p q rest (λ c. h (is_comment p.kind c)) e o
+    by_end false e o = after_comment p q rest (λ c. h (is_comment p.kind c)) e o
 
-lines_ordered : (held : ℕ) (ps : List Pair) → CommentsEndLines ps → AllOrdered (lines_from held ps)
+lines_ordered : (open_heredocs : ℕ) (ps : List Pair) → CommentsEndLines ps → AllOrdered (lines_from open_heredocs ps)
 unfolding AllOrdered Ordered NoEquals
-lines_ordered held [] h = tt
-lines_ordered held (p ∷ ps) h =
-    by_end (lines_ordered (heredocs_after held p.kind) ps h.1) (ends_line held p.kind) refl
+lines_ordered open_heredocs [] h = tt
+lines_ordered open_heredocs (p ∷ ps) h =
+    by_end (lines_ordered (heredocs_after open_heredocs p.kind) ps h.1) (ends_line open_heredocs p.kind) refl
   where
     rest : List Line
-    rest = lines_from (heredocs_after held p.kind) ps
+    rest = lines_from (heredocs_after open_heredocs p.kind) ps
 
-    front : AllOrdered rest → (n : ℕ) → n ≡ held → ends_line held p.kind ≡ false → nat_lt 0 n ≡ false → FirstOrdered p rest
+    front : AllOrdered rest → (n : ℕ) → n ≡ open_heredocs → ends_line open_heredocs p.kind ≡ false → nat_lt 0 n ≡ false → FirstOrdered p rest
     front all zero e f g =
-        let none : heredocs_after held p.kind ≡ 0 = still (sym e) f in
+        let none : heredocs_after open_heredocs p.kind ≡ 0 = still (sym e) f in
         subst (λ k. FirstOrdered p (lines_from k ps)) (sym none)
         (next_first p ps h.0 (subst (λ k. AllOrdered (lines_from k ps)) none all))
       where
-        still : held ≡ 0 → ends_line held p.kind ≡ false → heredocs_after held p.kind ≡ 0
+        still : open_heredocs ≡ 0 → ends_line open_heredocs p.kind ≡ false → heredocs_after open_heredocs p.kind ≡ 0
         still z f = rw z (still_none p.kind (rw z at f))
     front all (suc n) e f g = absurd (true≢false (sym (lt-ltb 0 (suc n) (omega arith)) ∙ g))
 
-    by_end : AllOrdered rest → (b : Bool) → ends_line held p.kind ≡ b
-        → AllOrdered (if b then record { frozen = nat_lt 0 held; pairs = p ∷ [] } ∷ rest else in_front (nat_lt 0 held) p rest)
+    by_end : AllOrdered rest → (b : Bool) → ends_line open_heredocs p.kind ≡ b
+        → AllOrdered (if b then record { frozen = nat_lt 0 open_heredocs; pairs = p ∷ [] } ∷ rest else prepend_to_first (nat_lt 0 open_heredocs) p rest)
     by_end all true e = (λ f. (λ c. tt, tt), all)
-    by_end all false e = in_front_ordered (nat_lt 0 held) p rest all (front all held refl e)
+    by_end all false e = prepend_ordered (nat_lt 0 open_heredocs) p rest all (front all open_heredocs refl e)
 
 -- ---- with other gaps too
 
@@ -140,7 +140,7 @@ not_both : (k : Kind) → is_equal k ≡ true → is_line_comment k ≡ true →
 not_both Equal e c = absurd (cc)
 not_both k e c = absurd (cc)
 
-none_equal : (ps : List Pair) → NoEquals ps → before_first (λ (p : Pair). is_equal p.kind) ps ≡ None
+none_equal : (ps : List Pair) → NoEquals ps → index_of_first (λ (p : Pair). is_equal p.kind) ps ≡ None
 unfolding NoEquals
 none_equal [] h = refl
 none_equal (p ∷ ps) h = rw h.0 (ap (option_map suc) (none_equal ps h.1))
@@ -154,8 +154,8 @@ further (Some i) (Some j) n m less e c =
     let a : suc i ≡ n = cc in let b : suc j ≡ m = cc in omega (arith, less i j refl refl, a, b)
 
 first_before : (ps : List Pair) (n m : ℕ) → Ordered ps
-    → before_first (λ (p : Pair). is_equal p.kind) ps ≡ Some n
-    → before_first (λ (p : Pair). is_line_comment p.kind) ps ≡ Some m → n < m
+    → index_of_first (λ (p : Pair). is_equal p.kind) ps ≡ Some n
+    → index_of_first (λ (p : Pair). is_line_comment p.kind) ps ≡ Some m → n < m
 unfolding Ordered
 first_before [] n m h e c = absurd (cc)
 first_before (p ∷ ps) n m h e c =
@@ -163,10 +163,10 @@ first_before (p ∷ ps) n m h e c =
     refl refl e c
   where
     equals : Option ℕ
-    equals = before_first (λ (q : Pair). is_equal q.kind) ps
+    equals = index_of_first (λ (q : Pair). is_equal q.kind) ps
 
     comments : Option ℕ
-    comments = before_first (λ (q : Pair). is_line_comment q.kind) ps
+    comments = index_of_first (λ (q : Pair). is_line_comment q.kind) ps
 
     some_behind : (o : Option ℕ) → option_map suc o ≡ Some m → 0 < m
     some_behind None x = absurd (cc)
@@ -188,19 +188,19 @@ first_before (p ∷ ps) n m h e c =
         further equals comments n m less x y
 
 later_before : (ps : List Pair) (n m : ℕ) → Ordered ps
-    → before_later (λ (p : Pair). is_equal p.kind) ps ≡ Some n
-    → before_later (λ (p : Pair). is_line_comment p.kind) ps ≡ Some m → n < m
+    → index_after_first (λ (p : Pair). is_equal p.kind) ps ≡ Some n
+    → index_after_first (λ (p : Pair). is_line_comment p.kind) ps ≡ Some m → n < m
 unfolding Ordered
 later_before [] n m h e c = absurd (cc)
 later_before (p ∷ ps) n m h e c =
-    further (before_first (λ (q : Pair). is_equal q.kind) ps)
-    (before_first (λ (q : Pair). is_line_comment q.kind) ps) n m
+    further (index_of_first (λ (q : Pair). is_equal q.kind) ps)
+    (index_of_first (λ (q : Pair). is_line_comment q.kind) ps) n m
     (λ i j u v. first_before ps i j h.1 u v) e c
 
 counted : (cell : Cell) (ps : List Pair) (o : Option ℕ) (n : ℕ) → if_counts cell ps o ≡ Some n
     → o ≡ Some n
 counted cell ps None n e = absurd (cc)
-counted cell ps (Some m) n e = either (cell_counts cell (drop m ps)) e
+counted cell ps (Some m) n e = either (is_valid_cell cell (drop m ps)) e
   where
     either : (b : Bool) → (if b then Some m else None) ≡ Some n → Some m ≡ Some n
     either true k = k
@@ -233,7 +233,7 @@ column_kept (suc n) (suc m) gap (p ∷ ps) h =
     ap (λ c. length p.gap + clusters p.spelling + c) (column_kept n m gap ps (omega (arith, h)))
 
 comment_moved : (x : Line) (r : Option ℕ) → (x.frozen ≡ false → Ordered x.pairs)
-    → column assignment (moved (closing_comment x) r x) ≡ column assignment x
+    → column assignment (with_cell_gap (closing_comment x) r x) ≡ column assignment x
 comment_moved x r h = go (closing_comment x) r refl
   where
     at_cell : (m c : ℕ) (o : Option ℕ) → closing_comment x ≡ Some m → assignment x ≡ o
@@ -244,7 +244,7 @@ comment_moved x r h = go (closing_comment x) r refl
         ap Some (column_kept n m (spaces c) x.pairs (cells_in_order x.frozen x.pairs n m h a e))
 
     go : (o r : Option ℕ) → closing_comment x ≡ o
-        → column assignment (moved o r x) ≡ column assignment x
+        → column assignment (with_cell_gap o r x) ≡ column assignment x
     go None r e = refl
     go (Some m) None e = refl
     go (Some m) (Some c) e =
@@ -258,7 +258,7 @@ same_columns c d c' d' e f h =
     subst (λ x. SameColumn x d') (sym e) (subst (SameColumn c) (sym f) h)
 
 comments_moved : (rs : List (Option ℕ)) (lines : List Line) → AllOrdered lines
-    → AreAligned assignment lines → AreAligned assignment (moved_all closing_comment rs lines)
+    → AreAligned assignment lines → AreAligned assignment (with_cell_gaps closing_comment rs lines)
 unfolding AllOrdered
 comments_moved [] lines all h = h
 comments_moved (r ∷ rs) [] all h = tt
@@ -275,23 +275,23 @@ comments_moved (r ∷ s ∷ rs) (x ∷ y ∷ lines) all h = (
 -- ---- layouts
 
 pub assignment_columns : (pairs : List Pair) → CommentsEndLines pairs
-    → AreAligned assignment (laid_out_lines (lines_of pairs))
+    → AreAligned assignment (layout_lines (lines_of pairs))
 assignment_columns pairs h =
     let lines : List Line = lines_of pairs in
-    let first : List Line = set_lines [] [] lines in
+    let first : List Line = format_lines [] [] lines in
     let second : List Line = aligned assignment first in
     comments_moved (cell_gaps [] (widths closing_comment second)) second
     (alike_ordered second lines (equals_alike lines) (lines_ordered 0 pairs h))
     (cells_aligned Assignment first)
 
 pub comment_columns : (pairs : List Pair)
-    → AreAligned closing_comment (laid_out_lines (lines_of pairs))
+    → AreAligned closing_comment (layout_lines (lines_of pairs))
 comment_columns pairs =
-    cells_aligned ClosingComment (aligned assignment (set_lines [] [] (lines_of pairs)))
+    cells_aligned ClosingComment (aligned assignment (format_lines [] [] (lines_of pairs)))
 
 -- ---- texts
 
-ends : (ps : List Pair) (last : List ℕ) → EndsLine ps last → IsAtLineEnd ps
+ends : (ps : List Pair) (last : List ℕ) → LineEndsHere ps last → IsAtLineEnd ps
 ends [] last h = tt
 ends (p ∷ ps) last h = h.1
 
@@ -299,12 +299,12 @@ follows_end : (modes : List Mode) (ps : List Pair) (last : List ℕ) (left : Lis
     → FollowsFrom modes ps last left → CommentsEndLines ps
 follows_end modes [] last left h = tt
 follows_end modes (p ∷ ps) last left h = (
-  λ e. ends ps last (subst (λ k. Behind k ps last) e h.3),
-  follows_end (after p.kind p.spelling modes) ps last left h.4,
+  λ e. ends ps last (subst (λ k. AllowsNext k ps last) e h.3),
+  follows_end (modes_after p.kind p.spelling modes) ps last left h.4,
 )
 
 pub comments_end : (pairs : List Pair) (last : List ℕ) → Follows pairs last [] → CommentsEndLines pairs
-comments_end pairs last h = elim h.front [
+comments_end pairs last h = elim h.prefix [
   | inl e ↦ subst CommentsEndLines (sym e) (follows_end [] h.body last [] h.follows)
   | inr e ↦ subst CommentsEndLines (sym e)
       ((λ c. absurd (cc)), follows_end [] h.body last [] h.follows)

@@ -13,16 +13,16 @@ use Rattle.std.proofs.lemmas.List.{take-append-drop, drop_more, append-nil, leng
 use Rattle.hcl_token.specs.declared.kind.Kind.{Kind}
 use Rattle.hcl_token.specs.Tokens.{Pair}
 use Rattle.hcl_token.specs.Place.{is_lf}
-use Rattle.hcl_token.specs.CutText.{kind_of, spelling_of}
+use Rattle.hcl_token.specs.TokenizedText.{kind_of, spelling_of}
 use Rattle.hcl_gaps.specs.Kinds.{is_inline_comment, is_equal, is_line_comment}
 use Rattle.hcl_gaps.specs.Lines.{Line, lines_from, pairs_in}
-use Rattle.hcl_gaps.specs.Cells.{before_first, before_later, has_cells, is_balanced}
-use Rattle.hcl_gaps.specs.Inner.Near.{cell_is, cell_of, cell_counts, width_in, token_in, widths_of, tokens_in, AreInside}
+use Rattle.hcl_gaps.specs.Cells.{index_of_first, index_after_first, has_cells, is_balanced}
+use Rattle.hcl_gaps.specs.Inner.CodeViews.{starts_cell, cell_of, is_valid_cell, width_in, token_in, widths_of, tokens_in, AreInside}
 use Rattle.hcl_gaps.specs.declared.cells.CellStart.{CellStart}
 use Rattle.hcl_gaps.specs.declared.cells.Cell.{Cell}
 use Rattle.hcl_gaps.specs.declared.cells.Cell.TheVariants.{Assignment, ClosingComment}
-use Rattle.hcl_gaps.specs.Cells.{width, width_before, widths, greatest, moved_all, aligned}
-use Rattle.hcl_gaps.specs.Inner.Stages.{set_cell_gaps, cell_gaps_below, with_gaps, AreWithin, SplitsLine, held_of, cell_tokens}
+use Rattle.hcl_gaps.specs.Cells.{width, width_before, widths, greatest, with_cell_gaps, aligned}
+use Rattle.hcl_gaps.specs.Inner.Stages.{set_cell_gaps, cell_gaps_from_width, with_gaps, AreAtMost, SplitsLine, open_heredocs_of, cell_tokens}
 use Rattle.hcl_gaps.proofs.TokensKept.{SameTokens}
 use Rattle.hcl_gaps.proofs.CellGaps.{AreInLines, AreSmall, moved_gaps, greatest_within, within_drop, gaps_same, gaps_length, splits_same, same_range, assignment_same, comment_same}
 use Rattle.hcl_gaps.proofs.LineLemmas.{turn, kind_is, spelling_is}
@@ -99,45 +99,45 @@ shift_suc i m None e = refl
 shift_suc i m (Some n) e = ap Some (omega arith)
 
 pub found_from : Cell → List Pair → ℕ → ℕ → Option ℕ
-found_from cell pairs i past = shift i (before_first (λ (p : Pair). cell_is cell p.kind) (slice_range pairs i past))
+found_from cell pairs i past = shift i (index_of_first (λ (p : Pair). starts_cell cell p.kind) (slice_range pairs i past))
 
-first_if : (test : Pair → Bool) (p : Pair) (ps : List Pair) (b : Bool) → test p ≡ b → before_first test (p ∷ ps) ≡ (if b then Some 0 else option_map suc (before_first test ps))
+first_if : (test : Pair → Bool) (p : Pair) (ps : List Pair) (b : Bool) → test p ≡ b → index_of_first test (p ∷ ps) ≡ (if b then Some 0 else option_map suc (index_of_first test ps))
 first_if test p ps true e = rw e refl
 first_if test p ps false e = rw e refl
 
-pub found_goes : (cell : Cell) (pairs : List Pair) (i past : ℕ) (k : Kind) → i < past → past ≤ length pairs → Some k ≡ kind_of pairs i → cell_is cell k ≡ false → found_from cell pairs i past ≡ found_from cell pairs (i + 1) past
+pub found_goes : (cell : Cell) (pairs : List Pair) (i past : ℕ) (k : Kind) → i < past → past ≤ length pairs → Some k ≡ kind_of pairs i → starts_cell cell k ≡ false → found_from cell pairs i past ≡ found_from cell pairs (i + 1) past
 unfolding found_from
 found_goes cell pairs i past k less within is test =
     let t = turn pairs i past less within in
-    let miss : cell_is cell t.pair.kind ≡ false = ap (cell_is cell) (sym (kind_is pairs i past k t is)) ∙ test in
-    ap (λ ps. shift i (before_first (λ (p : Pair). cell_is cell p.kind) ps)) t.range
-    ∙ ap (shift i) (first_if (λ (p : Pair). cell_is cell p.kind) t.pair (slice_range pairs (i + 1) past) false miss)
-    ∙ shift_suc i (i + 1) (before_first (λ (p : Pair). cell_is cell p.kind) (slice_range pairs (i + 1) past)) refl
+    let miss : starts_cell cell t.pair.kind ≡ false = ap (starts_cell cell) (sym (kind_is pairs i past k t is)) ∙ test in
+    ap (λ ps. shift i (index_of_first (λ (p : Pair). starts_cell cell p.kind) ps)) t.range
+    ∙ ap (shift i) (first_if (λ (p : Pair). starts_cell cell p.kind) t.pair (slice_range pairs (i + 1) past) false miss)
+    ∙ shift_suc i (i + 1) (index_of_first (λ (p : Pair). starts_cell cell p.kind) (slice_range pairs (i + 1) past)) refl
 
-pub found_here : (cell : Cell) (pairs : List Pair) (i past : ℕ) (k : Kind) → i < past → past ≤ length pairs → Some k ≡ kind_of pairs i → cell_is cell k ≡ true → found_from cell pairs i past ≡ Some i
+pub found_here : (cell : Cell) (pairs : List Pair) (i past : ℕ) (k : Kind) → i < past → past ≤ length pairs → Some k ≡ kind_of pairs i → starts_cell cell k ≡ true → found_from cell pairs i past ≡ Some i
 unfolding found_from
 found_here cell pairs i past k less within is test =
     let t = turn pairs i past less within in
-    let hit : cell_is cell t.pair.kind ≡ true = ap (cell_is cell) (sym (kind_is pairs i past k t is)) ∙ test in
+    let hit : starts_cell cell t.pair.kind ≡ true = ap (starts_cell cell) (sym (kind_is pairs i past k t is)) ∙ test in
     let zero_more : i + 0 ≡ i = omega arith in
-    ap (λ ps. shift i (before_first (λ (p : Pair). cell_is cell p.kind) ps)) t.range
-    ∙ ap (shift i) (first_if (λ (p : Pair). cell_is cell p.kind) t.pair (slice_range pairs (i + 1) past) true hit)
+    ap (λ ps. shift i (index_of_first (λ (p : Pair). starts_cell cell p.kind) ps)) t.range
+    ∙ ap (shift i) (first_if (λ (p : Pair). starts_cell cell p.kind) t.pair (slice_range pairs (i + 1) past) true hit)
     ∙ ap Some zero_more
 
 pub found_none : (cell : Cell) (pairs : List Pair) (i past : ℕ) → past ≤ i → found_from cell pairs i past ≡ None
 unfolding found_from
-found_none cell pairs i past h = ap (λ ps. shift i (before_first (λ (p : Pair). cell_is cell p.kind) ps)) (none_left pairs i past h)
+found_none cell pairs i past h = ap (λ ps. shift i (index_of_first (λ (p : Pair). starts_cell cell p.kind) ps)) (none_left pairs i past h)
 
 pub found_begins : (cell : Cell) (pairs : List Pair) (at past m : ℕ) → at < past → past ≤ length pairs → m ≡ at + 1
-    → found_from cell pairs m past ≡ option_map (λ n. at + n) (before_later (λ (p : Pair). cell_is cell p.kind) (slice_range pairs at past))
+    → found_from cell pairs m past ≡ option_map (λ n. at + n) (index_after_first (λ (p : Pair). starts_cell cell p.kind) (slice_range pairs at past))
 unfolding found_from
 found_begins cell pairs at past m less within e =
     let t = turn pairs at past less within in
-    let rest : Option ℕ = before_first (λ (p : Pair). cell_is cell p.kind) (slice_range pairs (at + 1) past) in
-    ap (λ x. shift x (before_first (λ (p : Pair). cell_is cell p.kind) (slice_range pairs x past))) e
+    let rest : Option ℕ = index_of_first (λ (p : Pair). starts_cell cell p.kind) (slice_range pairs (at + 1) past) in
+    ap (λ x. shift x (index_of_first (λ (p : Pair). starts_cell cell p.kind) (slice_range pairs x past))) e
     ∙ sym (shift_suc at (at + 1) rest refl)
     ∙ shift_is at (option_map suc rest)
-    ∙ ap (λ ps. option_map (λ n. at + n) (before_later (λ (p : Pair). cell_is cell p.kind) ps)) (sym t.range)
+    ∙ ap (λ ps. option_map (λ n. at + n) (index_after_first (λ (p : Pair). starts_cell cell p.kind) ps)) (sym t.range)
 
 -- ---- the cell of a line
 
@@ -154,7 +154,7 @@ blocked ClosingComment frozen b ps e h = let none : has_cells (record { frozen =
 
 abbrev pub if_counts : Cell → List Pair → Option ℕ → Option ℕ
 if_counts cell ps None = None
-if_counts cell ps (Some n) = if cell_counts cell (drop n ps) then Some n else None
+if_counts cell ps (Some n) = if is_valid_cell cell (drop n ps) then Some n else None
 
 comment_counts : (ps : List Pair) (o : Option ℕ) → o ≡ if_counts ClosingComment ps o
 comment_counts ps None = refl
@@ -165,13 +165,13 @@ equals_counts ps None = refl
 equals_counts ps (Some n) = refl
 
 pub free : (cell : Cell) (frozen b : Bool) (ps : List Pair) → b ≡ broken ps → (frozen || b) ≡ false
-    → cell_of cell (record { frozen = frozen; pairs = ps }) ≡ if_counts cell ps (before_later (λ (p : Pair). cell_is cell p.kind) ps)
+    → cell_of cell (record { frozen = frozen; pairs = ps }) ≡ if_counts cell ps (index_after_first (λ (p : Pair). starts_cell cell p.kind) ps)
 free Assignment frozen b ps e h =
     let some : has_cells (record { frozen = frozen; pairs = ps }) ≡ true = has_cells_if frozen b ps e ∙ ap not h in
-    rw some (equals_counts ps (before_later (λ (p : Pair). is_equal p.kind) ps))
+    rw some (equals_counts ps (index_after_first (λ (p : Pair). is_equal p.kind) ps))
 free ClosingComment frozen b ps e h =
     let some : has_cells (record { frozen = frozen; pairs = ps }) ≡ true = has_cells_if frozen b ps e ∙ ap not h in
-    rw some (comment_counts ps (before_later (λ (p : Pair). is_line_comment p.kind) ps))
+    rw some (comment_counts ps (index_after_first (λ (p : Pair). is_line_comment p.kind) ps))
 
 back : (pairs : List Pair) (at past n : ℕ) → drop n (slice_range pairs at past) ≡ slice_range pairs (at + n) past
 back pairs at past n = elim (cases_lt (past - at) n) [
@@ -186,26 +186,26 @@ back pairs at past n = elim (cases_lt (past - at) n) [
 
 -- what is answered where a cell is found
 pub counted_cell : (cell : Cell) (pairs : List Pair) (at past : ℕ) (frozen b : Bool) (i : ℕ) → b ≡ broken (slice_range pairs at past) → (frozen || b) ≡ false
-    → Some i ≡ option_map (λ n. at + n) (before_later (λ (p : Pair). cell_is cell p.kind) (slice_range pairs at past))
-    → (if cell_counts cell (slice_range pairs i past) then Some i else None) ≡ option_map (λ n. at + n) (cell_of cell (record { frozen = frozen; pairs = slice_range pairs at past }))
+    → Some i ≡ option_map (λ n. at + n) (index_after_first (λ (p : Pair). starts_cell cell p.kind) (slice_range pairs at past))
+    → (if is_valid_cell cell (slice_range pairs i past) then Some i else None) ≡ option_map (λ n. at + n) (cell_of cell (record { frozen = frozen; pairs = slice_range pairs at past }))
 counted_cell cell pairs at past frozen b i e h found =
-    at_found (before_later (λ (p : Pair). cell_is cell p.kind) (slice_range pairs at past)) found ∙ ap (option_map (λ n. at + n)) (sym (free cell frozen b (slice_range pairs at past) e h))
+    at_found (index_after_first (λ (p : Pair). starts_cell cell p.kind) (slice_range pairs at past)) found ∙ ap (option_map (λ n. at + n)) (sym (free cell frozen b (slice_range pairs at past) e h))
   where
-    at_found : (o : Option ℕ) → Some i ≡ option_map (λ n. at + n) o → (if cell_counts cell (slice_range pairs i past) then Some i else None) ≡ option_map (λ n. at + n) (if_counts cell (slice_range pairs at past) o)
+    at_found : (o : Option ℕ) → Some i ≡ option_map (λ n. at + n) o → (if is_valid_cell cell (slice_range pairs i past) then Some i else None) ≡ option_map (λ n. at + n) (if_counts cell (slice_range pairs at past) o)
     at_found None k = absurd (cc)
     at_found (Some n) k =
         let i_is : i ≡ at + n = cc in
-        rw (i_is, back pairs at past n) (either (cell_counts cell (slice_range pairs (at + n) past)) n)
+        rw (i_is, back pairs at past n) (either (is_valid_cell cell (slice_range pairs (at + n) past)) n)
       where
         either : (c : Bool) (n : ℕ) → (if c then Some (at + n) else None) ≡ option_map (λ m. at + m) (if c then Some n else None)
         either true n = refl
         either false n = refl
 
 pub no_cell : (cell : Cell) (pairs : List Pair) (at past : ℕ) (frozen b : Bool) → b ≡ broken (slice_range pairs at past) → (frozen || b) ≡ false
-    → None ≡ option_map (λ n. at + n) (before_later (λ (p : Pair). cell_is cell p.kind) (slice_range pairs at past))
+    → None ≡ option_map (λ n. at + n) (index_after_first (λ (p : Pair). starts_cell cell p.kind) (slice_range pairs at past))
     → None ≡ option_map (λ n. at + n) (cell_of cell (record { frozen = frozen; pairs = slice_range pairs at past }))
 no_cell cell pairs at past frozen b e h found =
-    at_none (before_later (λ (p : Pair). cell_is cell p.kind) (slice_range pairs at past)) found ∙ ap (option_map (λ n. at + n)) (sym (free cell frozen b (slice_range pairs at past) e h))
+    at_none (index_after_first (λ (p : Pair). starts_cell cell p.kind) (slice_range pairs at past)) found ∙ ap (option_map (λ n. at + n)) (sym (free cell frozen b (slice_range pairs at past) e h))
   where
     at_none : (o : Option ℕ) → None ≡ option_map (λ n. at + n) o → None ≡ option_map (λ n. at + n) (if_counts cell (slice_range pairs at past) o)
     at_none None k = refl
@@ -266,10 +266,10 @@ some_start cell ns ps at past f i size h later inside =
     )
 
 pub narrow_start : (cell : Cell) (ns : List ℕ) (ps : List Pair) (at past : ℕ) (f : Bool) (i most : ℕ) → length ns ≡ length ps → Some i ≡ option_map (λ n. at + n) (cell_of cell (plain_line ps at past f))
-    → at < i → i < past → AreWithin most (width_before (cell_of cell) (gapped_line ns ps at past f) ∷ []) → width (slice_range (with_gaps ns ps) at i) ≤ most
+    → at < i → i < past → AreAtMost most (width_before (cell_of cell) (gapped_line ns ps at past f) ∷ []) → width (slice_range (with_gaps ns ps) at i) ≤ most
 narrow_start cell ns ps at past f i most size h later inside narrow =
     let same = (some_start cell ns ps at past f i size h later inside).0 in
-    (subst (λ o. AreWithin most (o ∷ [])) (sym same) narrow).0
+    (subst (λ o. AreAtMost most (o ∷ [])) (sym same) narrow).0
 
 -- ---- one line more
 
@@ -277,7 +277,7 @@ map_push : {X Y : Type 0} (f : X → Y) (xs : List X) (x : X) → map f (xs ++ x
 map_push f [] x = refl
 map_push f (y ∷ xs) x = ap (λ ys. f y ∷ ys) (map_push f xs x)
 
-within_first : (most : ℕ) (w : Option ℕ) (ws : List (Option ℕ)) → AreWithin most (w ∷ ws) → AreWithin most (w ∷ []) × AreWithin most ws
+within_first : (most : ℕ) (w : Option ℕ) (ws : List (Option ℕ)) → AreAtMost most (w ∷ ws) → AreAtMost most (w ∷ []) × AreAtMost most ws
 within_first most None ws h = (tt, h)
 within_first most (Some w) ws h = ((h.0, tt), h.1)
 
@@ -292,18 +292,18 @@ inside_one count (Some q) h = (h, tt)
 
 -- the cells of the lines from token `at` on
 pub record StartsSoFar (cell : Cell) (ns : List ℕ) (ps : List Pair) (first at : ℕ) (f : Bool) (starts : List (Option CellStart)) : Type 0 where
-  pub sizes : widths_of starts ++ widths (cell_of cell) (lines_from (held_of f) (drop at (with_gaps ns ps))) ≡ widths (cell_of cell) (lines_from 0 (drop first (with_gaps ns ps)))
-  pub numbers : tokens_in starts ++ cell_tokens at (cell_of cell) (lines_from (held_of f) (drop at (with_gaps ns ps))) ≡ cell_tokens first (cell_of cell) (lines_from 0 (drop first (with_gaps ns ps)))
-  pub narrow : AreWithin 1073741824 (widths (cell_of cell) (lines_from (held_of f) (drop at (with_gaps ns ps))))
+  pub sizes : widths_of starts ++ widths (cell_of cell) (lines_from (open_heredocs_of f) (drop at (with_gaps ns ps))) ≡ widths (cell_of cell) (lines_from 0 (drop first (with_gaps ns ps)))
+  pub numbers : tokens_in starts ++ cell_tokens at (cell_of cell) (lines_from (open_heredocs_of f) (drop at (with_gaps ns ps))) ≡ cell_tokens first (cell_of cell) (lines_from 0 (drop first (with_gaps ns ps)))
+  pub narrow : AreAtMost 1073741824 (widths (cell_of cell) (lines_from (open_heredocs_of f) (drop at (with_gaps ns ps))))
   pub inside : AreInside (length ps) starts
 
 pub starts_narrow : (cell : Cell) (ns : List ℕ) (ps : List Pair) (first at : ℕ) (f : Bool) (starts : List (Option CellStart)) (past : ℕ) (next : Bool) → length ns ≡ length ps
-    → SplitsLine ps at f past next → StartsSoFar cell ns ps first at f starts → AreWithin 1073741824 (width_before (cell_of cell) (gapped_line ns ps at past f) ∷ [])
+    → SplitsLine ps at f past next → StartsSoFar cell ns ps first at f starts → AreAtMost 1073741824 (width_before (cell_of cell) (gapped_line ns ps at past f) ∷ [])
 starts_narrow cell ns ps first at f starts past next size split so_far =
     let line = splits_same ps (with_gaps ns ps) at f past next (gaps_same ns ps size) (gaps_length ns ps size) split in
-    let h : AreWithin 1073741824 (width_before (cell_of cell) (gapped_line ns ps at past f) ∷ widths (cell_of cell) (lines_from (held_of next) (drop past (with_gaps ns ps)))) =
-    subst (λ ls. AreWithin 1073741824 (widths (cell_of cell) ls)) line so_far.narrow in
-    (within_first 1073741824 (width_before (cell_of cell) (gapped_line ns ps at past f)) (widths (cell_of cell) (lines_from (held_of next) (drop past (with_gaps ns ps)))) h).0
+    let h : AreAtMost 1073741824 (width_before (cell_of cell) (gapped_line ns ps at past f) ∷ widths (cell_of cell) (lines_from (open_heredocs_of next) (drop past (with_gaps ns ps)))) =
+    subst (λ ls. AreAtMost 1073741824 (widths (cell_of cell) ls)) line so_far.narrow in
+    (within_first 1073741824 (width_before (cell_of cell) (gapped_line ns ps at past f)) (widths (cell_of cell) (lines_from (open_heredocs_of next) (drop past (with_gaps ns ps)))) h).0
 
 pub starts_turn : (cell : Cell) (ns : List ℕ) (ps : List Pair) (first at : ℕ) (f : Bool) (starts more : List (Option CellStart)) (past : ℕ) (next : Bool) (p : Option CellStart) → length ns ≡ length ps
     → SplitsLine ps at f past next → StartsSoFar cell ns ps first at f starts → more ≡ starts ++ p ∷ []
@@ -311,11 +311,11 @@ pub starts_turn : (cell : Cell) (ns : List ℕ) (ps : List Pair) (first at : ℕ
     → StartsSoFar cell ns ps first past next more
 starts_turn cell ns ps first at f starts more past next p size split so_far more_is w_is t_is inside =
     let G : List Pair = with_gaps ns ps in
-    let rest : List Line = lines_from (held_of next) (drop past G) in
+    let rest : List Line = lines_from (open_heredocs_of next) (drop past G) in
     let line = splits_same ps G at f past next (gaps_same ns ps size) (gaps_length ns ps size) split in
     let all = gaps_length ns ps size in
     let len : at + length (slice_range G at past) ≡ past = omega (arith, length-take-le (past - at) (drop at G) (omega (arith, length-drop at G, split.more, split.within, all)), split.more) in
-    let h : AreWithin 1073741824 (width_before (cell_of cell) (gapped_line ns ps at past f) ∷ widths (cell_of cell) rest) = subst (λ ls. AreWithin 1073741824 (widths (cell_of cell) ls)) line so_far.narrow in
+    let h : AreAtMost 1073741824 (width_before (cell_of cell) (gapped_line ns ps at past f) ∷ widths (cell_of cell) rest) = subst (λ ls. AreAtMost 1073741824 (widths (cell_of cell) ls)) line so_far.narrow in
     record {
       sizes =
           ap (λ (xs : List (Option CellStart)). widths_of xs ++ widths (cell_of cell) rest) more_is
@@ -339,8 +339,8 @@ pub starts_end : (cell : Cell) (ns : List ℕ) (ps : List Pair) (first at : ℕ)
     → (widths_of starts ≡ widths (cell_of cell) (lines_from 0 (drop first (with_gaps ns ps)))) × (tokens_in starts ≡ cell_tokens first (cell_of cell) (lines_from 0 (drop first (with_gaps ns ps))))
 starts_end cell ns ps first at f starts size past so_far =
     let none : drop at (with_gaps ns ps) ≡ [] = drop_all at (with_gaps ns ps) (omega (arith, gaps_length ns ps size)) in (
-      sym (append-nil (widths_of starts)) ∙ ap (λ qs. widths_of starts ++ widths (cell_of cell) (lines_from (held_of f) qs)) (sym none) ∙ so_far.sizes,
-      sym (append-nil (tokens_in starts)) ∙ ap (λ qs. tokens_in starts ++ cell_tokens at (cell_of cell) (lines_from (held_of f) qs)) (sym none) ∙ so_far.numbers,
+      sym (append-nil (widths_of starts)) ∙ ap (λ qs. widths_of starts ++ widths (cell_of cell) (lines_from (open_heredocs_of f) qs)) (sym none) ∙ so_far.sizes,
+      sym (append-nil (tokens_in starts)) ∙ ap (λ qs. tokens_in starts ++ cell_tokens at (cell_of cell) (lines_from (open_heredocs_of f) qs)) (sym none) ∙ so_far.numbers,
     )
 
 -- ---- the gaps before cells
@@ -354,13 +354,13 @@ list_at xs i x found = elim (slice_get_cases xs i).1 [
 ]
 
 pub cell_gap_some : (gaps : List ℕ) (starts : List (Option CellStart)) (i top : ℕ) (p : CellStart) → slice_get starts i ≡ Some (Some p)
-    → set_cell_gaps (slice_set gaps p.token (1 + (top - p.width))) (tokens_in (drop (i + 1) starts)) (cell_gaps_below top (widths_of (drop (i + 1) starts)))
-    ≡ set_cell_gaps gaps (tokens_in (drop i starts)) (cell_gaps_below top (widths_of (drop i starts)))
+    → set_cell_gaps (slice_set gaps p.token (1 + (top - p.width))) (tokens_in (drop (i + 1) starts)) (cell_gaps_from_width top (widths_of (drop (i + 1) starts)))
+    ≡ set_cell_gaps gaps (tokens_in (drop i starts)) (cell_gaps_from_width top (widths_of (drop i starts)))
 cell_gap_some gaps starts i top p found = rw (list_at starts i (Some p) found) refl
 
 pub cell_gap_none : (gaps : List ℕ) (starts : List (Option CellStart)) (i top : ℕ) → slice_get starts i ≡ Some None
-    → set_cell_gaps gaps (tokens_in (drop (i + 1) starts)) (cell_gaps_below (greatest (widths_of (drop (i + 1) starts))) (widths_of (drop (i + 1) starts)))
-    ≡ set_cell_gaps gaps (tokens_in (drop i starts)) (cell_gaps_below top (widths_of (drop i starts)))
+    → set_cell_gaps gaps (tokens_in (drop (i + 1) starts)) (cell_gaps_from_width (greatest (widths_of (drop (i + 1) starts))) (widths_of (drop (i + 1) starts)))
+    ≡ set_cell_gaps gaps (tokens_in (drop i starts)) (cell_gaps_from_width top (widths_of (drop i starts)))
 cell_gap_none gaps starts i top found = rw (list_at starts i None found) refl
 
 pub inside_at : (count : ℕ) (starts : List (Option CellStart)) (i : ℕ) (p : CellStart) → AreInside count starts → slice_get starts i ≡ Some (Some p) → p.token < count
@@ -375,7 +375,7 @@ widths_drop zero starts = refl
 widths_drop (suc i) [] = refl
 widths_drop (suc i) (p ∷ starts) = widths_drop i starts
 
-pub top_within : (most i : ℕ) (starts : List (Option CellStart)) → AreWithin most (widths_of starts) → greatest (widths_of (drop i starts)) ≤ most
+pub top_within : (most i : ℕ) (starts : List (Option CellStart)) → AreAtMost most (widths_of starts) → greatest (widths_of (drop i starts)) ≤ most
 top_within most i starts h = rw (widths_drop i starts) (greatest_within most (drop i (widths_of starts)) (within_drop most i (widths_of starts) h))
 
 -- ---- all cells of one sort
@@ -388,17 +388,17 @@ if_inside : (ps : List Pair) (n : ℕ) (o : Option ℕ) (b : Bool) → ((m : ℕ
 if_inside ps n o true f e = let same : 0 ≡ n = cc in omega arith
 if_inside ps n o false f e = rest_inside ps n o f e
 
-first_inside : (test : Pair → Bool) (ps : List Pair) (n : ℕ) → before_first test ps ≡ Some n → n < length ps
+first_inside : (test : Pair → Bool) (ps : List Pair) (n : ℕ) → index_of_first test ps ≡ Some n → n < length ps
 first_inside test [] n h = absurd (cc)
-first_inside test (p ∷ ps) n h = if_inside ps n (before_first test ps) (test p) (λ m e. first_inside test ps m e) h
+first_inside test (p ∷ ps) n h = if_inside ps n (index_of_first test ps) (test p) (λ m e. first_inside test ps m e) h
 
-later_inside : (test : Pair → Bool) (ps : List Pair) (n : ℕ) → before_later test ps ≡ Some n → n < length ps
+later_inside : (test : Pair → Bool) (ps : List Pair) (n : ℕ) → index_after_first test ps ≡ Some n → n < length ps
 later_inside test [] n h = absurd (cc)
-later_inside test (p ∷ ps) n h = rest_inside ps n (before_first test ps) (λ m e. first_inside test ps m e) h
+later_inside test (p ∷ ps) n h = rest_inside ps n (index_of_first test ps) (λ m e. first_inside test ps m e) h
 
 counts_inside : (cell : Cell) (ps : List Pair) (o : Option ℕ) (n : ℕ) → ((m : ℕ) → o ≡ Some m → m < length ps) → if_counts cell ps o ≡ Some n → n < length ps
 counts_inside cell ps None n f e = absurd (cc)
-counts_inside cell ps (Some m) n f e = either (cell_counts cell (drop m ps)) e
+counts_inside cell ps (Some m) n f e = either (is_valid_cell cell (drop m ps)) e
   where
     either : (b : Bool) → (if b then Some m else None) ≡ Some n → n < length ps
     either true k = let same : m ≡ n = cc in omega (arith, f m refl)
@@ -409,20 +409,20 @@ cell_inside cell frozen ps n h = by_test (frozen || broken ps) refl
   where
     by_test : (b : Bool) → (frozen || broken ps) ≡ b → n < length ps
     by_test true e = let none = blocked cell frozen (broken ps) ps refl e in absurd (cc)
-    by_test false e = counts_inside cell ps (before_later (λ (p : Pair). cell_is cell p.kind) ps) n (λ m k. later_inside (λ (p : Pair). cell_is cell p.kind) ps m k) (sym (free cell frozen (broken ps) ps refl e) ∙ h)
+    by_test false e = counts_inside cell ps (index_after_first (λ (p : Pair). starts_cell cell p.kind) ps) n (λ m k. later_inside (λ (p : Pair). starts_cell cell p.kind) ps m k) (sym (free cell frozen (broken ps) ps refl e) ∙ h)
 
 pub cells_inside : (cell : Cell) (lines : List Line) → AreInLines (cell_of cell) lines
 cells_inside cell [] = tt
 cells_inside cell (line ∷ lines) = (λ n h. cell_inside cell line.frozen line.pairs n h, cells_inside cell lines)
 
-cell_gaps_small : (top : ℕ) (ws : List (Option ℕ)) → top ≤ 1073741824 → AreWithin 1073741824 ws → AreSmall (cell_gaps_below top ws)
+cell_gaps_small : (top : ℕ) (ws : List (Option ℕ)) → top ≤ 1073741824 → AreAtMost 1073741824 ws → AreSmall (cell_gaps_from_width top ws)
 cell_gaps_small top [] h k = tt
 cell_gaps_small top (None ∷ ws) h k = cell_gaps_small (greatest ws) ws (greatest_within 1073741824 ws k) k
 cell_gaps_small top (Some w ∷ ws) h k = (omega (arith, h), cell_gaps_small top ws h k.1)
 
 pub aligned_gaps : (cell : Cell) (ps : List Pair) (first : ℕ) (ns new : List ℕ) (sizes numbers : List (Option ℕ)) → length ns ≡ length ps → first ≤ length ps
     → sizes ≡ widths (cell_of cell) (lines_from 0 (drop first (with_gaps ns ps))) → numbers ≡ cell_tokens first (cell_of cell) (lines_from 0 (drop first (with_gaps ns ps)))
-    → AreWithin 1073741824 (widths (cell_of cell) (lines_from 0 (drop first (with_gaps ns ps)))) → new ≡ set_cell_gaps ns numbers (cell_gaps_below (greatest sizes) sizes)
+    → AreAtMost 1073741824 (widths (cell_of cell) (lines_from 0 (drop first (with_gaps ns ps)))) → new ≡ set_cell_gaps ns numbers (cell_gaps_from_width (greatest sizes) sizes)
     → with_gaps new ps ≡ take first (with_gaps ns ps) ++ pairs_in (aligned (cell_of cell) (lines_from 0 (drop first (with_gaps ns ps))))
 aligned_gaps cell ps first ns new sizes numbers size fits sizes_is numbers_is narrow new_is =
     let G : List Pair = with_gaps ns ps in
@@ -430,14 +430,14 @@ aligned_gaps cell ps first ns new sizes numbers size fits sizes_is numbers_is na
     let ws : List (Option ℕ) = widths (cell_of cell) lines in
     let at : first ≡ length (take first G) = sym (length-take-le first G (omega (arith, gaps_length ns ps size))) in
     let whole : G ≡ take first G ++ pairs_in lines = sym (take-append-drop first G) ∙ ap (λ qs. take first G ++ qs) (sym (pairs_of_lines 0 (drop first G))) in
-    let named : new ≡ set_cell_gaps ns (cell_tokens first (cell_of cell) lines) (cell_gaps_below (greatest ws) ws) =
-    new_is ∙ ap₂ (λ (n : List (Option ℕ)) (s : List (Option ℕ)). set_cell_gaps ns n (cell_gaps_below (greatest s) s)) numbers_is sizes_is in
+    let named : new ≡ set_cell_gaps ns (cell_tokens first (cell_of cell) lines) (cell_gaps_from_width (greatest ws) ws) =
+    new_is ∙ ap₂ (λ (n : List (Option ℕ)) (s : List (Option ℕ)). set_cell_gaps ns n (cell_gaps_from_width (greatest s) s)) numbers_is sizes_is in
     ap (λ gs. with_gaps gs ps) named
-    ∙ moved_gaps ps (cell_of cell) (cell_gaps_below (greatest ws) ws) lines (take first G) first ns size at whole (cells_inside cell lines) (cell_gaps_small (greatest ws) ws (greatest_within 1073741824 ws narrow) narrow)
-    ∙ ap (λ (rs : List (Option ℕ)). take first G ++ pairs_in (moved_all (cell_of cell) rs lines)) (sym (cell_gaps_all ws))
+    ∙ moved_gaps ps (cell_of cell) (cell_gaps_from_width (greatest ws) ws) lines (take first G) first ns size at whole (cells_inside cell lines) (cell_gaps_small (greatest ws) ws (greatest_within 1073741824 ws narrow) narrow)
+    ∙ ap (λ (rs : List (Option ℕ)). take first G ++ pairs_in (with_cell_gaps (cell_of cell) rs lines)) (sym (cell_gaps_all ws))
 
-pub front_behind : (ps : List Pair) (first : ℕ) (front rest whole : List Pair) → length front ≡ first → whole ≡ front ++ rest → (take first whole ≡ front) × (drop first whole ≡ rest)
-front_behind ps first front rest whole size is = (
+pub first_after : (ps : List Pair) (first : ℕ) (front rest whole : List Pair) → length front ≡ first → whole ≡ front ++ rest → (take first whole ≡ front) × (drop first whole ≡ rest)
+first_after ps first front rest whole size is = (
   ap (take first) is ∙ take_at front rest first size,
   ap (drop first) is ∙ drop_at front rest first size,
 )

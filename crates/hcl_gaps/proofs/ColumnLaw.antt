@@ -4,10 +4,10 @@ use Rattle.std.specs.Option.{option_map}
 use Rattle.hcl_token.specs.Tokens.{Pair}
 use Rattle.hcl_gaps.specs.Lines.{Line}
 use Rattle.hcl_gaps.specs.Space.{spaces}
-use Rattle.hcl_gaps.specs.Cells.{width, widths, greatest, with_gap, moved, moved_all, aligned}
+use Rattle.hcl_gaps.specs.Cells.{width, widths, greatest, with_gap, with_cell_gap, with_cell_gaps, aligned}
 use Rattle.hcl_gaps.specs.Columns.{column_at, column, SameColumn, AreAligned}
-use Rattle.hcl_gaps.specs.Inner.Near.{cell_of}
-use Rattle.hcl_gaps.specs.Inner.Stages.{cell_gaps_below}
+use Rattle.hcl_gaps.specs.Inner.CodeViews.{cell_of}
+use Rattle.hcl_gaps.specs.Inner.Stages.{cell_gaps_from_width}
 use Rattle.hcl_gaps.specs.declared.cells.Cell.{Cell}
 use Rattle.hcl_gaps.specs.declared.cells.Cell.TheVariants.{Assignment, ClosingComment}
 use Rattle.hcl_gaps.proofs.GapLaw.{length_replicate}
@@ -26,7 +26,7 @@ cell_same : (cell : Cell) (line : Line) (qs : List Pair) → SameTokens qs line.
 cell_same Assignment line qs h = assignment_same line.frozen qs line.pairs h
 cell_same ClosingComment line qs h = comment_same line.frozen qs line.pairs h
 
-moved_column : (cell : Cell) (line : Line) (n c : ℕ) → cell_of cell line ≡ Some n → column (cell_of cell) (moved (Some n) (Some c) line) ≡ Some (width (take n line.pairs) + c)
+moved_column : (cell : Cell) (line : Line) (n c : ℕ) → cell_of cell line ≡ Some n → column (cell_of cell) (with_cell_gap (Some n) (Some c) line) ≡ Some (width (take n line.pairs) + c)
 moved_column cell line n c found =
     let qs : List Pair = with_gap n (spaces c) line.pairs in
     ap (option_map (λ m. column_at m qs)) (cell_same cell line qs (gap_same n (spaces c) line.pairs) ∙ found)
@@ -59,31 +59,31 @@ some_first cell x top (y ∷ lines) e h = (subst (λ c. SameColumn c (column cel
 
 -- one line in front of a run, or of lines behind it
 next_line : (cell : Cell) (top : ℕ) (line : Line) (lines : List Line) (found : Option ℕ) → cell_of cell line ≡ found
-    → ((t : ℕ) → greatest (widths (cell_of cell) lines) ≤ t → IsRun t (cell_of cell) (moved_all (cell_of cell) (cell_gaps_below t (widths (cell_of cell) lines)) lines))
+    → ((t : ℕ) → greatest (widths (cell_of cell) lines) ≤ t → IsRun t (cell_of cell) (with_cell_gaps (cell_of cell) (cell_gaps_from_width t (widths (cell_of cell) lines)) lines))
     → greatest (option_map (λ n. width (take n line.pairs)) found ∷ widths (cell_of cell) lines) ≤ top
-    → IsRun top (cell_of cell) (moved_all (cell_of cell) (cell_gaps_below top (option_map (λ n. width (take n line.pairs)) found ∷ widths (cell_of cell) lines)) (line ∷ lines))
+    → IsRun top (cell_of cell) (with_cell_gaps (cell_of cell) (cell_gaps_from_width top (option_map (λ n. width (take n line.pairs)) found ∷ widths (cell_of cell) lines)) (line ∷ lines))
 next_line cell top line lines None e more h =
     let ws : List (Option ℕ) = widths (cell_of cell) lines in
     let rest = more (greatest ws) (omega arith) in
-    let none : column (cell_of cell) (moved (cell_of cell line) None line) ≡ None =
-    ap (λ o. column (cell_of cell) (moved o None line)) e ∙ ap (option_map (λ m. column_at m line.pairs)) e in
+    let none : column (cell_of cell) (with_cell_gap (cell_of cell line) None line) ≡ None =
+    ap (λ o. column (cell_of cell) (with_cell_gap o None line)) e ∙ ap (option_map (λ m. column_at m line.pairs)) e in
     record {
-      aligned = none_first (cell_of cell) (moved (cell_of cell line) None line) (moved_all (cell_of cell) (cell_gaps_below (greatest ws) ws) lines) none rest.aligned;
+      aligned = none_first (cell_of cell) (with_cell_gap (cell_of cell line) None line) (with_cell_gaps (cell_of cell) (cell_gaps_from_width (greatest ws) ws) lines) none rest.aligned;
       first = subst (InColumn top) (sym none) tt;
     }
 next_line cell top line lines (Some n) e more h =
     let ws : List (Option ℕ) = widths (cell_of cell) lines in
     let w : ℕ = width (take n line.pairs) in
     let rest = more top (omega (arith, h)) in
-    let here : column (cell_of cell) (moved (cell_of cell line) (Some (1 + (top - w))) line) ≡ Some (1 + top) =
-    ap (λ o. column (cell_of cell) (moved o (Some (1 + (top - w))) line)) e ∙ moved_column cell line n (1 + (top - w)) e ∙ ap Some (omega (arith, h)) in
+    let here : column (cell_of cell) (with_cell_gap (cell_of cell line) (Some (1 + (top - w))) line) ≡ Some (1 + top) =
+    ap (λ o. column (cell_of cell) (with_cell_gap o (Some (1 + (top - w))) line)) e ∙ moved_column cell line n (1 + (top - w)) e ∙ ap Some (omega (arith, h)) in
     record {
-      aligned = some_first (cell_of cell) (moved (cell_of cell line) (Some (1 + (top - w))) line) top (moved_all (cell_of cell) (cell_gaps_below top ws) lines) here rest;
+      aligned = some_first (cell_of cell) (with_cell_gap (cell_of cell line) (Some (1 + (top - w))) line) top (with_cell_gaps (cell_of cell) (cell_gaps_from_width top ws) lines) here rest;
       first = subst (InColumn top) (sym here) refl;
     }
 
 all_lines : (cell : Cell) (lines : List Line) (top : ℕ) → greatest (widths (cell_of cell) lines) ≤ top
-    → IsRun top (cell_of cell) (moved_all (cell_of cell) (cell_gaps_below top (widths (cell_of cell) lines)) lines)
+    → IsRun top (cell_of cell) (with_cell_gaps (cell_of cell) (cell_gaps_from_width top (widths (cell_of cell) lines)) lines)
 all_lines cell [] top h = record { aligned = tt; first = tt }
 all_lines cell (line ∷ lines) top h = next_line cell top line lines (cell_of cell line) refl (all_lines cell lines) h
 
@@ -91,4 +91,4 @@ pub cells_aligned : (cell : Cell) (lines : List Line) → AreAligned (cell_of ce
 cells_aligned cell lines =
     let ws : List (Option ℕ) = widths (cell_of cell) lines in
     let run = all_lines cell lines (greatest ws) (omega arith) in
-    subst (λ gs. AreAligned (cell_of cell) (moved_all (cell_of cell) gs lines)) (sym (cell_gaps_all ws)) run.aligned
+    subst (λ gs. AreAligned (cell_of cell) (with_cell_gaps (cell_of cell) gs lines)) (sym (cell_gaps_all ws)) run.aligned

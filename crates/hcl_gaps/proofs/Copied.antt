@@ -5,8 +5,8 @@ use Rattle.std.specs.Option.{option_map}
 use Rattle.std.proofs.lemmas.List.{drop_all, take_all, append-nil, drop-append-le}
 use Rattle.hcl_token.specs.declared.item.Item.{Item}
 use Rattle.hcl_token.specs.Tokens.{Pair, whole_text}
-use Rattle.hcl_token.specs.CutText.{spelling_of, gap_of, item_of, item_behind}
-use Rattle.hcl_gaps.specs.Inner.Stages.{KEPT, gap_meant, len_meant, set_len, with_gaps, Stay}
+use Rattle.hcl_token.specs.TokenizedText.{spelling_of, gap_of, item_of, item_after}
+use Rattle.hcl_gaps.specs.Inner.Stages.{KEEP_GAP, resolved_gap, resolved_len, space_count, with_gaps, AreUnchanged}
 use Rattle.hcl_gaps.specs.Space.{spaces}
 use Rattle.std.proofs.Common.{zero, suc, subst, sum_by, inl, inr}
 use Rattle.std.proofs.lemmas.Bool.{cases_eq}
@@ -101,23 +101,23 @@ module _ (ps : List Pair) (last : List ℕ) (i : ℕ) (g s : List ℕ) (inside :
 
     module _ (ns : List ℕ) (size : length ns ≡ length ps) (a : ℕ) (h : a ≤ reached ps i) (out whole : List ℕ)
         (so_far : out ++ (slice_range source a (reached ps i) ++ whole_text (drop i (with_gaps ns ps)) []) ≡ whole) where
-      pub stays_on : bytes_eq g (gap_meant (get_or ns i 0) g) ≡ true
+      pub stays_on : bytes_eq g (resolved_gap (get_or ns i 0) g) ≡ true
           → out ++ (slice_range source a (reached ps (i + 1)) ++ whole_text (drop (i + 1) (with_gaps ns ps)) []) ≡ whole
       stays_on same =
           let rest : List ℕ = whole_text (drop (i + 1) (with_gaps ns ps)) [] in
           let before : List ℕ = slice_range source a (reached ps i) in
           let come : whole_text (drop i (with_gaps ns ps)) [] ≡ g ++ (s ++ rest) =
-          text_turn ns ps i g s size inside g_is s_is ∙ ap (λ (x : List ℕ). x ++ (s ++ rest)) (sym (same_is g (gap_meant (get_or ns i 0) g) same)) in
+          text_turn ns ps i g s size inside g_is s_is ∙ ap (λ (x : List ℕ). x ++ (s ++ rest)) (sym (same_is g (resolved_gap (get_or ns i 0) g) same)) in
           ap (λ (x : List ℕ). out ++ (x ++ rest)) (more a h)
           ∙ ap (λ (x : List ℕ). out ++ x) (append_assoc before (g ++ s) rest ∙ ap (λ (x : List ℕ). before ++ x) (append_assoc g s rest ∙ sym come))
           ∙ so_far
 
-      pub changes : (copied new : List ℕ) → copied ≡ out ++ slice_range source a (reached ps i) → new ≡ copied ++ gap_meant (get_or ns i 0) g
+      pub changes : (copied new : List ℕ) → copied ≡ out ++ slice_range source a (reached ps i) → new ≡ copied ++ resolved_gap (get_or ns i 0) g
           → new ++ (slice_range source (reached ps i + length g) (reached ps (i + 1)) ++ whole_text (drop (i + 1) (with_gaps ns ps)) []) ≡ whole
       changes copied new first second =
           let rest : List ℕ = whole_text (drop (i + 1) (with_gaps ns ps)) [] in
           let before : List ℕ = slice_range source a (reached ps i) in
-          let gap : List ℕ = gap_meant (get_or ns i 0) g in
+          let gap : List ℕ = resolved_gap (get_or ns i 0) g in
           ap (λ (x : List ℕ). new ++ (x ++ rest)) alone
           ∙ ap (λ (x : List ℕ). x ++ (s ++ rest)) (second ∙ ap (λ (x : List ℕ). x ++ gap) first)
           ∙ append_assoc (out ++ before) gap (s ++ rest)
@@ -143,18 +143,18 @@ spelling_there ps i inside =
     (t.pair.spelling, sym (ap (option_map (λ (p : Pair). p.spelling)) t.at))
 
 -- one more gap that stays
-pub stay_more : (ps : List Pair) (ns : List ℕ) (from i : ℕ) (gap : List ℕ) → Some gap ≡ gap_of ps i → bytes_eq gap (gap_meant (get_or ns i 0) gap) ≡ true → Stay ps ns from i → Stay ps ns from (i + 1)
+pub stay_more : (ps : List Pair) (ns : List ℕ) (from i : ℕ) (gap : List ℕ) → Some gap ≡ gap_of ps i → bytes_eq gap (resolved_gap (get_or ns i 0) gap) ≡ true → AreUnchanged ps ns from i → AreUnchanged ps ns from (i + 1)
 stay_more ps ns from i gap there same stay = λ k g later before g_is. elim (cases_eq k i) [
   | inl here ↦
       let both : Some g ≡ Some gap = g_is ∙ ap (gap_of ps) here ∙ sym there in
       let e : g ≡ gap = cc in
-      ap₂ (λ (x : List ℕ) j. bytes_eq x (gap_meant (get_or ns j 0) x)) e here ∙ same
+      ap₂ (λ (x : List ℕ) j. bytes_eq x (resolved_gap (get_or ns j 0) x)) e here ∙ same
   | inr other ↦ stay k g later (omega arith) g_is
 ]
 
 -- past gaps that stay
 module _ (ps : List Pair) (last source : List ℕ) (source_is : source ≡ whole_text ps last) (ns : List ℕ) (size : length ns ≡ length ps) (a : ℕ) (out whole : List ℕ) where
-  pub stay_to : (n from to : ℕ) → to ≡ from + n → to ≤ length ps → Stay ps ns from to → a ≤ reached ps from
+  pub stay_to : (n from to : ℕ) → to ≡ from + n → to ≤ length ps → AreUnchanged ps ns from to → a ≤ reached ps from
       → out ++ (slice_range source a (reached ps from) ++ whole_text (drop from (with_gaps ns ps)) []) ≡ whole
       → (a ≤ reached ps to) × (out ++ (slice_range source a (reached ps to) ++ whole_text (drop to (with_gaps ns ps)) []) ≡ whole)
   stay_to zero from to e fits stay behind so_far =
@@ -174,8 +174,8 @@ pub gap_place : (ps : List Pair) (i : ℕ) (item : Item) (g : List ℕ) → i < 
 unfolding reached
 gap_place ps i item g inside item_is g_is =
     let t = turn ps i (length ps) inside (omega arith) in
-    let e = item_is ∙ ap (option_map (λ (p : Pair). item_behind (take i ps) p)) t.at in
-    let f : item ≡ item_behind (take i ps) t.pair = cc in (
+    let e = item_is ∙ ap (option_map (λ (p : Pair). item_after (take i ps) p)) t.at in
+    let f : item ≡ item_after (take i ps) t.pair = cc in (
       ap (λ (x : Item). x.gap_at) f,
       ap (λ (x : Item). x.start) f ∙ omega (arith, bytes_joining (take i ps) t.pair.gap, bytes_joining (take i ps) [], ap length (gap_is ps i (length ps) g t g_is)),
     )
@@ -199,8 +199,8 @@ all_copied ns ps last source i a out whole size h source_is so_far =
 item_there : (ps : List Pair) (i : ℕ) (item : Item) → i < length ps → Some item ≡ item_of ps i → (p : Pair) × (Some p.gap ≡ gap_of ps i) × (Some p.spelling ≡ spelling_of ps i) × (item.start ≡ item.gap_at + length p.gap) × (item.stop ≡ item.start + length p.spelling)
 item_there ps i item inside item_is =
     let t = turn ps i (length ps) inside (omega arith) in
-    let e = item_is ∙ ap (option_map (λ (p : Pair). item_behind (take i ps) p)) t.at in
-    let f : item ≡ item_behind (take i ps) t.pair = cc in
+    let e = item_is ∙ ap (option_map (λ (p : Pair). item_after (take i ps) p)) t.at in
+    let f : item ≡ item_after (take i ps) t.pair = cc in
     let none = bytes_joining (take i ps) [] in
     let gap = bytes_joining (take i ps) t.pair.gap in
     let both = bytes_joining (take i ps) (t.pair.gap ++ t.pair.spelling) in (
@@ -216,31 +216,31 @@ item_order ps i item inside item_is =
     let (p, g, s, start, stop) = item_there ps i item inside item_is in
     (omega (arith, start), omega (arith, stop))
 
-meant_len : (m a b c : ℕ) (g s : List ℕ) (test : Bool) → (m == KEPT) ≡ test → b ≡ a + length g → c ≡ b + length s → length (gap_meant m g) + length s ≡ (if m == KEPT then c - a else m + (c - b))
+meant_len : (m a b c : ℕ) (g s : List ℕ) (test : Bool) → (m == KEEP_GAP) ≡ test → b ≡ a + length g → c ≡ b + length s → length (resolved_gap m g) + length s ≡ (if m == KEEP_GAP then c - a else m + (c - b))
 meant_len m a b c g s true h p q = rw h (omega (arith, p, q))
 meant_len m a b c g s false h p q = rw h (omega (arith, p, q, length_replicate m 32))
 
 -- one token more
-pub item_turn : (ns : List ℕ) (ps : List Pair) (i : ℕ) (item : Item) (n : ℕ) → length ns ≡ length ps → i < length ps → Some item ≡ item_of ps i → n ≡ len_meant (get_or ns i 0) item
+pub item_turn : (ns : List ℕ) (ps : List Pair) (i : ℕ) (item : Item) (n : ℕ) → length ns ≡ length ps → i < length ps → Some item ≡ item_of ps i → n ≡ resolved_len (get_or ns i 0) item
     → length (whole_text (drop i (with_gaps ns ps)) []) ≡ n + length (whole_text (drop (i + 1) (with_gaps ns ps)) [])
 item_turn ns ps i item n size inside item_is n_is =
     let (p, g, s, start, stop) = item_there ps i item inside item_is in
     let m : ℕ = get_or ns i 0 in
     let rest : List ℕ = whole_text (drop (i + 1) (with_gaps ns ps)) [] in
     let whole = ap length (text_turn ns ps i p.gap p.spelling size inside g s) in
-    let len = meant_len m item.gap_at item.start item.stop p.gap p.spelling (m == KEPT) refl start stop in
-    omega (arith, whole, len, n_is, length-append (gap_meant m p.gap) (p.spelling ++ rest), length-append p.spelling rest)
+    let len = meant_len m item.gap_at item.start item.stop p.gap p.spelling (m == KEEP_GAP) refl start stop in
+    omega (arith, whole, len, n_is, length-append (resolved_gap m p.gap) (p.spelling ++ rest), length-append p.spelling rest)
 
 -- ---- room
 
-gap_most : (n : ℕ) (g : List ℕ) → length (gap_meant n g) ≤ length g + set_len n
-gap_most n g = elim (n == KEPT) as (λ v. length (if v then g else spaces n) ≤ length g + (if v then 0 else n)) [
+gap_most : (n : ℕ) (g : List ℕ) → length (resolved_gap n g) ≤ length g + space_count n
+gap_most n g = elim (n == KEEP_GAP) as (λ v. length (if v then g else spaces n) ≤ length g + (if v then 0 else n)) [
   | true ↦ omega arith
   | false ↦ omega (arith, length_replicate n 32)
 ]
 
 -- a text has no more bytes than it had with its old gaps, and the new ones beside
-pub most_len : (ns : List ℕ) (ps : List Pair) → length (whole_text (with_gaps ns ps) []) ≤ length (whole_text ps []) + sum_by set_len ns
+pub most_len : (ns : List ℕ) (ps : List Pair) → length (whole_text (with_gaps ns ps) []) ≤ length (whole_text ps []) + sum_by space_count ns
 most_len [] ps = omega arith
 most_len (n ∷ ns) [] = omega arith
 most_len (n ∷ ns) (p ∷ ps) =
@@ -250,8 +250,8 @@ most_len (n ∷ ns) (p ∷ ps) =
       arith,
       most_len ns ps,
       gap_most n p.gap,
-      sum_by-cons set_len n ns,
-      length-append (gap_meant n p.gap) (p.spelling ++ new),
+      sum_by-cons space_count n ns,
+      length-append (resolved_gap n p.gap) (p.spelling ++ new),
       length-append p.spelling new,
       length-append p.gap (p.spelling ++ old),
       length-append p.spelling old,

@@ -6,9 +6,9 @@ use Rattle.std.proofs.lemmas.List.{append-nil}
 use Rattle.hcl_token.specs.declared.kind.Kind.{Kind}
 use Rattle.hcl_gaps.specs.Lines.{Line}
 use Rattle.hcl_gaps.specs.Indent.{openings, closings, stays_open, level}
-use Rattle.hcl_gaps.specs.Space.{passed_all}
-use Rattle.hcl_gaps.specs.Layout.{set_line, set_lines}
-use Rattle.hcl_gaps.specs.Inner.Stages.{close, open_at, open_behind, set_open}
+use Rattle.hcl_gaps.specs.Space.{prev_after_all}
+use Rattle.hcl_gaps.specs.Layout.{format_line, format_lines}
+use Rattle.hcl_gaps.specs.Inner.Stages.{close_brackets, close_earlier, open_after_line, format_lines_by_stack}
 
 -- ---- the surpluses of the lines that stay open
 
@@ -141,7 +141,7 @@ left_grow o c a b (d ∷ ds) h e =
     rw (test, value) (ap (λ ss. (b + d) ∷ ss) (left_grow o c (a + d) (b + d) ds (omega arith) (omega arith)))
 
 -- more closings than openings: what is taken off
-left_shrink : (o c a m : ℕ) (ds : List ℕ) → a + o + m ≡ c → left_of o c (running a ds) ≡ running 0 (close m ds)
+left_shrink : (o c a m : ℕ) (ds : List ℕ) → a + o + m ≡ c → left_of o c (running a ds) ≡ running 0 (close_brackets m ds)
 left_shrink o c a m [] e = refl
 left_shrink o c a m (d ∷ ds) e = elim (cases_lt m d) [
   | inl less ↦
@@ -169,7 +169,7 @@ left_same n (d ∷ ds) pos =
 
 -- the lines that are open at a line
 left_at : (o c : ℕ) (ds : List ℕ) → ArePositive ds
-    → (o < c → left_of o c (running 0 ds) ≡ running 0 (close (c - o) ds)) × (c ≤ o → left_of o c (running 0 ds) ≡ running (o - c) ds)
+    → (o < c → left_of o c (running 0 ds) ≡ running 0 (close_brackets (c - o) ds)) × (c ≤ o → left_of o c (running 0 ds) ≡ running (o - c) ds)
 left_at o c ds pos = (
   λ less. left_shrink o c 0 (c - o) ds (omega arith),
   λ le. elim (cases_lt c o) [
@@ -181,7 +181,7 @@ left_at o c ds pos = (
   ],
 )
 
-pub close_positive : (m : ℕ) (ds : List ℕ) → ArePositive ds → ArePositive (close m ds)
+pub close_positive : (m : ℕ) (ds : List ℕ) → ArePositive ds → ArePositive (close_brackets m ds)
 close_positive m [] pos = tt
 close_positive m (d ∷ ds) pos = elim (cases_lt m d) [
   | inl less ↦ let own : nat_lt m d ≡ true = grind (arith, nat_tests) in rw own (omega arith, pos.1)
@@ -199,9 +199,9 @@ pub record Stands (lines : List Line) (stack : List ℕ) : Type 0 where
 
 -- how a line changes the stack
 record StackStep (o c : ℕ) (ds : List ℕ) : Type 0 where
-  deep : length (left_of o c (running 0 ds)) ≡ length (open_at o c ds)
-  behind : one_if (nat_lt c o) (o - c) ++ left_of o c (running 0 ds) ≡ running 0 (open_behind o c ds)
-  positive : ArePositive (open_behind o c ds)
+  deep : length (left_of o c (running 0 ds)) ≡ length (close_earlier o c ds)
+  behind : one_if (nat_lt c o) (o - c) ++ left_of o c (running 0 ds) ≡ running 0 (open_after_line o c ds)
+  positive : ArePositive (open_after_line o c ds)
 
 stack_step : (o c : ℕ) (ds : List ℕ) → ArePositive ds → StackStep o c ds
 stack_step o c ds pos = elim (cases_lt o c) [
@@ -210,7 +210,7 @@ stack_step o c ds pos = elim (cases_lt o c) [
       let opens : nat_lt c o ≡ false = grind (arith, nat_tests) in
       let left = (left_at o c ds pos).0 less in
       record {
-        deep = rw closes (ap length left ∙ length_running 0 (close (c - o) ds));
+        deep = rw closes (ap length left ∙ length_running 0 (close_brackets (c - o) ds));
         behind = rw (opens, closes) left;
         positive = rw (opens, closes) (close_positive (c - o) ds pos);
       }
@@ -238,14 +238,14 @@ stack_step o c ds pos = elim (cases_lt o c) [
 ]
 
 -- one more line: how deep it is
-pub line_deep : (lines : List Line) (stack : List ℕ) (x : Line) → Stands lines stack → level lines x ≡ length (open_at (openings x.pairs) (closings x.pairs) stack)
+pub line_deep : (lines : List Line) (stack : List ℕ) (x : Line) → Stands lines stack → level lines x ≡ length (close_earlier (openings x.pairs) (closings x.pairs) stack)
 line_deep lines stack x s =
     level_counts lines x ∙ ap (λ ss. length (left_of (openings x.pairs) (closings x.pairs) ss)) s.same
     ∙ (stack_step (openings x.pairs) (closings x.pairs) stack s.positive).deep
 
 -- and the stack behind it
-pub line_stands : (lines : List Line) (stack : List ℕ) (x : Line) → Stands lines stack → Stands (lines ++ x ∷ []) (open_behind (openings x.pairs) (closings x.pairs) stack)
-line_stands lines stack x s =
+pub line_is_at : (lines : List Line) (stack : List ℕ) (x : Line) → Stands lines stack → Stands (lines ++ x ∷ []) (open_after_line (openings x.pairs) (closings x.pairs) stack)
+line_is_at lines stack x s =
     let step = stack_step (openings x.pairs) (closings x.pairs) stack s.positive in
     record {
       same = push_surpluses lines x
@@ -255,12 +255,12 @@ line_stands lines stack x s =
     }
 
 -- lines set by the stack are those of the definition
-set_behind : (earlier : List Line) (stack : List ℕ) (before : List Kind) (lines : List Line) → Stands earlier stack → set_lines earlier before lines ≡ set_open stack before lines
-set_behind earlier stack before [] s = refl
-set_behind earlier stack before (x ∷ lines) s =
+set_after : (earlier : List Line) (stack : List ℕ) (before : List Kind) (lines : List Line) → Stands earlier stack → format_lines earlier before lines ≡ format_lines_by_stack stack before lines
+set_after earlier stack before [] s = refl
+set_after earlier stack before (x ∷ lines) s =
     ap₂ (λ (y : Line) (ys : List Line). y ∷ ys)
-    (ap (λ n. set_line n before x) (line_deep earlier stack x s))
-    (set_behind (earlier ++ x ∷ []) (open_behind (openings x.pairs) (closings x.pairs) stack) (passed_all x.pairs before) lines (line_stands earlier stack x s))
+    (ap (λ n. format_line n before x) (line_deep earlier stack x s))
+    (set_after (earlier ++ x ∷ []) (open_after_line (openings x.pairs) (closings x.pairs) stack) (prev_after_all x.pairs before) lines (line_is_at earlier stack x s))
 
-pub set_by_stack : (before : List Kind) (lines : List Line) → set_lines [] before lines ≡ set_open [] before lines
-set_by_stack before lines = set_behind [] [] before lines (record { same = refl; positive = tt })
+pub set_by_stack : (before : List Kind) (lines : List Line) → format_lines [] before lines ≡ format_lines_by_stack [] before lines
+set_by_stack before lines = set_after [] [] before lines (record { same = refl; positive = tt })

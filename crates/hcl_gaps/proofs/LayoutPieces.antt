@@ -4,18 +4,18 @@ use Rattle.std.specs.Str.{bytes_eq}
 use Rattle.std.proofs.lemmas.Bool.{and_parts, ltb-true, false≢true}
 use Rattle.std.proofs.lemmas.List.{append-nil}
 use Rattle.std.proofs.lemmas.Slice.Eq.{bytes_eq-Decides}
-use Rattle.edit_list.specs.Pieces.{Entry, EditList, Piece, Turns, old_text, new_text, changes_from}
+use Rattle.edit_list.specs.Pieces.{EditEntry, EditList, Piece, Transforms, old_text, new_text, changed_entries}
 use Rattle.edit_list.specs.Pieces.Piece.{Kept, Changed}
-use Rattle.edit_list.specs.Made.{made}
-use Rattle.edit_list.specs.Pieced.{AreChanges, PiecesMake}
+use Rattle.edit_list.specs.Validity.{make_edits}
+use Rattle.edit_list.specs.PieceEdits.{ChangesAreNonempty, PiecesMakeValidEdits}
 use Rattle.edit_list.specs.declared.edits.TheConstants.{MAX_TEXT}
 use Rattle.edit_list.specs.declared.edit.BadEdits.{BadEdits}
 use Rattle.edit_list.specs.declared.edit.BadEdits.TheVariants.{TooLong}
-use Rattle.hcl_scan.specs.Cut.{IsCut}
-use Rattle.hcl_token.specs.CutText.{CutText}
+use Rattle.hcl_scan.specs.Tokenization.{IsTokenization}
+use Rattle.hcl_token.specs.TokenizedText.{TokenizedText}
 use Rattle.hcl_token.specs.Tokens.{Pair, whole_text}
 use Rattle.hcl_token.specs.Place.{is_mark}
-use Rattle.hcl_gaps.specs.Layout.{gap_piece, pieces, laid_out, laid_out_body, layout_text, layout_edits}
+use Rattle.hcl_gaps.specs.Layout.{gap_piece, pieces, layout_pairs, layout_body, layout_text, layout_edits}
 use Rattle.hcl_gaps.specs.Inner.Stages.{unchanged}
 use Rattle.hcl_gaps.proofs.TokensKept.{SameTokens, body_tokens, body_again}
 
@@ -30,8 +30,8 @@ not_both_empty [] [] h = absurd (false≢true (sym h))
 not_both_empty [] (b ∷ new) h = omega arith
 not_both_empty (a ∷ old) new h = omega arith
 
-gap_changes : (old new : List ℕ) (ps : List Piece) → AreChanges ps → AreChanges (gap_piece old new ∷ ps)
-gap_changes old new ps h = elim (bytes_eq old new) as (λ b. bytes_eq old new ≡ b → AreChanges ((if b then Kept old else Changed old new) ∷ ps)) [ true ↦ λ e. h | false ↦ λ e. (not_both_empty old new e, h) ] refl
+gap_changes : (old new : List ℕ) (ps : List Piece) → ChangesAreNonempty ps → ChangesAreNonempty (gap_piece old new ∷ ps)
+gap_changes old new ps h = elim (bytes_eq old new) as (λ b. bytes_eq old new ≡ b → ChangesAreNonempty ((if b then Kept old else Changed old new) ∷ ps)) [ true ↦ λ e. h | false ↦ λ e. (not_both_empty old new e, h) ] refl
 
 gap_old : (old new : List ℕ) (ps : List Piece) → old_text (gap_piece old new ∷ ps) ≡ old ++ old_text ps
 gap_old old new ps = elim (bytes_eq old new) as (λ b. old_text ((if b then Kept old else Changed old new) ∷ ps) ≡ old ++ old_text ps) [ true ↦ refl | false ↦ refl ]
@@ -42,7 +42,7 @@ gap_new old new ps = elim (bytes_eq old new) as (λ b. bytes_eq old new ≡ b �
   | false ↦ λ e. refl
 ] refl
 
-pub pieces_change : (ps qs : List Pair) (last : List ℕ) → SameTokens qs ps → AreChanges (pieces ps qs last)
+pub pieces_change : (ps qs : List Pair) (last : List ℕ) → SameTokens qs ps → ChangesAreNonempty (pieces ps qs last)
 pieces_change [] [] last h = gap_changes last [] [] tt
 pieces_change [] (q ∷ qs) last h = absurd h
 pieces_change (p ∷ ps) [] last h = absurd h
@@ -63,61 +63,61 @@ pieces_new (p ∷ ps) (q ∷ qs) last h =
 
 -- what `make` answers of the pieces of a text
 abbrev pub PiecesAreMade : Type 0
-PiecesAreMade = (ps : List Piece) → AreChanges ps → length (old_text ps) ≤ MAX_TEXT → PiecesMake ps
+PiecesAreMade = (ps : List Piece) → ChangesAreNonempty ps → length (old_text ps) ≤ MAX_TEXT → PiecesMakeValidEdits ps
 
 -- ---- the layout of a text
 
-laid_tokens_if : (p : Pair) (ps : List Pair) (b : Bool) → SameTokens (if b then p ∷ laid_out_body ps else laid_out_body (p ∷ ps)) (p ∷ ps)
-laid_tokens_if p ps true = (refl, refl, body_tokens ps)
-laid_tokens_if p ps false = body_tokens (p ∷ ps)
+layout_tokens_if : (p : Pair) (ps : List Pair) (b : Bool) → SameTokens (if b then p ∷ layout_body ps else layout_body (p ∷ ps)) (p ∷ ps)
+layout_tokens_if p ps true = (refl, refl, body_tokens ps)
+layout_tokens_if p ps false = body_tokens (p ∷ ps)
 
 -- the layout keeps the tokens
-pub laid_tokens : (pairs : List Pair) → SameTokens (laid_out pairs) pairs
-laid_tokens [] = tt
-laid_tokens (p ∷ ps) = laid_tokens_if p ps (is_mark p.kind)
+pub layout_tokens : (pairs : List Pair) → SameTokens (layout_pairs pairs) pairs
+layout_tokens [] = tt
+layout_tokens (p ∷ ps) = layout_tokens_if p ps (is_mark p.kind)
 
-unmarked : (p : Pair) (ps qs : List Pair) → is_mark p.kind ≡ false → SameTokens qs (p ∷ ps) → laid_out qs ≡ laid_out_body qs
+unmarked : (p : Pair) (ps qs : List Pair) → is_mark p.kind ≡ false → SameTokens qs (p ∷ ps) → layout_pairs qs ≡ layout_body qs
 unmarked p ps [] e h = absurd h
 unmarked p ps (q ∷ qs) e h = let other : is_mark q.kind ≡ false = ap is_mark h.0 ∙ e in rw other refl
 
-again_if : (p : Pair) (ps : List Pair) (b : Bool) → is_mark p.kind ≡ b → laid_out (if b then p ∷ laid_out_body ps else laid_out_body (p ∷ ps)) ≡ (if b then p ∷ laid_out_body ps else laid_out_body (p ∷ ps))
+again_if : (p : Pair) (ps : List Pair) (b : Bool) → is_mark p.kind ≡ b → layout_pairs (if b then p ∷ layout_body ps else layout_body (p ∷ ps)) ≡ (if b then p ∷ layout_body ps else layout_body (p ∷ ps))
 again_if p ps true e = rw e (ap (λ qs. p ∷ qs) (body_again ps))
-again_if p ps false e = unmarked p ps (laid_out_body (p ∷ ps)) e (body_tokens (p ∷ ps)) ∙ body_again (p ∷ ps)
+again_if p ps false e = unmarked p ps (layout_body (p ∷ ps)) e (body_tokens (p ∷ ps)) ∙ body_again (p ∷ ps)
 
 -- and what is laid out is its own layout
-pub laid_again : (pairs : List Pair) → laid_out (laid_out pairs) ≡ laid_out pairs
-laid_again [] = refl
-laid_again (p ∷ ps) = again_if p ps (is_mark p.kind) refl
+pub layout_again : (pairs : List Pair) → layout_pairs (layout_pairs pairs) ≡ layout_pairs pairs
+layout_again [] = refl
+layout_again (p ∷ ps) = again_if p ps (is_mark p.kind) refl
 
-pub layout_turns : (cut : CutText) → IsCut cut.text cut.pairs cut.last → Turns (layout_edits cut) cut.text (layout_text cut)
+pub layout_turns : (cut : TokenizedText) → IsTokenization cut.text cut.pairs cut.last → Transforms (layout_edits cut) cut.text (layout_text cut)
 layout_turns cut is = record {
   len = refl;
-  pieces = pieces cut.pairs (laid_out cut.pairs) cut.last;
-  old_is = pieces_old cut.pairs (laid_out cut.pairs) cut.last (laid_tokens cut.pairs) ∙ sym is.cuts.text_is;
-  new_is = pieces_new cut.pairs (laid_out cut.pairs) cut.last (laid_tokens cut.pairs);
+  pieces = pieces cut.pairs (layout_pairs cut.pairs) cut.last;
+  old_is = pieces_old cut.pairs (layout_pairs cut.pairs) cut.last (layout_tokens cut.pairs) ∙ sym is.tokenizes.text_is;
+  new_is = pieces_new cut.pairs (layout_pairs cut.pairs) cut.last (layout_tokens cut.pairs);
   edits_are = refl;
 }
 
-IsMade : (old new : List ℕ) (es : List Entry) → Type 0
-IsMade old new es = made (length old) es ≡ (if nat_lt MAX_TEXT (length new) then Err TooLong else Ok (record { old_len = length old; entries = es }))
+IsMade : (old new : List ℕ) (es : List EditEntry) → Type 0
+IsMade old new es = make_edits (length old) es ≡ (if nat_lt MAX_TEXT (length new) then Err TooLong else Ok (record { old_len = length old; entries = es }))
 
-made_from : PiecesAreMade → (ps : List Piece) (old new : List ℕ) → AreChanges ps → old_text ps ≡ old → new_text ps ≡ new → length (old_text ps) ≤ MAX_TEXT → IsMade old new (changes_from 0 ps)
+made_from : PiecesAreMade → (ps : List Piece) (old new : List ℕ) → ChangesAreNonempty ps → old_text ps ≡ old → new_text ps ≡ new → length (old_text ps) ≤ MAX_TEXT → IsMade old new (changed_entries 0 ps)
 unfolding IsMade
 made_from pieces_make ps old new are o n short =
-    let whole : IsMade (old_text ps) (new_text ps) (changes_from 0 ps) = pieces_make ps are short in
-    let P : List ℕ → Type 0 = λ t. IsMade t (new_text ps) (changes_from 0 ps) in
-    let Q : List ℕ → Type 0 = λ t. IsMade old t (changes_from 0 ps) in
+    let whole : IsMade (old_text ps) (new_text ps) (changed_entries 0 ps) = pieces_make ps are short in
+    let P : List ℕ → Type 0 = λ t. IsMade t (new_text ps) (changed_entries 0 ps) in
+    let Q : List ℕ → Type 0 = λ t. IsMade old t (changed_entries 0 ps) in
     subst Q n (subst P o whole)
 
 -- what `make` answers about the edits of the layout
-pub layout_made : PiecesAreMade → (cut : CutText) → IsCut cut.text cut.pairs cut.last
-    → made (length cut.text) (layout_edits cut).entries ≡ (if nat_lt MAX_TEXT (length (layout_text cut)) then Err TooLong else Ok (layout_edits cut))
+pub layout_made : PiecesAreMade → (cut : TokenizedText) → IsTokenization cut.text cut.pairs cut.last
+    → make_edits (length cut.text) (layout_edits cut).entries ≡ (if nat_lt MAX_TEXT (length (layout_text cut)) then Err TooLong else Ok (layout_edits cut))
 unfolding IsMade
 layout_made pieces_make cut is =
-    let ps : List Piece = pieces cut.pairs (laid_out cut.pairs) cut.last in
-    let old : old_text ps ≡ cut.text = pieces_old cut.pairs (laid_out cut.pairs) cut.last (laid_tokens cut.pairs) ∙ sym is.cuts.text_is in
+    let ps : List Piece = pieces cut.pairs (layout_pairs cut.pairs) cut.last in
+    let old : old_text ps ≡ cut.text = pieces_old cut.pairs (layout_pairs cut.pairs) cut.last (layout_tokens cut.pairs) ∙ sym is.tokenizes.text_is in
     let short : length (old_text ps) ≤ MAX_TEXT = omega (arith, ap length old, is.short) in
-    made_from pieces_make ps cut.text (layout_text cut) (pieces_change cut.pairs (laid_out cut.pairs) cut.last (laid_tokens cut.pairs)) old (pieces_new cut.pairs (laid_out cut.pairs) cut.last (laid_tokens cut.pairs)) short
+    made_from pieces_make ps cut.text (layout_text cut) (pieces_change cut.pairs (layout_pairs cut.pairs) cut.last (layout_tokens cut.pairs)) old (pieces_new cut.pairs (layout_pairs cut.pairs) cut.last (layout_tokens cut.pairs)) short
 
 -- ---- what is told of calls
 
@@ -126,14 +126,14 @@ answer_if : (over : Bool) (list : EditList) (answer : Result EditList BadEdits) 
 answer_if true list answer k is same = rw same (ltb-true MAX_TEXT k is)
 answer_if false list answer k is same = rw same refl
 
-pub made_list : PiecesAreMade → (cut : CutText) (answer : Result EditList BadEdits) → IsCut cut.text cut.pairs cut.last → made (length cut.text) (layout_edits cut).entries ≡ answer
+pub made_list : PiecesAreMade → (cut : TokenizedText) (answer : Result EditList BadEdits) → IsTokenization cut.text cut.pairs cut.last → make_edits (length cut.text) (layout_edits cut).entries ≡ answer
     → elim answer as (λ r. Type 0) [ Ok e ↦ e ≡ layout_edits cut | Err e ↦ MAX_TEXT < length (layout_text cut) ]
 made_list pieces_make cut answer is same = answer_if (nat_lt MAX_TEXT (length (layout_text cut))) (layout_edits cut) answer (length (layout_text cut)) refl (sym same ∙ layout_made pieces_make cut is)
 
 -- what is read of the call of `make`
-pub read_made : (text read : List ℕ) (es given : List Entry) (answer other : Result EditList BadEdits)
-    → answer ≡ made (length read) given → read ≡ text → given ≡ es → answer ≡ other → made (length text) es ≡ other
-read_made text read es given answer other called t e is = sym (ap (λ x. made (length x) given) t ∙ ap (made (length text)) e) ∙ (sym called ∙ is)
+pub read_made : (text read : List ℕ) (es given : List EditEntry) (answer other : Result EditList BadEdits)
+    → answer ≡ make_edits (length read) given → read ≡ text → given ≡ es → answer ≡ other → make_edits (length text) es ≡ other
+read_made text read es given answer other called t e is = sym (ap (λ x. make_edits (length x) given) t ∙ ap (make_edits (length text)) e) ∙ (sym called ∙ is)
 
 pub unchanged_is : (ps qs : List Pair) (last : List ℕ) → SameTokens qs ps → unchanged ps qs last ≡ true → (qs ≡ ps) × (last ≡ [])
 unchanged_is [] [] last h k = (refl, same_is last [] k)

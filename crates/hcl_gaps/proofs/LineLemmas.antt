@@ -10,18 +10,18 @@ use Rattle.std.proofs.Math.Seq.{set-append_seam}
 use Rattle.hcl_token.specs.declared.kind.Kind.{Kind}
 use Rattle.hcl_token.specs.declared.kind.Kind.TheVariants.{LineEnd, HereOpen, HereClose}
 use Rattle.hcl_token.specs.Tokens.{Pair}
-use Rattle.hcl_token.specs.CutText.{kind_of, spelling_of, gap_of}
+use Rattle.hcl_token.specs.TokenizedText.{kind_of, spelling_of, gap_of}
 use Rattle.hcl_gaps.specs.Kinds.{is_here_open}
-use Rattle.hcl_gaps.specs.Lines.{Line, heredocs_after, ends_line, in_front, lines_from}
-use Rattle.hcl_gaps.specs.Inner.Stages.{line_len, held_behind, held_of, SplitsLine, close}
-use Rattle.hcl_gaps.specs.Inner.Near.{makes_busy, is_comment, is_plain, are_some, IsLine, AreLines}
+use Rattle.hcl_gaps.specs.Lines.{Line, heredocs_after, ends_line, prepend_to_first, lines_from}
+use Rattle.hcl_gaps.specs.Inner.Stages.{line_len, open_heredocs_after, open_heredocs_of, SplitsLine, close_brackets}
+use Rattle.hcl_gaps.specs.Inner.CodeViews.{is_bracket, is_comment, has_no_line_effect, are_some, IsLine, AreLines}
 use Rattle.std.proofs.Common.{take-add, ◌||◌, ◌&&◌, None}
 use Rattle.std.specs.List.{list_any}
 use Rattle.hcl_token.specs.Place.{is_lf}
 use Rattle.hcl_token.specs.declared.kind.Kind.TheVariants.{Equal, LineComment, InlineComment, OpenBrace, CloseBrace, OpenBracket, CloseBracket, OpenParen, CloseParen, SeqClose, InterpOpen, DirectiveOpen}
 use Rattle.hcl_gaps.specs.Kinds.{is_line_comment, is_inline_comment, is_equal}
 use Rattle.hcl_gaps.specs.Indent.{is_opening, is_closing, openings, closings}
-use Rattle.hcl_gaps.specs.Cells.{before_first, before_later}
+use Rattle.hcl_gaps.specs.Cells.{index_of_first, index_after_first}
 use Rattle.hcl_gaps.specs.declared.lines.LineSpan.{LineSpan}
 use Rattle.std.proofs.lemmas.Bool.Decides.{nat_tests}
 
@@ -54,101 +54,101 @@ gap_is pairs i to g t h = let e = h ∙ ap (option_map (λ (p : Pair). p.gap)) t
 
 -- the first line and those behind it
 IsSplit : ℕ → List Pair → Type 0
-IsSplit held ps = lines_from held ps ≡ record { frozen = nat_lt 0 held; pairs = take (line_len held ps) ps } ∷ lines_from (held_behind held ps) (drop (line_len held ps) ps)
+IsSplit open_heredocs ps = lines_from open_heredocs ps ≡ record { frozen = nat_lt 0 open_heredocs; pairs = take (line_len open_heredocs ps) ps } ∷ lines_from (open_heredocs_after open_heredocs ps) (drop (line_len open_heredocs ps) ps)
 
-split_if : (held : ℕ) (p : Pair) (ps : List Pair) (ends : Bool) → ends_line held p.kind ≡ ends
-    → ((q : Pair) (qs : List Pair) → ps ≡ q ∷ qs → IsSplit (heredocs_after held p.kind) ps) → IsSplit held (p ∷ ps)
+split_if : (open_heredocs : ℕ) (p : Pair) (ps : List Pair) (ends : Bool) → ends_line open_heredocs p.kind ≡ ends
+    → ((q : Pair) (qs : List Pair) → ps ≡ q ∷ qs → IsSplit (heredocs_after open_heredocs p.kind) ps) → IsSplit open_heredocs (p ∷ ps)
 unfolding IsSplit
-split_if held p ps true is rest = rw is refl
-split_if held p [] false is rest = rw is refl
-split_if held p (q ∷ qs) false is rest = rw is (ap (in_front (nat_lt 0 held) p) (rest q qs refl))
+split_if open_heredocs p ps true is rest = rw is refl
+split_if open_heredocs p [] false is rest = rw is refl
+split_if open_heredocs p (q ∷ qs) false is rest = rw is (ap (prepend_to_first (nat_lt 0 open_heredocs) p) (rest q qs refl))
 
-pub first_line : (held : ℕ) (p : Pair) (ps : List Pair) → lines_from held (p ∷ ps) ≡ record { frozen = nat_lt 0 held; pairs = take (line_len held (p ∷ ps)) (p ∷ ps) } ∷ lines_from (held_behind held (p ∷ ps)) (drop (line_len held (p ∷ ps)) (p ∷ ps))
+pub first_line : (open_heredocs : ℕ) (p : Pair) (ps : List Pair) → lines_from open_heredocs (p ∷ ps) ≡ record { frozen = nat_lt 0 open_heredocs; pairs = take (line_len open_heredocs (p ∷ ps)) (p ∷ ps) } ∷ lines_from (open_heredocs_after open_heredocs (p ∷ ps)) (drop (line_len open_heredocs (p ∷ ps)) (p ∷ ps))
 unfolding IsSplit
-first_line held p [] = split_if held p [] (ends_line held p.kind) refl (λ q qs e. absurd (cc))
-first_line held p (r ∷ ps) = split_if held p (r ∷ ps) (ends_line held p.kind) refl (λ q qs e. first_line (heredocs_after held p.kind) r ps)
+first_line open_heredocs p [] = split_if open_heredocs p [] (ends_line open_heredocs p.kind) refl (λ q qs e. absurd (cc))
+first_line open_heredocs p (r ∷ ps) = split_if open_heredocs p (r ∷ ps) (ends_line open_heredocs p.kind) refl (λ q qs e. first_line (heredocs_after open_heredocs p.kind) r ps)
 
-len_some : (held : ℕ) (p : Pair) (ps : List Pair) → 0 < line_len held (p ∷ ps)
-len_some held p ps = elim (ends_line held p.kind) as (λ b. 0 < (if b then 1 else suc (line_len (heredocs_after held p.kind) ps))) [ true ↦ omega arith | false ↦ omega arith ]
+len_some : (open_heredocs : ℕ) (p : Pair) (ps : List Pair) → 0 < line_len open_heredocs (p ∷ ps)
+len_some open_heredocs p ps = elim (ends_line open_heredocs p.kind) as (λ b. 0 < (if b then 1 else suc (line_len (heredocs_after open_heredocs p.kind) ps))) [ true ↦ omega arith | false ↦ omega arith ]
 
-begins_held : (frozen : Bool) → nat_lt 0 (held_of frozen) ≡ frozen
+begins_held : (frozen : Bool) → nat_lt 0 (open_heredocs_of frozen) ≡ frozen
 begins_held true = refl
 begins_held false = refl
 
 -- the first line from token `at` on
 first_at : (pairs : List Pair) (at : ℕ) (frozen : Bool) → at < length pairs
-    → (0 < line_len (held_of frozen) (drop at pairs))
-    × (lines_from (held_of frozen) (drop at pairs) ≡ record { frozen = frozen; pairs = take (line_len (held_of frozen) (drop at pairs)) (drop at pairs) } ∷ lines_from (held_behind (held_of frozen) (drop at pairs)) (drop (line_len (held_of frozen) (drop at pairs)) (drop at pairs)))
+    → (0 < line_len (open_heredocs_of frozen) (drop at pairs))
+    × (lines_from (open_heredocs_of frozen) (drop at pairs) ≡ record { frozen = frozen; pairs = take (line_len (open_heredocs_of frozen) (drop at pairs)) (drop at pairs) } ∷ lines_from (open_heredocs_after (open_heredocs_of frozen) (drop at pairs)) (drop (line_len (open_heredocs_of frozen) (drop at pairs)) (drop at pairs)))
 first_at pairs at frozen inside =
     let t = turn pairs at (length pairs) inside (omega arith) in
     rw t.rest (
-      len_some (held_of frozen) t.pair (drop (at + 1) pairs),
-      first_line (held_of frozen) t.pair (drop (at + 1) pairs)
-          ∙ ap (λ f. record { frozen = f; pairs = take (line_len (held_of frozen) (t.pair ∷ drop (at + 1) pairs)) (t.pair ∷ drop (at + 1) pairs) } ∷ lines_from (held_behind (held_of frozen) (t.pair ∷ drop (at + 1) pairs)) (drop (line_len (held_of frozen) (t.pair ∷ drop (at + 1) pairs)) (t.pair ∷ drop (at + 1) pairs))) (begins_held frozen),
+      len_some (open_heredocs_of frozen) t.pair (drop (at + 1) pairs),
+      first_line (open_heredocs_of frozen) t.pair (drop (at + 1) pairs)
+          ∙ ap (λ f. record { frozen = f; pairs = take (line_len (open_heredocs_of frozen) (t.pair ∷ drop (at + 1) pairs)) (t.pair ∷ drop (at + 1) pairs) } ∷ lines_from (open_heredocs_after (open_heredocs_of frozen) (t.pair ∷ drop (at + 1) pairs)) (drop (line_len (open_heredocs_of frozen) (t.pair ∷ drop (at + 1) pairs)) (t.pair ∷ drop (at + 1) pairs))) (begins_held frozen),
     )
 
 splits : (pairs : List Pair) (at : ℕ) (frozen : Bool) (past : ℕ) (next : Bool) → at < length pairs → past ≤ length pairs
-    → at + line_len (held_of frozen) (drop at pairs) ≡ past
-    → lines_from (held_behind (held_of frozen) (drop at pairs)) (drop past pairs) ≡ lines_from (held_of next) (drop past pairs)
+    → at + line_len (open_heredocs_of frozen) (drop at pairs) ≡ past
+    → lines_from (open_heredocs_after (open_heredocs_of frozen) (drop at pairs)) (drop past pairs) ≡ lines_from (open_heredocs_of next) (drop past pairs)
     → SplitsLine pairs at frozen past next
 splits pairs at frozen past next inside within len behind =
     let first = first_at pairs at frozen inside in
-    let n : ℕ = line_len (held_of frozen) (drop at pairs) in
+    let n : ℕ = line_len (open_heredocs_of frozen) (drop at pairs) in
     let count : n ≡ past - at = omega arith in
     let rest : drop n (drop at pairs) ≡ drop past pairs = drop-drop n at pairs ∙ ap (λ k. drop k pairs) (omega arith) in
     record {
       more = omega (arith, first.0);
       within = within;
-      line = first.1 ∙ ap₂ (λ (ps : List Pair) (ls : List Line). record { frozen = frozen; pairs = ps } ∷ ls) (ap (λ k. take k (drop at pairs)) count) (ap (λ ps. lines_from (held_behind (held_of frozen) (drop at pairs)) ps) rest ∙ behind);
+      line = first.1 ∙ ap₂ (λ (ps : List Pair) (ls : List Line). record { frozen = frozen; pairs = ps } ∷ ls) (ap (λ k. take k (drop at pairs)) count) (ap (λ ps. lines_from (open_heredocs_after (open_heredocs_of frozen) (drop at pairs)) ps) rest ∙ behind);
     }
 
 -- a line that began at token `at` goes on at token i
-pub record IsInLine (pairs : List Pair) (at : ℕ) (frozen : Bool) (i held : ℕ) : Type 0 where
-  pub len : at + line_len (held_of frozen) (drop at pairs) ≡ i + line_len held (drop i pairs)
-  pub behind : held_behind (held_of frozen) (drop at pairs) ≡ held_behind held (drop i pairs)
+pub record IsInLine (pairs : List Pair) (at : ℕ) (frozen : Bool) (i open_heredocs : ℕ) : Type 0 where
+  pub len : at + line_len (open_heredocs_of frozen) (drop at pairs) ≡ i + line_len open_heredocs (drop i pairs)
+  pub behind : open_heredocs_after (open_heredocs_of frozen) (drop at pairs) ≡ open_heredocs_after open_heredocs (drop i pairs)
   pub later : at ≤ i
-  pub small : held + at ≤ i + 1
+  pub small : open_heredocs + at ≤ i + 1
 
-pub in_line_begins : (pairs : List Pair) (at : ℕ) (frozen : Bool) → IsInLine pairs at frozen at (held_of frozen)
+pub in_line_begins : (pairs : List Pair) (at : ℕ) (frozen : Bool) → IsInLine pairs at frozen at (open_heredocs_of frozen)
 in_line_begins pairs at true = record { len = refl; behind = refl; later = omega arith; small = omega arith }
 in_line_begins pairs at false = record { len = refl; behind = refl; later = omega arith; small = omega arith }
 
-grows : (held : ℕ) (k : Kind) → heredocs_after held k ≤ held + 1
-grows held HereOpen = omega arith
-grows held HereClose = omega arith
-grows held k = omega arith
+grows : (open_heredocs : ℕ) (k : Kind) → heredocs_after open_heredocs k ≤ open_heredocs + 1
+grows open_heredocs HereOpen = omega arith
+grows open_heredocs HereClose = omega arith
+grows open_heredocs k = omega arith
 
-pub in_line_goes : (pairs : List Pair) (at : ℕ) (frozen : Bool) (i held : ℕ) (k : Kind) → IsInLine pairs at frozen i held → i < length pairs → Some k ≡ kind_of pairs i → ends_line held k ≡ false
-    → IsInLine pairs at frozen (i + 1) (heredocs_after held k)
-in_line_goes pairs at frozen i held k l inside is goes =
+pub in_line_goes : (pairs : List Pair) (at : ℕ) (frozen : Bool) (i open_heredocs : ℕ) (k : Kind) → IsInLine pairs at frozen i open_heredocs → i < length pairs → Some k ≡ kind_of pairs i → ends_line open_heredocs k ≡ false
+    → IsInLine pairs at frozen (i + 1) (heredocs_after open_heredocs k)
+in_line_goes pairs at frozen i open_heredocs k l inside is goes =
     let t = turn pairs i (length pairs) inside (omega arith) in
     let same = kind_is pairs i (length pairs) k t is in
-    let goes_on : ends_line held t.pair.kind ≡ false = ap (ends_line held) (sym same) ∙ goes in
-    let len : line_len held (drop i pairs) ≡ suc (line_len (heredocs_after held k) (drop (i + 1) pairs)) = rw (t.rest, goes_on, same) refl in
-    let behind : held_behind held (drop i pairs) ≡ held_behind (heredocs_after held k) (drop (i + 1) pairs) = rw (t.rest, goes_on, same) refl in
-    record { len = omega (arith, l.len, len); behind = l.behind ∙ behind; later = omega (arith, l.later); small = omega (arith, l.small, grows held k) }
+    let goes_on : ends_line open_heredocs t.pair.kind ≡ false = ap (ends_line open_heredocs) (sym same) ∙ goes in
+    let len : line_len open_heredocs (drop i pairs) ≡ suc (line_len (heredocs_after open_heredocs k) (drop (i + 1) pairs)) = rw (t.rest, goes_on, same) refl in
+    let behind : open_heredocs_after open_heredocs (drop i pairs) ≡ open_heredocs_after (heredocs_after open_heredocs k) (drop (i + 1) pairs) = rw (t.rest, goes_on, same) refl in
+    record { len = omega (arith, l.len, len); behind = l.behind ∙ behind; later = omega (arith, l.later); small = omega (arith, l.small, grows open_heredocs k) }
 
-next_held : (held : ℕ) (k : Kind) → ends_line held k ≡ true → heredocs_after held k ≡ held_of (is_here_open k)
+next_held : (open_heredocs : ℕ) (k : Kind) → ends_line open_heredocs k ≡ true → heredocs_after open_heredocs k ≡ open_heredocs_of (is_here_open k)
 next_held zero LineEnd h = refl
 next_held zero HereOpen h = refl
 next_held zero k h = absurd (cc)
-next_held (suc held) k h = absurd (cc)
+next_held (suc open_heredocs) k h = absurd (cc)
 
-pub line_ends : (pairs : List Pair) (at : ℕ) (frozen : Bool) (i held : ℕ) (k : Kind) → IsInLine pairs at frozen i held → at < length pairs → i < length pairs → Some k ≡ kind_of pairs i → ends_line held k ≡ true
+pub line_ends : (pairs : List Pair) (at : ℕ) (frozen : Bool) (i open_heredocs : ℕ) (k : Kind) → IsInLine pairs at frozen i open_heredocs → at < length pairs → i < length pairs → Some k ≡ kind_of pairs i → ends_line open_heredocs k ≡ true
     → SplitsLine pairs at frozen (i + 1) (is_here_open k)
-line_ends pairs at frozen i held k l begins inside is ends =
+line_ends pairs at frozen i open_heredocs k l begins inside is ends =
     let t = turn pairs i (length pairs) inside (omega arith) in
     let same = kind_is pairs i (length pairs) k t is in
-    let ends_here : ends_line held t.pair.kind ≡ true = ap (ends_line held) (sym same) ∙ ends in
-    let len : line_len held (drop i pairs) ≡ 1 = rw (t.rest, ends_here) refl in
-    let behind : held_behind held (drop i pairs) ≡ held_of (is_here_open k) = rw (t.rest, ends_here) (ap (heredocs_after held) (sym same) ∙ next_held held k ends) in
+    let ends_here : ends_line open_heredocs t.pair.kind ≡ true = ap (ends_line open_heredocs) (sym same) ∙ ends in
+    let len : line_len open_heredocs (drop i pairs) ≡ 1 = rw (t.rest, ends_here) refl in
+    let behind : open_heredocs_after open_heredocs (drop i pairs) ≡ open_heredocs_of (is_here_open k) = rw (t.rest, ends_here) (ap (heredocs_after open_heredocs) (sym same) ∙ next_held open_heredocs k ends) in
     splits pairs at frozen (i + 1) (is_here_open k) begins (omega arith) (l.len ∙ ap (λ n. i + n) len) (ap (λ h. lines_from h (drop (i + 1) pairs)) (l.behind ∙ behind))
 
-pub text_ends : (pairs : List Pair) (at : ℕ) (frozen : Bool) (i held : ℕ) → IsInLine pairs at frozen i held → at < length pairs → i ≡ length pairs → SplitsLine pairs at frozen (length pairs) false
-text_ends pairs at frozen i held l begins e =
+pub text_ends : (pairs : List Pair) (at : ℕ) (frozen : Bool) (i open_heredocs : ℕ) → IsInLine pairs at frozen i open_heredocs → at < length pairs → i ≡ length pairs → SplitsLine pairs at frozen (length pairs) false
+text_ends pairs at frozen i open_heredocs l begins e =
     let none : drop i pairs ≡ [] = drop_all i pairs (omega arith) in
     let gone : drop (length pairs) pairs ≡ [] = drop_all (length pairs) pairs (omega arith) in
-    let len : line_len held (drop i pairs) ≡ 0 = rw none refl in
+    let len : line_len open_heredocs (drop i pairs) ≡ 0 = rw none refl in
     splits pairs at frozen (length pairs) false begins (omega arith) (omega (arith, l.len, len)) (rw gone refl)
 
 -- ---- counts, and the end of a stack
@@ -177,19 +177,19 @@ end_of xs n top len is =
     }
 
 -- one step of closing brackets on a stack that is kept with its top at the end
-pub close_ends : (xs : List ℕ) (n left top : ℕ) → n + 1 ≡ length xs → top ≡ get_or xs n top → left < top → close left (reverse xs) ≡ reverse (set xs n (top - left))
+pub close_ends : (xs : List ℕ) (n left top : ℕ) → n + 1 ≡ length xs → top ≡ get_or xs n top → left < top → close_brackets left (reverse xs) ≡ reverse (set xs n (top - left))
 close_ends xs n left top len is less =
     let e = end_of xs n top len is in
     let test : nat_lt left top ≡ true = grind (arith, nat_tests) in
-    let head : close left (top ∷ reverse (take n xs)) ≡ (top - left) ∷ reverse (take n xs) = rw test refl in
-    ap (close left) e.last ∙ head ∙ sym (e.changed (top - left))
+    let head : close_brackets left (top ∷ reverse (take n xs)) ≡ (top - left) ∷ reverse (take n xs) = rw test refl in
+    ap (close_brackets left) e.last ∙ head ∙ sym (e.changed (top - left))
 
-pub close_goes : (xs : List ℕ) (n left top : ℕ) → n + 1 ≡ length xs → top ≡ get_or xs n top → top ≤ left → close left (reverse xs) ≡ close (left - top) (reverse (take n xs))
+pub close_goes : (xs : List ℕ) (n left top : ℕ) → n + 1 ≡ length xs → top ≡ get_or xs n top → top ≤ left → close_brackets left (reverse xs) ≡ close_brackets (left - top) (reverse (take n xs))
 close_goes xs n left top len is less =
     let e = end_of xs n top len is in
     let test : nat_lt left top ≡ false = grind (arith, nat_tests) in
-    let head : close left (top ∷ reverse (take n xs)) ≡ close (left - top) (reverse (take n xs)) = rw test refl in
-    ap (close left) e.last ∙ head
+    let head : close_brackets left (top ∷ reverse (take n xs)) ≡ close_brackets (left - top) (reverse (take n xs)) = rw test refl in
+    ap (close_brackets left) e.last ∙ head
 
 pub no_items : (xs : List ℕ) → length xs ≡ 0 → xs ≡ []
 no_items [] h = refl
@@ -256,17 +256,17 @@ flag_raised f pairs at i k b later inside is some b_is = sym (or_true b) ∙ fla
 
 -- what a token does not do to a line: it raises no flag
 pub record RaisesNone (k : Kind) : Type 0 where
-  pub busy : makes_busy k ≡ false
-  pub noted : is_comment k ≡ false
-  pub assigns : is_equal k ≡ false
+  pub has_bracket : is_bracket k ≡ false
+  pub has_comment : is_comment k ≡ false
+  pub has_equals : is_equal k ≡ false
 
-pub ends_alone : (held : ℕ) (k : Kind) → ends_line held k ≡ true → RaisesNone k
-ends_alone zero LineEnd h = record { busy = refl; noted = refl; assigns = refl }
-ends_alone zero HereOpen h = record { busy = refl; noted = refl; assigns = refl }
+pub ends_alone : (open_heredocs : ℕ) (k : Kind) → ends_line open_heredocs k ≡ true → RaisesNone k
+ends_alone zero LineEnd h = record { has_bracket = refl; has_comment = refl; has_equals = refl }
+ends_alone zero HereOpen h = record { has_bracket = refl; has_comment = refl; has_equals = refl }
 ends_alone zero k h = absurd (cc)
-ends_alone (suc held) k h = absurd (cc)
+ends_alone (suc open_heredocs) k h = absurd (cc)
 
-pub plain_raises : (k : Kind) → is_plain k ≡ true → RaisesNone k
+pub plain_raises : (k : Kind) → has_no_line_effect k ≡ true → RaisesNone k
 plain_raises LineComment h = absurd (cc)
 plain_raises InlineComment h = absurd (cc)
 plain_raises Equal h = absurd (cc)
@@ -279,32 +279,32 @@ plain_raises CloseParen h = absurd (cc)
 plain_raises SeqClose h = absurd (cc)
 plain_raises InterpOpen h = absurd (cc)
 plain_raises DirectiveOpen h = absurd (cc)
-plain_raises k h = record { busy = refl; noted = refl; assigns = refl }
+plain_raises k h = record { has_bracket = refl; has_comment = refl; has_equals = refl }
 
 -- it ends none, and turns no heredoc
-pub plain_ends : (held : ℕ) (k : Kind) → is_plain k ≡ true → ends_line held k ≡ false
+pub plain_ends : (open_heredocs : ℕ) (k : Kind) → has_no_line_effect k ≡ true → ends_line open_heredocs k ≡ false
 plain_ends zero LineEnd h = absurd (cc)
 plain_ends zero HereOpen h = absurd (cc)
 plain_ends zero k h = refl
-plain_ends (suc held) k h = refl
+plain_ends (suc open_heredocs) k h = refl
 
-pub plain_holds : (held : ℕ) (k : Kind) → is_plain k ≡ true → heredocs_after held k ≡ held
-plain_holds held HereOpen h = absurd (cc)
-plain_holds held HereClose h = absurd (cc)
-plain_holds held k h = refl
+pub plain_holds : (open_heredocs : ℕ) (k : Kind) → has_no_line_effect k ≡ true → heredocs_after open_heredocs k ≡ open_heredocs
+plain_holds open_heredocs HereOpen h = absurd (cc)
+plain_holds open_heredocs HereClose h = absurd (cc)
+plain_holds open_heredocs k h = refl
 
-pub busy_holds : (held : ℕ) (k : Kind) → makes_busy k ≡ true → heredocs_after held k ≡ held
-busy_holds held HereOpen h = absurd (cc)
-busy_holds held HereClose h = absurd (cc)
-busy_holds held k h = refl
+pub busy_holds : (open_heredocs : ℕ) (k : Kind) → is_bracket k ≡ true → heredocs_after open_heredocs k ≡ open_heredocs
+busy_holds open_heredocs HereOpen h = absurd (cc)
+busy_holds open_heredocs HereClose h = absurd (cc)
+busy_holds open_heredocs k h = refl
 
-pub equal_holds : (held : ℕ) (k : Kind) → is_equal k ≡ true → heredocs_after held k ≡ held
-equal_holds held HereOpen h = absurd (cc)
-equal_holds held HereClose h = absurd (cc)
-equal_holds held k h = refl
+pub equal_holds : (open_heredocs : ℕ) (k : Kind) → is_equal k ≡ true → heredocs_after open_heredocs k ≡ open_heredocs
+equal_holds open_heredocs HereOpen h = absurd (cc)
+equal_holds open_heredocs HereClose h = absurd (cc)
+equal_holds open_heredocs k h = refl
 
 -- it raises one flag alone
-pub busy_alone : (k : Kind) → makes_busy k ≡ true → (is_comment k ≡ false) × (is_equal k ≡ false)
+pub busy_alone : (k : Kind) → is_bracket k ≡ true → (is_comment k ≡ false) × (is_equal k ≡ false)
 busy_alone LineComment h = absurd (cc)
 busy_alone InlineComment h = absurd (cc)
 busy_alone Equal h = absurd (cc)
@@ -333,7 +333,7 @@ quiet_two : (f : Kind → Bool) (p : Pair) (ps : List Pair) → are_some f (p �
 quiet_two f p ps h = or_first (f p.kind) (are_some f ps) (sym (some_if f p ps (f p.kind) refl) ∙ h)
 
 -- what is not among tokens where none makes a line busy
-quiet : (k : Kind) → makes_busy k ≡ false → (is_opening k ≡ false) × (is_closing k ≡ false)
+quiet : (k : Kind) → is_bracket k ≡ false → (is_opening k ≡ false) × (is_closing k ≡ false)
 quiet OpenBrace h = absurd (cc)
 quiet CloseBrace h = absurd (cc)
 quiet OpenBracket h = absurd (cc)
@@ -345,18 +345,18 @@ quiet InterpOpen h = absurd (cc)
 quiet DirectiveOpen h = absurd (cc)
 quiet k h = (refl, refl)
 
-pub quiet_openings : (ps : List Pair) → are_some makes_busy ps ≡ false → 0 ≡ openings ps
+pub quiet_openings : (ps : List Pair) → are_some is_bracket ps ≡ false → 0 ≡ openings ps
 quiet_openings [] h = refl
 quiet_openings (p ∷ ps) h =
-    let (none, rest) = quiet_two makes_busy p ps h in
+    let (none, rest) = quiet_two is_bracket p ps h in
     let head : cond {A = ℕ} (is_opening p.kind) 1 0 ≡ 0 = ap {B = ℕ} (λ b. cond b 1 0) (quiet p.kind none).0 in
     let more : openings (p ∷ ps) ≡ cond (is_opening p.kind) 1 0 + openings ps = sum_by-cons (λ (r : Pair). cond (is_opening r.kind) 1 0) p ps in
     omega (arith, head, more, quiet_openings ps rest)
 
-pub quiet_closings : (ps : List Pair) → are_some makes_busy ps ≡ false → 0 ≡ closings ps
+pub quiet_closings : (ps : List Pair) → are_some is_bracket ps ≡ false → 0 ≡ closings ps
 quiet_closings [] h = refl
 quiet_closings (p ∷ ps) h =
-    let (none, rest) = quiet_two makes_busy p ps h in
+    let (none, rest) = quiet_two is_bracket p ps h in
     let head : cond {A = ℕ} (is_closing p.kind) 1 0 ≡ 0 = ap {B = ℕ} (λ b. cond b 1 0) (quiet p.kind none).1 in
     let more : closings (p ∷ ps) ≡ cond (is_closing p.kind) 1 0 + closings ps = sum_by-cons (λ (r : Pair). cond (is_closing r.kind) 1 0) p ps in
     omega (arith, head, more, quiet_closings ps rest)
@@ -379,11 +379,11 @@ quiet_comments (p ∷ ps) h =
     let (none, rest) = quiet_two is_comment p ps h in
     some_if is_line_comment p ps false (no_closing p.kind none) ∙ quiet_comments ps rest
 
-quiet_first : (f : Kind → Bool) (ps : List Pair) → are_some f ps ≡ false → before_first (λ (p : Pair). f p.kind) ps ≡ None
+quiet_first : (f : Kind → Bool) (ps : List Pair) → are_some f ps ≡ false → index_of_first (λ (p : Pair). f p.kind) ps ≡ None
 quiet_first f [] h = refl
 quiet_first f (p ∷ ps) h = let (none, rest) = quiet_two f p ps h in rw (none, quiet_first f ps rest) refl
 
-pub none_later : (f : Kind → Bool) (at : ℕ) (ps : List Pair) → are_some f ps ≡ false → None ≡ option_map (λ n. at + n) (before_later (λ (p : Pair). f p.kind) ps)
+pub none_later : (f : Kind → Bool) (at : ℕ) (ps : List Pair) → are_some f ps ≡ false → None ≡ option_map (λ n. at + n) (index_after_first (λ (p : Pair). f p.kind) ps)
 none_later f at [] h = refl
 none_later f at (p ∷ ps) h = let (none, rest) = quiet_two f p ps h in rw (quiet_first f ps rest) refl
 
@@ -392,31 +392,31 @@ none_later f at (p ∷ ps) h = let (none, rest) = quiet_two f p ps h in rw (quie
 -- lines from one token up to another
 abbrev pub LinesTo : List Pair → ℕ → Bool → List LineSpan → ℕ → Bool → Type 0
 LinesTo pairs at frozen [] to next = (at ≡ to) × (frozen ≡ next)
-LinesTo pairs at frozen (line ∷ lines) to next = IsLine pairs at frozen line × LinesTo pairs line.past line.next lines to next
+LinesTo pairs at frozen (line ∷ lines) to next = IsLine pairs at frozen line × LinesTo pairs line.past line.next_frozen lines to next
 
 -- one more
 pub lines_push : (pairs : List Pair) (at : ℕ) (frozen : Bool) (lines : List LineSpan) (to : ℕ) (next : Bool) (line : LineSpan)
     → LinesTo pairs at frozen lines to next → IsLine pairs to next line
-    → LinesTo pairs at frozen (lines ++ line ∷ []) line.past line.next
+    → LinesTo pairs at frozen (lines ++ line ∷ []) line.past line.next_frozen
 lines_push pairs at frozen [] to next line (e, f) one =
     (subst (λ a. IsLine pairs a frozen line) (sym e) (subst (λ b. IsLine pairs to b line) (sym f) one), (refl, refl))
-lines_push pairs at frozen (l ∷ lines) to next line (first, rest) one = (first, lines_push pairs l.past l.next lines to next line rest one)
+lines_push pairs at frozen (l ∷ lines) to next line (first, rest) one = (first, lines_push pairs l.past l.next_frozen lines to next line rest one)
 
 -- up to the end of the text
 pub lines_whole : (pairs : List Pair) (at : ℕ) (frozen : Bool) (lines : List LineSpan) (to : ℕ) (next : Bool)
     → LinesTo pairs at frozen lines to next → to ≡ length pairs → AreLines pairs at frozen lines
 lines_whole pairs at frozen [] to next (e, f) end = e ∙ end
-lines_whole pairs at frozen (l ∷ lines) to next (first, rest) end = (first, lines_whole pairs l.past l.next lines to next rest end)
+lines_whole pairs at frozen (l ∷ lines) to next (first, rest) end = (first, lines_whole pairs l.past l.next_frozen lines to next rest end)
 
 -- what a list of spans answers past its end
 abbrev pub no_span : LineSpan
-no_span = record { past = 0; next = false; busy = false; noted = false; assigns = false }
+no_span = record { past = 0; next_frozen = false; has_bracket = false; has_comment = false; has_equals = false }
 
 -- the line of number i, and those behind it
 pub line_at : (pairs : List Pair) (at : ℕ) (frozen : Bool) (lines : List LineSpan) (i : ℕ) → i < length lines
     → AreLines pairs at frozen (drop i lines)
     → IsLine pairs at frozen (get_or lines i no_span)
-    × AreLines pairs (get_or lines i no_span).past (get_or lines i no_span).next (drop (i + 1) lines)
+    × AreLines pairs (get_or lines i no_span).past (get_or lines i no_span).next_frozen (drop (i + 1) lines)
 line_at pairs at frozen lines i h are = subst (AreLines pairs at frozen) (drop_more lines i no_span h) are
 
 -- behind the last

@@ -5,13 +5,13 @@ use Rattle.std.proofs.lemmas.Bool.{false≢true}
 use Rattle.hcl_token.specs.declared.kind.Kind.{Kind}
 use Rattle.hcl_token.specs.Tokens.{Pair}
 use Rattle.hcl_scan.specs.Follows.{tokens_of}
-use Rattle.hcl_gaps.specs.Kinds.{is_line_end, is_passed_over}
-use Rattle.hcl_gaps.specs.Lines.{Line, heredocs_after, ends_line, in_front, lines_from, lines_of, pairs_in}
+use Rattle.hcl_gaps.specs.Kinds.{is_line_end, is_skipped}
+use Rattle.hcl_gaps.specs.Lines.{Line, heredocs_after, ends_line, prepend_to_first, lines_from, lines_of, pairs_in}
 use Rattle.hcl_gaps.specs.Indent.{is_opening, is_closing, openings, closings}
-use Rattle.hcl_gaps.specs.Space.{passed, passed_all, spaces, gap_between}
-use Rattle.hcl_gaps.specs.Cells.{has_cells, assignment, closing_comment, widths, cell_gaps, with_gap, moved, moved_all, aligned}
-use Rattle.hcl_gaps.specs.Layout.{spaced, indented, set_line, set_lines, laid_out_lines, laid_out_body}
-use Rattle.hcl_gaps.specs.Inner.Stages.{token, open_at, open_behind, set_open}
+use Rattle.hcl_gaps.specs.Space.{prev_after, prev_after_all, spaces, gap_between}
+use Rattle.hcl_gaps.specs.Cells.{has_cells, assignment, closing_comment, widths, cell_gaps, with_gap, with_cell_gap, with_cell_gaps, aligned}
+use Rattle.hcl_gaps.specs.Layout.{with_spacing, with_indent, format_line, format_lines, layout_lines, layout_body}
+use Rattle.hcl_gaps.specs.Inner.Stages.{token, close_earlier, open_after_line, format_lines_by_stack}
 use Rattle.hcl_gaps.proofs.IndentLaw.{set_by_stack}
 use Rattle.hcl_gaps.proofs.GapLaw.{pairs_of_lines}
 
@@ -80,11 +80,11 @@ alike_tokens (x ∷ xs) (y ∷ ys) h = same_append x.pairs y.pairs (pairs_in xs)
 
 -- ---- the stages keep the tokens, and frozen lines
 
-spaced_same : (b : List Kind) (a : Pair) (ps : List Pair) → SameTokens (spaced b a ps) ps
+spaced_same : (b : List Kind) (a : Pair) (ps : List Pair) → SameTokens (with_spacing b a ps) ps
 spaced_same b a [] = tt
-spaced_same b a (p ∷ ps) = (refl, refl, spaced_same (passed a b) p ps)
+spaced_same b a (p ∷ ps) = (refl, refl, spaced_same (prev_after a b) p ps)
 
-indented_same : (deep : ℕ) (b : List Kind) (ps : List Pair) → SameTokens (indented deep b ps) ps
+indented_same : (deep : ℕ) (b : List Kind) (ps : List Pair) → SameTokens (with_indent deep b ps) ps
 indented_same deep b [] = tt
 indented_same deep b (p ∷ ps) = (refl, refl, spaced_same b p ps)
 
@@ -93,15 +93,15 @@ record Keeps (x y : Line) : Type 0 where
   tokens : SameTokens x.pairs y.pairs
   same : y.frozen ≡ true → x.pairs ≡ y.pairs
 
-set_keeps : (deep : ℕ) (b : List Kind) (frozen : Bool) (ps : List Pair) → Keeps (set_line deep b (record { frozen = frozen; pairs = ps })) (record { frozen = frozen; pairs = ps })
+set_keeps : (deep : ℕ) (b : List Kind) (frozen : Bool) (ps : List Pair) → Keeps (format_line deep b (record { frozen = frozen; pairs = ps })) (record { frozen = frozen; pairs = ps })
 set_keeps deep b true ps = record { frozen = refl; tokens = same_self ps; same = λ e. refl }
 set_keeps deep b false ps = record { frozen = refl; tokens = indented_same deep b ps; same = λ e. absurd (false≢true e) }
 
-pub open_alike : (s : List ℕ) (b : List Kind) (lines : List Line) → Alike (set_open s b lines) lines × SameFrozen (set_open s b lines) lines
+pub open_alike : (s : List ℕ) (b : List Kind) (lines : List Line) → Alike (format_lines_by_stack s b lines) lines × SameFrozen (format_lines_by_stack s b lines) lines
 open_alike s b [] = (tt, tt)
 open_alike s b (line ∷ lines) =
-    let k = set_keeps (length (open_at (openings line.pairs) (closings line.pairs) s)) b line.frozen line.pairs in
-    let rest = open_alike (open_behind (openings line.pairs) (closings line.pairs) s) (passed_all line.pairs b) lines in
+    let k = set_keeps (length (close_earlier (openings line.pairs) (closings line.pairs) s)) b line.frozen line.pairs in
+    let rest = open_alike (open_after_line (openings line.pairs) (closings line.pairs) s) (prev_after_all line.pairs b) lines in
     ((k.frozen, k.tokens, rest.0), (k.same, rest.1))
 
 pub gap_same : (n : ℕ) (gap : List ℕ) (ps : List Pair) → SameTokens (with_gap n gap ps) ps
@@ -113,7 +113,7 @@ gap_same (suc n) gap (p ∷ ps) = (refl, refl, gap_same n gap ps)
 abbrev IsOfFree : (Line → Option ℕ) → Type 0
 IsOfFree cell = (line : Line) → line.frozen ≡ true → cell line ≡ None
 
-moved_keeps : (found : Option ℕ) (count : Option ℕ) (line : Line) → (line.frozen ≡ true → found ≡ None) → Keeps (moved found count line) line
+moved_keeps : (found : Option ℕ) (count : Option ℕ) (line : Line) → (line.frozen ≡ true → found ≡ None) → Keeps (with_cell_gap found count line) line
 moved_keeps None count line h = record { frozen = refl; tokens = same_self line.pairs; same = λ e. refl }
 moved_keeps (Some n) None line h = record { frozen = refl; tokens = same_self line.pairs; same = λ e. refl }
 moved_keeps (Some n) (Some count) line h = record { frozen = refl; tokens = gap_same n (spaces count) line.pairs; same = λ e. absurd (cc (h e)) }
@@ -122,7 +122,7 @@ self_alike : (lines : List Line) → Alike lines lines × SameFrozen lines lines
 self_alike [] = (tt, tt)
 self_alike (line ∷ lines) = ((refl, same_self line.pairs, (self_alike lines).0), (λ e. refl, (self_alike lines).1))
 
-moved_alike : (cell : Line → Option ℕ) (rs : List (Option ℕ)) (lines : List Line) → IsOfFree cell → Alike (moved_all cell rs lines) lines × SameFrozen (moved_all cell rs lines) lines
+moved_alike : (cell : Line → Option ℕ) (rs : List (Option ℕ)) (lines : List Line) → IsOfFree cell → Alike (with_cell_gaps cell rs lines) lines × SameFrozen (with_cell_gaps cell rs lines) lines
 moved_alike cell [] lines h = self_alike lines
 moved_alike cell (r ∷ rs) [] h = (tt, tt)
 moved_alike cell (r ∷ rs) (line ∷ lines) h =
@@ -140,24 +140,24 @@ comment_free : IsOfFree closing_comment
 comment_free line h = rw (no_cells line h) refl
 
 -- the lines as they are laid out have the tokens of the lines, and their frozen lines
-pub laid_alike : (lines : List Line) → Alike (laid_out_lines lines) lines × SameFrozen (laid_out_lines lines) lines
-laid_alike lines =
-    let first : List Line = set_lines [] [] lines in
+pub layout_alike : (lines : List Line) → Alike (layout_lines lines) lines × SameFrozen (layout_lines lines) lines
+layout_alike lines =
+    let first : List Line = format_lines [] [] lines in
     let second : List Line = aligned assignment first in
     let set : Alike first lines × SameFrozen first lines = rw (set_by_stack [] lines) (open_alike [] [] lines) in
     let equals : Alike second first × SameFrozen second first = moved_alike assignment (cell_gaps [] (widths assignment first)) first assignment_free in
-    let comments : Alike (laid_out_lines lines) second × SameFrozen (laid_out_lines lines) second = moved_alike closing_comment (cell_gaps [] (widths closing_comment second)) second comment_free in
+    let comments : Alike (layout_lines lines) second × SameFrozen (layout_lines lines) second = moved_alike closing_comment (cell_gaps [] (widths closing_comment second)) second comment_free in
     let two = alike_trans second first lines equals.0 set.0 in (
-      alike_trans (laid_out_lines lines) second lines comments.0 two,
-      frozen_trans (laid_out_lines lines) second lines comments.0 two comments.1 (frozen_trans second first lines equals.0 set.0 equals.1 set.1),
+      alike_trans (layout_lines lines) second lines comments.0 two,
+      frozen_trans (layout_lines lines) second lines comments.0 two comments.1 (frozen_trans second first lines equals.0 set.0 equals.1 set.1),
     )
 
-pub set_alike_lines : (lines : List Line) → Alike (set_lines [] [] lines) lines
+pub set_alike_lines : (lines : List Line) → Alike (format_lines [] [] lines) lines
 set_alike_lines lines = rw (set_by_stack [] lines) ((open_alike [] [] lines).0)
 
-pub equals_alike : (lines : List Line) → Alike (aligned assignment (set_lines [] [] lines)) lines
+pub equals_alike : (lines : List Line) → Alike (aligned assignment (format_lines [] [] lines)) lines
 equals_alike lines =
-    let first : List Line = set_lines [] [] lines in
+    let first : List Line = format_lines [] [] lines in
     alike_trans (aligned assignment first) first lines (moved_alike assignment (cell_gaps [] (widths assignment first)) first assignment_free).0 (set_alike_lines lines)
 
 -- ---- lines of what was laid out
@@ -165,45 +165,45 @@ equals_alike lines =
 same_line : (f g : Bool) (qs : List Pair) (xs : List Line) → f ≡ g → ◌≡◌ {A = List Line} (record { frozen = g; pairs = qs } ∷ xs) (record { frozen = f; pairs = qs } ∷ xs)
 same_line f g qs xs e = ap (λ h. record { frozen = h; pairs = qs } ∷ xs) (sym e)
 
-ends_again : (held : ℕ) (p : Pair) (f : Bool) (qs : List Pair) (xs : List Line) → ends_line held p.kind ≡ true → f ≡ nat_lt 0 held → SameTokens qs (p ∷ [])
-    → lines_from (heredocs_after held p.kind) (pairs_in xs) ≡ xs → lines_from held (qs ++ pairs_in xs) ≡ record { frozen = f; pairs = qs } ∷ xs
-ends_again held p f [] xs ends frozen h rest = absurd h
-ends_again held p f (q ∷ []) xs ends frozen h rest =
-    let here : ends_line held q.kind ≡ true = ap (ends_line held) h.0 ∙ ends in
-    rw here (ap (λ ls. record { frozen = nat_lt 0 held; pairs = q ∷ [] } ∷ ls) (ap (λ k. lines_from (heredocs_after held k) (pairs_in xs)) h.0 ∙ rest) ∙ same_line f (nat_lt 0 held) (q ∷ []) xs frozen)
-ends_again held p f (q ∷ r ∷ qs) xs ends frozen h rest = absurd h.2
+ends_again : (open_heredocs : ℕ) (p : Pair) (f : Bool) (qs : List Pair) (xs : List Line) → ends_line open_heredocs p.kind ≡ true → f ≡ nat_lt 0 open_heredocs → SameTokens qs (p ∷ [])
+    → lines_from (heredocs_after open_heredocs p.kind) (pairs_in xs) ≡ xs → lines_from open_heredocs (qs ++ pairs_in xs) ≡ record { frozen = f; pairs = qs } ∷ xs
+ends_again open_heredocs p f [] xs ends frozen h rest = absurd h
+ends_again open_heredocs p f (q ∷ []) xs ends frozen h rest =
+    let here : ends_line open_heredocs q.kind ≡ true = ap (ends_line open_heredocs) h.0 ∙ ends in
+    rw here (ap (λ ls. record { frozen = nat_lt 0 open_heredocs; pairs = q ∷ [] } ∷ ls) (ap (λ k. lines_from (heredocs_after open_heredocs k) (pairs_in xs)) h.0 ∙ rest) ∙ same_line f (nat_lt 0 open_heredocs) (q ∷ []) xs frozen)
+ends_again open_heredocs p f (q ∷ r ∷ qs) xs ends frozen h rest = absurd h.2
 
-goes_again : (held : ℕ) (p : Pair) (f : Bool) (qs : List Pair) (xs old : List Line) → ends_line held p.kind ≡ false → Alike (record { frozen = f; pairs = qs } ∷ xs) (in_front (nat_lt 0 held) p old)
-    → ((ys : List Line) → Alike ys old → lines_from (heredocs_after held p.kind) (pairs_in ys) ≡ ys) → lines_from held (qs ++ pairs_in xs) ≡ record { frozen = f; pairs = qs } ∷ xs
-goes_again held p f [] xs [] goes h rest = absurd h.1
-goes_again held p f [] xs (r ∷ rs) goes h rest = absurd h.1
-goes_again held p f (q ∷ []) [] [] goes h rest =
-    let here : ends_line held q.kind ≡ false = ap (ends_line held) h.1.0 ∙ goes in
-    rw here (same_line f (nat_lt 0 held) (q ∷ []) [] h.0)
-goes_again held p f (q ∷ qs) (x ∷ xs) [] goes h rest = absurd h.2
-goes_again held p f (q ∷ r ∷ qs) [] [] goes h rest = absurd h.1.2
-goes_again held p f (q ∷ qs) xs (r ∷ rs) goes h rest =
-    let here : ends_line held q.kind ≡ false = ap (ends_line held) h.1.0 ∙ goes in
+goes_again : (open_heredocs : ℕ) (p : Pair) (f : Bool) (qs : List Pair) (xs old : List Line) → ends_line open_heredocs p.kind ≡ false → Alike (record { frozen = f; pairs = qs } ∷ xs) (prepend_to_first (nat_lt 0 open_heredocs) p old)
+    → ((ys : List Line) → Alike ys old → lines_from (heredocs_after open_heredocs p.kind) (pairs_in ys) ≡ ys) → lines_from open_heredocs (qs ++ pairs_in xs) ≡ record { frozen = f; pairs = qs } ∷ xs
+goes_again open_heredocs p f [] xs [] goes h rest = absurd h.1
+goes_again open_heredocs p f [] xs (r ∷ rs) goes h rest = absurd h.1
+goes_again open_heredocs p f (q ∷ []) [] [] goes h rest =
+    let here : ends_line open_heredocs q.kind ≡ false = ap (ends_line open_heredocs) h.1.0 ∙ goes in
+    rw here (same_line f (nat_lt 0 open_heredocs) (q ∷ []) [] h.0)
+goes_again open_heredocs p f (q ∷ qs) (x ∷ xs) [] goes h rest = absurd h.2
+goes_again open_heredocs p f (q ∷ r ∷ qs) [] [] goes h rest = absurd h.1.2
+goes_again open_heredocs p f (q ∷ qs) xs (r ∷ rs) goes h rest =
+    let here : ends_line open_heredocs q.kind ≡ false = ap (ends_line open_heredocs) h.1.0 ∙ goes in
     let next = rest (record { frozen = r.frozen; pairs = qs } ∷ xs) (refl, h.1.2, h.2) in
-    rw here (ap (in_front (nat_lt 0 held) q) (ap (λ k. lines_from (heredocs_after held k) (qs ++ pairs_in xs)) h.1.0 ∙ next) ∙ same_line f (nat_lt 0 held) (q ∷ qs) xs h.0)
+    rw here (ap (prepend_to_first (nat_lt 0 open_heredocs) q) (ap (λ k. lines_from (heredocs_after open_heredocs k) (qs ++ pairs_in xs)) h.1.0 ∙ next) ∙ same_line f (nat_lt 0 open_heredocs) (q ∷ qs) xs h.0)
 
-no_front : (frozen : Bool) (p : Pair) (old : List Line) → Alike [] (in_front frozen p old) → ⊥
-no_front frozen p [] h = h
-no_front frozen p (r ∷ rs) h = h
+no_first : (frozen : Bool) (p : Pair) (old : List Line) → Alike [] (prepend_to_first frozen p old) → ⊥
+no_first frozen p [] h = h
+no_first frozen p (r ∷ rs) h = h
 
-again_if : (held : ℕ) (p : Pair) (ps : List Pair) (ends : Bool) → ends_line held p.kind ≡ ends → (ys : List Line)
-    → Alike ys (if ends then record { frozen = nat_lt 0 held; pairs = p ∷ [] } ∷ lines_from (heredocs_after held p.kind) ps else in_front (nat_lt 0 held) p (lines_from (heredocs_after held p.kind) ps))
-    → ((zs : List Line) → Alike zs (lines_from (heredocs_after held p.kind) ps) → lines_from (heredocs_after held p.kind) (pairs_in zs) ≡ zs) → lines_from held (pairs_in ys) ≡ ys
-again_if held p ps true is [] k rest = absurd k
-again_if held p ps true is (y ∷ ys) k rest = ends_again held p y.frozen y.pairs ys is k.0 k.1 (rest ys k.2)
-again_if held p ps false is [] k rest = absurd (no_front (nat_lt 0 held) p (lines_from (heredocs_after held p.kind) ps) k)
-again_if held p ps false is (y ∷ ys) k rest = goes_again held p y.frozen y.pairs ys (lines_from (heredocs_after held p.kind) ps) is k rest
+again_if : (open_heredocs : ℕ) (p : Pair) (ps : List Pair) (ends : Bool) → ends_line open_heredocs p.kind ≡ ends → (ys : List Line)
+    → Alike ys (if ends then record { frozen = nat_lt 0 open_heredocs; pairs = p ∷ [] } ∷ lines_from (heredocs_after open_heredocs p.kind) ps else prepend_to_first (nat_lt 0 open_heredocs) p (lines_from (heredocs_after open_heredocs p.kind) ps))
+    → ((zs : List Line) → Alike zs (lines_from (heredocs_after open_heredocs p.kind) ps) → lines_from (heredocs_after open_heredocs p.kind) (pairs_in zs) ≡ zs) → lines_from open_heredocs (pairs_in ys) ≡ ys
+again_if open_heredocs p ps true is [] k rest = absurd k
+again_if open_heredocs p ps true is (y ∷ ys) k rest = ends_again open_heredocs p y.frozen y.pairs ys is k.0 k.1 (rest ys k.2)
+again_if open_heredocs p ps false is [] k rest = absurd (no_first (nat_lt 0 open_heredocs) p (lines_from (heredocs_after open_heredocs p.kind) ps) k)
+again_if open_heredocs p ps false is (y ∷ ys) k rest = goes_again open_heredocs p y.frozen y.pairs ys (lines_from (heredocs_after open_heredocs p.kind) ps) is k rest
 
 -- tokens that are split as lines were, are these lines
-pub split_again : (held : ℕ) (ps : List Pair) (xs : List Line) → Alike xs (lines_from held ps) → lines_from held (pairs_in xs) ≡ xs
-split_again held [] [] h = refl
-split_again held [] (x ∷ xs) h = absurd h
-split_again held (p ∷ ps) xs h = again_if held p ps (ends_line held p.kind) refl xs h (λ zs k. split_again (heredocs_after held p.kind) ps zs k)
+pub split_again : (open_heredocs : ℕ) (ps : List Pair) (xs : List Line) → Alike xs (lines_from open_heredocs ps) → lines_from open_heredocs (pairs_in xs) ≡ xs
+split_again open_heredocs [] [] h = refl
+split_again open_heredocs [] (x ∷ xs) h = absurd h
+split_again open_heredocs (p ∷ ps) xs h = again_if open_heredocs p ps (ends_line open_heredocs p.kind) refl xs h (λ zs k. split_again (heredocs_after open_heredocs p.kind) ps zs k)
 
 -- ---- lines that are alike are laid out alike
 
@@ -219,17 +219,17 @@ count_same f (p ∷ ps) (q ∷ qs) h =
     ∙ ap₂ (λ k n. cond (f k) 1 0 + n) h.0 (count_same f ps qs h.2)
     ∙ sym (sum_by-cons (λ (x : Pair). cond (f x.kind) 1 0) q qs)
 
-passed_tokens : (ps qs : List Pair) (b : List Kind) → SameTokens ps qs → passed_all ps b ≡ passed_all qs b
+passed_tokens : (ps qs : List Pair) (b : List Kind) → SameTokens ps qs → prev_after_all ps b ≡ prev_after_all qs b
 passed_tokens [] [] b h = refl
 passed_tokens [] (q ∷ qs) b h = absurd h
 passed_tokens (p ∷ ps) [] b h = absurd h
 passed_tokens (p ∷ ps) (q ∷ qs) b h =
-    ap (λ k. passed_all ps (if is_passed_over k then b else k ∷ b)) h.0 ∙ passed_tokens ps qs (passed q b) h.2
+    ap (λ k. prev_after_all ps (if is_skipped k then b else k ∷ b)) h.0 ∙ passed_tokens ps qs (prev_after q b) h.2
 
 gap_fields : List Kind → Kind → List ℕ → Kind → List ℕ → List ℕ
 gap_fields b ak as' pk ps' = gap_between b (token ak as') (token pk ps')
 
-spaced_alike : (b : List Kind) (a a' : Pair) (ps qs : List Pair) → a.kind ≡ a'.kind → a.spelling ≡ a'.spelling → SameTokens ps qs → spaced b a ps ≡ spaced b a' qs
+spaced_alike : (b : List Kind) (a a' : Pair) (ps qs : List Pair) → a.kind ≡ a'.kind → a.spelling ≡ a'.spelling → SameTokens ps qs → with_spacing b a ps ≡ with_spacing b a' qs
 unfolding gap_fields
 spaced_alike b a a' [] [] h k e = refl
 spaced_alike b a a' [] (q ∷ qs) h k e = absurd e
@@ -239,9 +239,9 @@ spaced_alike b a a' (p ∷ ps) (q ∷ qs) h k e =
     let first : ◌≡◌ {A = Pair} (record p { gap = gap_between b a p }) (record q { gap = gap_between b a' q }) =
     ap (λ g. record p { gap = g }) gap ∙ pair_same (gap_between b a' q) p q e.0 e.1 in
     ap₂ (λ (x : Pair) (xs : List Pair). x ∷ xs) first
-    (ap (λ j. spaced (if is_passed_over j then b else j ∷ b) p ps) h ∙ spaced_alike (passed a' b) p q ps qs e.0 e.1 e.2)
+    (ap (λ j. with_spacing (if is_skipped j then b else j ∷ b) p ps) h ∙ spaced_alike (prev_after a' b) p q ps qs e.0 e.1 e.2)
 
-indented_alike : (deep : ℕ) (b : List Kind) (ps qs : List Pair) → SameTokens ps qs → indented deep b ps ≡ indented deep b qs
+indented_alike : (deep : ℕ) (b : List Kind) (ps qs : List Pair) → SameTokens ps qs → with_indent deep b ps ≡ with_indent deep b qs
 indented_alike deep b [] [] e = refl
 indented_alike deep b [] (q ∷ qs) e = absurd e
 indented_alike deep b (p ∷ ps) [] e = absurd e
@@ -252,12 +252,12 @@ indented_alike deep b (p ∷ ps) (q ∷ qs) e =
     ap₂ (λ (x : Pair) (xs : List Pair). x ∷ xs) first (spaced_alike b p q ps qs e.0 e.1 e.2)
 
 line_alike : (deep : ℕ) (b : List Kind) (f g : Bool) (ps qs : List Pair) → f ≡ g → SameTokens ps qs → (g ≡ true → ps ≡ qs)
-    → set_line deep b (record { frozen = f; pairs = ps }) ≡ set_line deep b (record { frozen = g; pairs = qs })
-line_alike deep b f true ps qs e t h = ap₂ (λ x (y : List Pair). set_line deep b (record { frozen = x; pairs = y })) e (h refl)
+    → format_line deep b (record { frozen = f; pairs = ps }) ≡ format_line deep b (record { frozen = g; pairs = qs })
+line_alike deep b f true ps qs e t h = ap₂ (λ x (y : List Pair). format_line deep b (record { frozen = x; pairs = y })) e (h refl)
 line_alike deep b f false ps qs e t h =
-    ap (λ x. set_line deep b (record { frozen = x; pairs = ps })) e ∙ ap (λ (y : List Pair). record { frozen = false; pairs = y }) (indented_alike deep b ps qs t)
+    ap (λ x. format_line deep b (record { frozen = x; pairs = ps })) e ∙ ap (λ (y : List Pair). record { frozen = false; pairs = y }) (indented_alike deep b ps qs t)
 
-pub set_alike : (s : List ℕ) (b : List Kind) (xs ys : List Line) → Alike xs ys → SameFrozen xs ys → set_open s b xs ≡ set_open s b ys
+pub set_alike : (s : List ℕ) (b : List Kind) (xs ys : List Line) → Alike xs ys → SameFrozen xs ys → format_lines_by_stack s b xs ≡ format_lines_by_stack s b ys
 set_alike s b [] [] h f = refl
 set_alike s b [] (y ∷ ys) h f = absurd h
 set_alike s b (x ∷ xs) [] h f = absurd h
@@ -265,24 +265,24 @@ set_alike s b (x ∷ xs) (y ∷ ys) h f =
     let o = count_same is_opening x.pairs y.pairs h.1 in
     let c = count_same is_closing x.pairs y.pairs h.1 in
     ap₂ (λ (l : Line) (ls : List Line). l ∷ ls)
-    (ap₂ (λ u v. set_line (length (open_at u v s)) b x) o c ∙ line_alike (length (open_at (openings y.pairs) (closings y.pairs) s)) b x.frozen y.frozen x.pairs y.pairs h.0 h.1 f.0)
-    (ap₂ (λ u v. set_open (open_behind u v s) (passed_all x.pairs b) xs) o c
-    ∙ ap (λ (ks : List Kind). set_open (open_behind (openings y.pairs) (closings y.pairs) s) ks xs) (passed_tokens x.pairs y.pairs b h.1)
-    ∙ set_alike (open_behind (openings y.pairs) (closings y.pairs) s) (passed_all y.pairs b) xs ys h.2 f.1)
+    (ap₂ (λ u v. format_line (length (close_earlier u v s)) b x) o c ∙ line_alike (length (close_earlier (openings y.pairs) (closings y.pairs) s)) b x.frozen y.frozen x.pairs y.pairs h.0 h.1 f.0)
+    (ap₂ (λ u v. format_lines_by_stack (open_after_line u v s) (prev_after_all x.pairs b) xs) o c
+    ∙ ap (λ (ks : List Kind). format_lines_by_stack (open_after_line (openings y.pairs) (closings y.pairs) s) ks xs) (passed_tokens x.pairs y.pairs b h.1)
+    ∙ set_alike (open_after_line (openings y.pairs) (closings y.pairs) s) (prev_after_all y.pairs b) xs ys h.2 f.1)
 
 -- ---- the laws
 
-pub body_tokens : (ps : List Pair) → SameTokens (laid_out_body ps) ps
+pub body_tokens : (ps : List Pair) → SameTokens (layout_body ps) ps
 body_tokens ps =
-    let same = alike_tokens (laid_out_lines (lines_of ps)) (lines_of ps) (laid_alike (lines_of ps)).0 in
-    subst (λ (qs : List Pair). SameTokens (laid_out_body ps) qs) (pairs_of_lines 0 ps) same
+    let same = alike_tokens (layout_lines (lines_of ps)) (lines_of ps) (layout_alike (lines_of ps)).0 in
+    subst (λ (qs : List Pair). SameTokens (layout_body ps) qs) (pairs_of_lines 0 ps) same
 
 -- what is laid out is its own layout
-pub body_again : (ps : List Pair) → laid_out_body (laid_out_body ps) ≡ laid_out_body ps
+pub body_again : (ps : List Pair) → layout_body (layout_body ps) ≡ layout_body ps
 body_again ps =
     let lines : List Line = lines_of ps in
-    let new : List Line = laid_out_lines lines in
-    let like = laid_alike lines in
+    let new : List Line = layout_lines lines in
+    let like = layout_alike lines in
     let split : lines_of (pairs_in new) ≡ new = split_again 0 ps new like.0 in
-    let set : set_lines [] [] new ≡ set_lines [] [] lines = set_by_stack [] new ∙ set_alike [] [] new lines like.0 like.1 ∙ sym (set_by_stack [] lines) in
-    ap (λ ls. pairs_in (laid_out_lines ls)) split ∙ ap (λ (ls : List Line). pairs_in (aligned closing_comment (aligned assignment ls))) set
+    let set : format_lines [] [] new ≡ format_lines [] [] lines = set_by_stack [] new ∙ set_alike [] [] new lines like.0 like.1 ∙ sym (set_by_stack [] lines) in
+    ap (λ ls. pairs_in (layout_lines ls)) split ∙ ap (λ (ls : List Line). pairs_in (aligned closing_comment (aligned assignment ls))) set

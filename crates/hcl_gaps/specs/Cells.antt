@@ -13,14 +13,14 @@ use Rattle.hcl_gaps.specs.Indent.{openings, closings}
 use Rattle.hcl_gaps.specs.Space.{spaces}
 
 -- how many tokens stand before the first that meets the test
-abbrev pub before_first : (Pair → Bool) → List Pair → Option ℕ
-before_first test [] = None
-before_first test (p ∷ ps) = if test p then Some 0 else option_map suc (before_first test ps)
+abbrev pub index_of_first : (Pair → Bool) → List Pair → Option ℕ
+index_of_first test [] = None
+index_of_first test (p ∷ ps) = if test p then Some 0 else option_map suc (index_of_first test ps)
 
 -- the same, where the first of the tokens does not count
-abbrev pub before_later : (Pair → Bool) → List Pair → Option ℕ
-before_later test [] = None
-before_later test (p ∷ ps) = option_map suc (before_first test ps)
+abbrev pub index_after_first : (Pair → Bool) → List Pair → Option ℕ
+index_after_first test [] = None
+index_after_first test (p ∷ ps) = option_map suc (index_of_first test ps)
 
 -- a frozen line has no cells, nor has one with an inline comment that holds a line end
 abbrev pub has_cells : Line → Bool
@@ -38,7 +38,7 @@ is_balanced pairs = openings pairs == closings pairs
 abbrev pub assignment : Line → Option ℕ
 assignment line =
     if has_cells line
-    then (elim (before_later (λ (p : Pair). is_equal p.kind) line.pairs) [
+    then (elim (index_after_first (λ (p : Pair). is_equal p.kind) line.pairs) [
       | None ↦ None
       | Some n ↦ if is_balanced (drop n line.pairs) then Some n else None
     ])
@@ -47,7 +47,7 @@ assignment line =
 -- a closing comment: the line comment of a line, if it is not the line's first token
 abbrev pub closing_comment : Line → Option ℕ
 closing_comment line =
-    if has_cells line then before_later (λ (p : Pair). is_line_comment p.kind) line.pairs else None
+    if has_cells line then index_after_first (λ (p : Pair). is_line_comment p.kind) line.pairs else None
 
 -- how wide gaps and tokens are: a gap as it is set so far, and the clusters of each token
 abbrev pub width : List Pair → ℕ
@@ -85,16 +85,16 @@ with_gap zero gap (p ∷ ps) = record p { gap = gap } ∷ ps
 with_gap (suc n) gap (p ∷ ps) = p ∷ with_gap n gap ps
 
 -- a line with so many spaces before its cell
-abbrev pub moved : Option ℕ → Option ℕ → Line → Line
-moved (Some n) (Some count) line = record line { pairs = with_gap n (spaces count) line.pairs }
-moved cell count line = line
+abbrev pub with_cell_gap : Option ℕ → Option ℕ → Line → Line
+with_cell_gap (Some n) (Some count) line = record line { pairs = with_gap n (spaces count) line.pairs }
+with_cell_gap cell count line = line
 
 -- each line with so many
-abbrev pub moved_all : (Line → Option ℕ) → List (Option ℕ) → List Line → List Line
-moved_all cell (count ∷ counts) (line ∷ lines) =
-    moved (cell line) count line ∷ moved_all cell counts lines
-moved_all cell counts lines = lines
+abbrev pub with_cell_gaps : (Line → Option ℕ) → List (Option ℕ) → List Line → List Line
+with_cell_gaps cell (count ∷ counts) (line ∷ lines) =
+    with_cell_gap (cell line) count line ∷ with_cell_gaps cell counts lines
+with_cell_gaps cell counts lines = lines
 
 -- the lines with their cells in columns
 abbrev pub aligned : (Line → Option ℕ) → List Line → List Line
-aligned cell lines = moved_all cell (cell_gaps [] (widths cell lines)) lines
+aligned cell lines = with_cell_gaps cell (cell_gaps [] (widths cell lines)) lines

@@ -1,4 +1,4 @@
 -- Definitions for proofs.
-pub mod Near
-pub mod Rows
+pub mod CodeViews
+pub mod SpacingFlags
 pub mod Stages

@@ -33,35 +33,35 @@ is_dot Dot = true
 is_dot kind = false
 
 -- `.` and the legacy index
-abbrev pub is_step : Kind → Bool
-is_step Dot = true
-is_step DotIndex = true
-is_step kind = false
+abbrev pub is_dot_or_index : Kind → Bool
+is_dot_or_index Dot = true
+is_dot_or_index DotIndex = true
+is_dot_or_index kind = false
 
 abbrev pub is_comma : Kind → Bool
 is_comma Comma = true
 is_comma kind = false
 
 -- `,` and `...`
-abbrev pub is_separator : Kind → Bool
-is_separator Comma = true
-is_separator Ellipsis = true
-is_separator kind = false
+abbrev pub is_comma_or_ellipsis : Kind → Bool
+is_comma_or_ellipsis Comma = true
+is_comma_or_ellipsis Ellipsis = true
+is_comma_or_ellipsis kind = false
 
 abbrev pub is_open_bracket : Kind → Bool
 is_open_bracket OpenBracket = true
 is_open_bracket kind = false
 
 -- what an index may stand behind, but a splat's star
-abbrev pub takes_index : Kind → Bool
-takes_index Identifier = true
-takes_index Number = true
-takes_index DotIndex = true
-takes_index QuoteClose = true
-takes_index CloseParen = true
-takes_index CloseBracket = true
-takes_index CloseBrace = true
-takes_index kind = false
+abbrev pub can_be_indexed : Kind → Bool
+can_be_indexed Identifier = true
+can_be_indexed Number = true
+can_be_indexed DotIndex = true
+can_be_indexed QuoteClose = true
+can_be_indexed CloseParen = true
+can_be_indexed CloseBracket = true
+can_be_indexed CloseBrace = true
+can_be_indexed kind = false
 
 -- what ends an operand, but a splat's star
 abbrev pub ends_operand : Kind → Bool
@@ -96,28 +96,28 @@ is_close_brace CloseBrace = true
 is_close_brace kind = false
 
 -- `${` and `%{`
-abbrev pub opens_sequence : Kind → Bool
-opens_sequence InterpOpen = true
-opens_sequence DirectiveOpen = true
-opens_sequence kind = false
+abbrev pub is_sequence_open : Kind → Bool
+is_sequence_open InterpOpen = true
+is_sequence_open DirectiveOpen = true
+is_sequence_open kind = false
 
 abbrev pub is_seq_close : Kind → Bool
 is_seq_close SeqClose = true
 is_seq_close kind = false
 
 -- openings and closings that stand close to what they hold
-abbrev pub opens_close : Kind → Bool
-opens_close OpenParen = true
-opens_close OpenBracket = true
-opens_close InterpOpen = true
-opens_close DirectiveOpen = true
-opens_close kind = false
+abbrev pub opens_tight : Kind → Bool
+opens_tight OpenParen = true
+opens_tight OpenBracket = true
+opens_tight InterpOpen = true
+opens_tight DirectiveOpen = true
+opens_tight kind = false
 
-abbrev pub closes_close : Kind → Bool
-closes_close CloseParen = true
-closes_close CloseBracket = true
-closes_close SeqClose = true
-closes_close kind = false
+abbrev pub closes_tight : Kind → Bool
+closes_tight CloseParen = true
+closes_tight CloseBracket = true
+closes_tight SeqClose = true
+closes_tight kind = false
 
 abbrev pub is_equal : Kind → Bool
 is_equal Equal = true
@@ -125,12 +125,12 @@ is_equal kind = false
 
 -- comments, line ends and the byte order mark, which are passed over where the spacing asks for the
 -- token before another
-abbrev pub is_passed_over : Kind → Bool
-is_passed_over LineComment = true
-is_passed_over InlineComment = true
-is_passed_over LineEnd = true
-is_passed_over Mark = true
-is_passed_over kind = false
+abbrev pub is_skipped : Kind → Bool
+is_skipped LineComment = true
+is_skipped InlineComment = true
+is_skipped LineEnd = true
+is_skipped Mark = true
+is_skipped kind = false
 
 abbrev pub is_here_open : Kind → Bool
 is_here_open HereOpen = true

@@ -1,21 +1,21 @@
 //! Cells that stand in columns.
 
 ghost use Rattle.std.specs.Prelude.{take, false, [], ◌∷◌, Some, slice_get, ◌≡◌, ◌==◌, ◌&&◌, ◌+◌, ◌-◌, ◌*◌, ◌<◌, ◌≤◌, ◌^◌, length, drop, slice_range, option_map, OnOk, IfOk, IfSome};
-ghost use Rattle.hcl_scan.specs.Cut.{MAX_TEXT};
+ghost use Rattle.hcl_scan.specs.Tokenization.{MAX_TEXT};
 ghost use Rattle.std.specs.List.{list_any};
 ghost use Rattle.hcl_token.specs.Place.{is_lf};
 ghost use Rattle.hcl_token.specs.Tokens.{Pair};
-ghost use Rattle.hcl_token.specs.CutText.{AreUtf8};
+ghost use Rattle.hcl_token.specs.TokenizedText.{AreUtf8};
 ghost use Rattle.hcl_gaps.specs.Kinds.{is_inline_comment};
 ghost use Rattle.hcl_gaps.specs.Lines.{lines_from, pairs_in};
-ghost use Rattle.hcl_gaps.specs.Cells.{before_later, is_balanced, width, width_before, widths, greatest, aligned};
-ghost use Rattle.hcl_gaps.specs.Inner.Stages.{with_gaps, AreWithin, cell_tokens, set_cell_gaps, cell_gaps_below};
-ghost use Rattle.hcl_gaps.specs.Inner.Near.{cell_is, cell_of, cell_counts, widths_of, tokens_in, width_in, token_in, may_begin, makes_busy, is_comment, are_some, IsMarked, AreInside, AreLines};
+ghost use Rattle.hcl_gaps.specs.Cells.{index_after_first, is_balanced, width, width_before, widths, greatest, aligned};
+ghost use Rattle.hcl_gaps.specs.Inner.Stages.{with_gaps, AreAtMost, cell_tokens, set_cell_gaps, cell_gaps_from_width};
+ghost use Rattle.hcl_gaps.specs.Inner.CodeViews.{starts_cell, cell_of, is_valid_cell, widths_of, tokens_in, width_in, token_in, can_have_cell, is_bracket, is_comment, are_some, HasFlags, AreInside, AreLines};
 
-use crate::indent::brackets;
+use crate::base_gaps::KEEP_GAP;
+use crate::indent::count_brackets;
 use crate::kinds::{is_equal, is_inline_comment, is_line_comment};
 use crate::lines::LineSpan;
-use crate::setting::KEPT;
 use hcl_scan::Scanned;
 use hcl_token::Kind;
 use std::alloc::{AllocError, Global};
@@ -43,7 +43,7 @@ fn has_lf(bytes: &[u8]) -> bool
 }
 
 /// Whether token `i` is an inline comment with a line end. Only such a comment is searched.
-fn breaks_at(scanned: &Scanned<'_>, i: usize) -> bool
+fn is_multiline_comment_at(scanned: &Scanned<'_>, i: usize) -> bool
     requires { i < length scanned.now.pairs }
     ensures { Some result ≡ option_map (λ (p : Pair).
         is_inline_comment p.kind && list_any is_lf p.spelling) (slice_get scanned.now.pairs i) }
@@ -56,28 +56,28 @@ fn breaks_at(scanned: &Scanned<'_>, i: usize) -> bool
 
 /// Whether an inline comment with a line end stands in a line; none does where no comment stands in
 /// it.
-fn breaks(scanned: &Scanned<'_>, at: usize, past: usize, noted: bool) -> bool
+fn has_multiline_comment(scanned: &Scanned<'_>, at: usize, past: usize, has_comment: bool) -> bool
     requires ordered { at ≤ past }
     requires within { past ≤ length scanned.now.pairs }
-    requires noted { noted ≡ false
+    requires has_comment { has_comment ≡ false
         → are_some is_comment (slice_range scanned.now.pairs at past) ≡ false }
     ensures { result ≡ list_any
         (λ (p : Pair). is_inline_comment p.kind && list_any is_lf p.spelling)
         (slice_range scanned.now.pairs at past) }
 {
-    if !noted {
+    if !has_comment {
         return false;
     }
     for i in at..past {
-        if breaks_at(scanned, i) {
+        if is_multiline_comment_at(scanned, i) {
             return true;
         }
     }
     false
 }
 
-fn cell_is(cell: Cell, kind: Kind) -> bool
-    ensures { result ≡ cell_is cell kind }
+fn starts_cell(cell: Cell, kind: Kind) -> bool
+    ensures { result ≡ starts_cell cell kind }
 {
     match cell {
         Cell::Assignment => is_equal(kind),
@@ -86,66 +86,72 @@ fn cell_is(cell: Cell, kind: Kind) -> bool
 }
 
 /// Whether a token that begins such a cell may stand in a line.
-fn may_begin(cell: Cell, line: LineSpan) -> bool
-    ensures { result ≡ may_begin cell line }
+fn can_have_cell(cell: Cell, line: LineSpan) -> bool
+    ensures { result ≡ can_have_cell cell line }
 {
     match cell {
-        Cell::Assignment => line.assigns,
-        Cell::ClosingComment => line.noted,
+        Cell::Assignment => line.has_equals,
+        Cell::ClosingComment => line.has_comment,
     }
 }
 
 /// The first token behind token `at` that begins such a cell, if one of these may.
-fn first_later(
+fn cell_token_after_first(
     scanned: &Scanned<'_>,
     cell: Cell,
     at: usize,
     past: usize,
-    may_begin: bool,
+    can_have_cell: bool,
 ) -> Option<usize>
     requires ordered { at < past }
     requires within { past ≤ length scanned.now.pairs }
-    requires none { may_begin ≡ false
-        → are_some (cell_is cell) (slice_range scanned.now.pairs at past) ≡ false }
+    requires none { can_have_cell ≡ false
+        → are_some (starts_cell cell) (slice_range scanned.now.pairs at past) ≡ false }
     ensures found { result
         ≡ option_map (λ n. at + n)
-        (before_later (λ (p : Pair). cell_is cell p.kind) (slice_range scanned.now.pairs at past)) }
+        (index_after_first (λ (p : Pair). starts_cell cell p.kind) (slice_range scanned.now.pairs at past)) }
     ensures inside { IfSome result (λ i. (at < i) × (i < past)) }
 {
-    if !may_begin {
+    if !can_have_cell {
         return None;
     }
     for i in at + 1..past {
-        if cell_is(cell, scanned.kind(i)) {
+        if starts_cell(cell, scanned.kind(i)) {
             return Some(i);
         }
     }
     None
 }
 
-fn is_balanced(scanned: &Scanned<'_>, at: usize, past: usize, busy: bool) -> bool
+fn is_balanced(scanned: &Scanned<'_>, at: usize, past: usize, has_bracket: bool) -> bool
     requires ordered { at ≤ past }
     requires within { past ≤ length scanned.now.pairs }
-    requires busy { busy ≡ false
-        → are_some makes_busy (slice_range scanned.now.pairs at past) ≡ false }
-    requires few { length scanned.now.pairs ≤ MAX_TEXT }
+    requires has_bracket { has_bracket ≡ false
+        → are_some is_bracket (slice_range scanned.now.pairs at past) ≡ false }
+    requires within_limit { length scanned.now.pairs ≤ MAX_TEXT }
     ensures { result ≡ is_balanced (slice_range scanned.now.pairs at past) }
 {
-    let (opened, closed) = brackets(scanned, at, past, busy);
+    let (opened, closed) = count_brackets(scanned, at, past, has_bracket);
     opened == closed
 }
 
 /// Whether a cell that begins at token `i` of a line counts.
-fn counts(scanned: &Scanned<'_>, cell: Cell, i: usize, past: usize, busy: bool) -> bool
+fn is_valid_cell(
+    scanned: &Scanned<'_>,
+    cell: Cell,
+    i: usize,
+    past: usize,
+    has_bracket: bool,
+) -> bool
     requires ordered { i ≤ past }
     requires within { past ≤ length scanned.now.pairs }
-    requires busy { busy ≡ false
-        → are_some makes_busy (slice_range scanned.now.pairs i past) ≡ false }
-    requires few { length scanned.now.pairs ≤ MAX_TEXT }
-    ensures { result ≡ cell_counts cell (slice_range scanned.now.pairs i past) }
+    requires has_bracket { has_bracket ≡ false
+        → are_some is_bracket (slice_range scanned.now.pairs i past) ≡ false }
+    requires within_limit { length scanned.now.pairs ≤ MAX_TEXT }
+    ensures { result ≡ is_valid_cell cell (slice_range scanned.now.pairs i past) }
 {
     match cell {
-        Cell::Assignment => is_balanced(scanned, i, past, busy),
+        Cell::Assignment => is_balanced(scanned, i, past, has_bracket),
         Cell::ClosingComment => true,
     }
 }
@@ -160,8 +166,8 @@ fn cell_of(
 ) -> Option<usize>
     requires ordered { at < line.past }
     requires within { line.past ≤ length scanned.now.pairs }
-    requires marked { IsMarked scanned.now.pairs at line }
-    requires few { length scanned.now.pairs ≤ MAX_TEXT }
+    requires flags { HasFlags scanned.now.pairs at line }
+    requires within_limit { length scanned.now.pairs ≤ MAX_TEXT }
     ensures cell { result
         ≡ option_map (λ n. at + n)
         (cell_of cell (record {
@@ -174,18 +180,18 @@ fn cell_of(
         return None;
     }
     let past = line.past as usize;
-    let i = first_later(scanned, cell, at, past, may_begin(cell, line))?;
-    if breaks(scanned, at, past, line.noted) {
+    let i = cell_token_after_first(scanned, cell, at, past, can_have_cell(cell, line))?;
+    if has_multiline_comment(scanned, at, past, line.has_comment) {
         return None;
     }
-    if counts(scanned, cell, i, past, line.busy) {
+    if is_valid_cell(scanned, cell, i, past, line.has_bracket) {
         return Some(i);
     }
     None
 }
 
 /// How long the gap before token `i` is.
-fn gap_len(scanned: &Scanned<'_>, gaps: &[u32], i: usize) -> usize
+fn current_gap_len(scanned: &Scanned<'_>, gaps: &[u32], i: usize) -> usize
     requires same { length gaps.now ≡ length scanned.now.pairs }
     requires within { i < length scanned.now.pairs }
     ensures { Some result
@@ -193,7 +199,7 @@ fn gap_len(scanned: &Scanned<'_>, gaps: &[u32], i: usize) -> usize
         (slice_get (with_gaps gaps.now scanned.now.pairs) i) }
 {
     let len = gaps[i];
-    if len == KEPT {
+    if len == KEEP_GAP {
         return scanned.gap(i).len();
     }
     len as usize
@@ -204,12 +210,12 @@ fn width(scanned: &Scanned<'_>, gaps: &[u32], at: usize, to: usize) -> u32
     requires same { length gaps.now ≡ length scanned.now.pairs }
     requires ordered { at ≤ to }
     requires within { to ≤ length scanned.now.pairs }
-    requires small { width (slice_range (with_gaps gaps.now scanned.now.pairs) at to) < 2 ^ 31 }
+    requires bounded { width (slice_range (with_gaps gaps.now scanned.now.pairs) at to) < 2 ^ 31 }
     ensures { result ≡ width (slice_range (with_gaps gaps.now scanned.now.pairs) at to) }
 {
     let mut width = 0;
     for i in at..to {
-        width += gap_len(scanned, gaps, i) + scanned.clusters(i);
+        width += current_gap_len(scanned, gaps, i) + scanned.clusters(i);
     }
     width as u32
 }
@@ -226,9 +232,9 @@ fn cell_start(
     requires same { length gaps.now ≡ length scanned.now.pairs }
     requires ordered { at < line.past }
     requires within { line.past ≤ length scanned.now.pairs }
-    requires marked { IsMarked scanned.now.pairs at line }
-    requires few { length scanned.now.pairs ≤ MAX_TEXT }
-    requires narrow { AreWithin 1073741824
+    requires flags { HasFlags scanned.now.pairs at line }
+    requires within_limit { length scanned.now.pairs ≤ MAX_TEXT }
+    requires bounded { AreAtMost 1073741824
         (width_before (cell_of cell)
         (record {
           frozen = frozen;
@@ -267,10 +273,10 @@ fn cell_starts(
     first: usize,
 ) -> Result<Vec<Option<CellStart>>, AllocError>
     requires same { length gaps.now ≡ length scanned.now.pairs }
-    requires few { length scanned.now.pairs ≤ MAX_TEXT }
+    requires within_limit { length scanned.now.pairs ≤ MAX_TEXT }
     requires within { first ≤ length scanned.now.pairs }
     requires lines { AreLines scanned.now.pairs first false lines.now }
-    requires narrow { AreWithin 1073741824
+    requires bounded { AreAtMost 1073741824
         (widths (cell_of cell) (lines_from 0 (drop first (with_gaps gaps.now scanned.now.pairs)))) }
     ensures widths { IfOk result
         (λ starts. widths_of starts.items
@@ -288,7 +294,7 @@ fn cell_starts(
     for line in lines {
         let start = cell_start(scanned, cell, gaps, at, frozen, *line);
         starts.push(start)?;
-        frozen = line.next;
+        frozen = line.next_frozen;
         at = line.past as usize;
     }
     Ok(starts)
@@ -315,7 +321,7 @@ fn start_at(starts: &[Option<CellStart>], i: usize) -> Option<CellStart>
     starts[i]
 }
 
-fn behind(starts: &[Option<CellStart>], i: usize) -> &[Option<CellStart>]
+fn starts_from(starts: &[Option<CellStart>], i: usize) -> &[Option<CellStart>]
     requires { i ≤ length starts.now }
     ensures { result.now ≡ drop i starts.now }
 {
@@ -324,39 +330,39 @@ fn behind(starts: &[Option<CellStart>], i: usize) -> &[Option<CellStart>]
 
 /// Sets the gap before a cell, if there is one, and answers the greatest width of the run that the
 /// next line is in.
-fn set_cell_gap(gaps: &mut Vec<u32>, starts: &[Option<CellStart>], i: usize, top: u32) -> u32
+fn set_cell_gap(gaps: &mut Vec<u32>, starts: &[Option<CellStart>], i: usize, run_width: u32) -> u32
     requires within { i < length starts.now }
     requires inside { AreInside (length gaps.old.items) starts.now }
-    requires narrow { AreWithin 1073741824 (widths_of starts.now) }
-    requires top { top ≤ 1073741824 }
+    requires bounded { AreAtMost 1073741824 (widths_of starts.now) }
+    requires run_width { run_width ≤ 1073741824 }
     ensures filled { set_cell_gaps gaps.new.items (tokens_in (drop (i + 1) starts.now))
-        (cell_gaps_below result (widths_of (drop (i + 1) starts.now)))
+        (cell_gaps_from_width result (widths_of (drop (i + 1) starts.now)))
         ≡ set_cell_gaps gaps.old.items (tokens_in (drop i starts.now))
-        (cell_gaps_below top (widths_of (drop i starts.now))) }
-    ensures top { result ≤ 1073741824 }
+        (cell_gaps_from_width run_width (widths_of (drop i starts.now))) }
+    ensures run_width { result ≤ 1073741824 }
     ensures same { length gaps.new.items ≡ length gaps.old.items }
 {
     match start_at(starts, i) {
         Some(start) => {
-            gaps[start.token as usize] = 1 + top.saturating_sub(start.width);
-            top
+            gaps[start.token as usize] = 1 + run_width.saturating_sub(start.width);
+            run_width
         }
-        None => greatest(behind(starts, i + 1)),
+        None => greatest(starts_from(starts, i + 1)),
     }
 }
 
 /// Sets the gaps before cells, from the greatest width of each run.
 fn set_cell_gaps(gaps: &mut Vec<u32>, starts: &[Option<CellStart>])
     requires inside { AreInside (length gaps.old.items) starts.now }
-    requires narrow { AreWithin 1073741824 (widths_of starts.now) }
+    requires bounded { AreAtMost 1073741824 (widths_of starts.now) }
     ensures filled { gaps.new.items
         ≡ set_cell_gaps gaps.old.items (tokens_in starts.now)
-        (cell_gaps_below (greatest (widths_of starts.now)) (widths_of starts.now)) }
+        (cell_gaps_from_width (greatest (widths_of starts.now)) (widths_of starts.now)) }
     ensures same { length gaps.new.items ≡ length gaps.old.items }
 {
-    let mut top = greatest(starts);
+    let mut run_width = greatest(starts);
     for i in 0..starts.len() {
-        top = set_cell_gap(gaps, starts, i, top);
+        run_width = set_cell_gap(gaps, starts, i, run_width);
     }
 }
 
@@ -370,17 +376,17 @@ pub(crate) fn align(
     first: usize,
 ) -> Result<(), AllocError>
     requires same { length gaps.old.items ≡ length scanned.now.pairs }
-    requires few { length scanned.now.pairs ≤ MAX_TEXT }
+    requires within_limit { length scanned.now.pairs ≤ MAX_TEXT }
     requires within { first ≤ length scanned.now.pairs }
     requires lines { AreLines scanned.now.pairs first false lines.now }
-    requires narrow { AreWithin 1073741824
+    requires bounded { AreAtMost 1073741824
         (widths (cell_of cell)
         (lines_from 0 (drop first (with_gaps gaps.old.items scanned.now.pairs)))) }
-    ensures moved { OnOk result
+    ensures aligned { OnOk result
         (drop first (with_gaps gaps.new.items scanned.now.pairs)
         ≡ pairs_in (aligned (cell_of cell)
         (lines_from 0 (drop first (with_gaps gaps.old.items scanned.now.pairs))))) }
-    ensures front { OnOk result
+    ensures prefix { OnOk result
         (take first (with_gaps gaps.new.items scanned.now.pairs)
         ≡ take first (with_gaps gaps.old.items scanned.now.pairs)) }
     ensures same { OnOk result (length gaps.new.items ≡ length scanned.now.pairs) }

@@ -1,16 +1,16 @@
 //! The edits that give a text its new gaps.
 
 ghost use Rattle.std.specs.Prelude.{◌≡◌, ◌+◌, ◌*◌, ◌<◌, ◌≤◌, ◌++◌, [], ◌∷◌, Some, length, take, replicate, slice_get, slice_index, slice_index_or, nat_lt, IfOk, OnOk};
-ghost use Rattle.hcl_scan.specs.Cut.{MAX_TEXT};
+ghost use Rattle.hcl_scan.specs.Tokenization.{MAX_TEXT};
 ghost use Rattle.std.specs.Str.{bytes_eq};
 ghost use Rattle.std.specs.Option.{option_map};
 ghost use Rattle.hcl_token.specs.Tokens.{Pair, whole_text};
-ghost use Rattle.edit_list.specs.Pieces.{changes_from};
+ghost use Rattle.edit_list.specs.Pieces.{changed_entries};
 ghost use Rattle.hcl_gaps.specs.Space.{spaces};
 ghost use Rattle.hcl_gaps.specs.Layout.{gap_piece, pieces};
-ghost use Rattle.hcl_gaps.specs.Inner.Stages.{unchanged, gap_meant, with_gaps};
+ghost use Rattle.hcl_gaps.specs.Inner.Stages.{unchanged, resolved_gap, with_gaps};
 
-use crate::setting::KEPT;
+use crate::base_gaps::KEEP_GAP;
 use edit_list::Edit;
 use hcl_scan::Scanned;
 use std::alloc::{AllocError, Global};
@@ -31,10 +31,10 @@ fn is_spaces(gap: &[u8], len: u32) -> bool
 }
 
 /// Whether a gap stays.
-pub(crate) fn stays(gap: &[u8], new: u32) -> bool
-    ensures { result ≡ bytes_eq gap.now (gap_meant new gap.now) }
+pub(crate) fn is_unchanged(gap: &[u8], new: u32) -> bool
+    ensures { result ≡ bytes_eq gap.now (resolved_gap new gap.now) }
 {
-    if new == KEPT {
+    if new == KEEP_GAP {
         return true;
     }
     is_spaces(gap, new)
@@ -61,9 +61,9 @@ fn push_gap(
     ensures { OnOk result
         (edits.new.items
         ≡ edits.old.items
-        ++ changes_from at (gap_piece gap.now (gap_meant new gap.now) ∷ [])) }
+        ++ changed_entries at (gap_piece gap.now (resolved_gap new gap.now) ∷ [])) }
 {
-    if stays(gap, new) {
+    if is_unchanged(gap, new) {
         return Ok(());
     }
     let spaces = spaces(alloc, new)?;
@@ -80,7 +80,7 @@ pub(crate) fn gap_edits(
     requires { length gaps.now ≡ length scanned.now.pairs }
     ensures { IfOk result
         (λ edits. edits.items
-        ≡ changes_from 0 (pieces scanned.now.pairs
+        ≡ changed_entries 0 (pieces scanned.now.pairs
         (with_gaps gaps.now scanned.now.pairs) scanned.now.last)) }
 {
     let mut edits = Vec::new(alloc);
@@ -106,13 +106,13 @@ pub(crate) fn gap_edits(
 }
 
 /// Whether no gap differs.
-pub(crate) fn all_stay(scanned: &Scanned<'_>, gaps: &[u32]) -> bool
+pub(crate) fn all_unchanged(scanned: &Scanned<'_>, gaps: &[u32]) -> bool
     requires { length gaps.now ≡ length scanned.now.pairs }
     ensures { result ≡ unchanged scanned.now.pairs
         (with_gaps gaps.now scanned.now.pairs) scanned.now.last }
 {
     for i in 0..scanned.len() {
-        if !stays(scanned.gap(i), gaps[i]) {
+        if !is_unchanged(scanned.gap(i), gaps[i]) {
             return false;
         }
     }

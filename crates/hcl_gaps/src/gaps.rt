@@ -1,21 +1,21 @@
 //! The gaps of the layout.
 
 ghost use Rattle.std.specs.Prelude.{◌≡◌, ◌≤◌, length, IfOk};
-ghost use Rattle.hcl_token.specs.CutText.{AreUtf8};
-ghost use Rattle.hcl_scan.specs.Cut.{IsCut};
-ghost use Rattle.hcl_gaps.specs.Layout.{laid_out};
-ghost use Rattle.hcl_gaps.specs.Inner.Stages.{with_gaps, marks};
+ghost use Rattle.hcl_token.specs.TokenizedText.{AreUtf8};
+ghost use Rattle.hcl_scan.specs.Tokenization.{IsTokenization};
+ghost use Rattle.hcl_gaps.specs.Layout.{layout_pairs};
+ghost use Rattle.hcl_gaps.specs.Inner.Stages.{with_gaps, mark_count};
 
+use crate::base_gaps::base_gaps;
 use crate::cells::{Cell, align};
 use crate::lines::line_spans;
-use crate::setting::set_gaps;
 use hcl_scan::Scanned;
 use hcl_token::Kind;
 use std::alloc::{AllocError, Global};
 
 /// How many tokens belong to no line: the byte order mark.
-fn marks(scanned: &Scanned<'_>) -> usize
-    ensures value { result ≡ marks scanned.now.pairs }
+fn mark_count(scanned: &Scanned<'_>) -> usize
+    ensures value { result ≡ mark_count scanned.now.pairs }
     ensures within { result ≤ length scanned.now.pairs }
 {
     if scanned.is_empty() {
@@ -28,16 +28,16 @@ fn marks(scanned: &Scanned<'_>) -> usize
 }
 
 /// The gaps of the layout of a text.
-pub(crate) fn laid_gaps(alloc: Global, scanned: &Scanned<'_>) -> Result<Vec<u32>, AllocError>
-    requires cut { IsCut scanned.now.text scanned.now.pairs scanned.now.last }
+pub(crate) fn layout_gaps(alloc: Global, scanned: &Scanned<'_>) -> Result<Vec<u32>, AllocError>
+    requires tokenization { IsTokenization scanned.now.text scanned.now.pairs scanned.now.last }
     requires utf8 { AreUtf8 scanned.now.pairs }
-    ensures laid_out { IfOk result
-        (λ gaps. with_gaps gaps.items scanned.now.pairs ≡ laid_out scanned.now.pairs) }
+    ensures layout { IfOk result
+        (λ gaps. with_gaps gaps.items scanned.now.pairs ≡ layout_pairs scanned.now.pairs) }
     ensures same { IfOk result (λ gaps. length gaps.items ≡ length scanned.now.pairs) }
 {
-    let first = marks(scanned);
+    let first = mark_count(scanned);
     let lines = line_spans(alloc, scanned, first)?;
-    let mut gaps = set_gaps(alloc, scanned, &lines, first)?;
+    let mut gaps = base_gaps(alloc, scanned, &lines, first)?;
     align(alloc, scanned, Cell::Assignment, &lines, &mut gaps, first)?;
     align(
         alloc,

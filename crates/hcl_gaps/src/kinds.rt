@@ -1,7 +1,7 @@
 //! Kinds of tokens, as the spacing tells them apart.
 
 ghost use Rattle.std.specs.Prelude.{◌≡◌};
-ghost use Rattle.hcl_gaps.specs.Kinds.{is_line_end, is_line_comment, is_inline_comment, is_identifier, is_open_paren, is_double_colon, is_dot, is_step, is_comma, is_separator, is_open_bracket, takes_index, ends_operand, is_bang, is_minus, is_star, is_open_brace, is_close_brace, opens_sequence, is_seq_close, opens_close, closes_close, is_equal, is_passed_over, is_here_open};
+ghost use Rattle.hcl_gaps.specs.Kinds.{is_line_end, is_line_comment, is_inline_comment, is_identifier, is_open_paren, is_double_colon, is_dot, is_dot_or_index, is_comma, is_comma_or_ellipsis, is_open_bracket, can_be_indexed, ends_operand, is_bang, is_minus, is_star, is_open_brace, is_close_brace, is_sequence_open, is_seq_close, opens_tight, closes_tight, is_equal, is_skipped, is_here_open};
 
 use hcl_token::Kind;
 
@@ -47,8 +47,8 @@ pub(crate) fn is_dot(kind: Kind) -> bool
     matches!(kind, Kind::Dot)
 }
 
-pub(crate) fn is_step(kind: Kind) -> bool
-    ensures { result ≡ is_step kind }
+pub(crate) fn is_dot_or_index(kind: Kind) -> bool
+    ensures { result ≡ is_dot_or_index kind }
 {
     matches!(kind, Kind::Dot | Kind::DotIndex)
 }
@@ -59,8 +59,8 @@ pub(crate) fn is_comma(kind: Kind) -> bool
     matches!(kind, Kind::Comma)
 }
 
-pub(crate) fn is_separator(kind: Kind) -> bool
-    ensures { result ≡ is_separator kind }
+pub(crate) fn is_comma_or_ellipsis(kind: Kind) -> bool
+    ensures { result ≡ is_comma_or_ellipsis kind }
 {
     matches!(kind, Kind::Comma | Kind::Ellipsis)
 }
@@ -71,8 +71,8 @@ pub(crate) fn is_open_bracket(kind: Kind) -> bool
     matches!(kind, Kind::OpenBracket)
 }
 
-pub(crate) fn takes_index(kind: Kind) -> bool
-    ensures { result ≡ takes_index kind }
+pub(crate) fn can_be_indexed(kind: Kind) -> bool
+    ensures { result ≡ can_be_indexed kind }
 {
     matches!(
         kind,
@@ -132,8 +132,8 @@ pub(crate) fn is_close_brace(kind: Kind) -> bool
     matches!(kind, Kind::CloseBrace)
 }
 
-pub(crate) fn opens_sequence(kind: Kind) -> bool
-    ensures { result ≡ opens_sequence kind }
+pub(crate) fn is_sequence_open(kind: Kind) -> bool
+    ensures { result ≡ is_sequence_open kind }
 {
     matches!(kind, Kind::InterpOpen | Kind::DirectiveOpen)
 }
@@ -144,8 +144,8 @@ pub(crate) fn is_seq_close(kind: Kind) -> bool
     matches!(kind, Kind::SeqClose)
 }
 
-pub(crate) fn opens_close(kind: Kind) -> bool
-    ensures { result ≡ opens_close kind }
+pub(crate) fn opens_tight(kind: Kind) -> bool
+    ensures { result ≡ opens_tight kind }
 {
     matches!(
         kind,
@@ -153,8 +153,8 @@ pub(crate) fn opens_close(kind: Kind) -> bool
     )
 }
 
-pub(crate) fn closes_close(kind: Kind) -> bool
-    ensures { result ≡ closes_close kind }
+pub(crate) fn closes_tight(kind: Kind) -> bool
+    ensures { result ≡ closes_tight kind }
 {
     matches!(kind, Kind::CloseParen | Kind::CloseBracket | Kind::SeqClose)
 }
@@ -165,8 +165,8 @@ pub(crate) fn is_equal(kind: Kind) -> bool
     matches!(kind, Kind::Equal)
 }
 
-pub(crate) fn is_passed_over(kind: Kind) -> bool
-    ensures { result ≡ is_passed_over kind }
+pub(crate) fn is_skipped(kind: Kind) -> bool
+    ensures { result ≡ is_skipped kind }
 {
     matches!(
         kind,

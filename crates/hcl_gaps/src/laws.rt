@@ -2,14 +2,14 @@
 
 ghost use Rattle.std.specs.Prelude.{◌≡◌, ℕ, List};
 ghost use Rattle.hcl_token.specs.Tokens.{Pair};
-ghost use Rattle.hcl_scan.specs.Cut.{IsCut};
+ghost use Rattle.hcl_scan.specs.Tokenization.{IsTokenization};
 ghost use Rattle.hcl_scan.specs.Follows.{tokens_of};
 ghost use Rattle.hcl_gaps.specs.Lines.{Line, lines_of, pairs_in};
 ghost use Rattle.hcl_gaps.specs.Cells.{assignment, closing_comment, aligned};
 ghost use Rattle.hcl_gaps.specs.Columns.{AreAligned, CommentsEndLines};
-ghost use Rattle.hcl_gaps.specs.Layout.{laid_out, laid_out_lines};
+ghost use Rattle.hcl_gaps.specs.Layout.{layout_pairs, layout_lines};
 
-use hcl_scan::laws::cut_follows;
+use hcl_scan::laws::tokenization_follows_modes;
 
 /// The lines of a text have all its tokens, in order.
 pub fn lines_have_all_tokens()
@@ -18,12 +18,12 @@ pub fn lines_have_all_tokens()
 
 /// The layout has the tokens of the text, line ends and comments among them.
 pub fn keeps_tokens()
-    ensures { (pairs : List Pair) → tokens_of (laid_out pairs) ≡ tokens_of pairs }
+    ensures { (pairs : List Pair) → tokens_of (layout_pairs pairs) ≡ tokens_of pairs }
 {}
 
 /// The layout of a layout is that layout.
 pub fn own_layout()
-    ensures { (pairs : List Pair) → laid_out (laid_out pairs) ≡ laid_out pairs }
+    ensures { (pairs : List Pair) → layout_pairs (layout_pairs pairs) ≡ layout_pairs pairs }
 {}
 
 /// Where lines are aligned by their assignments, or by their closing comments, those of lines one
@@ -39,11 +39,11 @@ pub fn cells_in_columns()
 /// comment goes on to the end of its line.
 pub fn layouts_have_columns()
     ensures ends { (text : List ℕ) (pairs : List Pair) (last : List ℕ)
-        → IsCut text pairs last → CommentsEndLines pairs }
+        → IsTokenization text pairs last → CommentsEndLines pairs }
     ensures assignments { (pairs : List Pair)
-        → CommentsEndLines pairs → AreAligned assignment (laid_out_lines (lines_of pairs)) }
+        → CommentsEndLines pairs → AreAligned assignment (layout_lines (lines_of pairs)) }
     ensures comments { (pairs : List Pair)
-        → AreAligned closing_comment (laid_out_lines (lines_of pairs)) }
+        → AreAligned closing_comment (layout_lines (lines_of pairs)) }
 {
-    cut_follows();
+    tokenization_follows_modes();
 }

@@ -1,9 +1,9 @@
 //! Lines.
 
 ghost use Rattle.std.specs.Prelude.{◌≡◌, ◌+◌, ◌<◌, ◌≤◌, false, length, IfOk};
-ghost use Rattle.hcl_scan.specs.Cut.{MAX_TEXT};
+ghost use Rattle.hcl_scan.specs.Tokenization.{MAX_TEXT};
 ghost use Rattle.hcl_gaps.specs.Lines.{heredocs_after, ends_line};
-ghost use Rattle.hcl_gaps.specs.Inner.Near.{makes_busy, is_comment, is_plain, IsLine, AreLines};
+ghost use Rattle.hcl_gaps.specs.Inner.CodeViews.{is_bracket, is_comment, has_no_line_effect, IsLine, AreLines};
 
 use crate::kinds::{is_equal, is_here_open};
 use hcl_scan::Scanned;
@@ -16,17 +16,17 @@ pub(crate) struct LineSpan {
     /// The number past its last token.
     pub past: u32,
     /// Whether the next line begins in a heredoc.
-    pub next: bool,
+    pub next_frozen: bool,
     /// Whether a bracket or a template sequence stands in it.
-    pub busy: bool,
+    pub has_bracket: bool,
     /// Whether a comment stands in it.
-    pub noted: bool,
+    pub has_comment: bool,
     /// Whether a `=` stands in it.
-    pub assigns: bool,
+    pub has_equals: bool,
 }
 
-fn makes_busy(kind: Kind) -> bool
-    ensures { result ≡ makes_busy kind }
+fn is_bracket(kind: Kind) -> bool
+    ensures { result ≡ is_bracket kind }
 {
     matches!(
         kind,
@@ -50,8 +50,8 @@ fn is_comment(kind: Kind) -> bool
 
 /// Whether a token of this kind neither ends a line nor raises a flag of it, and is none of a
 /// heredoc's.
-fn is_plain(kind: Kind) -> bool
-    ensures { result ≡ is_plain kind }
+fn has_no_line_effect(kind: Kind) -> bool
+    ensures { result ≡ has_no_line_effect kind }
 {
     match kind {
         Kind::LineEnd
@@ -74,68 +74,68 @@ fn is_plain(kind: Kind) -> bool
     }
 }
 
-fn heredocs_after(held: usize, kind: Kind) -> usize
-    requires { held < 16777217 }
-    ensures { result ≡ heredocs_after held kind }
+fn heredocs_after(open_heredocs: usize, kind: Kind) -> usize
+    requires { open_heredocs < 16777217 }
+    ensures { result ≡ heredocs_after open_heredocs kind }
 {
     match kind {
-        Kind::HereOpen => held + 1,
-        Kind::HereClose => held.saturating_sub(1),
-        _ => held,
+        Kind::HereOpen => open_heredocs + 1,
+        Kind::HereClose => open_heredocs.saturating_sub(1),
+        _ => open_heredocs,
     }
 }
 
-fn ends_line(held: usize, kind: Kind) -> bool
-    ensures { result ≡ ends_line held kind }
+fn ends_line(open_heredocs: usize, kind: Kind) -> bool
+    ensures { result ≡ ends_line open_heredocs kind }
 {
     match kind {
-        Kind::LineEnd => held == 0,
-        Kind::HereOpen => held == 0,
+        Kind::LineEnd => open_heredocs == 0,
+        Kind::HereOpen => open_heredocs == 0,
         _ => false,
     }
 }
 
 /// The line that begins at token `at`, in a heredoc or not.
-fn line_from(scanned: &Scanned<'_>, at: usize, frozen: bool) -> LineSpan
+fn line_at(scanned: &Scanned<'_>, at: usize, frozen: bool) -> LineSpan
     requires within { at < length scanned.now.pairs }
-    requires few { length scanned.now.pairs ≤ MAX_TEXT }
+    requires within_limit { length scanned.now.pairs ≤ MAX_TEXT }
     ensures { IsLine scanned.now.pairs at frozen result }
 {
-    let mut held = usize::from(frozen);
-    let mut busy = false;
-    let mut noted = false;
-    let mut assigns = false;
+    let mut open_heredocs = usize::from(frozen);
+    let mut has_bracket = false;
+    let mut has_comment = false;
+    let mut has_equals = false;
     for i in at..scanned.len() {
         let kind = scanned.kind(i);
-        if is_plain(kind) {
+        if has_no_line_effect(kind) {
             continue;
         }
-        if ends_line(held, kind) {
+        if ends_line(open_heredocs, kind) {
             return LineSpan {
                 past: (i + 1) as u32,
-                next: is_here_open(kind),
-                busy,
-                noted,
-                assigns,
+                next_frozen: is_here_open(kind),
+                has_bracket,
+                has_comment,
+                has_equals,
             };
         }
-        if makes_busy(kind) {
-            busy = true;
+        if is_bracket(kind) {
+            has_bracket = true;
             continue;
         }
         if is_equal(kind) {
-            assigns = true;
+            has_equals = true;
             continue;
         }
-        noted = noted | is_comment(kind);
-        held = heredocs_after(held, kind);
+        has_comment = has_comment | is_comment(kind);
+        open_heredocs = heredocs_after(open_heredocs, kind);
     }
     LineSpan {
         past: scanned.len() as u32,
-        next: false,
-        busy,
-        noted,
-        assigns,
+        next_frozen: false,
+        has_bracket,
+        has_comment,
+        has_equals,
     }
 }
 
@@ -145,7 +145,7 @@ pub(crate) fn line_spans(
     scanned: &Scanned<'_>,
     first: usize,
 ) -> Result<Vec<LineSpan>, AllocError>
-    requires few { length scanned.now.pairs ≤ MAX_TEXT }
+    requires within_limit { length scanned.now.pairs ≤ MAX_TEXT }
     requires within { first ≤ length scanned.now.pairs }
     ensures { IfOk result (λ lines. AreLines scanned.now.pairs first false lines.items) }
 {
@@ -153,9 +153,9 @@ pub(crate) fn line_spans(
     let mut frozen = false;
     let mut at = first;
     while at < scanned.len() {
-        let line = line_from(scanned, at, frozen);
+        let line = line_at(scanned, at, frozen);
         lines.push(line)?;
-        frozen = line.next;
+        frozen = line.next_frozen;
         at = line.past as usize;
     }
     Ok(lines)

@@ -1,38 +1,38 @@
 //! The gaps inside a line.
 
 ghost use Rattle.std.specs.Prelude.{◌≡◌, None, Bool, ◌<◌, ◌≤◌, ◌-◌, [], take, length, slice_range, Some};
-ghost use Rattle.hcl_token.specs.CutText.{kind_of};
-ghost use Rattle.hcl_scan.specs.Follows.{has_no_gap};
-ghost use Rattle.hcl_gaps.specs.Space.{is_splat, behind_identifier, behind_operand, is_in, is_spaced, passed_all};
-ghost use Rattle.hcl_gaps.specs.Inner.Stages.{near_of, token, space_len_at};
-ghost use Rattle.hcl_gaps.specs.Inner.Near.{near};
-ghost use Rattle.hcl_gaps.specs.Inner.Rows.{told_behind, told_before, asks_before, ends_name, spaced_at, IsPastNearest};
+ghost use Rattle.hcl_token.specs.TokenizedText.{kind_of};
+ghost use Rattle.hcl_scan.specs.Follows.{has_no_gap_before};
+ghost use Rattle.hcl_gaps.specs.Space.{is_splat_star, is_after_identifier, is_after_operand, is_in_keyword, is_spaced, prev_after_all};
+ghost use Rattle.hcl_gaps.specs.Inner.Stages.{prev_kinds_of, token, space_len_at};
+ghost use Rattle.hcl_gaps.specs.Inner.CodeViews.{prev_kinds};
+ghost use Rattle.hcl_gaps.specs.Inner.SpacingFlags.{flags_after, flags_before, needs_context, closes_or_indexes_name, spaced_at, IsEndOfNearest};
 
 use crate::kinds::{
-    closes_close, ends_operand, is_bang, is_close_brace, is_comma, is_dot, is_double_colon,
-    is_identifier, is_line_comment, is_line_end, is_minus, is_open_brace, is_open_bracket,
-    is_open_paren, is_passed_over, is_separator, is_seq_close, is_star, is_step, opens_close,
-    opens_sequence, takes_index,
+    can_be_indexed, closes_tight, ends_operand, is_bang, is_close_brace, is_comma,
+    is_comma_or_ellipsis, is_dot, is_dot_or_index, is_double_colon, is_identifier, is_line_comment,
+    is_line_end, is_minus, is_open_brace, is_open_bracket, is_open_paren, is_seq_close,
+    is_sequence_open, is_skipped, is_star, opens_tight,
 };
 use hcl_scan::Scanned;
 use hcl_token::Kind;
 
 /// The two nearest tokens before a place, without comments, line ends and the byte order mark.
 #[derive(Clone, Copy)]
-pub(crate) struct Before {
+pub(crate) struct PrevKinds {
     pub nearest: Option<Kind>,
     pub second: Option<Kind>,
 }
 
 /// Nothing stands before.
-const NOTHING: Before = Before {
+const NO_PREV: PrevKinds = PrevKinds {
     nearest: None,
     second: None,
 };
 
-impl Before {
-    fn is_behind_identifier(self) -> bool
-        ensures { result ≡ behind_identifier (near self) }
+impl PrevKinds {
+    fn is_after_identifier(self) -> bool
+        ensures { result ≡ is_after_identifier (prev_kinds self) }
     {
         match self.nearest {
             Some(kind) => is_identifier(kind),
@@ -41,8 +41,8 @@ impl Before {
     }
 
     /// Whether a `*` that follows is a splat's.
-    fn is_splat(self, kind: Kind) -> bool
-        ensures { result ≡ is_splat (near self) kind }
+    fn is_splat_star(self, kind: Kind) -> bool
+        ensures { result ≡ is_splat_star (prev_kinds self) kind }
     {
         match self.nearest {
             Some(nearest) => is_dot(nearest) & is_star(kind),
@@ -50,18 +50,18 @@ impl Before {
         }
     }
 
-    fn is_behind_operand(self) -> bool
-        ensures { result ≡ behind_operand (near self) }
+    fn is_after_operand(self) -> bool
+        ensures { result ≡ is_after_operand (prev_kinds self) }
     {
         match self.nearest {
-            Some(kind) => ends_operand(kind) | is_splat_behind(self.second, kind),
+            Some(kind) => ends_operand(kind) | is_splat_star_after(self.second, kind),
             None => false,
         }
     }
 }
 
-fn is_splat_behind(second: Option<Kind>, kind: Kind) -> bool
-    ensures { result ≡ is_splat (near_of second None) kind }
+fn is_splat_star_after(second: Option<Kind>, kind: Kind) -> bool
+    ensures { result ≡ is_splat_star (prev_kinds_of second None) kind }
 {
     match second {
         Some(second) => is_dot(second) & is_star(kind),
@@ -69,8 +69,8 @@ fn is_splat_behind(second: Option<Kind>, kind: Kind) -> bool
     }
 }
 
-fn has_no_gap(kind: Kind) -> bool
-    ensures { result ≡ has_no_gap kind }
+fn has_no_gap_before(kind: Kind) -> bool
+    ensures { result ≡ has_no_gap_before kind }
 {
     matches!(
         kind,
@@ -84,15 +84,15 @@ fn has_no_gap(kind: Kind) -> bool
     )
 }
 
-fn is_in(kind: Kind, spelling: &[u8]) -> bool
-    ensures { result ≡ is_in (token kind spelling.now) }
+fn is_in_keyword(kind: Kind, spelling: &[u8]) -> bool
+    ensures { result ≡ is_in_keyword (token kind spelling.now) }
 {
     is_identifier(kind) && (spelling == b"in".as_slice())
 }
 
 /// Whether a space stands between two neighbours on a line: the first row of the table that fits.
-fn is_spaced(before: Before, a: Kind, a_spelling: &[u8], b: Kind) -> bool
-    ensures { result ≡ is_spaced (near before) (token a a_spelling.now) (token b []) }
+fn is_spaced(before: PrevKinds, a: Kind, a_spelling: &[u8], b: Kind) -> bool
+    ensures { result ≡ is_spaced (prev_kinds before) (token a a_spelling.now) (token b []) }
 {
     if is_line_end(b) {
         return false;
@@ -106,25 +106,25 @@ fn is_spaced(before: Before, a: Kind, a_spelling: &[u8], b: Kind) -> bool
     if is_double_colon(a) | is_double_colon(b) {
         return false;
     }
-    if is_dot(a) | is_step(b) {
+    if is_dot(a) | is_dot_or_index(b) {
         return false;
     }
-    if is_separator(b) {
+    if is_comma_or_ellipsis(b) {
         return false;
     }
     if is_comma(a) {
         return true;
     }
-    if is_in(a, a_spelling) && before.is_behind_identifier() {
+    if is_in_keyword(a, a_spelling) && before.is_after_identifier() {
         return true;
     }
-    if is_open_bracket(b) && (takes_index(a) | before.is_splat(a)) {
+    if is_open_bracket(b) && (can_be_indexed(a) | before.is_splat_star(a)) {
         return false;
     }
     if is_bang(a) {
         return false;
     }
-    if is_minus(a) && !before.is_behind_operand() {
+    if is_minus(a) && !before.is_after_operand() {
         return false;
     }
     if is_open_brace(a) & is_close_brace(b) {
@@ -133,10 +133,10 @@ fn is_spaced(before: Before, a: Kind, a_spelling: &[u8], b: Kind) -> bool
     if is_open_brace(a) | is_close_brace(b) {
         return true;
     }
-    if (opens_sequence(a) & is_open_brace(b)) | (is_close_brace(a) & is_seq_close(b)) {
+    if (is_sequence_open(a) & is_open_brace(b)) | (is_close_brace(a) & is_seq_close(b)) {
         return true;
     }
-    if opens_close(a) | closes_close(b) {
+    if opens_tight(a) | closes_tight(b) {
         return false;
     }
     true
@@ -172,10 +172,10 @@ const END: u16 = 256;
 /// The flags by which a space stands; by the others none does.
 const SPACED: u16 = SPACE | IN_BRACES | OPENS;
 
-/// What a token's kind says of the gap behind it. It shares a flag with `told_before` of the token
+/// What a token's kind says of the gap behind it. It shares a flag with `flags_before` of the token
 /// behind where the two kinds alone tell the gap.
-fn told_behind(kind: Kind) -> u16
-    ensures { result ≡ told_behind kind }
+fn flags_after(kind: Kind) -> u16
+    ensures { result ≡ flags_after kind }
 {
     match kind {
         Kind::Identifier => SPACE | LITERAL | CLOSE | CALL,
@@ -197,8 +197,8 @@ fn told_behind(kind: Kind) -> u16
 }
 
 /// What a token's kind says of the gap before it.
-fn told_before(kind: Kind) -> u16
-    ensures { result ≡ told_before kind }
+fn flags_before(kind: Kind) -> u16
+    ensures { result ≡ flags_before kind }
 {
     match kind {
         Kind::Mark
@@ -223,22 +223,22 @@ fn told_before(kind: Kind) -> u16
 }
 
 /// Whether what stands before a token is asked for at all.
-fn asks_before(kind: Kind, spelling: &[u8]) -> bool
-    ensures { result ≡ asks_before (token kind spelling.now) }
+fn needs_context(kind: Kind, spelling: &[u8]) -> bool
+    ensures { result ≡ needs_context (token kind spelling.now) }
 {
-    is_minus(kind) || is_star(kind) || is_in(kind, spelling)
+    is_minus(kind) || is_star(kind) || is_in_keyword(kind, spelling)
 }
 
 /// The number past the nearest token before token `to`, from token `first` on, that is not passed
 /// over, or `first`.
-fn past_nearest(scanned: &Scanned<'_>, first: usize, to: usize) -> usize
+fn end_of_nearest(scanned: &Scanned<'_>, first: usize, to: usize) -> usize
     requires ordered { first ≤ to }
     requires within { to ≤ length scanned.now.pairs }
-    ensures { IsPastNearest scanned.now.pairs first to result }
+    ensures { IsEndOfNearest scanned.now.pairs first to result }
 {
     let mut past = to;
     while past > first {
-        if !is_passed_over(scanned.kind(past - 1)) {
+        if !is_skipped(scanned.kind(past - 1)) {
             return past;
         }
         past -= 1;
@@ -248,24 +248,24 @@ fn past_nearest(scanned: &Scanned<'_>, first: usize, to: usize) -> usize
 
 /// The two nearest tokens before token `to`, from token `first` on. Few tokens ask for them, so
 /// that they are looked for where one does.
-fn before_at(scanned: &Scanned<'_>, first: usize, to: usize) -> Before
+fn prev_kinds_at(scanned: &Scanned<'_>, first: usize, to: usize) -> PrevKinds
     requires ordered { first ≤ to }
     requires within { to ≤ length scanned.now.pairs }
-    ensures { near result
-        ≡ take 2 (passed_all (slice_range scanned.now.pairs first to) []) }
+    ensures { prev_kinds result
+        ≡ take 2 (prev_after_all (slice_range scanned.now.pairs first to) []) }
 {
-    let nearest = past_nearest(scanned, first, to);
+    let nearest = end_of_nearest(scanned, first, to);
     if nearest == first {
-        return NOTHING;
+        return NO_PREV;
     }
-    let second = past_nearest(scanned, first, nearest - 1);
+    let second = end_of_nearest(scanned, first, nearest - 1);
     if second == first {
-        return Before {
+        return PrevKinds {
             nearest: Some(scanned.kind(nearest - 1)),
             second: None,
         };
     }
-    Before {
+    PrevKinds {
         nearest: Some(scanned.kind(nearest - 1)),
         second: Some(scanned.kind(second - 1)),
     }
@@ -273,41 +273,41 @@ fn before_at(scanned: &Scanned<'_>, first: usize, to: usize) -> Before
 
 /// Whether a space stands between token `i`, which is not the first, and the one before it.
 fn is_spaced_at(scanned: &Scanned<'_>, first: usize, a: Kind, b: Kind, i: usize) -> bool
-    requires behind { first < i }
+    requires after_first { first < i }
     requires within { i < length scanned.now.pairs }
     requires a { Some a ≡ kind_of scanned.now.pairs (i - 1) }
-    ensures { Some result ≡ spaced_at (passed_all (slice_range scanned.now.pairs first (i - 1)) [])
+    ensures { Some result ≡ spaced_at (prev_after_all (slice_range scanned.now.pairs first (i - 1)) [])
         scanned.now.pairs i b }
 {
     let spelling = scanned.spelling(i - 1);
-    if asks_before(a, spelling) {
-        return is_spaced(before_at(scanned, first, i - 1), a, spelling, b);
+    if needs_context(a, spelling) {
+        return is_spaced(prev_kinds_at(scanned, first, i - 1), a, spelling, b);
     }
-    is_spaced(NOTHING, a, spelling, b)
+    is_spaced(NO_PREV, a, spelling, b)
 }
 
 /// Whether a token of kind `b` closes or indexes a name, which is not `in`.
-fn ends_name(a: Kind, spelling: &[u8], b: Kind) -> bool
-    ensures { result ≡ ends_name (token a spelling.now) b }
+fn closes_or_indexes_name(a: Kind, spelling: &[u8], b: Kind) -> bool
+    ensures { result ≡ closes_or_indexes_name (token a spelling.now) b }
 {
-    is_identifier(a) && (closes_close(b) | is_open_bracket(b)) && !is_in(a, spelling)
+    is_identifier(a) && (closes_tight(b) | is_open_bracket(b)) && !is_in_keyword(a, spelling)
 }
 
 /// How long the gap is where the two kinds alone don't tell it.
 #[inline(never)]
-fn asked_len(scanned: &Scanned<'_>, first: usize, a: Kind, b: Kind, i: usize) -> u32
-    requires behind { first < i }
+fn gap_len_by_context(scanned: &Scanned<'_>, first: usize, a: Kind, b: Kind, i: usize) -> u32
+    requires after_first { first < i }
     requires within { i < length scanned.now.pairs }
     requires a { Some a ≡ kind_of scanned.now.pairs (i - 1) }
     requires b { Some b ≡ kind_of scanned.now.pairs i }
     ensures value { Some result ≡ space_len_at
-        (passed_all (slice_range scanned.now.pairs first (i - 1)) []) scanned.now.pairs i }
-    ensures small { result ≤ 1 }
+        (prev_after_all (slice_range scanned.now.pairs first (i - 1)) []) scanned.now.pairs i }
+    ensures bounded { result ≤ 1 }
 {
-    if has_no_gap(b) {
+    if has_no_gap_before(b) {
         return 0;
     }
-    if ends_name(a, scanned.spelling(i - 1), b) {
+    if closes_or_indexes_name(a, scanned.spelling(i - 1), b) {
         return 0;
     }
     if is_spaced_at(scanned, first, a, b, i) {
@@ -319,17 +319,17 @@ fn asked_len(scanned: &Scanned<'_>, first: usize, a: Kind, b: Kind, i: usize) ->
 /// How long the gap is between token `i`, of kind `b`, and the one before it, of kind `a`, on a
 /// line, in a text whose lines begin at token `first`.
 pub(crate) fn gap_len(scanned: &Scanned<'_>, first: usize, a: Kind, b: Kind, i: usize) -> u32
-    requires behind { first < i }
+    requires after_first { first < i }
     requires within { i < length scanned.now.pairs }
     requires a { Some a ≡ kind_of scanned.now.pairs (i - 1) }
     requires b { Some b ≡ kind_of scanned.now.pairs i }
     ensures value { Some result ≡ space_len_at
-        (passed_all (slice_range scanned.now.pairs first (i - 1)) []) scanned.now.pairs i }
-    ensures small { result ≤ 1 }
+        (prev_after_all (slice_range scanned.now.pairs first (i - 1)) []) scanned.now.pairs i }
+    ensures bounded { result ≤ 1 }
 {
-    let told = told_behind(a) & told_before(b);
-    if told == 0 {
-        return asked_len(scanned, first, a, b, i);
+    let flags = flags_after(a) & flags_before(b);
+    if flags == 0 {
+        return gap_len_by_context(scanned, first, a, b, i);
     }
-    if told & SPACED == 0 { 0 } else { 1 }
+    if flags & SPACED == 0 { 0 } else { 1 }
 }

@@ -1,4 +1,4 @@
--- The nodes of a tree, each made of what its production has. `first` and `past`: the number of its
+-- The nodes of a tree, each made of what its production has. `first` and `after_if_next`: the number of its
 -- first token, and the one past its last.
 use Rattle.std.specs.Prelude.{ℕ, Bool, List, [], ◌∷◌, Option}
 use Rattle.hcl_grammar.specs.declared.tree.Attribute.{Attribute}
@@ -11,73 +11,73 @@ use Rattle.hcl_grammar.specs.declared.tree.Expr.{Expr, roll-Expr}
 use Rattle.hcl_grammar.specs.declared.tree.ForDirective.{roll-ForDirective}
 use Rattle.hcl_grammar.specs.declared.tree.ForObject.{roll-ForObject}
 use Rattle.hcl_grammar.specs.declared.tree.ForTuple.{roll-ForTuple}
-use Rattle.hcl_grammar.specs.declared.tree.Form.{Form}
-use Rattle.hcl_grammar.specs.declared.tree.Form.TheVariants as form
+use Rattle.hcl_grammar.specs.declared.tree.ExprKind.{ExprKind}
+use Rattle.hcl_grammar.specs.declared.tree.ExprKind.TheVariants as form
 use Rattle.hcl_grammar.specs.declared.tree.IfDirective.{roll-IfDirective}
 use Rattle.hcl_grammar.specs.declared.tree.Intro.{Intro, roll-Intro}
 use Rattle.hcl_grammar.specs.declared.tree.Label.{Label}
-use Rattle.hcl_grammar.specs.declared.tree.Link.{Link, roll-Link}
+use Rattle.hcl_grammar.specs.declared.tree.Operation.{Operation, roll-Operation}
 use Rattle.hcl_grammar.specs.declared.tree.Member.{Member}
 use Rattle.hcl_grammar.specs.declared.tree.Member.TheVariants as member
-use Rattle.hcl_grammar.specs.declared.tree.Operator.{Operator}
+use Rattle.hcl_grammar.specs.declared.tree.BinaryOperator.{BinaryOperator}
 use Rattle.hcl_grammar.specs.declared.tree.Part.{Part}
 use Rattle.hcl_grammar.specs.declared.tree.Part.TheVariants as part
-use Rattle.hcl_grammar.specs.declared.tree.Shape.{Shape}
-use Rattle.hcl_grammar.specs.declared.tree.Shape.TheVariants as shape
+use Rattle.hcl_grammar.specs.declared.tree.Primary.{Primary}
+use Rattle.hcl_grammar.specs.declared.tree.Primary.TheVariants as shape
 use Rattle.hcl_grammar.specs.declared.tree.Tail.{Tail}
 use Rattle.hcl_grammar.specs.declared.tree.Template.{Template, roll-Template}
 use Rattle.hcl_grammar.specs.declared.tree.Term.{Term, roll-Term}
 use Rattle.hcl_grammar.specs.declared.tree.Tree.{Tree}
 
 -- an expression
-unfoldable pub expr : ℕ → ℕ → Form → Expr
-expr first past x = roll-Expr (record { first = first; past = past; form = x })
+unfoldable pub expr : ℕ → ℕ → ExprKind → Expr
+expr first past x = roll-Expr (record { first = first; past = past; kind = x })
 
 -- a term
-unfoldable pub term : ℕ → ℕ → Shape → Term
-term first past x = roll-Term (record { first = first; past = past; shape = x })
+unfoldable pub term : ℕ → ℕ → Primary → Term
+term first past x = roll-Term (record { first = first; past = past; kind = x })
 
 -- an operator of a chain, and the operand behind it
-unfoldable pub link : Operator → Expr → Link
-link op x = roll-Link (record { operator = op; operand = x })
+unfoldable pub operation : BinaryOperator → Expr → Operation
+operation op x = roll-Operation (record { operator = op; operand = x })
 
 -- an element of an object
 unfoldable pub elem : Expr → Expr → Elem
 elem key value = roll-Elem (record { key = key; value = value })
 
 -- an operand, with operators of one level behind it, if there are any
-abbrev pub chain : ℕ → ℕ → Expr → List Link → Expr
-chain first past head [] = head
-chain first past head (x ∷ xs) = expr first past (form.Chain head (x ∷ xs))
+abbrev pub binary : ℕ → ℕ → Expr → List Operation → Expr
+binary first past head [] = head
+binary first past head (x ∷ xs) = expr first past (form.Binary head (x ∷ xs))
 
 -- a term, with its tails, if there are any
-abbrev pub tailed : ℕ → ℕ → Term → List Tail → Expr
-tailed first past head [] = expr first past (form.Plain head)
-tailed first past head (x ∷ xs) = expr first past (form.Tailed head (x ∷ xs))
+abbrev pub postfix : ℕ → ℕ → Term → List Tail → Expr
+postfix first past head [] = expr first past (form.Term head)
+postfix first past head (x ∷ xs) = expr first past (form.Postfix head (x ∷ xs))
 
 -- a call: the numbers of its names, its arguments, and whether `...` stands behind the last
-unfoldable pub call : List ℕ → List Expr → Bool → Shape
-call names arguments spread =
-    shape.Call (roll-Call (record { names = names; arguments = arguments; spread = spread }))
+unfoldable pub call : List ℕ → List Expr → Bool → Primary
+call names arguments expand_final =
+    shape.Call (roll-Call (record { names = names; arguments = arguments; expand_final = expand_final }))
 
 -- what begins a `for`: the numbers of its names, and what is gone through
 unfoldable pub intro : ℕ → ℕ → ℕ → Option ℕ → Expr → Intro
-intro first past name second source =
+intro first past name second collection =
     roll-Intro (record {
       first = first;
       past = past;
       name = name;
-      second = second;
-      source = source;
+      second_name = second;
+      collection = collection;
     })
 
 -- a `for` in brackets, perhaps with a filter
-unfoldable pub for_tuple : Intro → Expr → Option Expr → Shape
+unfoldable pub for_tuple : Intro → Expr → Option Expr → Primary
 for_tuple i value filter =
     shape.ForTuple (roll-ForTuple (record { intro = i; value = value; filter = filter }))
 
 -- a `for` in braces; whether `...` stands behind its value; perhaps with a filter
-unfoldable pub for_object : Intro → Expr → Expr → Bool → Option Expr → Shape
+unfoldable pub for_object : Intro → Expr → Expr → Bool → Option Expr → Primary
 for_object i key value grouped filter =
     shape.ForObject (roll-ForObject
     (record { intro = i; key = key; value = value; grouped = grouped; filter = filter }))
@@ -88,9 +88,9 @@ template first past parts = roll-Template (record { first = first; past = past; 
 
 -- an `if` directive, perhaps with an `else`
 unfoldable pub if_part : ℕ → ℕ → Expr → Template → Option Template → Part
-if_part first past condition met unmet =
+if_part first past condition then_branch else_branch =
     part.If (roll-IfDirective
-    (record { first = first; past = past; condition = condition; met = met; unmet = unmet }))
+    (record { first = first; past = past; condition = condition; then_branch = then_branch; else_branch = else_branch }))
 
 -- a `for` directive
 unfoldable pub for_part : ℕ → ℕ → Intro → Template → Part
@@ -109,7 +109,7 @@ label first past name = record { first = first; past = past; name = name }
 unfoldable pub block : ℕ → ℕ → List Label → Content → Member
 block first past labels content =
     member.Block (roll-Block
-    (record { first = first; past = past; word = first; labels = labels; content = content }))
+    (record { first = first; past = past; block_type = first; labels = labels; content = content }))
 
 -- a body, by its attributes and blocks
 unfoldable pub body : ℕ → ℕ → List Member → Body

@@ -3,33 +3,33 @@
 use Rattle.std.specs.Prelude.{ℕ, Option, Some, None}
 use Rattle.hcl_token.specs.declared.kind.Kind.{Kind}
 use Rattle.hcl_token.specs.declared.kind.Kind.TheVariants as k
-use Rattle.hcl_grammar.specs.declared.tree.Prefix.{Prefix}
-use Rattle.hcl_grammar.specs.declared.tree.Prefix.TheVariants as prefix
-use Rattle.hcl_grammar.specs.declared.tree.Operator.{Operator}
-use Rattle.hcl_grammar.specs.declared.tree.Operator.TheVariants as operator
+use Rattle.hcl_grammar.specs.declared.tree.UnaryOperator.{UnaryOperator}
+use Rattle.hcl_grammar.specs.declared.tree.UnaryOperator.TheVariants as prefix
+use Rattle.hcl_grammar.specs.declared.tree.BinaryOperator.{BinaryOperator}
+use Rattle.hcl_grammar.specs.declared.tree.BinaryOperator.TheVariants as operator
 
 -- the operator that stands before an operand
-abbrev pub prefix_of : Kind → Option Prefix
-prefix_of k.Minus = Some prefix.Minus
-prefix_of k.Bang = Some prefix.Not
-prefix_of _ = None
+abbrev pub unary_operator : Kind → Option UnaryOperator
+unary_operator k.Minus = Some prefix.Minus
+unary_operator k.Bang = Some prefix.Not
+unary_operator _ = None
 
 -- the operator that stands between operands, with its level: level 0 binds closest
-abbrev pub operator_of : Kind → Option (ℕ × Operator)
-operator_of k.Star = Some (0, operator.Times)
-operator_of k.Slash = Some (0, operator.Divide)
-operator_of k.Percent = Some (0, operator.Modulo)
-operator_of k.Plus = Some (1, operator.Plus)
-operator_of k.Minus = Some (1, operator.Minus)
-operator_of k.Greater = Some (2, operator.Greater)
-operator_of k.GreaterEqual = Some (2, operator.GreaterEqual)
-operator_of k.Less = Some (2, operator.Less)
-operator_of k.LessEqual = Some (2, operator.LessEqual)
-operator_of k.DoubleEqual = Some (3, operator.Equal)
-operator_of k.NotEqual = Some (3, operator.NotEqual)
-operator_of k.And = Some (4, operator.And)
-operator_of k.Or = Some (5, operator.Or)
-operator_of _ = None
+abbrev pub binary_operator : Kind → Option (ℕ × BinaryOperator)
+binary_operator k.Star = Some (0, operator.Times)
+binary_operator k.Slash = Some (0, operator.Divide)
+binary_operator k.Percent = Some (0, operator.Modulo)
+binary_operator k.Plus = Some (1, operator.Plus)
+binary_operator k.Minus = Some (1, operator.Minus)
+binary_operator k.Greater = Some (2, operator.Greater)
+binary_operator k.GreaterEqual = Some (2, operator.GreaterEqual)
+binary_operator k.Less = Some (2, operator.Less)
+binary_operator k.LessEqual = Some (2, operator.LessEqual)
+binary_operator k.DoubleEqual = Some (3, operator.Equal)
+binary_operator k.NotEqual = Some (3, operator.NotEqual)
+binary_operator k.And = Some (4, operator.And)
+binary_operator k.Or = Some (5, operator.Or)
+binary_operator _ = None
 
 -- how many levels there are
 abbrev pub levels : ℕ

@@ -16,31 +16,31 @@ Token = Kind × List ℕ
 
 -- Inline comments are dropped everywhere. Inside parentheses, brackets, template sequences and the
 -- braces of a `for` line ends and line comments are dropped too.
-abbrev pub is_dropped : Bool → Kind → Bool
-is_dropped inside k.InlineComment = true
-is_dropped inside k.LineEnd = inside
-is_dropped inside k.LineComment = inside
-is_dropped inside _ = false
+abbrev pub is_skipped : Bool → Kind → Bool
+is_skipped skip_newlines k.InlineComment = true
+is_skipped skip_newlines k.LineEnd = skip_newlines
+is_skipped skip_newlines k.LineComment = skip_newlines
+is_skipped skip_newlines _ = false
 
 -- the number of the next token from i on that is not dropped
-unfoldable pub start : List Token → Bool → ℕ → ℕ
-start ts inside i = i + prefix_len (λ (t : Token). is_dropped inside t.0) (drop i ts)
+unfoldable pub next_index : List Token → Bool → ℕ → ℕ
+next_index ts skip_newlines i = i + prefix_len (λ (t : Token). is_skipped skip_newlines t.0) (drop i ts)
 
 -- that token, or None at the end
-unfoldable pub token : List Token → Bool → ℕ → Option Token
-token ts inside i = slice_get ts (start ts inside i)
+unfoldable pub next_token : List Token → Bool → ℕ → Option Token
+next_token ts skip_newlines i = slice_get ts (next_index ts skip_newlines i)
 
 -- its kind
-unfoldable pub next : List Token → Bool → ℕ → Option Kind
-next ts inside i = option_map (λ (t : Token). t.0) (token ts inside i)
+unfoldable pub next_kind : List Token → Bool → ℕ → Option Kind
+next_kind ts skip_newlines i = option_map (λ (t : Token). t.0) (next_token ts skip_newlines i)
 
 -- what follows it
-unfoldable pub after : List Token → Bool → ℕ → ℕ
-after ts inside i = suc (start ts inside i)
+unfoldable pub after_next : List Token → Bool → ℕ → ℕ
+after_next ts skip_newlines i = suc (next_index ts skip_newlines i)
 
 -- the number of the first token of what stands from i up to j; i, if nothing stands there
-unfoldable pub first_of : List Token → Bool → ℕ → ℕ → ℕ
-first_of ts inside i j = if i == j then i else start ts inside i
+unfoldable pub first_token_in : List Token → Bool → ℕ → ℕ → ℕ
+first_token_in ts skip_newlines i j = if i == j then i else next_index ts skip_newlines i
 
 -- the words that have a meaning
 abbrev pub for_word : List ℕ

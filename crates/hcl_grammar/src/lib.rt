@@ -12,7 +12,7 @@ pub use fault::TokenFault;
 pub use goal::Goal;
 pub use plain_tree::{Boxed, Items};
 pub use tree::{
-    Attribute, Block, Body, Call, Content, Elem, Expr, ForDirective, ForObject, ForTuple, Form,
-    IfDirective, Intro, Label, Link, Member, Operator, Part, Prefix, Shape, Tail, Template, Term,
-    Tree,
+    Attribute, BinaryOperator, Block, Body, Call, Content, Elem, Expr, ExprKind, ForDirective,
+    ForObject, ForTuple, IfDirective, Intro, Label, Member, Operation, Part, Primary, Tail,
+    Template, Term, Tree, UnaryOperator,
 };

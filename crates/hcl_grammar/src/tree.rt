@@ -11,7 +11,7 @@ use plain_tree::{Boxed, Items};
 
 /// An operator before its operand.
 #[derive(Clone, Copy)]
-pub enum Prefix {
+pub enum UnaryOperator {
     /// `-`
     Minus,
     /// `!`
@@ -20,7 +20,7 @@ pub enum Prefix {
 
 /// An operator between two operands.
 #[derive(Clone, Copy)]
-pub enum Operator {
+pub enum BinaryOperator {
     /// `||`
     Or,
     /// `&&`
@@ -58,7 +58,7 @@ pub struct Expr {
     /// The number past its last token.
     pub past: u32,
     /// What it is.
-    pub form: Form,
+    pub kind: ExprKind,
 }
 
 // So it takes 48 bytes of memory of its own.
@@ -67,26 +67,26 @@ const _: () = prove!(size_of::<Expr>() == 40);
 /// What an expression is.
 #[cycle(tree)]
 #[derive(Drop)]
-pub enum Form {
+pub enum ExprKind {
     /// `A ? B : C`
     Conditional(Boxed<Expr>, Boxed<Expr>, Boxed<Expr>),
     /// An operand, and one or more operators of one level, each with the operand behind it.
-    Chain(Boxed<Expr>, Boxed<Items<Link>>),
+    Binary(Boxed<Expr>, Boxed<Items<Operation>>),
     /// `-A` or `!A`
-    Prefixed(Prefix, Boxed<Expr>),
+    Unary(UnaryOperator, Boxed<Expr>),
     /// A term with one or more tails.
-    Tailed(Boxed<Term>, Boxed<Items<Tail>>),
+    Postfix(Boxed<Term>, Boxed<Items<Tail>>),
     /// A term without tails.
-    Plain(Term),
+    Term(Term),
 }
 
 /// An operator of a chain, and the operand behind it. The operator stands alone between the operand
 /// before it and this one.
 #[cycle(tree)]
 #[derive(Drop)]
-pub struct Link {
+pub struct Operation {
     /// The operator.
-    pub operator: Operator,
+    pub operator: BinaryOperator,
     /// The operand behind it.
     pub operand: Expr,
 }
@@ -98,7 +98,7 @@ pub enum Tail {
     /// `.NAME`, by the number of the name's token.
     Name(usize),
     /// `.0`, the legacy index, by the number of its token.
-    Legacy(usize),
+    LegacyIndex(usize),
     /// `.*`
     AttributeSplat,
     /// `[*]`
@@ -116,13 +116,13 @@ pub struct Term {
     /// The number past its last token.
     pub past: u32,
     /// What it is.
-    pub shape: Shape,
+    pub kind: Primary,
 }
 
 /// What a term is.
 #[cycle(tree)]
 #[derive(Drop)]
-pub enum Shape {
+pub enum Primary {
     /// A number.
     Number,
     /// A name.
@@ -154,7 +154,7 @@ pub struct Call {
     /// The arguments.
     pub arguments: Items<Expr>,
     /// Whether `...` stands behind the last argument.
-    pub spread: bool,
+    pub expand_final: bool,
 }
 
 /// An element of an object.
@@ -178,9 +178,9 @@ pub struct Intro {
     /// The number of the first name's token.
     pub name: usize,
     /// The number of the second name's token, if there is one.
-    pub second: Option<usize>,
+    pub second_name: Option<usize>,
     /// What is gone through.
-    pub source: Expr,
+    pub collection: Expr,
 }
 
 /// A `for` in brackets: `[INTRO : VALUE if FILTER]`.
@@ -249,9 +249,9 @@ pub struct IfDirective {
     /// What stands behind `if`.
     pub condition: Expr,
     /// What stands behind the condition.
-    pub met: Template,
+    pub then_branch: Template,
     /// What stands behind `else`, if that is there.
-    pub unmet: Option<Template>,
+    pub else_branch: Option<Template>,
 }
 
 /// `%{INTRO}BODY%{endfor}`.
@@ -303,7 +303,7 @@ pub struct Block {
     /// tokens.
     pub past: u32,
     /// The number of the token of the word that it begins with.
-    pub word: u32,
+    pub block_type: u32,
     /// The labels between the word and the brace.
     pub labels: Items<Label>,
     /// What stands in the braces.
@@ -315,9 +315,9 @@ pub struct Block {
 #[derive(Drop)]
 pub enum Content {
     /// A body, on lines of its own.
-    Lines(Boxed<Body>),
+    Body(Boxed<Body>),
     /// At most one attribute, on the line of the braces.
-    Line(Option<Boxed<Attribute>>),
+    OneLine(Option<Boxed<Attribute>>),
 }
 
 /// The attributes and blocks of a text or of a block, one behind the other.

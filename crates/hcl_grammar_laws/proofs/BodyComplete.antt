@@ -11,14 +11,14 @@ use Rattle.hcl_grammar.specs.declared.tree.Label.{Label}
 use Rattle.hcl_grammar.specs.declared.tree.Member.{Member}
 use Rattle.hcl_grammar.specs.declared.tree.Member.TheVariants as member
 use Rattle.hcl_grammar.specs.declared.tree.Tree.{Tree}
-use Rattle.hcl_grammar.specs.Bodies.{IsLabels, no_labels, word_label, text_label, empty_label, IsOnLine, nothing, one, IsMembers, no_members, blank, attribute, block, line_block, IsFront, no_mark, mark, IsLast, at_end, at_comment, IsFile, file}
+use Rattle.hcl_grammar.specs.Bodies.{IsLabels, no_labels, word_label, text_label, empty_label, IsOneLineBody, nothing, one, IsMembers, no_members, blank, attribute, block, line_block, IsOptionalMark, no_mark, mark, IsFileEnd, at_end, at_comment, IsFile, file}
 use Rattle.hcl_grammar.specs.Pure.BodyParser as bodies
 use Rattle.hcl_grammar.specs.Pure.BodyParser.{deeper_members}
-use Rattle.hcl_grammar.specs.Lines.{At, IsLine, line_end, comment, IsEol, eol_line, eol_end, eol_comment}
+use Rattle.hcl_grammar.specs.Lookahead.{NextIs, IsNewline, line_end, comment, IsEol, eol_line, eol_end, eol_comment}
 use Rattle.hcl_grammar.specs.Nodes as node
 use Rattle.hcl_grammar.specs.Pure.Parser as p
-use Rattle.hcl_grammar.specs.Pure.Reading.{sees, past}
-use Rattle.hcl_grammar.specs.Tokens.{Token, start, next, after, first_of, same_kind}
+use Rattle.hcl_grammar.specs.Pure.Reading.{next_is, after_if_next}
+use Rattle.hcl_grammar.specs.Tokens.{Token, next_index, next_kind, after_next, first_token_in, same_kind}
 use Rattle.hcl_grammar_laws.proofs.Ahead.{Stops, stops_at, sees-not, sees-other}
 use Rattle.hcl_grammar_laws.proofs.Complete.{nested, c_expr}
 use Rattle.hcl_grammar_laws.proofs.Lines.{NoLine, no_line, line-yes, NoInner, no_inner, no_inner_at, inner-yes}
@@ -26,27 +26,27 @@ use Rattle.hcl_grammar_laws.proofs.Spans.{step, span_line, span_eol, span_expr, 
 use Rattle.hcl_grammar_laws.proofs.Steps.{Answers, found, deep, bind, deeper_found, sees-yes, past-yes, past-no, expect-yes}
 
 module _ (ts : List Token) where
-  pub unlike : (t : Kind) (i : ℕ) → next ts false i ≡ None → sees ts false t i ≡ false
+  pub unlike : (t : Kind) (i : ℕ) → next_kind ts false i ≡ None → next_is ts false t i ≡ false
   unlike t i h = sees-not ts false t i (λ e. let clash : None ≡ Some t = sym h ∙ e in cc)
 
-  no_line_end : (i : ℕ) → next ts false i ≡ None → NoLine ts i
+  no_line_end : (i : ℕ) → next_kind ts false i ≡ None → NoLine ts i
   no_line_end i h = no_line (unlike k.LineComment i h) (unlike k.LineEnd i h)
 
-  no_line_name : (i : ℕ) → At ts false k.Identifier i → NoLine ts i
+  no_line_name : (i : ℕ) → NextIs ts false k.Identifier i → NoLine ts i
   unfolding same_kind
   no_line_name i h = no_line (sees-other ts false k.Identifier k.LineComment i h refl) (sees-other ts false k.Identifier k.LineEnd i h refl)
 
-  no_line_brace : (i : ℕ) → At ts false k.CloseBrace i → NoLine ts i
+  no_line_brace : (i : ℕ) → NextIs ts false k.CloseBrace i → NoLine ts i
   unfolding same_kind
   no_line_brace i h = no_line (sees-other ts false k.CloseBrace k.LineComment i h refl) (sees-other ts false k.CloseBrace k.LineEnd i h refl)
 
-  no_inner_name : (i : ℕ) → At ts false k.Identifier i → NoInner ts i
+  no_inner_name : (i : ℕ) → NextIs ts false k.Identifier i → NoInner ts i
   unfolding same_kind
   no_inner_name i h = no_inner (sees-other ts false k.Identifier k.LineComment i h refl) (sees-other ts false k.Identifier k.LineEnd i h refl)
 
-  pub line-no : (i : ℕ) → At ts false k.LineComment i → next ts false (after ts false i) ≡ None → p.line ts i ≡ Ok (false, i)
-  unfolding p.line
-  line-no i q h = rw (past-yes ts false k.LineComment i q, unlike k.LineEnd (after ts false i) h)
+  pub line-no : (i : ℕ) → NextIs ts false k.LineComment i → next_kind ts false (after_next ts false i) ≡ None → p.eat_newline ts i ≡ Ok (false, i)
+  unfolding p.eat_newline
+  line-no i q h = rw (past-yes ts false k.LineComment i q, unlike k.LineEnd (after_next ts false i) h)
 
   eol-yes : {i j : ℕ} → IsEol ts i j → bodies.eol ts i ≡ Ok (tt, j)
   unfolding bodies.eol
@@ -62,11 +62,11 @@ module _ (ts : List Token) where
 
   -- ---- labels
 
-  label-at : (o : Option Kind) (i : ℕ) → next ts false i ≡ o → bodies.label_of ts i ≡ bodies.label_by ts (start ts false i) o i
+  label-at : (o : Option Kind) (i : ℕ) → next_kind ts false i ≡ o → bodies.label_of ts i ≡ bodies.label_by ts (next_index ts false i) o i
   unfolding bodies.label_of
-  label-at o i h = ap (λ o. bodies.label_by ts (start ts false i) o i) h
+  label-at o i h = ap (λ o. bodies.label_by ts (next_index ts false i) o i) h
 
-  labels-end : (turns : ℕ) (acc : List Label) (i : ℕ) → At ts false k.OpenBrace i → bodies.labels_from ts turns acc i ≡ Ok (acc, i)
+  labels-end : (turns : ℕ) (acc : List Label) (i : ℕ) → NextIs ts false k.OpenBrace i → bodies.labels_from ts turns acc i ≡ Ok (acc, i)
   unfolding bodies.labels_from
   labels-end zero acc i h = refl
   labels-end (suc turns) acc i h = rw (label-at (Some k.OpenBrace) i h)
@@ -77,39 +77,39 @@ module _ (ts : List Token) where
   unfolding bodies.labels_from
   labels-more {x} {l} ls turns acc i h more = rw h (more ∙ ap (λ xs. Ok (xs, l)) (append_assoc acc (x ∷ []) ls))
 
-  label_text : (i : ℕ) → At ts false k.QuoteOpen i → At ts false k.QuoteLit (after ts false i) → At ts false k.QuoteClose (after ts false (after ts false i))
-      → bodies.label_of ts i ≡ Ok (Some (node.label (start ts false i) (after ts false (after ts false (after ts false i))) (Some (start ts false (after ts false i)))), after ts false (after ts false (after ts false i)))
+  label_text : (i : ℕ) → NextIs ts false k.QuoteOpen i → NextIs ts false k.QuoteLit (after_next ts false i) → NextIs ts false k.QuoteClose (after_next ts false (after_next ts false i))
+      → bodies.label_of ts i ≡ Ok (Some (node.label (next_index ts false i) (after_next ts false (after_next ts false (after_next ts false i))) (Some (next_index ts false (after_next ts false i)))), after_next ts false (after_next ts false (after_next ts false i)))
   unfolding bodies.quoted_label
   label_text i a b c =
-      rw (label-at (Some k.QuoteOpen) i a, sees-yes ts false k.QuoteLit (after ts false i) b, past-yes ts false k.QuoteLit (after ts false i) b, expect-yes ts false k.QuoteClose (after ts false (after ts false i)) c)
+      rw (label-at (Some k.QuoteOpen) i a, sees-yes ts false k.QuoteLit (after_next ts false i) b, past-yes ts false k.QuoteLit (after_next ts false i) b, expect-yes ts false k.QuoteClose (after_next ts false (after_next ts false i)) c)
 
-  label_empty : (i : ℕ) → At ts false k.QuoteOpen i → At ts false k.QuoteClose (after ts false i)
-      → bodies.label_of ts i ≡ Ok (Some (node.label (start ts false i) (after ts false (after ts false i)) None), after ts false (after ts false i))
+  label_empty : (i : ℕ) → NextIs ts false k.QuoteOpen i → NextIs ts false k.QuoteClose (after_next ts false i)
+      → bodies.label_of ts i ≡ Ok (Some (node.label (next_index ts false i) (after_next ts false (after_next ts false i)) None), after_next ts false (after_next ts false i))
   unfolding bodies.quoted_label same_kind
   label_empty i a c =
-      let n = sees-other ts false k.QuoteClose k.QuoteLit (after ts false i) c refl in
-      rw (label-at (Some k.QuoteOpen) i a, n, past-no ts false k.QuoteLit (after ts false i) n, expect-yes ts false k.QuoteClose (after ts false i) c)
+      let n = sees-other ts false k.QuoteClose k.QuoteLit (after_next ts false i) c refl in
+      rw (label-at (Some k.QuoteOpen) i a, n, past-no ts false k.QuoteLit (after_next ts false i) n, expect-yes ts false k.QuoteClose (after_next ts false i) c)
 
-  labels-yes : {ls : List Label} {i j : ℕ} → IsLabels ts ls i j → At ts false k.OpenBrace j → (turns : ℕ) (acc : List Label) → j ≤ turns + i → bodies.labels_from ts turns acc i ≡ Ok (acc ++ ls, j)
+  labels-yes : {ls : List Label} {i j : ℕ} → IsLabels ts ls i j → NextIs ts false k.OpenBrace j → (turns : ℕ) (acc : List Label) → j ≤ turns + i → bodies.labels_from ts turns acc i ≡ Ok (acc ++ ls, j)
   labels-yes (no_labels {i}) s turns acc l = labels-end turns acc i s ∙ ap (λ xs. Ok (xs, i)) (sym (append-nil acc))
   labels-yes (word_label {i} q ls) s zero acc l = absurd (omega (arith, (step ts false k.Identifier i q).forth, (span_labels ls).forth))
   labels-yes (word_label {ls = xs} {i} q ls) s (suc turns) acc l =
-      labels-more xs turns acc i (label-at (Some k.Identifier) i q) (labels-yes ls s turns (acc ++ node.label (start ts false i) (after ts false i) (Some (start ts false i)) ∷ []) (omega (arith, (step ts false k.Identifier i q).forth)))
+      labels-more xs turns acc i (label-at (Some k.Identifier) i q) (labels-yes ls s turns (acc ++ node.label (next_index ts false i) (after_next ts false i) (Some (next_index ts false i)) ∷ []) (omega (arith, (step ts false k.Identifier i q).forth)))
   labels-yes (text_label {i} a b c ls) s zero acc l =
-      absurd (omega (arith, (step ts false k.QuoteOpen i a).forth, (step ts false k.QuoteLit (after ts false i) b).forth, (step ts false k.QuoteClose (after ts false (after ts false i)) c).forth, (span_labels ls).forth))
+      absurd (omega (arith, (step ts false k.QuoteOpen i a).forth, (step ts false k.QuoteLit (after_next ts false i) b).forth, (step ts false k.QuoteClose (after_next ts false (after_next ts false i)) c).forth, (span_labels ls).forth))
   labels-yes (text_label {ls = xs} {i} a b c ls) s (suc turns) acc l =
       labels-more xs turns acc i (label_text i a b c)
-      (labels-yes ls s turns (acc ++ node.label (start ts false i) (after ts false (after ts false (after ts false i))) (Some (start ts false (after ts false i))) ∷ [])
-      (omega (arith, (step ts false k.QuoteOpen i a).forth, (step ts false k.QuoteLit (after ts false i) b).forth, (step ts false k.QuoteClose (after ts false (after ts false i)) c).forth)))
-  labels-yes (empty_label {i} a c ls) s zero acc l = absurd (omega (arith, (step ts false k.QuoteOpen i a).forth, (step ts false k.QuoteClose (after ts false i) c).forth, (span_labels ls).forth))
+      (labels-yes ls s turns (acc ++ node.label (next_index ts false i) (after_next ts false (after_next ts false (after_next ts false i))) (Some (next_index ts false (after_next ts false i))) ∷ [])
+      (omega (arith, (step ts false k.QuoteOpen i a).forth, (step ts false k.QuoteLit (after_next ts false i) b).forth, (step ts false k.QuoteClose (after_next ts false (after_next ts false i)) c).forth)))
+  labels-yes (empty_label {i} a c ls) s zero acc l = absurd (omega (arith, (step ts false k.QuoteOpen i a).forth, (step ts false k.QuoteClose (after_next ts false i) c).forth, (span_labels ls).forth))
   labels-yes (empty_label {ls = xs} {i} a c ls) s (suc turns) acc l =
       labels-more xs turns acc i (label_empty i a c)
-      (labels-yes ls s turns (acc ++ node.label (start ts false i) (after ts false (after ts false i)) None ∷ []) (omega (arith, (step ts false k.QuoteOpen i a).forth, (step ts false k.QuoteClose (after ts false i) c).forth)))
+      (labels-yes ls s turns (acc ++ node.label (next_index ts false i) (after_next ts false (after_next ts false i)) None ∷ []) (omega (arith, (step ts false k.QuoteOpen i a).forth, (step ts false k.QuoteClose (after_next ts false i) c).forth)))
 
-  labels_all : {ls : List Label} {i j : ℕ} → IsLabels ts ls i j → At ts false k.OpenBrace j → bodies.labels_from ts (length ts) [] i ≡ Ok (ls, j)
+  labels_all : {ls : List Label} {i j : ℕ} → IsLabels ts ls i j → NextIs ts false k.OpenBrace j → bodies.labels_from ts (length ts) [] i ≡ Ok (ls, j)
   labels_all ls s = labels-yes ls s (length ts) [] (omega (arith, (span_labels ls).within))
 
-  not_equals : {ls : List Label} {i j : ℕ} → IsLabels ts ls i j → At ts false k.OpenBrace j → sees ts false k.Equal i ≡ false
+  not_equals : {ls : List Label} {i j : ℕ} → IsLabels ts ls i j → NextIs ts false k.OpenBrace j → next_is ts false k.Equal i ≡ false
   unfolding same_kind
   not_equals (no_labels {i}) h = sees-other ts false k.OpenBrace k.Equal i h refl
   not_equals (word_label {i} q ls) h = sees-other ts false k.Identifier k.Equal i q refl
@@ -121,9 +121,9 @@ module _ (ts : List Token) where
   -- no member comes next
   pub record Ends (i : ℕ) : Type 0 where
     pub no_line : NoLine ts i
-    pub no_name : sees ts false k.Identifier i ≡ false
+    pub no_name : next_is ts false k.Identifier i ≡ false
 
-  pub ends_brace : (i : ℕ) → At ts false k.CloseBrace i → Ends i
+  pub ends_brace : (i : ℕ) → NextIs ts false k.CloseBrace i → Ends i
   unfolding same_kind
   ends_brace i h = record { no_line = no_line_brace i h; no_name = sees-other ts false k.CloseBrace k.Identifier i h refl }
 
@@ -132,51 +132,51 @@ module _ (ts : List Token) where
   members_end zero acc i s = found
   members_end (suc turns) acc i s = rw (s.no_line.is, s.no_name, past-no ts false k.Identifier i s.no_name) found
 
-  members_blank : {d a : ℕ} {ys : List Member} {j l : ℕ} (turns : ℕ) (acc : List Member) (i : ℕ) → IsLine ts i j → Answers d a ys l (bodies.members_from ts a (deeper_members ts a) turns acc j)
+  members_blank : {d a : ℕ} {ys : List Member} {j l : ℕ} (turns : ℕ) (acc : List Member) (i : ℕ) → IsNewline ts i j → Answers d a ys l (bodies.members_from ts a (deeper_members ts a) turns acc j)
       → Answers d a ys l (bodies.members_from ts a (deeper_members ts a) (suc turns) acc i)
   unfolding bodies.members_from
   members_blank turns acc i q r = rw (line-yes q) r
 
   -- a member, and those behind it
-  members_more : {d a : ℕ} {x : Member} {ys : List Member} {n l : ℕ} (turns : ℕ) (acc : List Member) (i : ℕ) → At ts false k.Identifier i
-      → Answers d a x n (bodies.named_member ts a (deeper_members ts a) (start ts false i) (after ts false i))
+  members_more : {d a : ℕ} {x : Member} {ys : List Member} {n l : ℕ} (turns : ℕ) (acc : List Member) (i : ℕ) → NextIs ts false k.Identifier i
+      → Answers d a x n (bodies.attribute_or_block ts a (deeper_members ts a) (next_index ts false i) (after_next ts false i))
       → Answers d a ys l (bodies.members_from ts a (deeper_members ts a) turns (acc ++ x ∷ []) n)
       → Answers d a ys l (bodies.members_from ts a (deeper_members ts a) (suc turns) acc i)
   unfolding bodies.members_from bodies.member_of
   members_more turns acc i q x more = rw ((no_line_name i q).is, sees-yes ts false k.Identifier i q, past-yes ts false k.Identifier i q) (bind _ (bind _ x found) more)
 
-  pub member_attribute : {d a : ℕ} {e : Expr} {j n : ℕ} (first i : ℕ) → At ts false k.Equal i → Answers d a e j (p.expr ts a false Whole (after ts false i)) → IsEol ts j n
-      → Answers d a (member.Attribute (node.attribute first n e)) n (bodies.named_member ts a (deeper_members ts a) first i)
-  unfolding bodies.named_member bodies.attribute_by
+  pub member_attribute : {d a : ℕ} {e : Expr} {j n : ℕ} (first i : ℕ) → NextIs ts false k.Equal i → Answers d a e j (p.expr ts a false Whole (after_next ts false i)) → IsEol ts j n
+      → Answers d a (member.Attribute (node.attribute first n e)) n (bodies.attribute_or_block ts a (deeper_members ts a) first i)
+  unfolding bodies.attribute_or_block bodies.attribute_by
   member_attribute first i e x l = rw (sees-yes ts false k.Equal i e, past-yes ts false k.Equal i e) (bind _ x (rw (eol-yes l) found))
 
-  pub member_block : {d : ℕ} {ls : List Label} {x : Content} {j o q : ℕ} (first i : ℕ) → IsLabels ts ls i j → At ts false k.OpenBrace j → At ts false k.CloseBrace o → IsEol ts (after ts false o) q → (b : ℕ)
-      → ((a : ℕ) → Answers d a x o (bodies.block_content ts (suc a) (bodies.members ts a) (after ts false j)))
-      → Answers (suc d) b (node.block first q ls x) q (bodies.named_member ts b (deeper_members ts b) first i)
-  unfolding bodies.named_member bodies.block_by
+  pub member_block : {d : ℕ} {ls : List Label} {x : Content} {j o q : ℕ} (first i : ℕ) → IsLabels ts ls i j → NextIs ts false k.OpenBrace j → NextIs ts false k.CloseBrace o → IsEol ts (after_next ts false o) q → (b : ℕ)
+      → ((a : ℕ) → Answers d a x o (bodies.block_content ts (suc a) (bodies.members ts a) (after_next ts false j)))
+      → Answers (suc d) b (node.block first q ls x) q (bodies.attribute_or_block ts b (deeper_members ts b) first i)
+  unfolding bodies.attribute_or_block bodies.block_by
   member_block {j} {o} first i ls br cl el zero x =
       rw (not_equals ls br, past-no ts false k.Equal i (not_equals ls br), labels_all ls br, expect-yes ts false k.OpenBrace j br) (deep (omega arith))
   member_block {j} {o} first i ls br cl el (suc a) x =
       rw (not_equals ls br, past-no ts false k.Equal i (not_equals ls br), labels_all ls br, expect-yes ts false k.OpenBrace j br)
       (bind _ (deeper_found (x a)) (rw (expect-yes ts false k.CloseBrace o cl, eol-yes el) found))
 
-  pub content_lines : {d a : ℕ} {bs : List Member} {n o : ℕ} (i : ℕ) → IsLine ts i n → Answers d a bs o (bodies.members ts a n)
-      → Answers d a (content.Lines (node.body (first_of ts false n o) o bs)) o (bodies.block_content ts (suc a) (bodies.members ts a) i)
+  pub content_lines : {d a : ℕ} {bs : List Member} {n o : ℕ} (i : ℕ) → IsNewline ts i n → Answers d a bs o (bodies.members ts a n)
+      → Answers d a (content.Body (node.body (first_token_in ts false n o) o bs)) o (bodies.block_content ts (suc a) (bodies.members ts a) i)
   unfolding bodies.block_content bodies.nested_body
   content_lines i l x = rw (inner-yes l) (bind _ x found)
 
-  content_empty : {d a : ℕ} (i : ℕ) → At ts false k.CloseBrace i → Answers d a (content.Line None) i (bodies.block_content ts (suc a) (bodies.members ts a) i)
-  unfolding bodies.block_content bodies.on_line same_kind
+  content_empty : {d a : ℕ} (i : ℕ) → NextIs ts false k.CloseBrace i → Answers d a (content.OneLine None) i (bodies.block_content ts (suc a) (bodies.members ts a) i)
+  unfolding bodies.block_content bodies.one_line_body same_kind
   content_empty i h = let n = sees-other ts false k.CloseBrace k.Identifier i h refl in rw ((no_inner_at ts i h).is, n, past-no ts false k.Identifier i n) found
 
-  content_one : {d a : ℕ} {e : Expr} {j : ℕ} (i : ℕ) → At ts false k.Identifier i → At ts false k.Equal (after ts false i) → Answers d a e j (p.expr ts a false Whole (after ts false (after ts false i)))
-      → Answers d a (content.Line (Some (node.attribute (start ts false i) j e))) j (bodies.block_content ts (suc a) (bodies.members ts a) i)
-  unfolding bodies.block_content bodies.on_line
-  content_one i h q x = rw ((no_inner_name i h).is, sees-yes ts false k.Identifier i h, past-yes ts false k.Identifier i h, expect-yes ts false k.Equal (after ts false i) q) (bind _ x found)
+  content_one : {d a : ℕ} {e : Expr} {j : ℕ} (i : ℕ) → NextIs ts false k.Identifier i → NextIs ts false k.Equal (after_next ts false i) → Answers d a e j (p.expr ts a false Whole (after_next ts false (after_next ts false i)))
+      → Answers d a (content.OneLine (Some (node.attribute (next_index ts false i) j e))) j (bodies.block_content ts (suc a) (bodies.members ts a) i)
+  unfolding bodies.block_content bodies.one_line_body
+  content_one i h q x = rw ((no_inner_name i h).is, sees-yes ts false k.Identifier i h, past-yes ts false k.Identifier i h, expect-yes ts false k.Equal (after_next ts false i) q) (bind _ x found)
 
-  pub c_on_line : {d : ℕ} {x : Option Attribute} {i j : ℕ} → IsOnLine ts d x i j → At ts false k.CloseBrace j → (a : ℕ) → Answers d a (content.Line x) j (bodies.block_content ts (suc a) (bodies.members ts a) i)
+  pub c_on_line : {d : ℕ} {x : Option Attribute} {i j : ℕ} → IsOneLineBody ts d x i j → NextIs ts false k.CloseBrace j → (a : ℕ) → Answers d a (content.OneLine x) j (bodies.block_content ts (suc a) (bodies.members ts a) i)
   c_on_line (nothing {i}) h a = content_empty i h
-  c_on_line (one {i} {j} n q x) h a = content_one i n q (nested ts false (after ts false (after ts false i)) a (c_expr ts x (stops_at 8 k.CloseBrace h (omega arith)) a))
+  c_on_line (one {i} {j} n q x) h a = content_one i n q (nested ts false (after_next ts false (after_next ts false i)) a (c_expr ts x (stops_at 8 k.CloseBrace h (omega arith)) a))
 
   pub members-is : (a i : ℕ) → bodies.members ts a i ≡ bodies.members_from ts a (deeper_members ts a) (length ts) [] i
   unfolding bodies.members
@@ -189,69 +189,69 @@ module _ (ts : List Token) where
   c_members (blank q ms) s b zero acc l = absurd (omega (arith, (span_line q).forth, (span_members ms).forth))
   c_members (blank {i} q ms) s b (suc turns) acc l = members_blank turns acc i q (c_members ms s b turns acc (omega (arith, (span_line q).forth)))
   c_members (attribute {i} q e x el ms) s b zero acc l =
-      absurd (omega (arith, (step ts false k.Identifier i q).forth, (step ts false k.Equal (after ts false i) e).forth, (span_expr x).forth, (span_eol el).forth, (span_members ms).forth))
+      absurd (omega (arith, (step ts false k.Identifier i q).forth, (step ts false k.Equal (after_next ts false i) e).forth, (span_expr x).forth, (span_eol el).forth, (span_members ms).forth))
   c_members (attribute {e = y} {ms = ys} {i} {n} q e x el ms) s b (suc turns) acc l =
-      rw (← append_assoc acc (member.Attribute (node.attribute (start ts false i) n y) ∷ []) ys)
-      (members_more turns acc i q (member_attribute (start ts false i) (after ts false i) e (nested ts false (after ts false (after ts false i)) b (c_expr ts x (eol_stop el) b)) el)
-      (c_members ms s b turns (acc ++ member.Attribute (node.attribute (start ts false i) n y) ∷ [])
-      (omega (arith, (step ts false k.Identifier i q).forth, (step ts false k.Equal (after ts false i) e).forth, (span_expr x).forth, (span_eol el).forth))))
+      rw (← append_assoc acc (member.Attribute (node.attribute (next_index ts false i) n y) ∷ []) ys)
+      (members_more turns acc i q (member_attribute (next_index ts false i) (after_next ts false i) e (nested ts false (after_next ts false (after_next ts false i)) b (c_expr ts x (eol_stop el) b)) el)
+      (c_members ms s b turns (acc ++ member.Attribute (node.attribute (next_index ts false i) n y) ∷ [])
+      (omega (arith, (step ts false k.Identifier i q).forth, (step ts false k.Equal (after_next ts false i) e).forth, (span_expr x).forth, (span_eol el).forth))))
   c_members (block {i} {j} {o} h ls br nl bs cl el ms) s b zero acc l =
       absurd (omega (arith, (step ts false k.Identifier i h).forth, (span_labels ls).forth, (step ts false k.OpenBrace j br).forth, (span_line nl).forth, (span_members bs).forth, (step ts false k.CloseBrace o cl).forth, (span_eol el).forth, (span_members ms).forth))
   c_members (block {ls = ns} {bs = xs} {ms = ys} {i} {j} {n} {o} {q} h ls br nl bs cl el ms) s b (suc turns) acc l =
-      rw (← append_assoc acc (node.block (start ts false i) q ns (content.Lines (node.body (first_of ts false n o) o xs)) ∷ []) ys)
+      rw (← append_assoc acc (node.block (next_index ts false i) q ns (content.Body (node.body (first_token_in ts false n o) o xs)) ∷ []) ys)
       (members_more turns acc i h
-      (member_block (start ts false i) (after ts false i) ls br cl el b
-      (λ a. content_lines (after ts false j) nl (rw (members-is a n) (c_members bs (ends_brace o cl) a (length ts) [] (omega (arith, (span_members bs).within))))))
-      (c_members ms s b turns (acc ++ node.block (start ts false i) q ns (content.Lines (node.body (first_of ts false n o) o xs)) ∷ [])
+      (member_block (next_index ts false i) (after_next ts false i) ls br cl el b
+      (λ a. content_lines (after_next ts false j) nl (rw (members-is a n) (c_members bs (ends_brace o cl) a (length ts) [] (omega (arith, (span_members bs).within))))))
+      (c_members ms s b turns (acc ++ node.block (next_index ts false i) q ns (content.Body (node.body (first_token_in ts false n o) o xs)) ∷ [])
       (omega (arith, (step ts false k.Identifier i h).forth, (span_labels ls).forth, (step ts false k.OpenBrace j br).forth, (span_line nl).forth, (span_members bs).forth, (step ts false k.CloseBrace o cl).forth, (span_eol el).forth))))
   c_members (line_block {i} {j} {o} h ls br x cl el ms) s b zero acc l =
       absurd (omega (arith, (step ts false k.Identifier i h).forth, (span_labels ls).forth, (step ts false k.OpenBrace j br).forth, (span_on_line x).forth, (step ts false k.CloseBrace o cl).forth, (span_eol el).forth, (span_members ms).forth))
   c_members (line_block {ls = ns} {a = y} {ms = ys} {i} {j} {o} {q} h ls br x cl el ms) s b (suc turns) acc l =
-      rw (← append_assoc acc (node.block (start ts false i) q ns (content.Line y) ∷ []) ys)
-      (members_more turns acc i h (member_block (start ts false i) (after ts false i) ls br cl el b (λ a. c_on_line x cl a))
-      (c_members ms s b turns (acc ++ node.block (start ts false i) q ns (content.Line y) ∷ [])
+      rw (← append_assoc acc (node.block (next_index ts false i) q ns (content.OneLine y) ∷ []) ys)
+      (members_more turns acc i h (member_block (next_index ts false i) (after_next ts false i) ls br cl el b (λ a. c_on_line x cl a))
+      (c_members ms s b turns (acc ++ node.block (next_index ts false i) q ns (content.OneLine y) ∷ [])
       (omega (arith, (step ts false k.Identifier i h).forth, (span_labels ls).forth, (step ts false k.OpenBrace j br).forth, (span_on_line x).forth, (step ts false k.CloseBrace o cl).forth, (span_eol el).forth))))
 
   -- ---- one member
 
-  no_blank : {i j : ℕ} → At ts false k.Identifier i → IsLine ts i j → ⊥
+  no_blank : {i j : ℕ} → NextIs ts false k.Identifier i → IsNewline ts i j → ⊥
   no_blank {i} h (line_end q) = let clash : Some k.Identifier ≡ Some k.LineEnd = sym h ∙ q in absurd (cc)
   no_blank {i} h (comment q n) = let clash : Some k.Identifier ≡ Some k.LineComment = sym h ∙ q in absurd (cc)
 
   -- the member that a body begins with, where no line end stands before it
-  c_named : {d : ℕ} {m : Member} {ms : List Member} {i l : ℕ} → At ts false k.Identifier i → IsMembers ts d (m ∷ ms) i l → (b : ℕ)
-      → (n : ℕ) × Answers d b m n (bodies.named_member ts b (deeper_members ts b) (start ts false i) (after ts false i))
+  c_named : {d : ℕ} {m : Member} {ms : List Member} {i l : ℕ} → NextIs ts false k.Identifier i → IsMembers ts d (m ∷ ms) i l → (b : ℕ)
+      → (n : ℕ) × Answers d b m n (bodies.attribute_or_block ts b (deeper_members ts b) (next_index ts false i) (after_next ts false i))
   c_named h (blank q ms) b = absurd (no_blank h q)
-  c_named h (attribute {i} {n = n} q e x el ms) b = (n, member_attribute (start ts false i) (after ts false i) e (nested ts false (after ts false (after ts false i)) b (c_expr ts x (eol_stop el) b)) el)
+  c_named h (attribute {i} {n = n} q e x el ms) b = (n, member_attribute (next_index ts false i) (after_next ts false i) e (nested ts false (after_next ts false (after_next ts false i)) b (c_expr ts x (eol_stop el) b)) el)
   c_named h (block {i} {j} {n} {o} {q} g ls br nl bs cl el ms) b = (
     q,
-    member_block (start ts false i) (after ts false i) ls br cl el b
-        (λ a. content_lines (after ts false j) nl (rw (members-is a n) (c_members bs (ends_brace o cl) a (length ts) [] (omega (arith, (span_members bs).within))))),
+    member_block (next_index ts false i) (after_next ts false i) ls br cl el b
+        (λ a. content_lines (after_next ts false j) nl (rw (members-is a n) (c_members bs (ends_brace o cl) a (length ts) [] (omega (arith, (span_members bs).within))))),
   )
-  c_named h (line_block {i} {q = q} g ls br x cl el ms) b = (q, member_block (start ts false i) (after ts false i) ls br cl el b (λ a. c_on_line x cl a))
+  c_named h (line_block {i} {q = q} g ls br x cl el ms) b = (q, member_block (next_index ts false i) (after_next ts false i) ls br cl el b (λ a. c_on_line x cl a))
 
-  c_some : {d : ℕ} {m : Member} {n : ℕ} (b i : ℕ) → At ts false k.Identifier i → Answers d b m n (bodies.named_member ts b (deeper_members ts b) (start ts false i) (after ts false i))
+  c_some : {d : ℕ} {m : Member} {n : ℕ} (b i : ℕ) → NextIs ts false k.Identifier i → Answers d b m n (bodies.attribute_or_block ts b (deeper_members ts b) (next_index ts false i) (after_next ts false i))
       → Answers d b (Some m) n (bodies.member_of ts b (deeper_members ts b) i)
   unfolding bodies.member_of
   c_some b i h x = rw (sees-yes ts false k.Identifier i h, past-yes ts false k.Identifier i h) (bind _ x found)
 
-  pub c_member : {d : ℕ} {m : Member} {ms : List Member} {l : ℕ} (i : ℕ) → At ts false k.Identifier i → IsMembers ts d (m ∷ ms) i l → (b : ℕ)
+  pub c_member : {d : ℕ} {m : Member} {ms : List Member} {l : ℕ} (i : ℕ) → NextIs ts false k.Identifier i → IsMembers ts d (m ∷ ms) i l → (b : ℕ)
       → (n : ℕ) × Answers d b (Some m) n (bodies.member_of ts b (deeper_members ts b) i)
   c_member i h x b = let r = c_named h x b in (r.0, c_some b i h r.1)
 
-  pub c_none : (b i : ℕ) → next ts false i ≢ Some k.Identifier → Answers b b None i (bodies.member_of ts b (deeper_members ts b) i)
+  pub c_none : (b i : ℕ) → next_kind ts false i ≢ Some k.Identifier → Answers b b None i (bodies.member_of ts b (deeper_members ts b) i)
   unfolding bodies.member_of
   c_none b i h = let n = sees-not ts false k.Identifier i h in rw (n, past-no ts false k.Identifier i n) found
 
   -- ---- whole texts
 
-  last_ends : (i : ℕ) → IsLast ts i → Ends i
+  last_ends : (i : ℕ) → IsFileEnd ts i → Ends i
   unfolding same_kind
   last_ends i (at_end h) = record { no_line = no_line_end i h; no_name = unlike k.Identifier i h }
   last_ends i (at_comment q h) = record { no_line = record { is = line-no i q h }; no_name = sees-other ts false k.LineComment k.Identifier i q refl }
 
   -- no byte order mark stands where a body begins
-  no_front : {d : ℕ} {ms : List Member} {i j : ℕ} → IsMembers ts d ms i j → IsLast ts j → sees ts false k.Mark i ≡ false
+  no_front : {d : ℕ} {ms : List Member} {i j : ℕ} → IsMembers ts d ms i j → IsFileEnd ts j → next_is ts false k.Mark i ≡ false
   unfolding same_kind
   no_front (no_members {i}) (at_end h) = unlike k.Mark i h
   no_front (no_members {i}) (at_comment q h) = sees-other ts false k.LineComment k.Mark i q refl
@@ -262,15 +262,15 @@ module _ (ts : List Token) where
   no_front (line_block {i} q ls br x cl el ms) l = sees-other ts false k.Identifier k.Mark i q refl
 
   -- what the file is parsed from: past a byte order mark
-  front-past : {d : ℕ} {ms : List Member} {i j : ℕ} → IsFront ts i → IsMembers ts d ms i j → IsLast ts j → past ts false k.Mark 0 ≡ i
+  front-past : {d : ℕ} {ms : List Member} {i j : ℕ} → IsOptionalMark ts i → IsMembers ts d ms i j → IsFileEnd ts j → after_if_next ts false k.Mark 0 ≡ i
   front-past no_mark ms l = past-no ts false k.Mark 0 (no_front ms l)
   front-past (mark q) ms l = past-yes ts false k.Mark 0 q
 
-  file_by : {d : ℕ} {ms : List Member} {i j : ℕ} (b : ℕ) → past ts false k.Mark 0 ≡ i → Answers d b ms j (bodies.members ts b i) → IsLast ts j
-      → (n : ℕ) × Answers d b (node.tree (length ts) (node.body (first_of ts false i j) j ms)) n (bodies.file ts b 0)
+  file_by : {d : ℕ} {ms : List Member} {i j : ℕ} (b : ℕ) → after_if_next ts false k.Mark 0 ≡ i → Answers d b ms j (bodies.members ts b i) → IsFileEnd ts j
+      → (n : ℕ) × Answers d b (node.tree (length ts) (node.body (first_token_in ts false i j) j ms)) n (bodies.file ts b 0)
   unfolding bodies.file
   file_by {j} b s x (at_end h) = (j, rw s (bind _ x (let n = unlike k.LineComment j h in rw (past-no ts false k.LineComment j n, h) found)))
-  file_by {j} b s x (at_comment q h) = (after ts false j, rw s (bind _ x (rw (past-yes ts false k.LineComment j q, h) found)))
+  file_by {j} b s x (at_comment q h) = (after_next ts false j, rw s (bind _ x (rw (past-yes ts false k.LineComment j q, h) found)))
 
   -- each derivation of a whole text is answered
   pub file_answers : (b d : ℕ) (t : Tree) → IsFile ts d t → (n : ℕ) × Answers d b t n (bodies.file ts b 0)

@@ -10,18 +10,18 @@ use Rattle.hcl_grammar.specs.declared.tree.Content.TheVariants as content
 use Rattle.hcl_grammar.specs.declared.tree.Label.{Label}
 use Rattle.hcl_grammar.specs.declared.tree.Member.{Member}
 use Rattle.hcl_grammar.specs.declared.tree.Tree.{Tree}
-use Rattle.hcl_grammar.specs.Bodies.{IsLabels, no_labels, word_label, text_label, empty_label, IsOnLine, nothing, one, IsMembers, no_members, blank, attribute, block, line_block, IsFront, no_mark, mark, at_end, at_comment, IsFile, file}
+use Rattle.hcl_grammar.specs.Bodies.{IsLabels, no_labels, word_label, text_label, empty_label, IsOneLineBody, nothing, one, IsMembers, no_members, blank, attribute, block, line_block, IsOptionalMark, no_mark, mark, at_end, at_comment, IsFile, file}
 use Rattle.hcl_grammar.specs.Pure.BodyParser as bodies
 use Rattle.hcl_grammar.specs.Pure.BodyParser.{deeper_members}
-use Rattle.hcl_grammar.specs.Lines.{At, IsLine, IsEol, eol_line, eol_end, eol_comment}
+use Rattle.hcl_grammar.specs.Lookahead.{NextIs, IsNewline, IsEol, eol_line, eol_end, eol_comment}
 use Rattle.hcl_grammar.specs.Nodes as node
-use Rattle.hcl_grammar.specs.Pure.Reading.{Outcome, go_on, pure, expect, past}
-use Rattle.hcl_grammar.specs.Tokens.{Token, start, next, after, first_of}
+use Rattle.hcl_grammar.specs.Pure.Reading.{Outcome, and_then, pure, expect, after_if_next}
+use Rattle.hcl_grammar.specs.Tokens.{Token, next_index, next_kind, after_next, first_token_in}
 use Rattle.hcl_grammar_laws.proofs.Inverts.{bind_inv, done, along, eaten, uneaten, eat_inv, expect_then, some_along, none_some, some_none, then_some, then, otherwise, chosen}
 use Rattle.hcl_grammar_laws.proofs.Steps.{sees-yes}
 use Rattle.hcl_grammar_laws.proofs.Sound.{sound, line-true, line-false, inner-true, inner-false}
 
-pub shut : {A B : Type 0} {y : B} {j : ℕ} (o : Outcome A) (x : TokenFault) → go_on o (λ _ i. Err x) ≡ done y j → ⊥
+pub shut : {A B : Type 0} {y : B} {j : ℕ} (o : Outcome A) (x : TokenFault) → and_then o (λ _ i. Err x) ≡ done y j → ⊥
 shut (Ok q) x e = absurd (cc)
 shut (Err f) x e = absurd (cc)
 
@@ -29,10 +29,10 @@ unseen : {b : Bool} → b ≡ false → b ≡ true → ⊥
 unseen h g = absurd (cc)
 
 module _ (ts : List Token) where
-  pub ended_inv : (i : ℕ) {u : Unit {0}} {j : ℕ} → bodies.ended ts (next ts false i) i ≡ done u j → (next ts false i ≡ None) × (j ≡ i)
-  ended_inv i {u} {j} e = go (next ts false i) refl e
+  pub ended_inv : (i : ℕ) {u : Unit {0}} {j : ℕ} → bodies.expect_end ts (next_kind ts false i) i ≡ done u j → (next_kind ts false i ≡ None) × (j ≡ i)
+  ended_inv i {u} {j} e = go (next_kind ts false i) refl e
     where
-      go : (o : Option Kind) → next ts false i ≡ o → bodies.ended ts o i ≡ done u j → (next ts false i ≡ None) × (j ≡ i)
+      go : (o : Option Kind) → next_kind ts false i ≡ o → bodies.expect_end ts o i ≡ done u j → (next_kind ts false i ≡ None) × (j ≡ i)
       go None h f = (h, along (λ _ j. j ≡ i) f refl)
       go (Some t) h f = absurd (cc)
 
@@ -45,7 +45,7 @@ module _ (ts : List Token) where
         | otherwise h r ↦
             let same = line-false ts i w.at (w.is ∙ ap (λ x. done x w.at) h) in
             subst (λ n. IsEol ts n j) same (elim (eat_inv ts false k.LineComment w.at) [
-              | eaten q s l ↦ (let f = ended_inv (after ts false w.at) (rw l at r) in subst (λ n. IsEol ts w.at n) (sym f.1) (eol_comment q f.0))
+              | eaten q s l ↦ (let f = ended_inv (after_next ts false w.at) (rw l at r) in subst (λ n. IsEol ts w.at n) (sym f.1) (eol_comment q f.0))
               | uneaten s l ↦ (let f = ended_inv w.at (rw l at r) in subst (λ n. IsEol ts w.at n) (sym f.1) (eol_end f.0))
             ])
       ]
@@ -56,23 +56,23 @@ module _ (ts : List Token) where
   abbrev LabelFrom : ℕ → Label → ℕ → Type 0
   LabelFrom i x j = (ls : List Label) (l : ℕ) → IsLabels ts ls j l → IsLabels ts (x ∷ ls) i l
 
-  s_quoted_label : (i : ℕ) → At ts false k.QuoteOpen i → (x : Label) (j : ℕ) → bodies.quoted_label ts (start ts false i) (after ts false i) ≡ done x j → LabelFrom i x j
+  s_quoted_label : (i : ℕ) → NextIs ts false k.QuoteOpen i → (x : Label) (j : ℕ) → bodies.quoted_label ts (next_index ts false i) (after_next ts false i) ≡ done x j → LabelFrom i x j
   unfolding bodies.quoted_label
-  s_quoted_label i h x j e = elim (eat_inv ts false k.QuoteLit (after ts false i)) [
-    | eaten q s l ↦ (let (c, v) = expect_then ts false k.QuoteClose (after ts false (after ts false i)) _ (rw (s, l) at e) in along (λ x j. LabelFrom i x j) v (λ ls l r. text_label h q c r))
-    | uneaten s l ↦ (let (c, v) = expect_then ts false k.QuoteClose (after ts false i) _ (rw (s, l) at e) in along (λ x j. LabelFrom i x j) v (λ ls l r. empty_label h c r))
+  s_quoted_label i h x j e = elim (eat_inv ts false k.QuoteLit (after_next ts false i)) [
+    | eaten q s l ↦ (let (c, v) = expect_then ts false k.QuoteClose (after_next ts false (after_next ts false i)) _ (rw (s, l) at e) in along (λ x j. LabelFrom i x j) v (λ ls l r. text_label h q c r))
+    | uneaten s l ↦ (let (c, v) = expect_then ts false k.QuoteClose (after_next ts false i) _ (rw (s, l) at e) in along (λ x j. LabelFrom i x j) v (λ ls l r. empty_label h c r))
   ]
 
-  s_label_some : (i : ℕ) (o : Option Kind) → next ts false i ≡ o → (x : Label) (j : ℕ) → bodies.label_by ts (start ts false i) o i ≡ done (Some x) j → LabelFrom i x j
+  s_label_some : (i : ℕ) (o : Option Kind) → next_kind ts false i ≡ o → (x : Label) (j : ℕ) → bodies.label_by ts (next_index ts false i) o i ≡ done (Some x) j → LabelFrom i x j
   s_label_some i None h x j f = absurd (none_some f)
   s_label_some i (Some k.Identifier) h x j f = some_along (λ x j. LabelFrom i x j) f (λ ls l r. word_label h r)
   s_label_some i (Some k.QuoteOpen) h x j f = let w = bind_inv _ _ f in some_along (λ x j. LabelFrom i x j) w.rest (s_quoted_label i h w.value w.at w.is)
   s_label_some i (Some _) h x j f = absurd (none_some f)
 
-  s_label_none : (i : ℕ) (o : Option Kind) (j : ℕ) → bodies.label_by ts (start ts false i) o i ≡ done None j → j ≡ i
+  s_label_none : (i : ℕ) (o : Option Kind) (j : ℕ) → bodies.label_by ts (next_index ts false i) o i ≡ done None j → j ≡ i
   s_label_none i None j f = along (λ _ j. j ≡ i) f refl
   s_label_none i (Some k.Identifier) j f = absurd (some_none f)
-  s_label_none i (Some k.QuoteOpen) j f = absurd (then_some (bodies.quoted_label ts (start ts false i) (after ts false i)) (λ x. x) f)
+  s_label_none i (Some k.QuoteOpen) j f = absurd (then_some (bodies.quoted_label ts (next_index ts false i) (after_next ts false i)) (λ x. x) f)
   s_label_none i (Some _) j f = along (λ _ j. j ≡ i) f refl
 
   pub record Labels (acc ys : List Label) (i j : ℕ) : Type 0 where
@@ -86,10 +86,10 @@ module _ (ts : List Token) where
       → bodies.labels_step ts (bodies.labels_from ts turns) acc o n ≡ done ys j → Labels acc ys i j
   unfolding bodies.label_of
   labels_step turns acc i ys j again None n g f =
-      along (λ ys j. Labels acc ys i j) f (record { more = []; is = sym (append-nil acc); labels = subst (λ n. IsLabels ts [] i n) (sym (s_label_none i (next ts false i) n g)) no_labels })
+      along (λ ys j. Labels acc ys i j) f (record { more = []; is = sym (append-nil acc); labels = subst (λ n. IsLabels ts [] i n) (sym (s_label_none i (next_kind ts false i) n g)) no_labels })
   labels_step turns acc i ys j again (Some x) n g f =
       let r = again (acc ++ x ∷ []) n f in
-      record { more = x ∷ r.more; is = r.is ∙ append_assoc acc (x ∷ []) r.more; labels = s_label_some i (next ts false i) refl x n g r.more j r.labels }
+      record { more = x ∷ r.more; is = r.is ∙ append_assoc acc (x ∷ []) r.more; labels = s_label_some i (next_kind ts false i) refl x n g r.more j r.labels }
 
   s_labels : (turns : ℕ) (acc : List Label) (i : ℕ) (ys : List Label) (j : ℕ) → bodies.labels_from ts turns acc i ≡ done ys j → Labels acc ys i j
   unfolding bodies.labels_from
@@ -112,28 +112,28 @@ module _ (ts : List Token) where
   abbrev pub Precedes : ℕ → ℕ → Member → ℕ → Type 0
   Precedes b i m j = (ms : List Member) (l : ℕ) → IsMembers ts b ms j l → IsMembers ts b (m ∷ ms) i l
 
-  s_attribute : (b i : ℕ) → At ts false k.Identifier i → At ts false k.Equal (after ts false i) → (m : Member) (j : ℕ)
-      → bodies.attribute_by ts b (deeper_members ts b) (start ts false i) (after ts false (after ts false i)) ≡ done m j → Precedes b i m j
+  s_attribute : (b i : ℕ) → NextIs ts false k.Identifier i → NextIs ts false k.Equal (after_next ts false i) → (m : Member) (j : ℕ)
+      → bodies.attribute_by ts b (deeper_members ts b) (next_index ts false i) (after_next ts false (after_next ts false i)) ≡ done m j → Precedes b i m j
   unfolding bodies.attribute_by
   s_attribute b i h q m j e =
       let w = bind_inv _ _ e in
-      let x = (sound ts b).whole false (after ts false (after ts false i)) w.value w.at w.is in
+      let x = (sound ts b).whole false (after_next ts false (after_next ts false i)) w.value w.at w.is in
       let v = bind_inv _ _ w.rest in
       let l = s_eol w.at v.is in
       along (λ m j. Precedes b i m j) v.rest (λ ms n r. attribute h q x l r)
 
   -- what stands in the braces of a block, from i to j
   pub data Inside (a : ℕ) : Content → ℕ → ℕ → Type 0 where
-    inside_lines : {bs : List Member} {i n o : ℕ} → IsLine ts i n → IsMembers ts a bs n o → Inside a (content.Lines (node.body (first_of ts false n o) o bs)) i o
-    inside_line : {x : Option Attribute} {i o : ℕ} → IsOnLine ts a x i o → Inside a (content.Line x) i o
+    inside_lines : {bs : List Member} {i n o : ℕ} → IsNewline ts i n → IsMembers ts a bs n o → Inside a (content.Body (node.body (first_token_in ts false n o) o bs)) i o
+    inside_line : {x : Option Attribute} {i o : ℕ} → IsOneLineBody ts a x i o → Inside a (content.OneLine x) i o
 
-  s_on_line : (a i : ℕ) (x : Content) (j : ℕ) → bodies.on_line ts a i ≡ done x j → Inside a x i j
-  unfolding bodies.on_line
+  s_on_line : (a i : ℕ) (x : Content) (j : ℕ) → bodies.one_line_body ts a i ≡ done x j → Inside a x i j
+  unfolding bodies.one_line_body
   s_on_line a i x j e = elim (eat_inv ts false k.Identifier i) [
     | eaten q s l ↦
-        (let (c, v) = expect_then ts false k.Equal (after ts false i) _ (rw (s, l) at e) in
+        (let (c, v) = expect_then ts false k.Equal (after_next ts false i) _ (rw (s, l) at e) in
         let w = bind_inv _ _ v in
-        along (λ x j. Inside a x i j) w.rest (inside_line (one q c ((sound ts a).whole false (after ts false (after ts false i)) w.value w.at w.is))))
+        along (λ x j. Inside a x i j) w.rest (inside_line (one q c ((sound ts a).whole false (after_next ts false (after_next ts false i)) w.value w.at w.is))))
     | uneaten s l ↦ along (λ x j. Inside a x i j) (rw (s, l) at e) (inside_line nothing)
   ]
 
@@ -149,31 +149,31 @@ module _ (ts : List Token) where
             subst (λ n. Inside a x n j) same (s_on_line a w.at x j r))
       ]
 
-  block_from : {ls : List Label} {j o q : ℕ} (a i : ℕ) → At ts false k.Identifier i → IsLabels ts ls (after ts false i) j → At ts false k.OpenBrace j → (n : ℕ) → n ≡ after ts false j → (x : Content) → Inside a x n o
-      → At ts false k.CloseBrace o → IsEol ts (after ts false o) q → Precedes (suc a) i (node.block (start ts false i) q ls x) q
-  block_from a i h ls br n e x (inside_lines {n = from} nl bs) c el = λ ms l r. block h ls br (subst (λ n. IsLine ts n from) e nl) bs c el r
-  block_from a i h ls br n e x (inside_line {x = found} {o = to} y) c el = λ ms l r. line_block h ls br (subst (λ n. IsOnLine ts a found n to) e y) c el r
+  block_from : {ls : List Label} {j o q : ℕ} (a i : ℕ) → NextIs ts false k.Identifier i → IsLabels ts ls (after_next ts false i) j → NextIs ts false k.OpenBrace j → (n : ℕ) → n ≡ after_next ts false j → (x : Content) → Inside a x n o
+      → NextIs ts false k.CloseBrace o → IsEol ts (after_next ts false o) q → Precedes (suc a) i (node.block (next_index ts false i) q ls x) q
+  block_from a i h ls br n e x (inside_lines {n = from} nl bs) c el = λ ms l r. block h ls br (subst (λ n. IsNewline ts n from) e nl) bs c el r
+  block_from a i h ls br n e x (inside_line {x = found} {o = to} y) c el = λ ms l r. line_block h ls br (subst (λ n. IsOneLineBody ts a found n to) e y) c el r
 
-  s_block : (b : ℕ) → Below b → (i : ℕ) → At ts false k.Identifier i → (m : Member) (j : ℕ)
-      → bodies.block_by ts b (deeper_members ts b) (start ts false i) (after ts false i) ≡ done m j → Precedes b i m j
+  s_block : (b : ℕ) → Below b → (i : ℕ) → NextIs ts false k.Identifier i → (m : Member) (j : ℕ)
+      → bodies.block_by ts b (deeper_members ts b) (next_index ts false i) (after_next ts false i) ≡ done m j → Precedes b i m j
   unfolding bodies.block_by
   s_block zero z i h m j e =
-      let w = bind_inv (bodies.labels_from ts (length ts) [] (after ts false i)) _ e in
-      absurd (shut (expect ts false k.OpenBrace w.at) (TooDeep (start ts false w.at)) w.rest)
+      let w = bind_inv (bodies.labels_from ts (length ts) [] (after_next ts false i)) _ e in
+      absurd (shut (expect ts false k.OpenBrace w.at) (TooDeep (next_index ts false w.at)) w.rest)
   s_block (suc a) z i h m j e =
       let w = bind_inv _ _ e in
-      let ls = all_labels (after ts false i) w.value w.at w.is in
+      let ls = all_labels (after_next ts false i) w.value w.at w.is in
       let (br, r) = expect_then ts false k.OpenBrace w.at _ w.rest in
       let x = bind_inv _ _ r in
-      let y = s_content a z (after ts false w.at) x.value x.at x.is in
+      let y = s_content a z (after_next ts false w.at) x.value x.at x.is in
       let (c, v) = expect_then ts false k.CloseBrace x.at _ x.rest in
       let el = bind_inv _ _ v in
-      along (λ m j. Precedes (suc a) i m j) el.rest (block_from a i h ls br (after ts false w.at) refl x.value y c (s_eol (after ts false x.at) el.is))
+      along (λ m j. Precedes (suc a) i m j) el.rest (block_from a i h ls br (after_next ts false w.at) refl x.value y c (s_eol (after_next ts false x.at) el.is))
 
-  s_named : (b : ℕ) → Below b → (i : ℕ) → At ts false k.Identifier i → (m : Member) (j : ℕ)
-      → bodies.named_member ts b (deeper_members ts b) (start ts false i) (after ts false i) ≡ done m j → Precedes b i m j
-  unfolding bodies.named_member
-  s_named b z i h m j e = elim (eat_inv ts false k.Equal (after ts false i)) [
+  s_named : (b : ℕ) → Below b → (i : ℕ) → NextIs ts false k.Identifier i → (m : Member) (j : ℕ)
+      → bodies.attribute_or_block ts b (deeper_members ts b) (next_index ts false i) (after_next ts false i) ≡ done m j → Precedes b i m j
+  unfolding bodies.attribute_or_block
+  s_named b z i h m j e = elim (eat_inv ts false k.Equal (after_next ts false i)) [
     | eaten q s l ↦ s_attribute b i h q m j (rw (s, l) at e)
     | uneaten s l ↦ s_block b z i h m j (rw (s, l) at e)
   ]
@@ -188,14 +188,14 @@ module _ (ts : List Token) where
   pub s_member_none : (b i j : ℕ) → bodies.member_of ts b (deeper_members ts b) i ≡ done None j → j ≡ i
   unfolding bodies.member_of
   s_member_none b i j e = elim (eat_inv ts false k.Identifier i) [
-    | eaten q s l ↦ absurd (then_some (bodies.named_member ts b (deeper_members ts b) (start ts false i) (after ts false i)) (λ m. m) (rw (s, l) at e))
+    | eaten q s l ↦ absurd (then_some (bodies.attribute_or_block ts b (deeper_members ts b) (next_index ts false i) (after_next ts false i)) (λ m. m) (rw (s, l) at e))
     | uneaten s l ↦ along (λ _ j. j ≡ i) (rw (s, l) at e) refl
   ]
 
-  pub no_name : (b i j : ℕ) → bodies.member_of ts b (deeper_members ts b) i ≡ done None j → next ts false i ≢ Some k.Identifier
+  pub no_name : (b i j : ℕ) → bodies.member_of ts b (deeper_members ts b) i ≡ done None j → next_kind ts false i ≢ Some k.Identifier
   unfolding bodies.member_of
   no_name b i j e h = elim (eat_inv ts false k.Identifier i) [
-    | eaten q s l ↦ then_some (bodies.named_member ts b (deeper_members ts b) (start ts false i) (after ts false i)) (λ m. m) (rw (s, l) at e)
+    | eaten q s l ↦ then_some (bodies.attribute_or_block ts b (deeper_members ts b) (next_index ts false i) (after_next ts false i)) (λ m. m) (rw (s, l) at e)
     | uneaten s l ↦ unseen s (sees-yes ts false k.Identifier i h)
   ]
 
@@ -241,10 +241,10 @@ module _ (ts : List Token) where
 
   -- ---- whole texts
 
-  file_end : (b i : ℕ) → IsFront ts i → (ms : List Member) (to : ℕ) → IsMembers ts b ms i to → (t : Tree) (j : ℕ)
-      → go_on (bodies.ended ts (next ts false (past ts false k.LineComment to)) (past ts false k.LineComment to)) (λ _. pure (node.tree (length ts) (node.body (first_of ts false i to) to ms))) ≡ done t j → IsFile ts b t
+  file_end : (b i : ℕ) → IsOptionalMark ts i → (ms : List Member) (to : ℕ) → IsMembers ts b ms i to → (t : Tree) (j : ℕ)
+      → and_then (bodies.expect_end ts (next_kind ts false (after_if_next ts false k.LineComment to)) (after_if_next ts false k.LineComment to)) (λ _. pure (node.tree (length ts) (node.body (first_token_in ts false i to) to ms))) ≡ done t j → IsFile ts b t
   file_end b i f ms to h t j e = elim (eat_inv ts false k.LineComment to) [
-    | eaten q s l ↦ (let v = bind_inv _ _ (rw l at e) in let x = ended_inv (after ts false to) v.is in along (λ t _. IsFile ts b t) v.rest (file f h (at_comment q x.0)))
+    | eaten q s l ↦ (let v = bind_inv _ _ (rw l at e) in let x = ended_inv (after_next ts false to) v.is in along (λ t _. IsFile ts b t) v.rest (file f h (at_comment q x.0)))
     | uneaten s l ↦ (let v = bind_inv _ _ (rw l at e) in let x = ended_inv to v.is in along (λ t _. IsFile ts b t) v.rest (file f h (at_end x.0)))
   ]
 
@@ -252,6 +252,6 @@ module _ (ts : List Token) where
   pub file_derived : (b : ℕ) (t : Tree) (j : ℕ) → bodies.file ts b 0 ≡ done t j → IsFile ts b t
   unfolding bodies.file
   file_derived b t j e = elim (eat_inv ts false k.Mark 0) [
-    | eaten q s l ↦ (let w = bind_inv _ _ (rw l at e) in file_end b (after ts false 0) (mark q) w.value w.at ((sound_body b).members (after ts false 0) w.value w.at w.is) t j w.rest)
+    | eaten q s l ↦ (let w = bind_inv _ _ (rw l at e) in file_end b (after_next ts false 0) (mark q) w.value w.at ((sound_body b).members (after_next ts false 0) w.value w.at w.is) t j w.rest)
     | uneaten s l ↦ (let w = bind_inv _ _ (rw l at e) in file_end b 0 no_mark w.value w.at ((sound_body b).members 0 w.value w.at w.is) t j w.rest)
   ]

@@ -7,26 +7,26 @@ use Rattle.hcl_grammar.specs.declared.goal.Goal.{Goal}
 use Rattle.hcl_grammar.specs.declared.goal.Goal.TheVariants.{Whole, Operand}
 use Rattle.hcl_grammar.specs.declared.tree.Elem.{Elem}
 use Rattle.hcl_grammar.specs.declared.tree.Expr.{Expr}
-use Rattle.hcl_grammar.specs.declared.tree.Form.TheVariants as form
+use Rattle.hcl_grammar.specs.declared.tree.ExprKind.TheVariants as form
 use Rattle.hcl_grammar.specs.declared.tree.Intro.{Intro}
-use Rattle.hcl_grammar.specs.declared.tree.Link.{Link}
-use Rattle.hcl_grammar.specs.declared.tree.Operator.{Operator}
+use Rattle.hcl_grammar.specs.declared.tree.Operation.{Operation}
+use Rattle.hcl_grammar.specs.declared.tree.BinaryOperator.{BinaryOperator}
 use Rattle.hcl_grammar.specs.declared.tree.Part.{Part}
 use Rattle.hcl_grammar.specs.declared.tree.Part.TheVariants as part
-use Rattle.hcl_grammar.specs.declared.tree.Prefix.{Prefix}
-use Rattle.hcl_grammar.specs.declared.tree.Shape.TheVariants as shape
+use Rattle.hcl_grammar.specs.declared.tree.UnaryOperator.{UnaryOperator}
+use Rattle.hcl_grammar.specs.declared.tree.Primary.TheVariants as shape
 use Rattle.hcl_grammar.specs.declared.tree.Tail.{Tail}
 use Rattle.hcl_grammar.specs.declared.tree.Tail.TheVariants as tail
 use Rattle.hcl_grammar.specs.declared.tree.Template.{Template}
 use Rattle.hcl_grammar.specs.declared.tree.Term.{Term}
-use Rattle.hcl_grammar.specs.Grammar.{IsExpr, plain, conditional, IsLevel, lowest, level, IsLinks, no_links, linked, IsUnary, prefixed, post, IsTails, no_tails, tails, IsTail, by_name, legacy, attribute_splat, full_splat, index, IsTerm, number, identifier, call, tuple, object, for_tuple, for_object, quoted, heredoc, parens, IsArguments, no_arguments, last_argument, spread_argument, argument, IsItems, no_items, last_item, item, IsElems, no_elems, last_elem, elems, IsElem, by_equals, by_colon, IsIntro, intro, IsFilter, no_filter, filter, IsParts, no_parts, parts, IsPart, quote_text, here_text, interp, if_directive, for_directive, IsElse, no_else, has_else}
-use Rattle.hcl_grammar.specs.Lines.{At, Word, NoWord, IsLine, line_end, comment, IsLines, IsSep, comma, lines, IsNames, no_names, name, IsSecond, no_second, second, IsDots, no_dots, dots, IsKeyword, keyword}
+use Rattle.hcl_grammar.specs.Grammar.{IsExpr, plain, conditional, IsLevel, lowest, level, IsOperations, no_operations, operation, IsUnary, with_operator, post, IsTails, no_tails, tails, IsTail, by_name, legacy, attribute_splat, full_splat, index, IsTerm, number, identifier, call, tuple, object, for_tuple, for_object, quoted, heredoc, parens, IsArguments, no_arguments, last_argument, spread_argument, argument, IsItems, no_items, last_item, item, IsElems, no_elems, last_elem, elems, IsElem, by_equals, by_colon, IsIntro, intro, IsFilter, no_filter, filter, IsParts, no_parts, parts, IsPart, quote_text, here_text, interp, if_directive, for_directive, IsElse, no_else, has_else}
+use Rattle.hcl_grammar.specs.Lookahead.{NextIs, NextIsWord, NextIsNotWord, IsNewline, line_end, comment, IsNewlines, IsSep, comma, lines, IsNameTail, no_names, name, IsSecondName, no_second, second, IsEllipsis, no_ellipsis, ellipsis, IsKeyword, keyword}
 use Rattle.hcl_grammar.specs.Nodes as node
-use Rattle.hcl_grammar.specs.Operators.{prefix_of, operator_of, levels}
+use Rattle.hcl_grammar.specs.Operators.{unary_operator, binary_operator, levels}
 use Rattle.hcl_grammar.specs.Pure.Parser as p
 use Rattle.hcl_grammar.specs.Pure.Parser.{deeper, twice}
-use Rattle.hcl_grammar.specs.Pure.Reading.{sees, past, reads}
-use Rattle.hcl_grammar.specs.Tokens.{Token, start, next, after, first_of, same_kind, for_word, in_word, if_word, else_word, endif_word, endfor_word}
+use Rattle.hcl_grammar.specs.Pure.Reading.{next_is, after_if_next, next_is_word}
+use Rattle.hcl_grammar.specs.Tokens.{Token, next_index, next_kind, after_next, first_token_in, same_kind, for_word, in_word, if_word, else_word, endif_word, endfor_word}
 use Rattle.hcl_grammar_laws.proofs.Ahead.{reach, reach_by, Stops, looser, stops_at, no-begin, no-stop, sees-not, sees-other}
 use Rattle.hcl_grammar_laws.proofs.Firsts.{begin_expr, begin_elem, begin_intro, no_prefix}
 use Rattle.hcl_grammar_laws.proofs.Lines.{NoInner, no_inner_begins, no_inner_at, lines_all, sep_or_end-yes, sep_or_end-no}
@@ -46,48 +46,48 @@ module _ (ts : List Token) where
   unfolding p.whole
   whole_plain {j} m i r s = let n = no-stop 8 ts m k.Question j s (omega arith) in bind _ r (rw (n, past-no ts m k.Question j n) found)
 
-  whole_conditional : {d : ℕ} {c met unmet : Expr} {j n l : ℕ} (m : Bool) (i : ℕ) → At ts m k.Question j → At ts m k.Colon n → (b : ℕ) → Answers (suc d) b c j (p.level ts b (deeper ts b) levels m i)
-      → ((a : ℕ) → Answers d a met n (p.expr ts a m Whole (after ts m j)))
-      → ((a : ℕ) → Answers d a unmet l (p.expr ts a m Whole (after ts m n)))
-      → Answers (suc d) b (node.expr (start ts m i) l (form.Conditional c met unmet)) l (p.whole ts b (deeper ts b) m i)
+  whole_conditional : {d : ℕ} {c then_branch else_branch : Expr} {j n l : ℕ} (m : Bool) (i : ℕ) → NextIs ts m k.Question j → NextIs ts m k.Colon n → (b : ℕ) → Answers (suc d) b c j (p.level ts b (deeper ts b) levels m i)
+      → ((a : ℕ) → Answers d a then_branch n (p.expr ts a m Whole (after_next ts m j)))
+      → ((a : ℕ) → Answers d a else_branch l (p.expr ts a m Whole (after_next ts m n)))
+      → Answers (suc d) b (node.expr (next_index ts m i) l (form.Conditional c then_branch else_branch)) l (p.whole ts b (deeper ts b) m i)
   unfolding p.whole
   whole_conditional {j} m i q s zero r x y = bind _ r (rw (sees-yes ts m k.Question j q) (deep (omega arith)))
   whole_conditional {j} {n} m i q s (suc a) r x y = bind _ r (rw (sees-yes ts m k.Question j q, past-yes ts m k.Question j q) (bind _ (deeper_found (x a)) (rw (expect-yes ts m k.Colon n s) (bind _ (deeper_found (y a)) found))))
 
   -- ---- operators
 
-  operator-yes : (m : Bool) (n : ℕ) (t : Kind) (op : Operator) (i : ℕ) → At ts m t i → operator_of t ≡ Some (n, op) → p.operator ts m n i ≡ Ok (Some op, after ts m i)
-  unfolding p.operator
+  operator-yes : (m : Bool) (n : ℕ) (t : Kind) (op : BinaryOperator) (i : ℕ) → NextIs ts m t i → binary_operator t ≡ Some (n, op) → p.eat_binary_operator ts m n i ≡ Ok (Some op, after_next ts m i)
+  unfolding p.eat_binary_operator
   operator-yes m n t op i h e = rw (h, e, nat-same n)
 
-  operator-no : (m : Bool) (n : ℕ) (i : ℕ) → Stops (suc (suc n)) ts m i → p.operator ts m n i ≡ Ok (None, i)
-  unfolding p.operator
-  operator-no m n i s = go (next ts m i) refl
+  operator-no : (m : Bool) (n : ℕ) (i : ℕ) → Stops (suc (suc n)) ts m i → p.eat_binary_operator ts m n i ≡ Ok (None, i)
+  unfolding p.eat_binary_operator
+  operator-no m n i s = go (next_kind ts m i) refl
     where
-      by : (t : Kind) → suc (suc n) ≤ reach t → (o : Option (ℕ × Operator)) → operator_of t ≡ o → p.operated ts m n i o ≡ Ok (None, i)
+      by : (t : Kind) → suc (suc n) ≤ reach t → (o : Option (ℕ × BinaryOperator)) → binary_operator t ≡ o → p.take_binary ts m n i o ≡ Ok (None, i)
       by t l None e = refl
       by t l (Some q) e = rw (nat-other n q.0 (omega (arith, ap (reach_by t) e, l)))
 
-      go : (o : Option Kind) → next ts m i ≡ o → p.operates ts m n i o ≡ Ok (None, i)
+      go : (o : Option Kind) → next_kind ts m i ≡ o → p.binary_by_kind ts m n i o ≡ Ok (None, i)
       go None e = refl
-      go (Some t) e = by t (s.at_token t e) (operator_of t) refl
+      go (Some t) e = by t (s.at_token t e) (binary_operator t) refl
 
-  links_end : {d b : ℕ} (m : Bool) (n : ℕ) (turns : ℕ) (xs : List Link) (i : ℕ) → Stops (suc (suc n)) ts m i
-      → Answers d b xs i (p.links_from ts b (deeper ts b) (p.level ts b (deeper ts b) n) m n turns xs i)
-  unfolding p.links_from
+  links_end : {d b : ℕ} (m : Bool) (n : ℕ) (turns : ℕ) (xs : List Operation) (i : ℕ) → Stops (suc (suc n)) ts m i
+      → Answers d b xs i (p.operations_from ts b (deeper ts b) (p.level ts b (deeper ts b) n) m n turns xs i)
+  unfolding p.operations_from
   links_end m n zero xs i s = found
   links_end m n (suc turns) xs i s = rw (operator-no m n i s) found
 
-  links_more : {d b : ℕ} {t : Kind} {op : Operator} {x : Expr} {ys : List Link} {j l : ℕ} (m : Bool) (n : ℕ) (turns : ℕ) (xs : List Link) (i : ℕ) → At ts m t i → operator_of t ≡ Some (n, op)
-      → Answers d b x j (p.level ts b (deeper ts b) n m (after ts m i))
-      → Answers d b ys l (p.links_from ts b (deeper ts b) (p.level ts b (deeper ts b) n) m n turns (xs ++ node.link op x ∷ []) j)
-      → Answers d b ys l (p.links_from ts b (deeper ts b) (p.level ts b (deeper ts b) n) m n (suc turns) xs i)
-  unfolding p.links_from
+  links_more : {d b : ℕ} {t : Kind} {op : BinaryOperator} {x : Expr} {ys : List Operation} {j l : ℕ} (m : Bool) (n : ℕ) (turns : ℕ) (xs : List Operation) (i : ℕ) → NextIs ts m t i → binary_operator t ≡ Some (n, op)
+      → Answers d b x j (p.level ts b (deeper ts b) n m (after_next ts m i))
+      → Answers d b ys l (p.operations_from ts b (deeper ts b) (p.level ts b (deeper ts b) n) m n turns (xs ++ node.operation op x ∷ []) j)
+      → Answers d b ys l (p.operations_from ts b (deeper ts b) (p.level ts b (deeper ts b) n) m n (suc turns) xs i)
+  unfolding p.operations_from
   links_more {t} {op} m n turns xs i h e r more = rw (operator-yes m n t op i h e) (bind _ r more)
 
-  level_by : {d b : ℕ} {head : Expr} {links : List Link} {j l : ℕ} (m : Bool) (n : ℕ) (i : ℕ) → Answers d b head j (p.level ts b (deeper ts b) n m i)
-      → Answers d b links l (p.links_from ts b (deeper ts b) (p.level ts b (deeper ts b) n) m n (length ts) [] j)
-      → Answers d b (node.chain (start ts m i) l head links) l (p.level ts b (deeper ts b) (suc n) m i)
+  level_by : {d b : ℕ} {head : Expr} {links : List Operation} {j l : ℕ} (m : Bool) (n : ℕ) (i : ℕ) → Answers d b head j (p.level ts b (deeper ts b) n m i)
+      → Answers d b links l (p.operations_from ts b (deeper ts b) (p.level ts b (deeper ts b) n) m n (length ts) [] j)
+      → Answers d b (node.binary (next_index ts m i) l head links) l (p.level ts b (deeper ts b) (suc n) m i)
   unfolding p.level
   level_by m n i r more = bind _ r (bind _ more found)
 
@@ -97,38 +97,38 @@ module _ (ts : List Token) where
 
   -- ---- prefixes and tails
 
-  prefix-yes : (m : Bool) (t : Kind) (op : Prefix) (i : ℕ) → At ts m t i → prefix_of t ≡ Some op → p.prefix ts m i ≡ Ok (Some op, after ts m i)
-  unfolding p.prefix
+  prefix-yes : (m : Bool) (t : Kind) (op : UnaryOperator) (i : ℕ) → NextIs ts m t i → unary_operator t ≡ Some op → p.eat_unary_operator ts m i ≡ Ok (Some op, after_next ts m i)
+  unfolding p.eat_unary_operator
   prefix-yes m t op i h e = rw (h, e)
 
-  unary_prefixed : {d : ℕ} {t : Kind} {op : Prefix} {e : Expr} {j : ℕ} (m : Bool) (i : ℕ) → At ts m t i → prefix_of t ≡ Some op → (b : ℕ)
-      → ((a : ℕ) → Answers d a e j (p.expr ts a m Operand (after ts m i)))
-      → Answers (suc d) b (node.expr (start ts m i) j (form.Prefixed op e)) j (p.unary ts b (deeper ts b) m i)
+  unary_prefixed : {d : ℕ} {t : Kind} {op : UnaryOperator} {e : Expr} {j : ℕ} (m : Bool) (i : ℕ) → NextIs ts m t i → unary_operator t ≡ Some op → (b : ℕ)
+      → ((a : ℕ) → Answers d a e j (p.expr ts a m Operand (after_next ts m i)))
+      → Answers (suc d) b (node.expr (next_index ts m i) j (form.Unary op e)) j (p.unary ts b (deeper ts b) m i)
   unfolding p.unary
   unary_prefixed {t} {op} m i h e zero x = rw (prefix-yes m t op i h e) (deep (omega arith))
   unary_prefixed {t} {op} m i h e (suc a) x = rw (prefix-yes m t op i h e) (bind _ (deeper_found (x a)) found)
 
-  unary_post : {d b : ℕ} {head : Term} {xs : List Tail} {j l : ℕ} (m : Bool) (i : ℕ) → p.prefix ts m i ≡ Ok (None, i) → Answers d b head j (p.term ts b (deeper ts b) m i)
+  unary_post : {d b : ℕ} {head : Term} {xs : List Tail} {j l : ℕ} (m : Bool) (i : ℕ) → p.eat_unary_operator ts m i ≡ Ok (None, i) → Answers d b head j (p.term ts b (deeper ts b) m i)
       → Answers d b xs l (p.tails_from ts b (deeper ts b) m (length ts) [] j)
-      → Answers d b (node.tailed (start ts m i) l head xs) l (p.unary ts b (deeper ts b) m i)
+      → Answers d b (node.postfix (next_index ts m i) l head xs) l (p.unary ts b (deeper ts b) m i)
   unfolding p.unary p.post
   unary_post m i n r more = rw n (bind _ r (bind _ more found))
 
-  tail-at : (b : ℕ) (m : Bool) (o : Option Kind) (i : ℕ) → next ts m i ≡ o → p.tail_of ts b (deeper ts b) m i ≡ p.tail_by ts b (deeper ts b) m (start ts m i) o i
+  tail-at : (b : ℕ) (m : Bool) (o : Option Kind) (i : ℕ) → next_kind ts m i ≡ o → p.tail_of ts b (deeper ts b) m i ≡ p.tail_by ts b (deeper ts b) m (next_index ts m i) o i
   unfolding p.tail_of
-  tail-at b m o i h = ap (λ o. p.tail_by ts b (deeper ts b) m (start ts m i) o i) h
+  tail-at b m o i h = ap (λ o. p.tail_by ts b (deeper ts b) m (next_index ts m i) o i) h
 
   -- a token that does not go on with a term
-  no-tail : (t : Kind) (b : ℕ) (m : Bool) (i : ℕ) → 1 ≤ reach t → p.tail_by ts b (deeper ts b) m (start ts m i) (Some t) i ≡ Ok (None, i)
+  no-tail : (t : Kind) (b : ℕ) (m : Bool) (i : ℕ) → 1 ≤ reach t → p.tail_by ts b (deeper ts b) m (next_index ts m i) (Some t) i ≡ Ok (None, i)
   no-tail k.Dot b m i l = absurd (omega (arith, l))
   no-tail k.DotIndex b m i l = absurd (omega (arith, l))
   no-tail k.OpenBracket b m i l = absurd (omega (arith, l))
   no-tail _ b m i l = refl
 
   tail-no : (b : ℕ) (m : Bool) (i : ℕ) → Stops 1 ts m i → p.tail_of ts b (deeper ts b) m i ≡ Ok (None, i)
-  tail-no b m i s = go (next ts m i) refl
+  tail-no b m i s = go (next_kind ts m i) refl
     where
-      go : (o : Option Kind) → next ts m i ≡ o → p.tail_of ts b (deeper ts b) m i ≡ Ok (None, i)
+      go : (o : Option Kind) → next_kind ts m i ≡ o → p.tail_of ts b (deeper ts b) m i ≡ Ok (None, i)
       go None e = tail-at b m None i e
       go (Some t) e = tail-at b m (Some t) i e ∙ no-tail t b m i (s.at_token t e)
 
@@ -143,210 +143,210 @@ module _ (ts : List Token) where
   unfolding p.tails_from
   tails_more m turns xs i r more = bind _ r more
 
-  tail_name : {d : ℕ} (m : Bool) (i : ℕ) → At ts m k.Dot i → At ts m k.Identifier (after ts m i) → (b : ℕ)
-      → Answers d b (Some (tail.Name (start ts m (after ts m i)))) (after ts m (after ts m i)) (p.tail_of ts b (deeper ts b) m i)
-  unfolding p.dotted same_kind
+  tail_name : {d : ℕ} (m : Bool) (i : ℕ) → NextIs ts m k.Dot i → NextIs ts m k.Identifier (after_next ts m i) → (b : ℕ)
+      → Answers d b (Some (tail.Name (next_index ts m (after_next ts m i)))) (after_next ts m (after_next ts m i)) (p.tail_of ts b (deeper ts b) m i)
+  unfolding p.dot_tail same_kind
   tail_name m i h n b =
-      let star = sees-other ts m k.Identifier k.Star (after ts m i) n refl in
-      rw (tail-at b m (Some k.Dot) i h, star, past-no ts m k.Star (after ts m i) star, expect-yes ts m k.Identifier (after ts m i) n) found
+      let star = sees-other ts m k.Identifier k.Star (after_next ts m i) n refl in
+      rw (tail-at b m (Some k.Dot) i h, star, past-no ts m k.Star (after_next ts m i) star, expect-yes ts m k.Identifier (after_next ts m i) n) found
 
-  tail_splat : {d : ℕ} (m : Bool) (i : ℕ) → At ts m k.Dot i → At ts m k.Star (after ts m i) → (b : ℕ)
-      → Answers d b (Some tail.AttributeSplat) (after ts m (after ts m i)) (p.tail_of ts b (deeper ts b) m i)
-  unfolding p.dotted
-  tail_splat m i h n b = rw (tail-at b m (Some k.Dot) i h, sees-yes ts m k.Star (after ts m i) n, past-yes ts m k.Star (after ts m i) n) found
+  tail_splat : {d : ℕ} (m : Bool) (i : ℕ) → NextIs ts m k.Dot i → NextIs ts m k.Star (after_next ts m i) → (b : ℕ)
+      → Answers d b (Some tail.AttributeSplat) (after_next ts m (after_next ts m i)) (p.tail_of ts b (deeper ts b) m i)
+  unfolding p.dot_tail
+  tail_splat m i h n b = rw (tail-at b m (Some k.Dot) i h, sees-yes ts m k.Star (after_next ts m i) n, past-yes ts m k.Star (after_next ts m i) n) found
 
-  tail_legacy : {d : ℕ} (m : Bool) (i : ℕ) → At ts m k.DotIndex i → (b : ℕ)
-      → Answers d b (Some (tail.Legacy (start ts m i))) (after ts m i) (p.tail_of ts b (deeper ts b) m i)
+  tail_legacy : {d : ℕ} (m : Bool) (i : ℕ) → NextIs ts m k.DotIndex i → (b : ℕ)
+      → Answers d b (Some (tail.LegacyIndex (next_index ts m i))) (after_next ts m i) (p.tail_of ts b (deeper ts b) m i)
   tail_legacy m i h b = rw (tail-at b m (Some k.DotIndex) i h) found
 
-  tail_full : {d : ℕ} (m : Bool) (i : ℕ) → At ts m k.OpenBracket i → At ts true k.Star (after ts m i) → At ts true k.CloseBracket (after ts true (after ts m i)) → (b : ℕ)
-      → Answers (suc d) b (Some tail.FullSplat) (after ts true (after ts true (after ts m i))) (p.tail_of ts b (deeper ts b) m i)
-  unfolding p.indexed
+  tail_full : {d : ℕ} (m : Bool) (i : ℕ) → NextIs ts m k.OpenBracket i → NextIs ts true k.Star (after_next ts m i) → NextIs ts true k.CloseBracket (after_next ts true (after_next ts m i)) → (b : ℕ)
+      → Answers (suc d) b (Some tail.FullSplat) (after_next ts true (after_next ts true (after_next ts m i))) (p.tail_of ts b (deeper ts b) m i)
+  unfolding p.bracket_tail
   tail_full m i h s c zero = rw (tail-at zero m (Some k.OpenBracket) i h) (deep (omega arith))
   tail_full m i h s c (suc a) =
-      rw (tail-at (suc a) m (Some k.OpenBracket) i h, sees-yes ts true k.Star (after ts m i) s, past-yes ts true k.Star (after ts m i) s, expect-yes ts true k.CloseBracket (after ts true (after ts m i)) c) found
+      rw (tail-at (suc a) m (Some k.OpenBracket) i h, sees-yes ts true k.Star (after_next ts m i) s, past-yes ts true k.Star (after_next ts m i) s, expect-yes ts true k.CloseBracket (after_next ts true (after_next ts m i)) c) found
 
-  tail_index : {d : ℕ} {e : Expr} {j : ℕ} (m : Bool) (i : ℕ) → At ts m k.OpenBracket i → sees ts true k.Star (after ts m i) ≡ false → At ts true k.CloseBracket j → (b : ℕ)
-      → ((a : ℕ) → Answers d a e j (p.expr ts a true Whole (after ts m i)))
-      → Answers (suc d) b (Some (tail.Index e)) (after ts true j) (p.tail_of ts b (deeper ts b) m i)
-  unfolding p.indexed
+  tail_index : {d : ℕ} {e : Expr} {j : ℕ} (m : Bool) (i : ℕ) → NextIs ts m k.OpenBracket i → next_is ts true k.Star (after_next ts m i) ≡ false → NextIs ts true k.CloseBracket j → (b : ℕ)
+      → ((a : ℕ) → Answers d a e j (p.expr ts a true Whole (after_next ts m i)))
+      → Answers (suc d) b (Some (tail.Index e)) (after_next ts true j) (p.tail_of ts b (deeper ts b) m i)
+  unfolding p.bracket_tail
   tail_index m i h s c zero x = rw (tail-at zero m (Some k.OpenBracket) i h) (deep (omega arith))
   tail_index {j} m i h s c (suc a) x =
-      rw (tail-at (suc a) m (Some k.OpenBracket) i h, s, past-no ts true k.Star (after ts m i) s)
+      rw (tail-at (suc a) m (Some k.OpenBracket) i h, s, past-no ts true k.Star (after_next ts m i) s)
       (bind _ (bind _ (deeper_found (x a)) (rw (expect-yes ts true k.CloseBracket j c) found)) found)
 
   -- ---- terms
 
-  term-at : (b : ℕ) (m : Bool) (t : Kind) (i : ℕ) → At ts m t i → p.term ts b (deeper ts b) m i ≡ p.term_by ts b (deeper ts b) m (start ts m i) t (after ts m i)
+  term-at : (b : ℕ) (m : Bool) (t : Kind) (i : ℕ) → NextIs ts m t i → p.term ts b (deeper ts b) m i ≡ p.term_by ts b (deeper ts b) m (next_index ts m i) t (after_next ts m i)
   unfolding p.term
   term-at b m t i h = rw (bump-yes ts m t i h)
 
-  term_number : {d b : ℕ} (m : Bool) (i : ℕ) → At ts m k.Number i → Answers d b (node.term (start ts m i) (after ts m i) shape.Number) (after ts m i) (p.term ts b (deeper ts b) m i)
+  term_number : {d b : ℕ} (m : Bool) (i : ℕ) → NextIs ts m k.Number i → Answers d b (node.term (next_index ts m i) (after_next ts m i) shape.Number) (after_next ts m i) (p.term ts b (deeper ts b) m i)
   term_number {b} m i h = rw (term-at b m k.Number i h) found
 
-  term_identifier : {d b : ℕ} (m : Bool) (i : ℕ) → At ts m k.Identifier i → next ts m (after ts m i) ≢ Some k.OpenParen → next ts m (after ts m i) ≢ Some k.DoubleColon
-      → Answers d b (node.term (start ts m i) (after ts m i) shape.Identifier) (after ts m i) (p.term ts b (deeper ts b) m i)
-  unfolding p.named
+  term_identifier : {d b : ℕ} (m : Bool) (i : ℕ) → NextIs ts m k.Identifier i → next_kind ts m (after_next ts m i) ≢ Some k.OpenParen → next_kind ts m (after_next ts m i) ≢ Some k.DoubleColon
+      → Answers d b (node.term (next_index ts m i) (after_next ts m i) shape.Identifier) (after_next ts m i) (p.term ts b (deeper ts b) m i)
+  unfolding p.identifier_or_call
   term_identifier {b} m i h n q =
-      rw (term-at b m k.Identifier i h, sees-not ts m k.OpenParen (after ts m i) n, sees-not ts m k.DoubleColon (after ts m i) q) found
+      rw (term-at b m k.Identifier i h, sees-not ts m k.OpenParen (after_next ts m i) n, sees-not ts m k.DoubleColon (after_next ts m i) q) found
 
-  names-yes : {m : Bool} {ns : List ℕ} {i j : ℕ} → IsNames ts m ns i j → sees ts m k.DoubleColon j ≡ false → (turns : ℕ) (acc : List ℕ) → j ≤ turns + i → p.names_from ts m turns acc i ≡ Ok (acc ++ ns, j)
+  names-yes : {m : Bool} {ns : List ℕ} {i j : ℕ} → IsNameTail ts m ns i j → next_is ts m k.DoubleColon j ≡ false → (turns : ℕ) (acc : List ℕ) → j ≤ turns + i → p.names_from ts m turns acc i ≡ Ok (acc ++ ns, j)
   unfolding p.names_from
   names-yes (no_names {i}) s zero acc l = rw (append-nil acc)
   names-yes (no_names {m} {i}) s (suc turns) acc l = rw (s, past-no ts m k.DoubleColon i s, append-nil acc)
-  names-yes (name {m} {i} q n ns) s zero acc l = absurd (omega (arith, (step ts m k.DoubleColon i q).forth, (step ts m k.Identifier (after ts m i) n).forth, (span_names ns).forth))
+  names-yes (name {m} {i} q n ns) s zero acc l = absurd (omega (arith, (step ts m k.DoubleColon i q).forth, (step ts m k.Identifier (after_next ts m i) n).forth, (span_names ns).forth))
   names-yes (name {m} {ns = xs} {i} {j} q n ns) s (suc turns) acc l =
-      rw (sees-yes ts m k.DoubleColon i q, past-yes ts m k.DoubleColon i q, expect-yes ts m k.Identifier (after ts m i) n)
-      (names-yes ns s turns (acc ++ start ts m (after ts m i) ∷ []) (omega (arith, (step ts m k.DoubleColon i q).forth, (step ts m k.Identifier (after ts m i) n).forth))
-      ∙ ap (λ x. Ok (x, j)) (append_assoc acc (start ts m (after ts m i) ∷ []) xs))
+      rw (sees-yes ts m k.DoubleColon i q, past-yes ts m k.DoubleColon i q, expect-yes ts m k.Identifier (after_next ts m i) n)
+      (names-yes ns s turns (acc ++ next_index ts m (after_next ts m i) ∷ []) (omega (arith, (step ts m k.DoubleColon i q).forth, (step ts m k.Identifier (after_next ts m i) n).forth))
+      ∙ ap (λ x. Ok (x, j)) (append_assoc acc (next_index ts m (after_next ts m i) ∷ []) xs))
 
-  names_all : {m : Bool} {ns : List ℕ} {i j : ℕ} → IsNames ts m ns i j → sees ts m k.DoubleColon j ≡ false → p.names_from ts m (length ts) [] i ≡ Ok (ns, j)
+  names_all : {m : Bool} {ns : List ℕ} {i j : ℕ} → IsNameTail ts m ns i j → next_is ts m k.DoubleColon j ≡ false → p.names_from ts m (length ts) [] i ≡ Ok (ns, j)
   names_all ns s = names-yes ns s (length ts) [] (omega (arith, (span_names ns).within))
 
   -- a call goes on with `(` or `::`
-  called : {m : Bool} {ns : List ℕ} {i j : ℕ} → IsNames ts m ns i j → At ts m k.OpenParen j → (sees ts m k.OpenParen i || sees ts m k.DoubleColon i) ≡ true
+  called : {m : Bool} {ns : List ℕ} {i j : ℕ} → IsNameTail ts m ns i j → NextIs ts m k.OpenParen j → (next_is ts m k.OpenParen i || next_is ts m k.DoubleColon i) ≡ true
   called (no_names {m} {i}) h = rw (sees-yes ts m k.OpenParen i h)
-  called (name {m} {i} q n ns) h = go (sees ts m k.OpenParen i)
+  called (name {m} {i} q n ns) h = go (next_is ts m k.OpenParen i)
     where
-      go : (b : Bool) → (b || sees ts m k.DoubleColon i) ≡ true
+      go : (b : Bool) → (b || next_is ts m k.DoubleColon i) ≡ true
       go true = refl
       go false = sees-yes ts m k.DoubleColon i q
 
-  term_call : {d : ℕ} {ns : List ℕ} {es : List Expr} {s : Bool} {j l : ℕ} (m : Bool) (i : ℕ) → At ts m k.Identifier i → IsNames ts m ns (after ts m i) j → At ts m k.OpenParen j → (b : ℕ)
-      → ((a : ℕ) → Answers d a (es, s) l (p.arguments_from ts (p.expr ts a) (length ts) [] (after ts m j)))
-      → Answers (suc d) b (node.term (start ts m i) l (node.call (start ts m i ∷ ns) es s)) l (p.term ts b (deeper ts b) m i)
-  unfolding p.named p.call same_kind
+  term_call : {d : ℕ} {ns : List ℕ} {es : List Expr} {s : Bool} {j l : ℕ} (m : Bool) (i : ℕ) → NextIs ts m k.Identifier i → IsNameTail ts m ns (after_next ts m i) j → NextIs ts m k.OpenParen j → (b : ℕ)
+      → ((a : ℕ) → Answers d a (es, s) l (p.arguments_from ts (p.expr ts a) (length ts) [] (after_next ts m j)))
+      → Answers (suc d) b (node.term (next_index ts m i) l (node.call (next_index ts m i ∷ ns) es s)) l (p.term ts b (deeper ts b) m i)
+  unfolding p.identifier_or_call p.call same_kind
   term_call {j} m i h ns q zero x =
       rw (term-at zero m k.Identifier i h, called ns q, names_all ns (sees-other ts m k.OpenParen k.DoubleColon j q refl), expect-yes ts m k.OpenParen j q) (deep (omega arith))
   term_call {j} m i h ns q (suc a) x =
       rw (term-at (suc a) m k.Identifier i h, called ns q, names_all ns (sees-other ts m k.OpenParen k.DoubleColon j q refl), expect-yes ts m k.OpenParen j q) (bind _ (deeper_found (x a)) found)
 
-  term_tuple : {d : ℕ} {es : List Expr} {j : ℕ} (m : Bool) (i : ℕ) → At ts m k.OpenBracket i → NoWord ts true for_word (after ts m i) → (b : ℕ)
-      → ((a : ℕ) → Answers d a es j (p.items_from ts (p.expr ts a) (length ts) [] (after ts m i)))
-      → Answers (suc d) b (node.term (start ts m i) j (shape.Tuple es)) j (p.term ts b (deeper ts b) m i)
-  unfolding p.bracket p.tuple
+  term_tuple : {d : ℕ} {es : List Expr} {j : ℕ} (m : Bool) (i : ℕ) → NextIs ts m k.OpenBracket i → NextIsNotWord ts true for_word (after_next ts m i) → (b : ℕ)
+      → ((a : ℕ) → Answers d a es j (p.tuple_items_from ts (p.expr ts a) (length ts) [] (after_next ts m i)))
+      → Answers (suc d) b (node.term (next_index ts m i) j (shape.Tuple es)) j (p.term ts b (deeper ts b) m i)
+  unfolding p.tuple_or_for p.tuple
   term_tuple m i h n zero x = rw (term-at zero m k.OpenBracket i h) (deep (omega arith))
-  term_tuple m i h n (suc a) x = rw (term-at (suc a) m k.OpenBracket i h, reads-no ts true for_word (after ts m i) n) (bind _ (deeper_found (x a)) found)
+  term_tuple m i h n (suc a) x = rw (term-at (suc a) m k.OpenBracket i h, reads-no ts true for_word (after_next ts m i) n) (bind _ (deeper_found (x a)) found)
 
-  term_object : {d : ℕ} {xs : List Elem} {j l : ℕ} (m : Bool) (i : ℕ) → At ts m k.OpenBrace i → NoWord ts true for_word (after ts m i) → IsLines ts (after ts m i) j → NoInner ts j → (b : ℕ)
+  term_object : {d : ℕ} {xs : List Elem} {j l : ℕ} (m : Bool) (i : ℕ) → NextIs ts m k.OpenBrace i → NextIsNotWord ts true for_word (after_next ts m i) → IsNewlines ts (after_next ts m i) j → NoInner ts j → (b : ℕ)
       → ((a : ℕ) → Answers d a xs l (p.elements_from ts (p.expr ts a) (length ts) [] j))
-      → Answers (suc d) b (node.term (start ts m i) l (shape.Object xs)) l (p.term ts b (deeper ts b) m i)
-  unfolding p.brace p.object
+      → Answers (suc d) b (node.term (next_index ts m i) l (shape.Object xs)) l (p.term ts b (deeper ts b) m i)
+  unfolding p.object_or_for p.object
   term_object m i h w t n zero x = rw (term-at zero m k.OpenBrace i h) (deep (omega arith))
-  term_object m i h w t n (suc a) x = rw (term-at (suc a) m k.OpenBrace i h, reads-no ts true for_word (after ts m i) w, lines_all t n) (bind _ (deeper_found (x a)) found)
+  term_object m i h w t n (suc a) x = rw (term-at (suc a) m k.OpenBrace i h, reads-no ts true for_word (after_next ts m i) w, lines_all t n) (bind _ (deeper_found (x a)) found)
 
-  term_for_tuple : {d : ℕ} {x : Intro} {v : Expr} {o : Option Expr} {j n l : ℕ} (m : Bool) (i : ℕ) → At ts m k.OpenBracket i → reads ts true for_word (after ts m i) ≡ true → At ts true k.Colon j → (b : ℕ)
-      → ((a : ℕ) → Answers d a x j (p.intro ts (p.expr ts a) (after ts m i)))
-      → ((a : ℕ) → Answers d a v n (p.expr ts a true Whole (after ts true j)))
+  term_for_tuple : {d : ℕ} {x : Intro} {v : Expr} {o : Option Expr} {j n l : ℕ} (m : Bool) (i : ℕ) → NextIs ts m k.OpenBracket i → next_is_word ts true for_word (after_next ts m i) ≡ true → NextIs ts true k.Colon j → (b : ℕ)
+      → ((a : ℕ) → Answers d a x j (p.intro ts (p.expr ts a) (after_next ts m i)))
+      → ((a : ℕ) → Answers d a v n (p.expr ts a true Whole (after_next ts true j)))
       → ((a : ℕ) → Answers d a o l (p.filter ts (p.expr ts a) k.CloseBracket n))
-      → Answers (suc d) b (node.term (start ts m i) l (node.for_tuple x v o)) l (p.term ts b (deeper ts b) m i)
-  unfolding p.bracket p.for_tuple
+      → Answers (suc d) b (node.term (next_index ts m i) l (node.for_tuple x v o)) l (p.term ts b (deeper ts b) m i)
+  unfolding p.tuple_or_for p.for_tuple
   term_for_tuple m i h w c zero x v o = rw (term-at zero m k.OpenBracket i h) (deep (omega arith))
   term_for_tuple {j} m i h w c (suc a) x v o =
       rw (term-at (suc a) m k.OpenBracket i h, w) (bind _ (deeper_found (x a)) (rw (expect-yes ts true k.Colon j c) (bind _ (deeper_found (v a)) (bind _ (deeper_found (o a)) found))))
 
-  term_for_object : {d : ℕ} {x : Intro} {y v : Expr} {s : Bool} {o : Option Expr} {j n q r l : ℕ} (m : Bool) (i : ℕ) → At ts m k.OpenBrace i → reads ts true for_word (after ts m i) ≡ true → At ts true k.Colon j → At ts true k.FatArrow n
-      → sees ts true k.Ellipsis q ≡ s → past ts true k.Ellipsis q ≡ r → (b : ℕ)
-      → ((a : ℕ) → Answers d a x j (p.intro ts (p.expr ts a) (after ts m i)))
-      → ((a : ℕ) → Answers d a y n (p.expr ts a true Whole (after ts true j)))
-      → ((a : ℕ) → Answers d a v q (p.expr ts a true Whole (after ts true n)))
+  term_for_object : {d : ℕ} {x : Intro} {y v : Expr} {s : Bool} {o : Option Expr} {j n q r l : ℕ} (m : Bool) (i : ℕ) → NextIs ts m k.OpenBrace i → next_is_word ts true for_word (after_next ts m i) ≡ true → NextIs ts true k.Colon j → NextIs ts true k.FatArrow n
+      → next_is ts true k.Ellipsis q ≡ s → after_if_next ts true k.Ellipsis q ≡ r → (b : ℕ)
+      → ((a : ℕ) → Answers d a x j (p.intro ts (p.expr ts a) (after_next ts m i)))
+      → ((a : ℕ) → Answers d a y n (p.expr ts a true Whole (after_next ts true j)))
+      → ((a : ℕ) → Answers d a v q (p.expr ts a true Whole (after_next ts true n)))
       → ((a : ℕ) → Answers d a o l (p.filter ts (p.expr ts a) k.CloseBrace r))
-      → Answers (suc d) b (node.term (start ts m i) l (node.for_object x y v s o)) l (p.term ts b (deeper ts b) m i)
-  unfolding p.brace p.for_object p.for_value
+      → Answers (suc d) b (node.term (next_index ts m i) l (node.for_object x y v s o)) l (p.term ts b (deeper ts b) m i)
+  unfolding p.object_or_for p.for_object p.for_value
   term_for_object m i h w c f e1 e2 zero x y v o = rw (term-at zero m k.OpenBrace i h) (deep (omega arith))
   term_for_object {j} {n} m i h w c f e1 e2 (suc a) x y v o =
       rw (term-at (suc a) m k.OpenBrace i h, w) (bind _ (deeper_found (x a)) (rw (expect-yes ts true k.Colon j c) (bind _ (deeper_found (y a)) (rw (expect-yes ts true k.FatArrow n f)
       (bind _ (deeper_found (v a)) (rw (e1, e2) (bind _ (deeper_found (o a)) found)))))))
 
-  term_quoted : {d : ℕ} {ps : List Part} {j : ℕ} (m : Bool) (i : ℕ) → At ts m k.QuoteOpen i → At ts m k.QuoteClose j → (b : ℕ)
-      → ((a : ℕ) → Answers d a ps j (p.parts ts a m (after ts m i)))
-      → Answers (suc d) b (node.term (start ts m i) (after ts m j) (shape.Quoted (node.template (first_of ts m (after ts m i) j) j ps))) (after ts m j) (p.term ts b (deeper ts b) m i)
-  unfolding p.quoted p.closed
+  term_quoted : {d : ℕ} {ps : List Part} {j : ℕ} (m : Bool) (i : ℕ) → NextIs ts m k.QuoteOpen i → NextIs ts m k.QuoteClose j → (b : ℕ)
+      → ((a : ℕ) → Answers d a ps j (p.parts ts a m (after_next ts m i)))
+      → Answers (suc d) b (node.term (next_index ts m i) (after_next ts m j) (shape.Quoted (node.template (first_token_in ts m (after_next ts m i) j) j ps))) (after_next ts m j) (p.term ts b (deeper ts b) m i)
+  unfolding p.quoted p.template_until
   term_quoted m i h c zero x = rw (term-at zero m k.QuoteOpen i h) (deep (omega arith))
   term_quoted {j} m i h c (suc a) x = rw (term-at (suc a) m k.QuoteOpen i h) (bind _ (bind _ (deeper_found (x a)) (rw (expect-yes ts m k.QuoteClose j c) found)) found)
 
-  term_heredoc : {d : ℕ} {ps : List Part} {j : ℕ} (m : Bool) (i : ℕ) → At ts m k.HereOpen i → At ts m k.HereClose j → (b : ℕ)
-      → ((a : ℕ) → Answers d a ps j (p.parts ts a m (after ts m i)))
-      → Answers (suc d) b (node.term (start ts m i) (after ts m j) (shape.Heredoc (node.template (first_of ts m (after ts m i) j) j ps))) (after ts m j) (p.term ts b (deeper ts b) m i)
-  unfolding p.heredoc p.closed
+  term_heredoc : {d : ℕ} {ps : List Part} {j : ℕ} (m : Bool) (i : ℕ) → NextIs ts m k.HereOpen i → NextIs ts m k.HereClose j → (b : ℕ)
+      → ((a : ℕ) → Answers d a ps j (p.parts ts a m (after_next ts m i)))
+      → Answers (suc d) b (node.term (next_index ts m i) (after_next ts m j) (shape.Heredoc (node.template (first_token_in ts m (after_next ts m i) j) j ps))) (after_next ts m j) (p.term ts b (deeper ts b) m i)
+  unfolding p.heredoc p.template_until
   term_heredoc m i h c zero x = rw (term-at zero m k.HereOpen i h) (deep (omega arith))
   term_heredoc {j} m i h c (suc a) x = rw (term-at (suc a) m k.HereOpen i h) (bind _ (bind _ (deeper_found (x a)) (rw (expect-yes ts m k.HereClose j c) found)) found)
 
-  term_parens : {d : ℕ} {e : Expr} {j : ℕ} (m : Bool) (i : ℕ) → At ts m k.OpenParen i → At ts true k.CloseParen j → (b : ℕ)
-      → ((a : ℕ) → Answers d a e j (p.expr ts a true Whole (after ts m i)))
-      → Answers (suc d) b (node.term (start ts m i) (after ts true j) (shape.Parens e)) (after ts true j) (p.term ts b (deeper ts b) m i)
+  term_parens : {d : ℕ} {e : Expr} {j : ℕ} (m : Bool) (i : ℕ) → NextIs ts m k.OpenParen i → NextIs ts true k.CloseParen j → (b : ℕ)
+      → ((a : ℕ) → Answers d a e j (p.expr ts a true Whole (after_next ts m i)))
+      → Answers (suc d) b (node.term (next_index ts m i) (after_next ts true j) (shape.Parens e)) (after_next ts true j) (p.term ts b (deeper ts b) m i)
   unfolding p.parens
   term_parens m i h c zero x = rw (term-at zero m k.OpenParen i h) (deep (omega arith))
   term_parens {j} m i h c (suc a) x = rw (term-at (suc a) m k.OpenParen i h) (bind _ (deeper_found (x a)) (rw (expect-yes ts true k.CloseParen j c) found))
 
   -- ---- items, arguments and elements, over the expressions of budget a
 
-  items_none : {d a : ℕ} (turns : ℕ) (xs : List Expr) (i : ℕ) → At ts true k.CloseBracket i
-      → Answers d a xs (after ts true i) (p.items_from ts (p.expr ts a) (suc turns) xs i)
-  unfolding p.items_from
+  items_none : {d a : ℕ} (turns : ℕ) (xs : List Expr) (i : ℕ) → NextIs ts true k.CloseBracket i
+      → Answers d a xs (after_next ts true i) (p.tuple_items_from ts (p.expr ts a) (suc turns) xs i)
+  unfolding p.tuple_items_from
   items_none turns xs i h = rw (sees-yes ts true k.CloseBracket i h, past-yes ts true k.CloseBracket i h) found
 
-  items_last : {d a : ℕ} {e : Expr} {j : ℕ} (turns : ℕ) (xs : List Expr) (i : ℕ) → sees ts true k.CloseBracket i ≡ false → Answers d a e j (p.expr ts a true Whole i) → At ts true k.CloseBracket j
-      → Answers d a (xs ++ e ∷ []) (after ts true j) (p.items_from ts (p.expr ts a) (suc turns) xs i)
-  unfolding p.items_from same_kind
+  items_last : {d a : ℕ} {e : Expr} {j : ℕ} (turns : ℕ) (xs : List Expr) (i : ℕ) → next_is ts true k.CloseBracket i ≡ false → Answers d a e j (p.expr ts a true Whole i) → NextIs ts true k.CloseBracket j
+      → Answers d a (xs ++ e ∷ []) (after_next ts true j) (p.tuple_items_from ts (p.expr ts a) (suc turns) xs i)
+  unfolding p.tuple_items_from same_kind
   items_last {j} turns xs i n r h =
       let c = sees-other ts true k.CloseBracket k.Comma j h refl in
       rw (n, past-no ts true k.CloseBracket i n) (bind _ r (rw (c, past-no ts true k.Comma j c, expect-yes ts true k.CloseBracket j h) found))
 
-  items_more : {d a : ℕ} {e : Expr} {ys : List Expr} {j l : ℕ} (turns : ℕ) (xs : List Expr) (i : ℕ) → sees ts true k.CloseBracket i ≡ false → Answers d a e j (p.expr ts a true Whole i)
-      → At ts true k.Comma j → Answers d a ys l (p.items_from ts (p.expr ts a) turns (xs ++ e ∷ []) (after ts true j))
-      → Answers d a ys l (p.items_from ts (p.expr ts a) (suc turns) xs i)
-  unfolding p.items_from
+  items_more : {d a : ℕ} {e : Expr} {ys : List Expr} {j l : ℕ} (turns : ℕ) (xs : List Expr) (i : ℕ) → next_is ts true k.CloseBracket i ≡ false → Answers d a e j (p.expr ts a true Whole i)
+      → NextIs ts true k.Comma j → Answers d a ys l (p.tuple_items_from ts (p.expr ts a) turns (xs ++ e ∷ []) (after_next ts true j))
+      → Answers d a ys l (p.tuple_items_from ts (p.expr ts a) (suc turns) xs i)
+  unfolding p.tuple_items_from
   items_more {j} turns xs i n r c more = rw (n, past-no ts true k.CloseBracket i n) (bind _ r (rw (sees-yes ts true k.Comma j c, past-yes ts true k.Comma j c) more))
 
-  arguments_none : {d a : ℕ} (turns : ℕ) (xs : List Expr) (i : ℕ) → At ts true k.CloseParen i
-      → Answers d a (xs, false) (after ts true i) (p.arguments_from ts (p.expr ts a) (suc turns) xs i)
+  arguments_none : {d a : ℕ} (turns : ℕ) (xs : List Expr) (i : ℕ) → NextIs ts true k.CloseParen i
+      → Answers d a (xs, false) (after_next ts true i) (p.arguments_from ts (p.expr ts a) (suc turns) xs i)
   unfolding p.arguments_from
   arguments_none turns xs i h = rw (sees-yes ts true k.CloseParen i h, past-yes ts true k.CloseParen i h) found
 
-  arguments_last : {d a : ℕ} {e : Expr} {j : ℕ} (turns : ℕ) (xs : List Expr) (i : ℕ) → sees ts true k.CloseParen i ≡ false → Answers d a e j (p.expr ts a true Whole i) → At ts true k.CloseParen j
-      → Answers d a (xs ++ e ∷ [], false) (after ts true j) (p.arguments_from ts (p.expr ts a) (suc turns) xs i)
+  arguments_last : {d a : ℕ} {e : Expr} {j : ℕ} (turns : ℕ) (xs : List Expr) (i : ℕ) → next_is ts true k.CloseParen i ≡ false → Answers d a e j (p.expr ts a true Whole i) → NextIs ts true k.CloseParen j
+      → Answers d a (xs ++ e ∷ [], false) (after_next ts true j) (p.arguments_from ts (p.expr ts a) (suc turns) xs i)
   unfolding p.arguments_from same_kind
   arguments_last {j} turns xs i n r h =
       let c = sees-other ts true k.CloseParen k.Comma j h refl in
       let s = sees-other ts true k.CloseParen k.Ellipsis j h refl in
       rw (n, past-no ts true k.CloseParen i n) (bind _ r (rw (c, past-no ts true k.Comma j c, s, past-no ts true k.Ellipsis j s, expect-yes ts true k.CloseParen j h) found))
 
-  arguments_spread : {d a : ℕ} {e : Expr} {j : ℕ} (turns : ℕ) (xs : List Expr) (i : ℕ) → sees ts true k.CloseParen i ≡ false → Answers d a e j (p.expr ts a true Whole i) → At ts true k.Ellipsis j → At ts true k.CloseParen (after ts true j)
-      → Answers d a (xs ++ e ∷ [], true) (after ts true (after ts true j)) (p.arguments_from ts (p.expr ts a) (suc turns) xs i)
+  arguments_spread : {d a : ℕ} {e : Expr} {j : ℕ} (turns : ℕ) (xs : List Expr) (i : ℕ) → next_is ts true k.CloseParen i ≡ false → Answers d a e j (p.expr ts a true Whole i) → NextIs ts true k.Ellipsis j → NextIs ts true k.CloseParen (after_next ts true j)
+      → Answers d a (xs ++ e ∷ [], true) (after_next ts true (after_next ts true j)) (p.arguments_from ts (p.expr ts a) (suc turns) xs i)
   unfolding p.arguments_from same_kind
   arguments_spread {j} turns xs i n r s h =
       let c = sees-other ts true k.Ellipsis k.Comma j s refl in
-      rw (n, past-no ts true k.CloseParen i n) (bind _ r (rw (c, past-no ts true k.Comma j c, sees-yes ts true k.Ellipsis j s, past-yes ts true k.Ellipsis j s, expect-yes ts true k.CloseParen (after ts true j) h) found))
+      rw (n, past-no ts true k.CloseParen i n) (bind _ r (rw (c, past-no ts true k.Comma j c, sees-yes ts true k.Ellipsis j s, past-yes ts true k.Ellipsis j s, expect-yes ts true k.CloseParen (after_next ts true j) h) found))
 
-  arguments_more : {d a : ℕ} {e : Expr} {ys : List Expr × Bool} {j l : ℕ} (turns : ℕ) (xs : List Expr) (i : ℕ) → sees ts true k.CloseParen i ≡ false → Answers d a e j (p.expr ts a true Whole i)
-      → At ts true k.Comma j → Answers d a ys l (p.arguments_from ts (p.expr ts a) turns (xs ++ e ∷ []) (after ts true j))
+  arguments_more : {d a : ℕ} {e : Expr} {ys : List Expr × Bool} {j l : ℕ} (turns : ℕ) (xs : List Expr) (i : ℕ) → next_is ts true k.CloseParen i ≡ false → Answers d a e j (p.expr ts a true Whole i)
+      → NextIs ts true k.Comma j → Answers d a ys l (p.arguments_from ts (p.expr ts a) turns (xs ++ e ∷ []) (after_next ts true j))
       → Answers d a ys l (p.arguments_from ts (p.expr ts a) (suc turns) xs i)
   unfolding p.arguments_from
   arguments_more {j} turns xs i n r c more = rw (n, past-no ts true k.CloseParen i n) (bind _ r (rw (sees-yes ts true k.Comma j c, past-yes ts true k.Comma j c) more))
 
-  elem_equals : {d a : ℕ} {x y : Expr} {j l : ℕ} (i : ℕ) → Answers d a x j (p.expr ts a false Whole i) → At ts false k.Equal j → Answers d a y l (p.expr ts a false Whole (after ts false j))
+  elem_equals : {d a : ℕ} {x y : Expr} {j l : ℕ} (i : ℕ) → Answers d a x j (p.expr ts a false Whole i) → NextIs ts false k.Equal j → Answers d a y l (p.expr ts a false Whole (after_next ts false j))
       → Answers d a (node.elem x y) l (p.element ts (p.expr ts a) i)
   unfolding p.element
   elem_equals {j} i r h q = bind _ r (rw (sees-yes ts false k.Equal j h, past-yes ts false k.Equal j h) (bind _ q found))
 
-  elem_colon : {d a : ℕ} {x y : Expr} {j l : ℕ} (i : ℕ) → Answers d a x j (p.expr ts a false Whole i) → At ts false k.Colon j → Answers d a y l (p.expr ts a false Whole (after ts false j))
+  elem_colon : {d a : ℕ} {x y : Expr} {j l : ℕ} (i : ℕ) → Answers d a x j (p.expr ts a false Whole i) → NextIs ts false k.Colon j → Answers d a y l (p.expr ts a false Whole (after_next ts false j))
       → Answers d a (node.elem x y) l (p.element ts (p.expr ts a) i)
   unfolding p.element same_kind
   elem_colon {j} i r h q = let n = sees-other ts false k.Colon k.Equal j h refl in bind _ r (rw (n, past-no ts false k.Equal j n, expect-yes ts false k.Colon j h) (bind _ q found))
 
-  elems_none : {d a : ℕ} (turns : ℕ) (xs : List Elem) (i : ℕ) → At ts false k.CloseBrace i
-      → Answers d a xs (after ts false i) (p.elements_from ts (p.expr ts a) (suc turns) xs i)
+  elems_none : {d a : ℕ} (turns : ℕ) (xs : List Elem) (i : ℕ) → NextIs ts false k.CloseBrace i
+      → Answers d a xs (after_next ts false i) (p.elements_from ts (p.expr ts a) (suc turns) xs i)
   unfolding p.elements_from
   elems_none turns xs i h = rw (sees-yes ts false k.CloseBrace i h, past-yes ts false k.CloseBrace i h) found
 
-  elems_last : {d a : ℕ} {x : Elem} {j : ℕ} (turns : ℕ) (xs : List Elem) (i : ℕ) → sees ts false k.CloseBrace i ≡ false → Answers d a x j (p.element ts (p.expr ts a) i)
-      → At ts false k.CloseBrace j
-      → Answers d a (xs ++ x ∷ []) (after ts false j) (p.elements_from ts (p.expr ts a) (suc turns) xs i)
+  elems_last : {d a : ℕ} {x : Elem} {j : ℕ} (turns : ℕ) (xs : List Elem) (i : ℕ) → next_is ts false k.CloseBrace i ≡ false → Answers d a x j (p.element ts (p.expr ts a) i)
+      → NextIs ts false k.CloseBrace j
+      → Answers d a (xs ++ x ∷ []) (after_next ts false j) (p.elements_from ts (p.expr ts a) (suc turns) xs i)
   unfolding p.elements_from
   elems_last {j} turns xs i n r h = rw (n, past-no ts false k.CloseBrace i n) (bind _ r (rw (sep_or_end-no ts j h) found))
 
-  elems_more : {d a : ℕ} {x : Elem} {ys : List Elem} {j n l : ℕ} (turns : ℕ) (xs : List Elem) (i : ℕ) → sees ts false k.CloseBrace i ≡ false → Answers d a x j (p.element ts (p.expr ts a) i)
+  elems_more : {d a : ℕ} {x : Elem} {ys : List Elem} {j n l : ℕ} (turns : ℕ) (xs : List Elem) (i : ℕ) → next_is ts false k.CloseBrace i ≡ false → Answers d a x j (p.element ts (p.expr ts a) i)
       → IsSep ts j n → NoInner ts n → Answers d a ys l (p.elements_from ts (p.expr ts a) turns (xs ++ x ∷ []) n)
       → Answers d a ys l (p.elements_from ts (p.expr ts a) (suc turns) xs i)
   unfolding p.elements_from
@@ -354,60 +354,60 @@ module _ (ts : List Token) where
 
   -- ---- `for`
 
-  second-yes : {o : Option ℕ} {i j : ℕ} → IsSecond ts o i j → Word ts true in_word j → p.second ts i ≡ Ok (o, j)
-  unfolding p.second same_kind
+  second-yes : {o : Option ℕ} {i j : ℕ} → IsSecondName ts o i j → NextIsWord ts true in_word j → p.second_name ts i ≡ Ok (o, j)
+  unfolding p.second_name same_kind
   second-yes (no_second {i}) w = let n = sees-other ts true k.Identifier k.Comma i (word_at ts true in_word i w) refl in rw (n, past-no ts true k.Comma i n)
-  second-yes (second {i} q n) w = rw (sees-yes ts true k.Comma i q, past-yes ts true k.Comma i q, expect-yes ts true k.Identifier (after ts true i) n)
+  second-yes (second {i} q n) w = rw (sees-yes ts true k.Comma i q, past-yes ts true k.Comma i q, expect-yes ts true k.Identifier (after_next ts true i) n)
 
-  intro_by : {d a : ℕ} {o : Option ℕ} {e : Expr} {j l : ℕ} (i : ℕ) → Word ts true for_word i → At ts true k.Identifier (after ts true i) → IsSecond ts o (after ts true (after ts true i)) j → Word ts true in_word j
-      → Answers d a e l (p.expr ts a true Whole (after ts true j))
-      → Answers d a (node.intro (start ts true i) l (start ts true (after ts true i)) o e) l (p.intro ts (p.expr ts a) i)
+  intro_by : {d a : ℕ} {o : Option ℕ} {e : Expr} {j l : ℕ} (i : ℕ) → NextIsWord ts true for_word i → NextIs ts true k.Identifier (after_next ts true i) → IsSecondName ts o (after_next ts true (after_next ts true i)) j → NextIsWord ts true in_word j
+      → Answers d a e l (p.expr ts a true Whole (after_next ts true j))
+      → Answers d a (node.intro (next_index ts true i) l (next_index ts true (after_next ts true i)) o e) l (p.intro ts (p.expr ts a) i)
   unfolding p.intro
-  intro_by {j} i w n s v r = rw (word-yes ts true for_word i w, expect-yes ts true k.Identifier (after ts true i) n, second-yes s v, word-yes ts true in_word j v) (bind _ r found)
+  intro_by {j} i w n s v r = rw (word-yes ts true for_word i w, expect-yes ts true k.Identifier (after_next ts true i) n, second-yes s v, word-yes ts true in_word j v) (bind _ r found)
 
-  filter_none : {d a : ℕ} (close : Kind) (i : ℕ) → At ts true close i → same_kind k.Identifier close ≡ false → Answers d a None (after ts true i) (p.filter ts (p.expr ts a) close i)
+  filter_none : {d a : ℕ} (close : Kind) (i : ℕ) → NextIs ts true close i → same_kind k.Identifier close ≡ false → Answers d a None (after_next ts true i) (p.filter ts (p.expr ts a) close i)
   unfolding p.filter
   filter_none close i h n = rw (reads-other ts true if_word close i h n, expect-yes ts true close i h) found
 
-  filter_some : {d a : ℕ} {e : Expr} {j : ℕ} (close : Kind) (i : ℕ) → Word ts true if_word i → Answers d a e j (p.expr ts a true Whole (after ts true i)) → At ts true close j
-      → Answers d a (Some e) (after ts true j) (p.filter ts (p.expr ts a) close i)
+  filter_some : {d a : ℕ} {e : Expr} {j : ℕ} (close : Kind) (i : ℕ) → NextIsWord ts true if_word i → Answers d a e j (p.expr ts a true Whole (after_next ts true i)) → NextIs ts true close j
+      → Answers d a (Some e) (after_next ts true j) (p.filter ts (p.expr ts a) close i)
   unfolding p.filter
   filter_some {j} close i w r h = rw (reads-yes ts true if_word i w) (bind _ r (rw (expect-yes ts true close j h) found))
 
   -- ---- templates
 
-  keyword-yes : {m : Bool} {w : List ℕ} {i j : ℕ} → IsKeyword ts m w i j → p.keyword ts m w i ≡ Ok (tt, j)
-  unfolding p.keyword
-  keyword-yes (keyword {m} {w} {i} h v c) = rw (expect-yes ts m k.DirectiveOpen i h, word-yes ts true w (after ts m i) v, expect-yes ts true k.SeqClose (after ts true (after ts m i)) c)
+  keyword-yes : {m : Bool} {w : List ℕ} {i j : ℕ} → IsKeyword ts m w i j → p.keyword_directive ts m w i ≡ Ok (tt, j)
+  unfolding p.keyword_directive
+  keyword-yes (keyword {m} {w} {i} h v c) = rw (expect-yes ts m k.DirectiveOpen i h, word-yes ts true w (after_next ts m i) v, expect-yes ts true k.SeqClose (after_next ts true (after_next ts m i)) c)
 
-  pub keyword_word : {m : Bool} {w : List ℕ} {i j : ℕ} → IsKeyword ts m w i j → Word ts true w (after ts m i)
+  pub keyword_word : {m : Bool} {w : List ℕ} {i j : ℕ} → IsKeyword ts m w i j → NextIsWord ts true w (after_next ts m i)
   keyword_word (keyword h w c) = w
 
-  part-at : (b : ℕ) (m : Bool) (o : Option Kind) (i : ℕ) → next ts m i ≡ o → p.part_of ts b (deeper ts b) (twice ts b) m i ≡ p.part_by ts b (deeper ts b) (twice ts b) m (start ts m i) o i
+  part-at : (b : ℕ) (m : Bool) (o : Option Kind) (i : ℕ) → next_kind ts m i ≡ o → p.part_of ts b (deeper ts b) (twice ts b) m i ≡ p.part_by ts b (deeper ts b) (twice ts b) m (next_index ts m i) o i
   unfolding p.part_of
-  part-at b m o i h = ap (λ o. p.part_by ts b (deeper ts b) (twice ts b) m (start ts m i) o i) h
+  part-at b m o i h = ap (λ o. p.part_by ts b (deeper ts b) (twice ts b) m (next_index ts m i) o i) h
 
   -- no part comes next
   pub record NoPart (m : Bool) (i : ℕ) : Type 0 where
     pub is : (b : ℕ) → p.part_of ts b (deeper ts b) (twice ts b) m i ≡ Ok (None, i)
 
-  no_part_quote : (m : Bool) (i : ℕ) → At ts m k.QuoteClose i → NoPart m i
+  no_part_quote : (m : Bool) (i : ℕ) → NextIs ts m k.QuoteClose i → NoPart m i
   no_part_quote m i h = record { is = λ b. part-at b m (Some k.QuoteClose) i h }
 
-  no_part_here : (m : Bool) (i : ℕ) → At ts m k.HereClose i → NoPart m i
+  no_part_here : (m : Bool) (i : ℕ) → NextIs ts m k.HereClose i → NoPart m i
   no_part_here m i h = record { is = λ b. part-at b m (Some k.HereClose) i h }
 
   no_part_else : {m : Bool} {i j : ℕ} → IsKeyword ts m else_word i j → NoPart m i
   unfolding p.directive
-  no_part_else (keyword {m} {i} h w c) = record { is = λ b. rw (part-at b m (Some k.DirectiveOpen) i h, reads-another ts true else_word if_word (after ts m i) w refl, reads-another ts true else_word for_word (after ts m i) w refl) }
+  no_part_else (keyword {m} {i} h w c) = record { is = λ b. rw (part-at b m (Some k.DirectiveOpen) i h, reads-another ts true else_word if_word (after_next ts m i) w refl, reads-another ts true else_word for_word (after_next ts m i) w refl) }
 
   no_part_endif : {m : Bool} {i j : ℕ} → IsKeyword ts m endif_word i j → NoPart m i
   unfolding p.directive
-  no_part_endif (keyword {m} {i} h w c) = record { is = λ b. rw (part-at b m (Some k.DirectiveOpen) i h, reads-another ts true endif_word if_word (after ts m i) w refl, reads-another ts true endif_word for_word (after ts m i) w refl) }
+  no_part_endif (keyword {m} {i} h w c) = record { is = λ b. rw (part-at b m (Some k.DirectiveOpen) i h, reads-another ts true endif_word if_word (after_next ts m i) w refl, reads-another ts true endif_word for_word (after_next ts m i) w refl) }
 
   no_part_endfor : {m : Bool} {i j : ℕ} → IsKeyword ts m endfor_word i j → NoPart m i
   unfolding p.directive
-  no_part_endfor (keyword {m} {i} h w c) = record { is = λ b. rw (part-at b m (Some k.DirectiveOpen) i h, reads-another ts true endfor_word if_word (after ts m i) w refl, reads-another ts true endfor_word for_word (after ts m i) w refl) }
+  no_part_endfor (keyword {m} {i} h w c) = record { is = λ b. rw (part-at b m (Some k.DirectiveOpen) i h, reads-another ts true endfor_word if_word (after_next ts m i) w refl, reads-another ts true endfor_word for_word (after_next ts m i) w refl) }
 
   no_part_other : {d : ℕ} {m : Bool} {o : Option Template} {i j : ℕ} → IsElse ts d m o i j → NoPart m i
   no_part_other (no_else x) = no_part_endif x
@@ -424,50 +424,50 @@ module _ (ts : List Token) where
   unfolding p.parts_from
   parts_more m turns xs i r more = bind _ r more
 
-  part_quote : {d : ℕ} (m : Bool) (i : ℕ) → At ts m k.QuoteLit i → (b : ℕ) → Answers d b (Some (part.Literal (start ts m i))) (after ts m i) (p.part_of ts b (deeper ts b) (twice ts b) m i)
+  part_quote : {d : ℕ} (m : Bool) (i : ℕ) → NextIs ts m k.QuoteLit i → (b : ℕ) → Answers d b (Some (part.Literal (next_index ts m i))) (after_next ts m i) (p.part_of ts b (deeper ts b) (twice ts b) m i)
   part_quote m i h b = rw (part-at b m (Some k.QuoteLit) i h) found
 
-  part_here : {d : ℕ} (m : Bool) (i : ℕ) → At ts m k.HereLit i → (b : ℕ) → Answers d b (Some (part.Literal (start ts m i))) (after ts m i) (p.part_of ts b (deeper ts b) (twice ts b) m i)
+  part_here : {d : ℕ} (m : Bool) (i : ℕ) → NextIs ts m k.HereLit i → (b : ℕ) → Answers d b (Some (part.Literal (next_index ts m i))) (after_next ts m i) (p.part_of ts b (deeper ts b) (twice ts b) m i)
   part_here m i h b = rw (part-at b m (Some k.HereLit) i h) found
 
-  part_interp : {d : ℕ} {e : Expr} {j : ℕ} (m : Bool) (i : ℕ) → At ts m k.InterpOpen i → At ts true k.SeqClose j → (b : ℕ)
-      → ((a : ℕ) → Answers d a e j (p.expr ts a true Whole (after ts m i)))
-      → Answers (suc d) b (Some (part.Interp e)) (after ts true j) (p.part_of ts b (deeper ts b) (twice ts b) m i)
+  part_interp : {d : ℕ} {e : Expr} {j : ℕ} (m : Bool) (i : ℕ) → NextIs ts m k.InterpOpen i → NextIs ts true k.SeqClose j → (b : ℕ)
+      → ((a : ℕ) → Answers d a e j (p.expr ts a true Whole (after_next ts m i)))
+      → Answers (suc d) b (Some (part.Interp e)) (after_next ts true j) (p.part_of ts b (deeper ts b) (twice ts b) m i)
   unfolding p.interp
   part_interp m i h c zero x = rw (part-at zero m (Some k.InterpOpen) i h) (deep (omega arith))
   part_interp {j} m i h c (suc a) x = rw (part-at (suc a) m (Some k.InterpOpen) i h) (bind _ (bind _ (deeper_found (x a)) (rw (expect-yes ts true k.SeqClose j c) found)) found)
 
-  part_if : {d : ℕ} {e : Expr} {ps : List Part} {o : Option Template} {j n l : ℕ} (m : Bool) (i : ℕ) → At ts m k.DirectiveOpen i → Word ts true if_word (after ts m i) → At ts true k.SeqClose j → (b : ℕ)
-      → ((a : ℕ) → Answers d a e j (p.expr ts a true Whole (after ts true (after ts m i))))
-      → ((a : ℕ) → Answers (suc d) a ps n (p.parts ts a m (after ts true j)))
-      → ((b a : ℕ) → Answers (suc d) a o l (p.otherwise ts b (p.under ts a) m n))
-      → Answers (suc (suc d)) b (Some (node.if_part (start ts m i) l e (node.template (first_of ts m (after ts true j) n) n ps) o)) l (p.part_of ts b (deeper ts b) (twice ts b) m i)
+  part_if : {d : ℕ} {e : Expr} {ps : List Part} {o : Option Template} {j n l : ℕ} (m : Bool) (i : ℕ) → NextIs ts m k.DirectiveOpen i → NextIsWord ts true if_word (after_next ts m i) → NextIs ts true k.SeqClose j → (b : ℕ)
+      → ((a : ℕ) → Answers d a e j (p.expr ts a true Whole (after_next ts true (after_next ts m i))))
+      → ((a : ℕ) → Answers (suc d) a ps n (p.parts ts a m (after_next ts true j)))
+      → ((b a : ℕ) → Answers (suc d) a o l (p.else_and_endif ts b (p.under ts a) m n))
+      → Answers (suc (suc d)) b (Some (node.if_part (next_index ts m i) l e (node.template (first_token_in ts m (after_next ts true j) n) n ps) o)) l (p.part_of ts b (deeper ts b) (twice ts b) m i)
   unfolding p.directive p.if_directive
-  part_if m i h w c zero x ps o = rw (part-at zero m (Some k.DirectiveOpen) i h, reads-yes ts true if_word (after ts m i) w) (deep (omega arith))
-  part_if m i h w c (suc zero) x ps o = rw (part-at (suc zero) m (Some k.DirectiveOpen) i h, reads-yes ts true if_word (after ts m i) w) (deep (omega arith))
+  part_if m i h w c zero x ps o = rw (part-at zero m (Some k.DirectiveOpen) i h, reads-yes ts true if_word (after_next ts m i) w) (deep (omega arith))
+  part_if m i h w c (suc zero) x ps o = rw (part-at (suc zero) m (Some k.DirectiveOpen) i h, reads-yes ts true if_word (after_next ts m i) w) (deep (omega arith))
   part_if {j} m i h w c (suc (suc a)) x ps o =
-      rw (part-at (suc (suc a)) m (Some k.DirectiveOpen) i h, reads-yes ts true if_word (after ts m i) w)
+      rw (part-at (suc (suc a)) m (Some k.DirectiveOpen) i h, reads-yes ts true if_word (after_next ts m i) w)
       (bind _ (bind _ (deeper_found (deeper_found (x a))) (rw (expect-yes ts true k.SeqClose j c) (bind _ (deeper_found (ps (suc a))) (bind _ (deeper_found (o (suc (suc a)) (suc a))) found)))) found)
 
-  part_for : {d : ℕ} {x : Intro} {ps : List Part} {j n l : ℕ} (m : Bool) (i : ℕ) → At ts m k.DirectiveOpen i → Word ts true for_word (after ts m i) → At ts true k.SeqClose j → IsKeyword ts m endfor_word n l → (b : ℕ)
-      → ((a : ℕ) → Answers d a x j (p.intro ts (p.expr ts a) (after ts m i)))
-      → ((a : ℕ) → Answers (suc d) a ps n (p.parts ts a m (after ts true j)))
-      → Answers (suc (suc d)) b (Some (node.for_part (start ts m i) l x (node.template (first_of ts m (after ts true j) n) n ps))) l (p.part_of ts b (deeper ts b) (twice ts b) m i)
+  part_for : {d : ℕ} {x : Intro} {ps : List Part} {j n l : ℕ} (m : Bool) (i : ℕ) → NextIs ts m k.DirectiveOpen i → NextIsWord ts true for_word (after_next ts m i) → NextIs ts true k.SeqClose j → IsKeyword ts m endfor_word n l → (b : ℕ)
+      → ((a : ℕ) → Answers d a x j (p.intro ts (p.expr ts a) (after_next ts m i)))
+      → ((a : ℕ) → Answers (suc d) a ps n (p.parts ts a m (after_next ts true j)))
+      → Answers (suc (suc d)) b (Some (node.for_part (next_index ts m i) l x (node.template (first_token_in ts m (after_next ts true j) n) n ps))) l (p.part_of ts b (deeper ts b) (twice ts b) m i)
   unfolding p.directive p.for_directive
-  part_for m i h w c e zero x ps = rw (part-at zero m (Some k.DirectiveOpen) i h, reads-another ts true for_word if_word (after ts m i) w refl, reads-yes ts true for_word (after ts m i) w) (deep (omega arith))
-  part_for m i h w c e (suc zero) x ps = rw (part-at (suc zero) m (Some k.DirectiveOpen) i h, reads-another ts true for_word if_word (after ts m i) w refl, reads-yes ts true for_word (after ts m i) w) (deep (omega arith))
+  part_for m i h w c e zero x ps = rw (part-at zero m (Some k.DirectiveOpen) i h, reads-another ts true for_word if_word (after_next ts m i) w refl, reads-yes ts true for_word (after_next ts m i) w) (deep (omega arith))
+  part_for m i h w c e (suc zero) x ps = rw (part-at (suc zero) m (Some k.DirectiveOpen) i h, reads-another ts true for_word if_word (after_next ts m i) w refl, reads-yes ts true for_word (after_next ts m i) w) (deep (omega arith))
   part_for {j} m i h w c e (suc (suc a)) x ps =
-      rw (part-at (suc (suc a)) m (Some k.DirectiveOpen) i h, reads-another ts true for_word if_word (after ts m i) w refl, reads-yes ts true for_word (after ts m i) w)
+      rw (part-at (suc (suc a)) m (Some k.DirectiveOpen) i h, reads-another ts true for_word if_word (after_next ts m i) w refl, reads-yes ts true for_word (after_next ts m i) w)
       (bind _ (bind _ (deeper_found (deeper_found (x a))) (rw (expect-yes ts true k.SeqClose j c) (bind _ (deeper_found (ps (suc a))) (rw (keyword-yes e) found)))) found)
 
-  otherwise_none : {d a : ℕ} {j : ℕ} (b : ℕ) (m : Bool) (i : ℕ) → IsKeyword ts m endif_word i j → Answers d a None j (p.otherwise ts b (p.under ts a) m i)
-  unfolding p.otherwise
-  otherwise_none b m i x = rw (reads-another ts true endif_word else_word (after ts m i) (keyword_word x) refl, keyword-yes x) found
+  otherwise_none : {d a : ℕ} {j : ℕ} (b : ℕ) (m : Bool) (i : ℕ) → IsKeyword ts m endif_word i j → Answers d a None j (p.else_and_endif ts b (p.under ts a) m i)
+  unfolding p.else_and_endif
+  otherwise_none b m i x = rw (reads-another ts true endif_word else_word (after_next ts m i) (keyword_word x) refl, keyword-yes x) found
 
   otherwise_some : {d a : ℕ} {ps : List Part} {j n l : ℕ} (b : ℕ) (m : Bool) (i : ℕ) → IsKeyword ts m else_word i j → Answers d a ps n (p.parts ts a m j) → IsKeyword ts m endif_word n l
-      → Answers d a (Some (node.template (first_of ts m j n) n ps)) l (p.otherwise ts b (p.under ts a) m i)
-  unfolding p.otherwise
-  otherwise_some b m i x r e = rw (reads-yes ts true else_word (after ts m i) (keyword_word x), keyword-yes x) (bind _ r (rw (keyword-yes e) found))
+      → Answers d a (Some (node.template (first_token_in ts m j n) n ps)) l (p.else_and_endif ts b (p.under ts a) m i)
+  unfolding p.else_and_endif
+  otherwise_some b m i x r e = rw (reads-yes ts true else_word (after_next ts m i) (keyword_word x), keyword-yes x) (bind _ r (rw (keyword-yes e) found))
 
   -- ---- what stands one construct deeper
 
@@ -494,16 +494,16 @@ module _ (ts : List Token) where
 
   -- ---- the induction
 
-  links_stop : {d : ℕ} {m : Bool} {n : ℕ} {xs : List Link} {i j : ℕ} → IsLinks ts d m n xs i j → Stops (suc (suc n)) ts m j → Stops (suc n) ts m i
-  links_stop no_links s = looser (omega arith) s
-  links_stop (linked {n} {t} p o x xs) s = stops_at (suc n) t p (omega (arith, ap (reach_by t) o))
+  links_stop : {d : ℕ} {m : Bool} {n : ℕ} {xs : List Operation} {i j : ℕ} → IsOperations ts d m n xs i j → Stops (suc (suc n)) ts m j → Stops (suc n) ts m i
+  links_stop no_operations s = looser (omega arith) s
+  links_stop (operation {n} {t} p o x xs) s = stops_at (suc n) t p (omega (arith, ap (reach_by t) o))
 
   elems_line : {d : ℕ} {xs : List Elem} {i j : ℕ} → IsElems ts d xs i j → NoInner ts i
   elems_line (no_elems {i} q) = no_inner_at ts i q
   elems_line (last_elem x q) = no_inner_begins (begin_elem x)
   elems_line (elems x q xs) = no_inner_begins (begin_elem x)
 
-  line_stop : {i j : ℕ} → IsLine ts i j → Stops 8 ts false i
+  line_stop : {i j : ℕ} → IsNewline ts i j → Stops 8 ts false i
   line_stop (line_end q) = stops_at 8 k.LineEnd q (omega arith)
   line_stop (comment q n) = stops_at 8 k.LineComment q (omega arith)
 
@@ -528,24 +528,24 @@ module _ (ts : List Token) where
   filter_stop z (no_filter {close} q) = stops_at 8 close q z.ends
   filter_stop z (filter {i} w e q) = stops_at 8 k.Identifier (word_at ts true if_word i w) (omega arith)
 
-  filter_dots : {d : ℕ} {close : Kind} {o : Option Expr} {i j : ℕ} → Closes close → IsFilter ts d close o i j → sees ts true k.Ellipsis i ≡ false
+  filter_dots : {d : ℕ} {close : Kind} {o : Option Expr} {i j : ℕ} → Closes close → IsFilter ts d close o i j → next_is ts true k.Ellipsis i ≡ false
   unfolding same_kind
   filter_dots z (no_filter {close} {i} q) = sees-other ts true close k.Ellipsis i q z.no_dots
   filter_dots z (filter {i} w e q) = sees-other ts true k.Identifier k.Ellipsis i (word_at ts true if_word i w) refl
 
-  dots_stop : {b : Bool} {i j : ℕ} → IsDots ts b i j → Stops 8 ts true j → Stops 8 ts true i
-  dots_stop no_dots s = s
-  dots_stop (dots q) s = stops_at 8 k.Ellipsis q (omega arith)
+  dots_stop : {b : Bool} {i j : ℕ} → IsEllipsis ts b i j → Stops 8 ts true j → Stops 8 ts true i
+  dots_stop no_ellipsis s = s
+  dots_stop (ellipsis q) s = stops_at 8 k.Ellipsis q (omega arith)
 
-  dots-seen : {b : Bool} {i j : ℕ} → IsDots ts b i j → sees ts true k.Ellipsis j ≡ false → sees ts true k.Ellipsis i ≡ b
-  dots-seen no_dots s = s
-  dots-seen (dots {i} q) s = sees-yes ts true k.Ellipsis i q
+  dots-seen : {b : Bool} {i j : ℕ} → IsEllipsis ts b i j → next_is ts true k.Ellipsis j ≡ false → next_is ts true k.Ellipsis i ≡ b
+  dots-seen no_ellipsis s = s
+  dots-seen (ellipsis {i} q) s = sees-yes ts true k.Ellipsis i q
 
-  dots-past : {b : Bool} {i j : ℕ} → IsDots ts b i j → sees ts true k.Ellipsis j ≡ false → past ts true k.Ellipsis i ≡ j
-  dots-past (no_dots {i}) s = past-no ts true k.Ellipsis i s
-  dots-past (dots {i} q) s = past-yes ts true k.Ellipsis i q
+  dots-past : {b : Bool} {i j : ℕ} → IsEllipsis ts b i j → next_is ts true k.Ellipsis j ≡ false → after_if_next ts true k.Ellipsis i ≡ j
+  dots-past (no_ellipsis {i}) s = past-no ts true k.Ellipsis i s
+  dots-past (ellipsis {i} q) s = past-yes ts true k.Ellipsis i q
 
-  intro_word : {d : ℕ} {x : Intro} {i j : ℕ} → IsIntro ts d x i j → Word ts true for_word i
+  intro_word : {d : ℕ} {x : Intro} {i j : ℕ} → IsIntro ts d x i j → NextIsWord ts true for_word i
   intro_word (intro w q s v e) = w
 
   mutual
@@ -553,22 +553,22 @@ module _ (ts : List Token) where
     c_expr (plain {m} {i} q) s b = whole_plain m i (c_level q (looser (omega arith) s) b) s
     c_expr (conditional {m} {i} {j} {n} c q x s y) t b =
         whole_conditional m i q s b (c_level c (stops_at 7 k.Question q (omega arith)) b)
-        (λ a. nested m (after ts m j) a (c_expr x (stops_at 8 k.Colon s (omega arith)) a)) (λ a. nested m (after ts m n) a (c_expr y t a))
+        (λ a. nested m (after_next ts m j) a (c_expr x (stops_at 8 k.Colon s (omega arith)) a)) (λ a. nested m (after_next ts m n) a (c_expr y t a))
 
     pub c_level : {d : ℕ} {m : Bool} {n : ℕ} {e : Expr} {i j : ℕ} → IsLevel ts d m n e i j → Stops (suc n) ts m j → (b : ℕ) → Answers d b e j (p.level ts b (deeper ts b) n m i)
     c_level (lowest {m} {i} q) s b = level_zero m i (c_unary q s b)
     c_level (level {m} {n} {i} q xs) s b = level_by m n i (c_level q (links_stop xs s) b) (c_links xs s b (length ts) [] (omega (arith, (span_links xs).within)))
 
-    pub c_links : {d : ℕ} {m : Bool} {n : ℕ} {xs : List Link} {i j : ℕ} → IsLinks ts d m n xs i j → Stops (suc (suc n)) ts m j → (b turns : ℕ) (acc : List Link) → j ≤ turns + i
-        → Answers d b (acc ++ xs) j (p.links_from ts b (deeper ts b) (p.level ts b (deeper ts b) n) m n turns acc i)
-    c_links (no_links {m} {n} {i}) s b turns acc l = rw (append-nil acc) (links_end m n turns acc i s)
-    c_links (linked {m} {t} {i} q o x xs) s b zero acc l = absurd (omega (arith, (step ts m t i q).forth, (span_level x).forth, (span_links xs).forth))
-    c_links (linked {m} {n} {t} {op} {x = y} {links = ys} {i} q o x xs) s b (suc turns) acc l =
-        rw (← append_assoc acc (node.link op y ∷ []) ys)
-        (links_more m n turns acc i q o (c_level x (links_stop xs s) b) (c_links xs s b turns (acc ++ node.link op y ∷ []) (omega (arith, (step ts m t i q).forth, (span_level x).forth))))
+    pub c_links : {d : ℕ} {m : Bool} {n : ℕ} {xs : List Operation} {i j : ℕ} → IsOperations ts d m n xs i j → Stops (suc (suc n)) ts m j → (b turns : ℕ) (acc : List Operation) → j ≤ turns + i
+        → Answers d b (acc ++ xs) j (p.operations_from ts b (deeper ts b) (p.level ts b (deeper ts b) n) m n turns acc i)
+    c_links (no_operations {m} {n} {i}) s b turns acc l = rw (append-nil acc) (links_end m n turns acc i s)
+    c_links (operation {m} {t} {i} q o x xs) s b zero acc l = absurd (omega (arith, (step ts m t i q).forth, (span_level x).forth, (span_links xs).forth))
+    c_links (operation {m} {n} {t} {op} {x = y} {links = ys} {i} q o x xs) s b (suc turns) acc l =
+        rw (← append_assoc acc (node.operation op y ∷ []) ys)
+        (links_more m n turns acc i q o (c_level x (links_stop xs s) b) (c_links xs s b turns (acc ++ node.operation op y ∷ []) (omega (arith, (step ts m t i q).forth, (span_level x).forth))))
 
     pub c_unary : {d : ℕ} {m : Bool} {e : Expr} {i j : ℕ} → IsUnary ts d m e i j → Stops 1 ts m j → (b : ℕ) → Answers d b e j (p.unary ts b (deeper ts b) m i)
-    c_unary (prefixed {m} {i} q o x) s b = unary_prefixed m i q o b (λ a. nested_operand m (after ts m i) a (c_unary x s a))
+    c_unary (with_operator {m} {i} q o x) s b = unary_prefixed m i q o b (λ a. nested_operand m (after_next ts m i) a (c_unary x s a))
     c_unary (post {m} {i} q xs) s b = unary_post m i (no_prefix q) (c_term q b) (c_tails xs s b (length ts) [] (omega (arith, (span_tails xs).within)))
 
     pub c_tails : {d : ℕ} {m : Bool} {xs : List Tail} {i j : ℕ} → IsTails ts d m xs i j → Stops 1 ts m j → (b turns : ℕ) (acc : List Tail) → j ≤ turns + i
@@ -584,7 +584,7 @@ module _ (ts : List Token) where
     c_tail (attribute_splat {m} {i} q n) b = tail_splat m i q n b
     c_tail (full_splat {m} {i} q s c) b = tail_full m i q s c b
     c_tail (index {m} {i} q x c) b =
-        tail_index m i q (no-begin ts true k.Star (after ts m i) (begin_expr x) refl) c b (λ a. nested true (after ts m i) a (c_expr x (stops_at 8 k.CloseBracket c (omega arith)) a))
+        tail_index m i q (no-begin ts true k.Star (after_next ts m i) (begin_expr x) refl) c b (λ a. nested true (after_next ts m i) a (c_expr x (stops_at 8 k.CloseBracket c (omega arith)) a))
 
     pub c_term : {d : ℕ} {m : Bool} {e : Term} {i j : ℕ} → IsTerm ts d m e i j → (b : ℕ) → Answers d b e j (p.term ts b (deeper ts b) m i)
     c_term (number {m} {i} q) b = term_number m i q
@@ -594,14 +594,14 @@ module _ (ts : List Token) where
     c_term (object {m} {i} q n l xs) b = term_object m i q n l (elems_line xs) b (λ a. c_elems xs a (length ts) [] (omega (arith, (span_elems xs).within)))
     c_term (for_tuple {m} {i} {j} q x c v o) b =
         term_for_tuple m i q (begin_intro x) c b (λ a. c_intro x (stops_at 8 k.Colon c (omega arith)) a)
-        (λ a. nested true (after ts true j) a (c_expr v (filter_stop closes_bracket o) a)) (λ a. c_filter closes_bracket o a)
+        (λ a. nested true (after_next ts true j) a (c_expr v (filter_stop closes_bracket o) a)) (λ a. c_filter closes_bracket o a)
     c_term (for_object {m} {i} {j} {n} q x c y f v s o) b =
         term_for_object m i q (begin_intro x) c f (dots-seen s (filter_dots closes_brace o)) (dots-past s (filter_dots closes_brace o)) b
-        (λ a. c_intro x (stops_at 8 k.Colon c (omega arith)) a) (λ a. nested true (after ts true j) a (c_expr y (stops_at 8 k.FatArrow f (omega arith)) a))
-        (λ a. nested true (after ts true n) a (c_expr v (dots_stop s (filter_stop closes_brace o)) a)) (λ a. c_filter closes_brace o a)
-    c_term (quoted {m} {i} {j} q ps c) b = term_quoted m i q c b (λ a. nested_parts m (after ts m i) a (c_parts ps (no_part_quote m j c) a (length ts) [] (omega (arith, (span_parts ps).within))))
-    c_term (heredoc {m} {i} {j} q ps c) b = term_heredoc m i q c b (λ a. nested_parts m (after ts m i) a (c_parts ps (no_part_here m j c) a (length ts) [] (omega (arith, (span_parts ps).within))))
-    c_term (parens {m} {i} q x c) b = term_parens m i q c b (λ a. nested true (after ts m i) a (c_expr x (stops_at 8 k.CloseParen c (omega arith)) a))
+        (λ a. c_intro x (stops_at 8 k.Colon c (omega arith)) a) (λ a. nested true (after_next ts true j) a (c_expr y (stops_at 8 k.FatArrow f (omega arith)) a))
+        (λ a. nested true (after_next ts true n) a (c_expr v (dots_stop s (filter_stop closes_brace o)) a)) (λ a. c_filter closes_brace o a)
+    c_term (quoted {m} {i} {j} q ps c) b = term_quoted m i q c b (λ a. nested_parts m (after_next ts m i) a (c_parts ps (no_part_quote m j c) a (length ts) [] (omega (arith, (span_parts ps).within))))
+    c_term (heredoc {m} {i} {j} q ps c) b = term_heredoc m i q c b (λ a. nested_parts m (after_next ts m i) a (c_parts ps (no_part_here m j c) a (length ts) [] (omega (arith, (span_parts ps).within))))
+    c_term (parens {m} {i} q x c) b = term_parens m i q c b (λ a. nested true (after_next ts m i) a (c_expr x (stops_at 8 k.CloseParen c (omega arith)) a))
 
     pub c_arguments : {d : ℕ} {xs : List Expr} {s : Bool} {i j : ℕ} → IsArguments ts d xs s i j → (a turns : ℕ) (acc : List Expr) → j ≤ turns + i
         → Answers d a (acc ++ xs, s) j (p.arguments_from ts (p.expr ts a) turns acc i)
@@ -610,7 +610,7 @@ module _ (ts : List Token) where
     c_arguments (last_argument {i} {j} x q) a zero acc l = absurd (omega (arith, (step ts true k.CloseParen j q).forth, (span_expr x).forth))
     c_arguments (last_argument {i} {j} x q) a (suc turns) acc l =
         arguments_last turns acc i (no-begin ts true k.CloseParen i (begin_expr x) refl) (nested true i a (c_expr x (stops_at 8 k.CloseParen q (omega arith)) a)) q
-    c_arguments (spread_argument {i} {j} x s q) a zero acc l = absurd (omega (arith, (step ts true k.Ellipsis j s).forth, (step ts true k.CloseParen (after ts true j) q).forth, (span_expr x).forth))
+    c_arguments (spread_argument {i} {j} x s q) a zero acc l = absurd (omega (arith, (step ts true k.Ellipsis j s).forth, (step ts true k.CloseParen (after_next ts true j) q).forth, (span_expr x).forth))
     c_arguments (spread_argument {i} {j} x s q) a (suc turns) acc l =
         arguments_spread turns acc i (no-begin ts true k.CloseParen i (begin_expr x) refl) (nested true i a (c_expr x (stops_at 8 k.Ellipsis s (omega arith)) a)) s q
     c_arguments (argument {i} {j} x q xs) a zero acc l = absurd (omega (arith, (step ts true k.Comma j q).forth, (span_expr x).forth, (span_arguments xs).forth))
@@ -620,7 +620,7 @@ module _ (ts : List Token) where
         (c_arguments xs a turns (acc ++ e ∷ []) (omega (arith, (step ts true k.Comma j q).forth, (span_expr x).forth))))
 
     pub c_items : {d : ℕ} {xs : List Expr} {i j : ℕ} → IsItems ts d xs i j → (a turns : ℕ) (acc : List Expr) → j ≤ turns + i
-        → Answers d a (acc ++ xs) j (p.items_from ts (p.expr ts a) turns acc i)
+        → Answers d a (acc ++ xs) j (p.tuple_items_from ts (p.expr ts a) turns acc i)
     c_items (no_items {i} q) a zero acc l = absurd (omega (arith, (step ts true k.CloseBracket i q).forth))
     c_items (no_items {i} q) a (suc turns) acc l = rw (append-nil acc) (items_none turns acc i q)
     c_items (last_item {i} {j} x q) a zero acc l = absurd (omega (arith, (step ts true k.CloseBracket j q).forth, (span_expr x).forth))
@@ -647,16 +647,16 @@ module _ (ts : List Token) where
 
     pub c_elem : {d : ℕ} {x : Elem} {i j : ℕ} → IsElem ts d x i j → Stops 8 ts false j → (a : ℕ) → Answers d a x j (p.element ts (p.expr ts a) i)
     c_elem (by_equals {i} {j} x q y) s a =
-        elem_equals i (nested false i a (c_expr x (stops_at 8 k.Equal q (omega arith)) a)) q (nested false (after ts false j) a (c_expr y s a))
+        elem_equals i (nested false i a (c_expr x (stops_at 8 k.Equal q (omega arith)) a)) q (nested false (after_next ts false j) a (c_expr y s a))
     c_elem (by_colon {i} {j} x q y) s a =
-        elem_colon i (nested false i a (c_expr x (stops_at 8 k.Colon q (omega arith)) a)) q (nested false (after ts false j) a (c_expr y s a))
+        elem_colon i (nested false i a (c_expr x (stops_at 8 k.Colon q (omega arith)) a)) q (nested false (after_next ts false j) a (c_expr y s a))
 
     pub c_intro : {d : ℕ} {x : Intro} {i j : ℕ} → IsIntro ts d x i j → Stops 8 ts true j → (a : ℕ) → Answers d a x j (p.intro ts (p.expr ts a) i)
-    c_intro (intro {i} {j} w n o v x) s a = intro_by i w n o v (nested true (after ts true j) a (c_expr x s a))
+    c_intro (intro {i} {j} w n o v x) s a = intro_by i w n o v (nested true (after_next ts true j) a (c_expr x s a))
 
     pub c_filter : {d : ℕ} {close : Kind} {o : Option Expr} {i j : ℕ} → Closes close → IsFilter ts d close o i j → (a : ℕ) → Answers d a o j (p.filter ts (p.expr ts a) close i)
     c_filter z (no_filter {close} {i} q) a = filter_none close i q z.no_name
-    c_filter z (filter {close} {i} w x q) a = filter_some close i w (nested true (after ts true i) a (c_expr x (stops_at 8 close q z.ends) a)) q
+    c_filter z (filter {close} {i} w x q) a = filter_some close i w (nested true (after_next ts true i) a (c_expr x (stops_at 8 close q z.ends) a)) q
 
     pub c_parts : {d : ℕ} {m : Bool} {xs : List Part} {i j : ℕ} → IsParts ts d m xs i j → NoPart m j → (b turns : ℕ) (acc : List Part) → j ≤ turns + i
         → Answers d b (acc ++ xs) j (p.parts_from ts b (deeper ts b) (twice ts b) m turns acc i)
@@ -668,15 +668,15 @@ module _ (ts : List Token) where
     pub c_part : {d : ℕ} {m : Bool} {x : Part} {i j : ℕ} → IsPart ts d m x i j → (b : ℕ) → Answers d b (Some x) j (p.part_of ts b (deeper ts b) (twice ts b) m i)
     c_part (quote_text {m} {i} q) b = part_quote m i q b
     c_part (here_text {m} {i} q) b = part_here m i q b
-    c_part (interp {m} {i} q x c) b = part_interp m i q c b (λ a. nested true (after ts m i) a (c_expr x (stops_at 8 k.SeqClose c (omega arith)) a))
+    c_part (interp {m} {i} q x c) b = part_interp m i q c b (λ a. nested true (after_next ts m i) a (c_expr x (stops_at 8 k.SeqClose c (omega arith)) a))
     c_part (if_directive {m} {i} {j} q w x c ps o) b =
-        part_if m i q w c b (λ a. nested true (after ts true (after ts m i)) a (c_expr x (stops_at 8 k.SeqClose c (omega arith)) a))
-        (λ a. nested_parts m (after ts true j) a (c_parts ps (no_part_other o) a (length ts) [] (omega (arith, (span_parts ps).within)))) (λ b a. c_else o b a)
+        part_if m i q w c b (λ a. nested true (after_next ts true (after_next ts m i)) a (c_expr x (stops_at 8 k.SeqClose c (omega arith)) a))
+        (λ a. nested_parts m (after_next ts true j) a (c_parts ps (no_part_other o) a (length ts) [] (omega (arith, (span_parts ps).within)))) (λ b a. c_else o b a)
     c_part (for_directive {m} {i} {j} q x c ps e) b =
         part_for m i q (intro_word x) c e b (λ a. c_intro x (stops_at 8 k.SeqClose c (omega arith)) a)
-        (λ a. nested_parts m (after ts true j) a (c_parts ps (no_part_endfor e) a (length ts) [] (omega (arith, (span_parts ps).within))))
+        (λ a. nested_parts m (after_next ts true j) a (c_parts ps (no_part_endfor e) a (length ts) [] (omega (arith, (span_parts ps).within))))
 
-    pub c_else : {d : ℕ} {m : Bool} {o : Option Template} {i j : ℕ} → IsElse ts d m o i j → (b a : ℕ) → Answers d a o j (p.otherwise ts b (p.under ts a) m i)
+    pub c_else : {d : ℕ} {m : Bool} {o : Option Template} {i j : ℕ} → IsElse ts d m o i j → (b a : ℕ) → Answers d a o j (p.else_and_endif ts b (p.under ts a) m i)
     c_else (no_else {m} {i} e) b a = otherwise_none b m i e
     c_else (has_else {m} {i} {j} x ps e) b a =
         otherwise_some b m i x (nested_parts m j a (c_parts ps (no_part_endif e) a (length ts) [] (omega (arith, (span_parts ps).within)))) e

@@ -5,18 +5,18 @@ use Rattle.hcl_token.specs.declared.kind.Kind.TheVariants as k
 use Rattle.hcl_grammar.specs.declared.tree.Elem.{Elem}
 use Rattle.hcl_grammar.specs.declared.tree.Expr.{Expr}
 use Rattle.hcl_grammar.specs.declared.tree.Intro.{Intro}
-use Rattle.hcl_grammar.specs.declared.tree.Prefix.{Prefix}
+use Rattle.hcl_grammar.specs.declared.tree.UnaryOperator.{UnaryOperator}
 use Rattle.hcl_grammar.specs.declared.tree.Term.{Term}
-use Rattle.hcl_grammar.specs.Operators.{prefix_of}
-use Rattle.hcl_grammar.specs.Pure.Parser.{prefix, prefixes, prefixing}
-use Rattle.hcl_grammar.specs.Pure.Reading.{reads}
+use Rattle.hcl_grammar.specs.Operators.{unary_operator}
+use Rattle.hcl_grammar.specs.Pure.Parser.{eat_unary_operator, unary_by_kind, take_unary}
+use Rattle.hcl_grammar.specs.Pure.Reading.{next_is_word}
 use Rattle.hcl_grammar.specs.Tokens.{Token, for_word}
-use Rattle.hcl_grammar.specs.Lines.{At}
-use Rattle.hcl_grammar.specs.Grammar.{IsExpr, plain, conditional, IsLevel, lowest, level, IsUnary, prefixed, post, IsTerm, number, identifier, call, tuple, object, for_tuple, for_object, quoted, heredoc, parens, IsElem, by_equals, by_colon, IsIntro, intro}
+use Rattle.hcl_grammar.specs.Lookahead.{NextIs}
+use Rattle.hcl_grammar.specs.Grammar.{IsExpr, plain, conditional, IsLevel, lowest, level, IsUnary, with_operator, post, IsTerm, number, identifier, call, tuple, object, for_tuple, for_object, quoted, heredoc, parens, IsElem, by_equals, by_colon, IsIntro, intro}
 use Rattle.hcl_grammar_laws.proofs.Ahead.{begins, Begins}
 use Rattle.hcl_grammar_laws.proofs.Steps.{reads-yes}
 
-begin-prefix : (t : Kind) (op : Prefix) → prefix_of t ≡ Some op → begins t ≡ true
+begin-prefix : (t : Kind) (op : UnaryOperator) → unary_operator t ≡ Some op → begins t ≡ true
 begin-prefix k.Minus op e = refl
 begin-prefix k.Bang op e = refl
 begin-prefix _ op e = absurd (cc)
@@ -24,15 +24,15 @@ begin-prefix _ op e = absurd (cc)
 -- a term begins with a token that is no prefix operator
 pub record BeginsTerm (ts : List Token) (m : Bool) (i : ℕ) : Type 0 where
   pub token : Kind
-  pub is : At ts m token i
+  pub is : NextIs ts m token i
   pub fits : begins token ≡ true
-  pub no_prefix : prefix_of token ≡ None
+  pub no_prefix : unary_operator token ≡ None
 
 module _ {ts : List Token} where
-  at : (m : Bool) (i : ℕ) (t : Kind) → At ts m t i → begins t ≡ true → Begins ts m i
+  at : (m : Bool) (i : ℕ) (t : Kind) → NextIs ts m t i → begins t ≡ true → Begins ts m i
   at m i t p e = record { token = t; is = p; fits = e }
 
-  on : (m : Bool) (i : ℕ) (t : Kind) → At ts m t i → begins t ≡ true → prefix_of t ≡ None → BeginsTerm ts m i
+  on : (m : Bool) (i : ℕ) (t : Kind) → NextIs ts m t i → begins t ≡ true → unary_operator t ≡ None → BeginsTerm ts m i
   on m i t p e n = record { token = t; is = p; fits = e; no_prefix = n }
 
   first_term : {d : ℕ} {m : Bool} {e : Term} {i j : ℕ} → IsTerm ts d m e i j → BeginsTerm ts m i
@@ -50,12 +50,12 @@ module _ {ts : List Token} where
   pub begin_term : {d : ℕ} {m : Bool} {e : Term} {i j : ℕ} → IsTerm ts d m e i j → Begins ts m i
   begin_term x = let b = first_term x in record { token = b.token; is = b.is; fits = b.fits }
 
-  pub no_prefix : {d : ℕ} {m : Bool} {e : Term} {i j : ℕ} → IsTerm ts d m e i j → prefix ts m i ≡ Ok (None, i)
-  unfolding prefix
-  no_prefix {m} {i} x = let b = first_term x in ap (prefixes ts m i) b.is ∙ ap (prefixing ts m i) b.no_prefix
+  pub no_prefix : {d : ℕ} {m : Bool} {e : Term} {i j : ℕ} → IsTerm ts d m e i j → eat_unary_operator ts m i ≡ Ok (None, i)
+  unfolding eat_unary_operator
+  no_prefix {m} {i} x = let b = first_term x in ap (unary_by_kind ts m i) b.is ∙ ap (take_unary ts m i) b.no_prefix
 
   pub begin_unary : {d : ℕ} {m : Bool} {e : Expr} {i j : ℕ} → IsUnary ts d m e i j → Begins ts m i
-  begin_unary (prefixed {t} {op} p o x) = at _ _ t p (begin-prefix t op o)
+  begin_unary (with_operator {t} {op} p o x) = at _ _ t p (begin-prefix t op o)
   begin_unary (post p xs) = begin_term p
 
   pub begin_level : {d : ℕ} {m : Bool} {n : ℕ} {e : Expr} {i j : ℕ} → IsLevel ts d m n e i j → Begins ts m i
@@ -70,5 +70,5 @@ module _ {ts : List Token} where
   begin_elem (by_equals a p b) = begin_expr a
   begin_elem (by_colon a p b) = begin_expr a
 
-  pub begin_intro : {d : ℕ} {x : Intro} {i j : ℕ} → IsIntro ts d x i j → reads ts true for_word i ≡ true
+  pub begin_intro : {d : ℕ} {x : Intro} {i j : ℕ} → IsIntro ts d x i j → next_is_word ts true for_word i ≡ true
   begin_intro (intro {i} w p s v e) = reads-yes ts true for_word i w

@@ -5,26 +5,26 @@ use Rattle.std.specs.List.{prefix_len}
 use Rattle.std.specs.Option.{option_map}
 use Rattle.hcl_token.specs.declared.kind.Kind.{Kind}
 use Rattle.hcl_token.specs.declared.kind.Kind.TheVariants as k
-use Rattle.hcl_token.specs.Joins.{begins_with}
+use Rattle.hcl_token.specs.Joins.{starts_with}
 use Rattle.hcl_grammar.specs.declared.tree.Attribute.{Attribute}
 use Rattle.hcl_grammar.specs.declared.tree.Elem.{Elem}
 use Rattle.hcl_grammar.specs.declared.tree.Expr.{Expr}
 use Rattle.hcl_grammar.specs.declared.tree.Intro.{Intro}
 use Rattle.hcl_grammar.specs.declared.tree.Label.{Label}
-use Rattle.hcl_grammar.specs.declared.tree.Link.{Link}
+use Rattle.hcl_grammar.specs.declared.tree.Operation.{Operation}
 use Rattle.hcl_grammar.specs.declared.tree.Member.{Member}
-use Rattle.hcl_grammar.specs.declared.tree.Operator.{Operator}
+use Rattle.hcl_grammar.specs.declared.tree.BinaryOperator.{BinaryOperator}
 use Rattle.hcl_grammar.specs.declared.tree.Part.{Part}
-use Rattle.hcl_grammar.specs.declared.tree.Prefix.{Prefix}
+use Rattle.hcl_grammar.specs.declared.tree.UnaryOperator.{UnaryOperator}
 use Rattle.hcl_grammar.specs.declared.tree.Tail.{Tail}
 use Rattle.hcl_grammar.specs.declared.tree.Template.{Template}
 use Rattle.hcl_grammar.specs.declared.tree.Term.{Term}
 use Rattle.hcl_grammar.specs.declared.tree.Tree.{Tree}
-use Rattle.hcl_grammar.specs.Bodies.{IsLabels, no_labels, word_label, text_label, empty_label, IsOnLine, nothing, one, IsMembers, no_members, blank, attribute, block, line_block, IsFront, no_mark, mark, IsLast, at_end, at_comment, IsFile, file}
-use Rattle.hcl_grammar.specs.Grammar.{IsExpr, plain, conditional, IsLevel, lowest, level, IsLinks, no_links, linked, IsUnary, prefixed, post, IsTails, no_tails, tails, IsTail, by_name, legacy, attribute_splat, full_splat, index, IsTerm, number, identifier, call, tuple, object, for_tuple, for_object, quoted, heredoc, parens, IsArguments, no_arguments, last_argument, spread_argument, argument, IsItems, no_items, last_item, item, IsElems, no_elems, last_elem, elems, IsElem, by_equals, by_colon, IsIntro, intro, IsFilter, no_filter, filter, IsParts, no_parts, parts, IsPart, quote_text, here_text, interp, if_directive, for_directive, IsElse, no_else, has_else}
-use Rattle.hcl_grammar.specs.Lines.{At, Word, IsLine, line_end, comment, IsLines, no_lines, line, IsSep, comma, lines, IsEol, eol_line, eol_end, eol_comment, IsNames, no_names, name, IsSecond, no_second, second, IsDots, no_dots, dots, IsKeyword, keyword}
-use Rattle.hcl_grammar.specs.Operators.{prefix_of, operator_of}
-use Rattle.hcl_grammar.specs.Tokens.{Token, is_dropped, start, token, next, after, if_word}
+use Rattle.hcl_grammar.specs.Bodies.{IsLabels, no_labels, word_label, text_label, empty_label, IsOneLineBody, nothing, one, IsMembers, no_members, blank, attribute, block, line_block, IsOptionalMark, no_mark, mark, IsFileEnd, at_end, at_comment, IsFile, file}
+use Rattle.hcl_grammar.specs.Grammar.{IsExpr, plain, conditional, IsLevel, lowest, level, IsOperations, no_operations, operation, IsUnary, with_operator, post, IsTails, no_tails, tails, IsTail, by_name, legacy, attribute_splat, full_splat, index, IsTerm, number, identifier, call, tuple, object, for_tuple, for_object, quoted, heredoc, parens, IsArguments, no_arguments, last_argument, spread_argument, argument, IsItems, no_items, last_item, item, IsElems, no_elems, last_elem, elems, IsElem, by_equals, by_colon, IsIntro, intro, IsFilter, no_filter, filter, IsParts, no_parts, parts, IsPart, quote_text, here_text, interp, if_directive, for_directive, IsElse, no_else, has_else}
+use Rattle.hcl_grammar.specs.Lookahead.{NextIs, NextIsWord, IsNewline, line_end, comment, IsNewlines, no_lines, line, IsSep, comma, lines, IsEol, eol_line, eol_end, eol_comment, IsNameTail, no_names, name, IsSecondName, no_second, second, IsEllipsis, no_ellipsis, ellipsis, IsKeyword, keyword}
+use Rattle.hcl_grammar.specs.Operators.{unary_operator, binary_operator}
+use Rattle.hcl_grammar.specs.Tokens.{Token, is_skipped, next_index, next_token, next_kind, after_next, if_word}
 use Rattle.hcl_grammar_laws.proofs.Ahead.{begins, Begins}
 use Rattle.hcl_grammar_laws.proofs.Firsts.{begin_level}
 use Rattle.hcl_grammar_laws.proofs.Steps.{word_at}
@@ -59,25 +59,25 @@ glues-dot k.DotIndex w h g = absurd (g refl)
 glues-dot _ w h g = refl
 
 glues-number : (t : Kind) (w : List ℕ) → (t ≡ k.Identifier → w ≡ if_word) → glues k.Number t w ≡ false
-glues-number k.Identifier w h = ap (λ w. begins_with 101 w || begins_with 69 w) (h refl)
+glues-number k.Identifier w h = ap (λ w. starts_with 101 w || starts_with 69 w) (h refl)
 glues-number _ w h = refl
 
-glues-operator : (s t : Kind) (w : List ℕ) (q : ℕ × Operator) → operator_of s ≡ Some q → (t ≡ k.Less → ⊥) → glues s t w ≡ false
+glues-operator : (s t : Kind) (w : List ℕ) (q : ℕ × BinaryOperator) → binary_operator s ≡ Some q → (t ≡ k.Less → ⊥) → glues s t w ≡ false
 glues-operator k.Less t w q o h = glues-less t w h
 glues-operator k.Dot t w q o h = absurd (cc)
 glues-operator k.Number t w q o h = absurd (cc)
 glues-operator _ t w q o h = refl
 
-no-operator-name : (s : Kind) (q : ℕ × Operator) → operator_of s ≡ Some q → is_name s ≡ false
+no-operator-name : (s : Kind) (q : ℕ × BinaryOperator) → binary_operator s ≡ Some q → is_name s ≡ false
 no-operator-name k.Identifier q o = absurd (cc)
 no-operator-name _ q o = refl
 
-harmless-prefix : (s : Kind) (op : Prefix) → prefix_of s ≡ Some op → harmless s ≡ true
+harmless-prefix : (s : Kind) (op : UnaryOperator) → unary_operator s ≡ Some op → harmless s ≡ true
 harmless-prefix k.Minus op o = refl
 harmless-prefix k.Bang op o = refl
 harmless-prefix _ op o = absurd (cc)
 
-harmless-dropped : (m : Bool) (s : Kind) → is_dropped m s ≡ true → harmless s ≡ true
+harmless-dropped : (m : Bool) (s : Kind) → is_skipped m s ≡ true → harmless s ≡ true
 harmless-dropped m k.Less h = absurd (cc)
 harmless-dropped m k.Dot h = absurd (cc)
 harmless-dropped m k.Number h = absurd (cc)
@@ -137,38 +137,38 @@ pub record Safe (ts : List Token) (j : ℕ) : Type 0 where
 
 module _ (ts : List Token) where
   -- a token that is not dropped is the next one
-  raw-token : (m : Bool) (j : ℕ) (b : Token) → slice_get ts j ≡ Some b → is_dropped m b.0 ≡ false → token ts m j ≡ Some b
-  unfolding token start
-  raw-token m j b e h = let z = kept_at (λ (t : Token). is_dropped m t.0) ts j b e h in let s : j + prefix_len (λ (t : Token). is_dropped m t.0) (drop j ts) ≡ j = omega (arith, z) in ap (slice_get ts) s ∙ e
+  raw-token : (m : Bool) (j : ℕ) (b : Token) → slice_get ts j ≡ Some b → is_skipped m b.0 ≡ false → next_token ts m j ≡ Some b
+  unfolding next_token next_index
+  raw-token m j b e h = let z = kept_at (λ (t : Token). is_skipped m t.0) ts j b e h in let s : j + prefix_len (λ (t : Token). is_skipped m t.0) (drop j ts) ≡ j = omega (arith, z) in ap (slice_get ts) s ∙ e
 
-  raw-kind : (m : Bool) (j : ℕ) (b : Token) (o : Option Kind) → next ts m j ≡ o → slice_get ts j ≡ Some b → is_dropped m b.0 ≡ false → o ≡ Some b.0
-  unfolding next
+  raw-kind : (m : Bool) (j : ℕ) (b : Token) (o : Option Kind) → next_kind ts m j ≡ o → slice_get ts j ≡ Some b → is_skipped m b.0 ≡ false → o ≡ Some b.0
+  unfolding next_kind
   raw-kind m j b o h e d = sym h ∙ ap (λ o. option_map (λ (t : Token). t.0) o) (raw-token m j b e d)
 
-  kept : (m : Bool) (t : Kind) (s : Kind) → t ≡ s → is_dropped m s ≡ false → is_dropped m t ≡ false
-  kept m t s e h = ap (is_dropped m) e ∙ h
+  kept : (m : Bool) (t : Kind) (s : Kind) → t ≡ s → is_skipped m s ≡ false → is_skipped m t ≡ false
+  kept m t s e h = ap (is_skipped m) e ∙ h
 
   name_of : (o : Option Kind) → Bool
   name_of None = false
   name_of (Some t) = is_name t
 
-  safe_next : (m : Bool) (j : ℕ) (o : Option Kind) → next ts m j ≡ o → name_of o ≡ false → Safe ts j
+  safe_next : (m : Bool) (j : ℕ) (o : Option Kind) → next_kind ts m j ≡ o → name_of o ≡ false → Safe ts j
   unfolding name_of
   safe_next m j o h g = record { only = λ b e n. let seen = raw-kind m j b o h e (kept m b.0 k.Identifier n refl) in let clash : false ≡ true = sym g ∙ ap name_of seen ∙ ap is_name n in absurd (cc) }
 
-  safe : (m : Bool) (j : ℕ) (t : Kind) → At ts m t j → is_name t ≡ false → Safe ts j
+  safe : (m : Bool) (j : ℕ) (t : Kind) → NextIs ts m t j → is_name t ≡ false → Safe ts j
   unfolding name_of
   safe m j t h g = safe_next m j (Some t) h g
 
-  safe_end : (j : ℕ) → next ts false j ≡ None → Safe ts j
+  safe_end : (j : ℕ) → next_kind ts false j ≡ None → Safe ts j
   unfolding name_of
   safe_end j h = safe_next false j None h refl
 
-  safe_word : (m : Bool) (j : ℕ) → Word ts m if_word j → Safe ts j
+  safe_word : (m : Bool) (j : ℕ) → NextIsWord ts m if_word j → Safe ts j
   safe_word m j h = record { only = λ b e n. let seen = raw-token m j b e (kept m b.0 k.Identifier n refl) in ap (λ (t : Token). t.1) (same_token (sym seen ∙ h)) }
 
   -- a token of another kind does not stand at j
-  unseen : (m : Bool) (j : ℕ) (t : Kind) → At ts m t j → (s : Kind) → is_dropped m s ≡ false → (Some t ≡ Some s → ⊥) → (b : Token) → slice_get ts j ≡ Some b → b.0 ≡ s → ⊥
+  unseen : (m : Bool) (j : ℕ) (t : Kind) → NextIs ts m t j → (s : Kind) → is_skipped m s ≡ false → (Some t ≡ Some s → ⊥) → (b : Token) → slice_get ts j ≡ Some b → b.0 ≡ s → ⊥
   unseen m j t h s d other b e n = other (raw-kind m j b (Some t) h e (kept m b.0 s n d) ∙ ap Some n)
 
   -- ---- steps
@@ -186,44 +186,44 @@ module _ (ts : List Token) where
   pub both : {i j l : ℕ} → Neat ts i j → Neat ts j l → Neat ts i l
   both {j} p q = record { at = λ n l h. split n j _ (λ x. p.at n l x) (λ x. q.at n x h) }
 
-  before : (m : Bool) (i n : ℕ) → i ≤ n → n < start ts m i → Fine ts n
-  unfolding start
-  before m i n l h = record { each = λ a b p q. glues-harmless a.0 b.0 b.1 (harmless-dropped m a.0 (dropped_at (λ (t : Token). is_dropped m t.0) ts i n a l h p)) }
+  before : (m : Bool) (i n : ℕ) → i ≤ n → n < next_index ts m i → Fine ts n
+  unfolding next_index
+  before m i n l h = record { each = λ a b p q. glues-harmless a.0 b.0 b.1 (harmless-dropped m a.0 (dropped_at (λ (t : Token). is_skipped m t.0) ts i n a l h p)) }
 
   -- the next token, fine itself, and what is dropped before it
-  pass_fine : (m : Bool) (i : ℕ) → Fine ts (start ts m i) → Neat ts i (after ts m i)
-  unfolding after
-  pass_fine m i f = record { at = λ n l h. split n (start ts m i) _ (λ x. before m i n l x) (λ x. subst (λ n. Fine ts n) (same n x h) f) }
+  pass_fine : (m : Bool) (i : ℕ) → Fine ts (next_index ts m i) → Neat ts i (after_next ts m i)
+  unfolding after_next
+  pass_fine m i f = record { at = λ n l h. split n (next_index ts m i) _ (λ x. before m i n l x) (λ x. subst (λ n. Fine ts n) (same n x h) f) }
     where
-      same : (n : ℕ) → start ts m i ≤ n → n < suc (start ts m i) → start ts m i ≡ n
+      same : (n : ℕ) → next_index ts m i ≤ n → n < suc (next_index ts m i) → next_index ts m i ≡ n
       same n l h = omega arith
 
-  kind_at : (m : Bool) (t : Kind) (i : ℕ) → At ts m t i → (a : Token) → slice_get ts (start ts m i) ≡ Some a → a.0 ≡ t
-  unfolding next token
+  kind_at : (m : Bool) (t : Kind) (i : ℕ) → NextIs ts m t i → (a : Token) → slice_get ts (next_index ts m i) ≡ Some a → a.0 ≡ t
+  unfolding next_kind next_token
   kind_at m t i h a e = let seen : Some a.0 ≡ Some t = sym (ap (λ o. option_map (λ (t : Token). t.0) o) e) ∙ h in cc
 
-  fine_by : (m : Bool) (t : Kind) (i : ℕ) → At ts m t i → ((b : Token) → slice_get ts (after ts m i) ≡ Some b → glues t b.0 b.1 ≡ false) → Fine ts (start ts m i)
-  unfolding after
+  fine_by : (m : Bool) (t : Kind) (i : ℕ) → NextIs ts m t i → ((b : Token) → slice_get ts (after_next ts m i) ≡ Some b → glues t b.0 b.1 ≡ false) → Fine ts (next_index ts m i)
+  unfolding after_next
   fine_by m t i h f = record { each = λ a b p q. ap (λ s. glues s b.0 b.1) (kind_at m t i h a p) ∙ f b q }
 
-  pub pass : (m : Bool) (i : ℕ) (t : Kind) → At ts m t i → harmless t ≡ true → Neat ts i (after ts m i)
+  pub pass : (m : Bool) (i : ℕ) (t : Kind) → NextIs ts m t i → harmless t ≡ true → Neat ts i (after_next ts m i)
   pass m i t h g = pass_fine m i (fine_by m t i h (λ b q. glues-harmless t b.0 b.1 g))
 
-  via : {j : ℕ} (m : Bool) (i : ℕ) (t : Kind) → At ts m t i → harmless t ≡ true → Neat ts (after ts m i) j → Neat ts i j
+  via : {j : ℕ} (m : Bool) (i : ℕ) (t : Kind) → NextIs ts m t i → harmless t ≡ true → Neat ts (after_next ts m i) j → Neat ts i j
   via m i t h g r = both (pass m i t h g) r
 
-  via_word : {j : ℕ} (m : Bool) (w : List ℕ) (i : ℕ) → Word ts m w i → Neat ts (after ts m i) j → Neat ts i j
+  via_word : {j : ℕ} (m : Bool) (w : List ℕ) (i : ℕ) → NextIsWord ts m w i → Neat ts (after_next ts m i) j → Neat ts i j
   via_word m w i h r = both (pass m i k.Identifier (word_at ts m w i h) refl) r
 
-  pass_number : (m : Bool) (i : ℕ) → At ts m k.Number i → Safe ts (after ts m i) → Neat ts i (after ts m i)
+  pass_number : (m : Bool) (i : ℕ) → NextIs ts m k.Number i → Safe ts (after_next ts m i) → Neat ts i (after_next ts m i)
   pass_number m i h s = pass_fine m i (fine_by m k.Number i h (λ b q. glues-number b.0 b.1 (s.only b q)))
 
-  pass_dot : (m : Bool) (i : ℕ) (t : Kind) → At ts m k.Dot i → At ts m t (after ts m i) → (Some t ≡ Some k.Dot → ⊥) → (Some t ≡ Some k.DotIndex → ⊥) → Neat ts i (after ts m i)
-  pass_dot m i t h g x y = pass_fine m i (fine_by m k.Dot i h (λ b q. glues-dot b.0 b.1 (unseen m (after ts m i) t g k.Dot refl x b q) (unseen m (after ts m i) t g k.DotIndex refl y b q)))
+  pass_dot : (m : Bool) (i : ℕ) (t : Kind) → NextIs ts m k.Dot i → NextIs ts m t (after_next ts m i) → (Some t ≡ Some k.Dot → ⊥) → (Some t ≡ Some k.DotIndex → ⊥) → Neat ts i (after_next ts m i)
+  pass_dot m i t h g x y = pass_fine m i (fine_by m k.Dot i h (λ b q. glues-dot b.0 b.1 (unseen m (after_next ts m i) t g k.Dot refl x b q) (unseen m (after_next ts m i) t g k.DotIndex refl y b q)))
 
-  pass_operator : (m : Bool) (i : ℕ) (t : Kind) (q : ℕ × Operator) → At ts m t i → operator_of t ≡ Some q → Begins ts m (after ts m i) → Neat ts i (after ts m i)
+  pass_operator : (m : Bool) (i : ℕ) (t : Kind) (q : ℕ × BinaryOperator) → NextIs ts m t i → binary_operator t ≡ Some q → Begins ts m (after_next ts m i) → Neat ts i (after_next ts m i)
   pass_operator m i t q h o b =
-      pass_fine m i (fine_by m t i h (λ x e. glues-operator t x.0 x.1 q o (unseen m (after ts m i) b.token b.is k.Less refl (λ s. let clash : true ≡ false = sym b.fits ∙ begin_of s in cc) x e)))
+      pass_fine m i (fine_by m t i h (λ x e. glues-operator t x.0 x.1 q o (unseen m (after_next ts m i) b.token b.is k.Less refl (λ s. let clash : true ≡ false = sym b.fits ∙ begin_of s in cc) x e)))
     where
       some_kind : Option Kind → Bool
       some_kind None = false
@@ -234,11 +234,11 @@ module _ (ts : List Token) where
 
   -- ---- lines and lists of tokens
 
-  neat_line : {i j : ℕ} → IsLine ts i j → Neat ts i j
+  neat_line : {i j : ℕ} → IsNewline ts i j → Neat ts i j
   neat_line (line_end p) = pass _ _ k.LineEnd p refl
   neat_line (comment p q) = via _ _ k.LineComment p refl (pass _ _ k.LineEnd q refl)
 
-  neat_lines : {i j : ℕ} → IsLines ts i j → Neat ts i j
+  neat_lines : {i j : ℕ} → IsNewlines ts i j → Neat ts i j
   neat_lines (no_lines {i}) = still i
   neat_lines (line p q) = both (neat_line p) (neat_lines q)
 
@@ -247,7 +247,7 @@ module _ (ts : List Token) where
   neat_eol (eol_end {i} h) = still i
   neat_eol (eol_comment q h) = pass _ _ k.LineComment q refl
 
-  safe_line : {i j : ℕ} → IsLine ts i j → Safe ts i
+  safe_line : {i j : ℕ} → IsNewline ts i j → Safe ts i
   safe_line (line_end p) = safe _ _ k.LineEnd p refl
   safe_line (comment p q) = safe _ _ k.LineComment p refl
 
@@ -264,30 +264,30 @@ module _ (ts : List Token) where
   safe_sep (comma p q) = safe _ _ k.Comma p refl
   safe_sep (lines p q) = safe_line p
 
-  neat_names : {m : Bool} {ns : List ℕ} {i j : ℕ} → IsNames ts m ns i j → Neat ts i j
+  neat_names : {m : Bool} {ns : List ℕ} {i j : ℕ} → IsNameTail ts m ns i j → Neat ts i j
   neat_names (no_names {i}) = still i
   neat_names (name p q ns) = via _ _ k.DoubleColon p refl (via _ _ k.Identifier q refl (neat_names ns))
 
-  neat_second : {o : Option ℕ} {i j : ℕ} → IsSecond ts o i j → Neat ts i j
+  neat_second : {o : Option ℕ} {i j : ℕ} → IsSecondName ts o i j → Neat ts i j
   neat_second (no_second {i}) = still i
   neat_second (second p q) = via _ _ k.Comma p refl (pass _ _ k.Identifier q refl)
 
-  neat_dots : {b : Bool} {i j : ℕ} → IsDots ts b i j → Neat ts i j
-  neat_dots (no_dots {i}) = still i
-  neat_dots (dots p) = pass _ _ k.Ellipsis p refl
+  neat_dots : {b : Bool} {i j : ℕ} → IsEllipsis ts b i j → Neat ts i j
+  neat_dots (no_ellipsis {i}) = still i
+  neat_dots (ellipsis p) = pass _ _ k.Ellipsis p refl
 
-  safe_dots : {b : Bool} {i j : ℕ} → IsDots ts b i j → Safe ts j → Safe ts i
-  safe_dots no_dots f = f
-  safe_dots (dots p) f = safe _ _ k.Ellipsis p refl
+  safe_dots : {b : Bool} {i j : ℕ} → IsEllipsis ts b i j → Safe ts j → Safe ts i
+  safe_dots no_ellipsis f = f
+  safe_dots (ellipsis p) f = safe _ _ k.Ellipsis p refl
 
   neat_keyword : {m : Bool} {w : List ℕ} {i j : ℕ} → IsKeyword ts m w i j → Neat ts i j
   neat_keyword (keyword p w q) = via _ _ k.DirectiveOpen p refl (via_word _ _ _ w (pass _ _ k.SeqClose q refl))
 
   -- ---- expressions
 
-  safe_links : {d : ℕ} {m : Bool} {n : ℕ} {xs : List Link} {i j : ℕ} → IsLinks ts d m n xs i j → Safe ts j → Safe ts i
-  safe_links no_links f = f
-  safe_links (linked {n} {t} {op} p o x xs) f = safe _ _ t p (no-operator-name t (n, op) o)
+  safe_links : {d : ℕ} {m : Bool} {n : ℕ} {xs : List Operation} {i j : ℕ} → IsOperations ts d m n xs i j → Safe ts j → Safe ts i
+  safe_links no_operations f = f
+  safe_links (operation {n} {t} {op} p o x xs) f = safe _ _ t p (no-operator-name t (n, op) o)
 
   safe_tails : {d : ℕ} {m : Bool} {xs : List Tail} {i j : ℕ} → IsTails ts d m xs i j → Safe ts j → Safe ts i
   safe_tails no_tails f = f
@@ -314,12 +314,12 @@ module _ (ts : List Token) where
     neat_level (lowest p) f = neat_unary p f
     neat_level (level p q) f = both (neat_level p (safe_links q f)) (neat_links q f)
 
-    neat_links : {d : ℕ} {m : Bool} {n : ℕ} {xs : List Link} {i j : ℕ} → IsLinks ts d m n xs i j → Safe ts j → Neat ts i j
-    neat_links (no_links {i}) f = still i
-    neat_links (linked {n} {t} {op} p o x xs) f = both (pass_operator _ _ t (n, op) p o (begin_level x)) (both (neat_level x (safe_links xs f)) (neat_links xs f))
+    neat_links : {d : ℕ} {m : Bool} {n : ℕ} {xs : List Operation} {i j : ℕ} → IsOperations ts d m n xs i j → Safe ts j → Neat ts i j
+    neat_links (no_operations {i}) f = still i
+    neat_links (operation {n} {t} {op} p o x xs) f = both (pass_operator _ _ t (n, op) p o (begin_level x)) (both (neat_level x (safe_links xs f)) (neat_links xs f))
 
     neat_unary : {d : ℕ} {m : Bool} {e : Expr} {i j : ℕ} → IsUnary ts d m e i j → Safe ts j → Neat ts i j
-    neat_unary (prefixed {t} {op} p o x) f = via _ _ t p (harmless-prefix t op o) (neat_unary x f)
+    neat_unary (with_operator {t} {op} p o x) f = via _ _ t p (harmless-prefix t op o) (neat_unary x f)
     neat_unary (post p q) f = both (neat_term p (safe_tails q f)) (neat_tails q)
 
     neat_tails : {d : ℕ} {m : Bool} {xs : List Tail} {i j : ℕ} → IsTails ts d m xs i j → Neat ts i j
@@ -400,7 +400,7 @@ module _ (ts : List Token) where
   neat_labels (text_label p q r ls) = via _ _ k.QuoteOpen p refl (via _ _ k.QuoteLit q refl (via _ _ k.QuoteClose r refl (neat_labels ls)))
   neat_labels (empty_label p r ls) = via _ _ k.QuoteOpen p refl (via _ _ k.QuoteClose r refl (neat_labels ls))
 
-  neat_on_line : {d : ℕ} {o : Option Attribute} {i j : ℕ} → IsOnLine ts d o i j → Safe ts j → Neat ts i j
+  neat_on_line : {d : ℕ} {o : Option Attribute} {i j : ℕ} → IsOneLineBody ts d o i j → Safe ts j → Neat ts i j
   neat_on_line (nothing {i}) f = still i
   neat_on_line (one p q e) f = via _ _ k.Identifier p refl (via _ _ k.Equal q refl (neat_expr e f))
 
@@ -413,7 +413,7 @@ module _ (ts : List Token) where
   neat_members (line_block q ls h a c l ms) =
       via _ _ k.Identifier q refl (both (neat_labels ls) (via _ _ k.OpenBrace h refl (both (neat_on_line a (safe _ _ k.CloseBrace c refl)) (via _ _ k.CloseBrace c refl (both (neat_eol l) (neat_members ms))))))
 
-  neat_front : {i : ℕ} → IsFront ts i → Neat ts 0 i
+  neat_front : {i : ℕ} → IsOptionalMark ts i → Neat ts 0 i
   neat_front no_mark = still 0
   neat_front (mark q) = pass _ _ k.Mark q refl
 
@@ -422,16 +422,16 @@ module _ (ts : List Token) where
   none_left None h = refl
   none_left (Some t) h = absurd (cc)
 
-  trail : (j : ℕ) → next ts false j ≡ None → (n : ℕ) → j ≤ n → Fine ts n
-  unfolding next token
-  trail j h n l = let far = beyond ts (start ts false j) (none_left (slice_get ts (start ts false j)) h) in
+  trail : (j : ℕ) → next_kind ts false j ≡ None → (n : ℕ) → j ≤ n → Fine ts n
+  unfolding next_kind next_token
+  trail j h n l = let far = beyond ts (next_index ts false j) (none_left (slice_get ts (next_index ts false j)) h) in
       record { each = λ a b p q. (before false j n l (omega (arith, far, within ts n a p))).each a b p q }
 
-  neat_last : {j : ℕ} → IsLast ts j → (n : ℕ) → j ≤ n → Fine ts n
+  neat_last : {j : ℕ} → IsFileEnd ts j → (n : ℕ) → j ≤ n → Fine ts n
   neat_last (at_end {i} h) n l = trail i h n l
-  neat_last (at_comment {i} q h) n l = split n (after ts false i) _ (λ x. (pass false i k.LineComment q refl).at n l x) (λ x. trail (after ts false i) h n x)
+  neat_last (at_comment {i} q h) n l = split n (after_next ts false i) _ (λ x. (pass false i k.LineComment q refl).at n l x) (λ x. trail (after_next ts false i) h n x)
 
-  neat_file : (n : ℕ) {j : ℕ} → Neat ts 0 j → IsLast ts j → Fine ts n
+  neat_file : (n : ℕ) {j : ℕ} → Neat ts 0 j → IsFileEnd ts j → Fine ts n
   neat_file n {j} p l = split n j _ (λ x. p.at n (omega arith) x) (λ x. neat_last l n x)
 
   pub fine_file : {d : ℕ} {t : Tree} → IsFile ts d t → (n : ℕ) → Fine ts n

@@ -10,7 +10,7 @@ use Rattle.hcl_grammar.specs.declared.tree.Template.{Template}
 use Rattle.hcl_grammar.specs.Bodies.{IsMembers}
 use Rattle.hcl_grammar.specs.Grammar.{IsParts, IsPart, quote_text, here_text, interp, if_directive, for_directive}
 use Rattle.hcl_grammar.specs.Nodes as node
-use Rattle.hcl_grammar.specs.Tokens.{Token, first_of}
+use Rattle.hcl_grammar.specs.Tokens.{Token, first_token_in}
 use Rattle.hcl_grammar_laws.proofs.Opens.{open_literal, open_interp, open_if, open_for, if_directive_first, if_directive_past}
 use Rattle.hcl_grammar_laws.proofs.RestartBodies.{own_part, own_parts, own_members}
 
@@ -57,8 +57,8 @@ module _ {ts : List Token} where
 
   -- ---- templates and bodies
 
-  pub own_template : {d : ℕ} {m : Bool} {i j : ℕ} (x : Template) → IsParts ts d m x.parts i j → x.first ≡ first_of ts m i j → x.past ≡ j → IsParts ts d m x.parts x.first x.past
+  pub own_template : {d : ℕ} {m : Bool} {i j : ℕ} (x : Template) → IsParts ts d m x.parts i j → x.first ≡ first_token_in ts m i j → x.past ≡ j → IsParts ts d m x.parts x.first x.past
   own_template {d} {m} {i} {j} x w e f = subst (λ l. IsParts ts d m x.parts x.first l) (sym f) (subst (λ n. IsParts ts d m x.parts n j) (sym e) (own_parts w))
 
-  pub own_body : {d i j : ℕ} (x : Body) → IsMembers ts d x.members i j → x.first ≡ first_of ts false i j → x.past ≡ j → IsMembers ts d x.members x.first x.past
+  pub own_body : {d i j : ℕ} (x : Body) → IsMembers ts d x.members i j → x.first ≡ first_token_in ts false i j → x.past ≡ j → IsMembers ts d x.members x.first x.past
   own_body {d} {i} {j} x w e f = subst (λ l. IsMembers ts d x.members x.first l) (sym f) (subst (λ n. IsMembers ts d x.members n j) (sym e) (own_members w))

@@ -8,16 +8,16 @@ use Rattle.hcl_grammar.specs.declared.tree.Elem.{Elem}
 use Rattle.hcl_grammar.specs.declared.tree.Expr.{Expr}
 use Rattle.hcl_grammar.specs.declared.tree.Intro.{Intro}
 use Rattle.hcl_grammar.specs.declared.tree.Label.{Label}
-use Rattle.hcl_grammar.specs.declared.tree.Link.{Link}
+use Rattle.hcl_grammar.specs.declared.tree.Operation.{Operation}
 use Rattle.hcl_grammar.specs.declared.tree.Member.{Member}
 use Rattle.hcl_grammar.specs.declared.tree.Part.{Part}
 use Rattle.hcl_grammar.specs.declared.tree.Tail.{Tail}
 use Rattle.hcl_grammar.specs.declared.tree.Template.{Template}
 use Rattle.hcl_grammar.specs.declared.tree.Term.{Term}
-use Rattle.hcl_grammar.specs.Tokens.{Token, start, token, next, after}
-use Rattle.hcl_grammar.specs.Lines.{At, Word, IsLine, line_end, comment, IsLines, no_lines, line, IsSep, comma, lines, IsEol, eol_line, eol_end, eol_comment, IsNames, no_names, name, IsSecond, no_second, second, IsDots, no_dots, dots, IsKeyword, keyword}
-use Rattle.hcl_grammar.specs.Grammar.{IsExpr, plain, conditional, IsLevel, lowest, level, IsLinks, no_links, linked, IsUnary, prefixed, post, IsTails, no_tails, tails, IsTail, by_name, legacy, attribute_splat, full_splat, index, IsTerm, number, identifier, call, tuple, object, for_tuple, for_object, quoted, heredoc, parens, IsArguments, no_arguments, last_argument, spread_argument, argument, IsItems, no_items, last_item, item, IsElems, no_elems, last_elem, elems, IsElem, by_equals, by_colon, IsIntro, intro, IsFilter, no_filter, filter, IsParts, no_parts, parts, IsPart, quote_text, here_text, interp, if_directive, for_directive, IsElse, no_else, has_else}
-use Rattle.hcl_grammar.specs.Bodies.{IsLabels, no_labels, word_label, text_label, empty_label, IsOnLine, nothing, one as just, IsMembers, no_members, blank, attribute, block, line_block}
+use Rattle.hcl_grammar.specs.Tokens.{Token, next_index, next_token, next_kind, after_next}
+use Rattle.hcl_grammar.specs.Lookahead.{NextIs, NextIsWord, IsNewline, line_end, comment, IsNewlines, no_lines, line, IsSep, comma, lines, IsEol, eol_line, eol_end, eol_comment, IsNameTail, no_names, name, IsSecondName, no_second, second, IsEllipsis, no_ellipsis, ellipsis, IsKeyword, keyword}
+use Rattle.hcl_grammar.specs.Grammar.{IsExpr, plain, conditional, IsLevel, lowest, level, IsOperations, no_operations, operation, IsUnary, with_operator, post, IsTails, no_tails, tails, IsTail, by_name, legacy, attribute_splat, full_splat, index, IsTerm, number, identifier, call, tuple, object, for_tuple, for_object, quoted, heredoc, parens, IsArguments, no_arguments, last_argument, spread_argument, argument, IsItems, no_items, last_item, item, IsElems, no_elems, last_elem, elems, IsElem, by_equals, by_colon, IsIntro, intro, IsFilter, no_filter, filter, IsParts, no_parts, parts, IsPart, quote_text, here_text, interp, if_directive, for_directive, IsElse, no_else, has_else}
+use Rattle.hcl_grammar.specs.Bodies.{IsLabels, no_labels, word_label, text_label, empty_label, IsOneLineBody, nothing, one as just, IsMembers, no_members, blank, attribute, block, line_block}
 use Rattle.hcl_grammar_laws.proofs.Steps.{word_at}
 
 pub record Spans (ts : List Token) (i j : ℕ) : Type 0 where
@@ -37,11 +37,11 @@ there : (ts : List Token) (n : ℕ) (t : Kind) (o : Option Token) → slice_get 
 there ts n t None e h = absurd (let clash : None ≡ Some t = h in cc)
 there ts n t (Some u) e h = within-length ts n u e
 
-pub step : (ts : List Token) (m : Bool) (t : Kind) (i : ℕ) → At ts m t i → Takes ts i (after ts m i)
-unfolding next token after start
-step ts m t i h = let below : start ts m i < length ts = there ts (start ts m i) t (slice_get ts (start ts m i)) refl h in record { forth = omega arith; within = omega arith }
+pub step : (ts : List Token) (m : Bool) (t : Kind) (i : ℕ) → NextIs ts m t i → Takes ts i (after_next ts m i)
+unfolding next_kind next_token after_next next_index
+step ts m t i h = let below : next_index ts m i < length ts = there ts (next_index ts m i) t (slice_get ts (next_index ts m i)) refl h in record { forth = omega arith; within = omega arith }
 
-pub step_word : (ts : List Token) (m : Bool) (w : List ℕ) (i : ℕ) → Word ts m w i → Takes ts i (after ts m i)
+pub step_word : (ts : List Token) (m : Bool) (w : List ℕ) (i : ℕ) → NextIsWord ts m w i → Takes ts i (after_next ts m i)
 step_word ts m w i h = step ts m k.Identifier i (word_at ts m w i h)
 
 pub still : (ts : List Token) (i : ℕ) → Spans ts i i
@@ -61,26 +61,26 @@ behind p q = record { forth = omega arith; within = omega arith }
 
 module _ {ts : List Token} where
   -- a step and what follows it
-  via : {j : ℕ} (m : Bool) (i : ℕ) (t : Kind) → At ts m t i → Spans ts (after ts m i) j → Spans ts i j
+  via : {j : ℕ} (m : Bool) (i : ℕ) (t : Kind) → NextIs ts m t i → Spans ts (after_next ts m i) j → Spans ts i j
   via m i t p q = both (loose (step ts m t i p)) q
 
-  through : {j : ℕ} (m : Bool) (i : ℕ) (t : Kind) → At ts m t i → Takes ts (after ts m i) j → Takes ts i j
+  through : {j : ℕ} (m : Bool) (i : ℕ) (t : Kind) → NextIs ts m t i → Takes ts (after_next ts m i) j → Takes ts i j
   through m i t p q = behind (loose (step ts m t i p)) q
 
-  via_word : {j : ℕ} (m : Bool) (w : List ℕ) (i : ℕ) → Word ts m w i → Spans ts (after ts m i) j → Spans ts i j
+  via_word : {j : ℕ} (m : Bool) (w : List ℕ) (i : ℕ) → NextIsWord ts m w i → Spans ts (after_next ts m i) j → Spans ts i j
   via_word m w i p q = both (loose (step_word ts m w i p)) q
 
-  through_word : {j : ℕ} (m : Bool) (w : List ℕ) (i : ℕ) → Word ts m w i → Takes ts (after ts m i) j → Takes ts i j
+  through_word : {j : ℕ} (m : Bool) (w : List ℕ) (i : ℕ) → NextIsWord ts m w i → Takes ts (after_next ts m i) j → Takes ts i j
   through_word m w i p q = behind (loose (step_word ts m w i p)) q
 
-  single : (m : Bool) (i : ℕ) (t : Kind) → At ts m t i → Takes ts i (after ts m i)
+  single : (m : Bool) (i : ℕ) (t : Kind) → NextIs ts m t i → Takes ts i (after_next ts m i)
   single m i t p = step ts m t i p
 
-  pub span_line : {i j : ℕ} → IsLine ts i j → Takes ts i j
+  pub span_line : {i j : ℕ} → IsNewline ts i j → Takes ts i j
   span_line (line_end p) = single _ _ k.LineEnd p
   span_line (comment p q) = through _ _ k.LineComment p (single _ _ k.LineEnd q)
 
-  pub span_lines : {i j : ℕ} → IsLines ts i j → Spans ts i j
+  pub span_lines : {i j : ℕ} → IsNewlines ts i j → Spans ts i j
   span_lines (no_lines {i}) = still ts i
   span_lines (line p q) = both (loose (span_line p)) (span_lines q)
 
@@ -93,17 +93,17 @@ module _ {ts : List Token} where
   span_sep (comma p q) = ahead (single _ _ k.Comma p) (span_lines q)
   span_sep (lines p q) = ahead (span_line p) (span_lines q)
 
-  pub span_names : {m : Bool} {ns : List ℕ} {i j : ℕ} → IsNames ts m ns i j → Spans ts i j
+  pub span_names : {m : Bool} {ns : List ℕ} {i j : ℕ} → IsNameTail ts m ns i j → Spans ts i j
   span_names (no_names {i}) = still ts i
   span_names (name p q ns) = via _ _ k.DoubleColon p (via _ _ k.Identifier q (span_names ns))
 
-  pub span_second : {o : Option ℕ} {i j : ℕ} → IsSecond ts o i j → Spans ts i j
+  pub span_second : {o : Option ℕ} {i j : ℕ} → IsSecondName ts o i j → Spans ts i j
   span_second (no_second {i}) = still ts i
   span_second (second p q) = via _ _ k.Comma p (loose (single _ _ k.Identifier q))
 
-  pub span_dots : {b : Bool} {i j : ℕ} → IsDots ts b i j → Spans ts i j
-  span_dots (no_dots {i}) = still ts i
-  span_dots (dots p) = loose (single _ _ k.Ellipsis p)
+  pub span_dots : {b : Bool} {i j : ℕ} → IsEllipsis ts b i j → Spans ts i j
+  span_dots (no_ellipsis {i}) = still ts i
+  span_dots (ellipsis p) = loose (single _ _ k.Ellipsis p)
 
   pub span_keyword : {m : Bool} {w : List ℕ} {i j : ℕ} → IsKeyword ts m w i j → Takes ts i j
   span_keyword (keyword p w q) = through _ _ k.DirectiveOpen p (through_word _ _ _ w (single _ _ k.SeqClose q))
@@ -117,12 +117,12 @@ module _ {ts : List Token} where
     span_level (lowest p) = span_unary p
     span_level (level p q) = both (span_level p) (span_links q)
 
-    pub span_links : {d : ℕ} {m : Bool} {n : ℕ} {xs : List Link} {i j : ℕ} → IsLinks ts d m n xs i j → Spans ts i j
-    span_links (no_links {i}) = still ts i
-    span_links (linked {t} p o x xs) = via _ _ t p (both (span_level x) (span_links xs))
+    pub span_links : {d : ℕ} {m : Bool} {n : ℕ} {xs : List Operation} {i j : ℕ} → IsOperations ts d m n xs i j → Spans ts i j
+    span_links (no_operations {i}) = still ts i
+    span_links (operation {t} p o x xs) = via _ _ t p (both (span_level x) (span_links xs))
 
     pub span_unary : {d : ℕ} {m : Bool} {e : Expr} {i j : ℕ} → IsUnary ts d m e i j → Spans ts i j
-    span_unary (prefixed {t} p o x) = via _ _ t p (span_unary x)
+    span_unary (with_operator {t} p o x) = via _ _ t p (span_unary x)
     span_unary (post p q) = both (loose (span_term p)) (span_tails q)
 
     pub span_tails : {d : ℕ} {m : Bool} {xs : List Tail} {i j : ℕ} → IsTails ts d m xs i j → Spans ts i j
@@ -197,7 +197,7 @@ module _ {ts : List Token} where
   span_labels (text_label p q r ls) = via _ _ k.QuoteOpen p (via _ _ k.QuoteLit q (via _ _ k.QuoteClose r (span_labels ls)))
   span_labels (empty_label p r ls) = via _ _ k.QuoteOpen p (via _ _ k.QuoteClose r (span_labels ls))
 
-  pub span_on_line : {d : ℕ} {o : Option Attribute} {i j : ℕ} → IsOnLine ts d o i j → Spans ts i j
+  pub span_on_line : {d : ℕ} {o : Option Attribute} {i j : ℕ} → IsOneLineBody ts d o i j → Spans ts i j
   span_on_line (nothing {i}) = still ts i
   span_on_line (just p q e) = via _ _ k.Identifier p (via _ _ k.Equal q (span_expr e))
 

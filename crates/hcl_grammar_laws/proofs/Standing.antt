@@ -9,42 +9,42 @@ use Rattle.hcl_grammar.specs.declared.tree.Content.TheOpen.{Content-F}
 use Rattle.hcl_grammar.specs.declared.tree.Elem.{Elem}
 use Rattle.hcl_grammar.specs.declared.tree.Expr.{Expr}
 use Rattle.hcl_grammar.specs.declared.tree.ForDirective.{ForDirective}
-use Rattle.hcl_grammar.specs.declared.tree.Form.{out-Form}
+use Rattle.hcl_grammar.specs.declared.tree.ExprKind.{out-ExprKind}
 use Rattle.hcl_grammar.specs.declared.tree.IfDirective.{IfDirective, roll-IfDirective}
 use Rattle.hcl_grammar.specs.declared.tree.Intro.{Intro}
 use Rattle.hcl_grammar.specs.declared.tree.Label.{Label}
-use Rattle.hcl_grammar.specs.declared.tree.Link.{Link}
+use Rattle.hcl_grammar.specs.declared.tree.Operation.{Operation}
 use Rattle.hcl_grammar.specs.declared.tree.Member.{Member}
 use Rattle.hcl_grammar.specs.declared.tree.Member.TheVariants as member
 use Rattle.hcl_grammar.specs.declared.tree.Part.{Part, out-Part}
 use Rattle.hcl_grammar.specs.declared.tree.Part.TheVariants as part
-use Rattle.hcl_grammar.specs.declared.tree.Shape.{out-Shape}
+use Rattle.hcl_grammar.specs.declared.tree.Primary.{out-Primary}
 use Rattle.hcl_grammar.specs.declared.tree.Tail.{Tail, out-Tail}
 use Rattle.hcl_grammar.specs.declared.tree.Template.{Template}
 use Rattle.hcl_grammar.specs.declared.tree.Term.{Term}
 use Rattle.hcl_grammar.specs.declared.tree.Tree.{Tree}
-use Rattle.hcl_grammar.specs.Bodies.{IsLabels, no_labels, word_label, text_label, empty_label, IsOnLine, nothing, one as just, IsMembers, no_members, blank, attribute, block, line_block, IsFile, file}
-use Rattle.hcl_grammar.specs.Grammar.{IsExpr, plain, conditional, IsLevel, lowest, level, IsLinks, no_links, linked, IsUnary, prefixed, post, IsTails, no_tails, tails, IsTail, by_name, legacy, attribute_splat, full_splat, index, IsTerm, number, identifier, call, tuple, object, for_tuple, for_object, quoted, heredoc, parens, IsArguments, no_arguments, last_argument, spread_argument, argument, IsItems, no_items, last_item, item, IsElems, no_elems, last_elem, elems, IsElem, by_equals, by_colon, IsIntro, intro, IsFilter, no_filter, filter, IsParts, no_parts, parts, IsPart, quote_text, here_text, interp, if_directive, for_directive, IsElse, no_else, has_else}
+use Rattle.hcl_grammar.specs.Bodies.{IsLabels, no_labels, word_label, text_label, empty_label, IsOneLineBody, nothing, one as just, IsMembers, no_members, blank, attribute, block, line_block, IsFile, file}
+use Rattle.hcl_grammar.specs.Grammar.{IsExpr, plain, conditional, IsLevel, lowest, level, IsOperations, no_operations, operation, IsUnary, with_operator, post, IsTails, no_tails, tails, IsTail, by_name, legacy, attribute_splat, full_splat, index, IsTerm, number, identifier, call, tuple, object, for_tuple, for_object, quoted, heredoc, parens, IsArguments, no_arguments, last_argument, spread_argument, argument, IsItems, no_items, last_item, item, IsElems, no_elems, last_elem, elems, IsElem, by_equals, by_colon, IsIntro, intro, IsFilter, no_filter, filter, IsParts, no_parts, parts, IsPart, quote_text, here_text, interp, if_directive, for_directive, IsElse, no_else, has_else}
 use Rattle.hcl_grammar.specs.Nodes as node
 use Rattle.hcl_grammar.specs.Operators.{levels}
-use Rattle.hcl_grammar.specs.Tokens.{Token, first_of}
+use Rattle.hcl_grammar.specs.Tokens.{Token, first_token_in}
 use Rattle.hcl_grammar_laws.proofs.Opens.{open_conditional, open_chain, open_prefixed, open_tailed, open_plain, open_number, open_identifier, open_call, open_tuple, open_object, open_for_tuple, open_for_object, open_quoted, open_heredoc, open_parens, open_name, open_legacy, open_attribute_splat, open_full_splat, open_index, open_literal, open_interp, open_if, open_for, open_lines, open_line, open_attribute, open_block, call_arguments, for_tuple_intro, for_tuple_value, for_tuple_filter, for_object_intro, for_object_key, for_object_value, for_object_filter, if_directive_condition, if_directive_met, if_directive_unmet}
 use Rattle.hcl_grammar_laws.proofs.Own.{if_is, for_is, literal_if, literal_for, interp_if, interp_for, if_for}
 use Rattle.hcl_grammar_laws.proofs.RestartBodies.{some_is, attribute_is, block_is, other_member}
-use Rattle.hcl_grammar_laws.specs.EachNode as n
-use Rattle.hcl_grammar_laws.specs.EachNode.{Node, nodes, StandsIn, itself, within, StandsAmong, here, behind}
+use Rattle.hcl_grammar_laws.specs.NodeSpans as n
+use Rattle.hcl_grammar_laws.specs.NodeSpans.{Node, nodes, IsWithin, itself, within, IsWithinOneOf, in_first, in_rest}
 
 -- a node that is derived somewhere
 pub data Held (ts : List Token) : Node → Type 0 where
-  held_body : {d : ℕ} {x : Body} {i j : ℕ} → IsMembers ts d x.members i j → x.first ≡ first_of ts false i j → x.past ≡ j → Held ts (n.body x)
+  held_body : {d : ℕ} {x : Body} {i j : ℕ} → IsMembers ts d x.members i j → x.first ≡ first_token_in ts false i j → x.past ≡ j → Held ts (n.body x)
   held_block : {d : ℕ} {x : Block} {i j : ℕ} → IsMembers ts d (member.Block x ∷ []) i j → Held ts (n.block x)
   held_attribute : {d : ℕ} {x : Attribute} {i j : ℕ} → IsMembers ts d (member.Attribute x ∷ []) i j → Held ts (n.attribute x)
-  held_on_line : {d : ℕ} {x : Attribute} {i j : ℕ} → IsOnLine ts d (Some x) i j → Held ts (n.on_line x)
+  held_on_line : {d : ℕ} {x : Attribute} {i j : ℕ} → IsOneLineBody ts d (Some x) i j → Held ts (n.one_line_attribute x)
   held_label : {x : Label} {i j : ℕ} → IsLabels ts (x ∷ []) i j → Held ts (n.label x)
   held_expr : {d : ℕ} {m : Bool} {x : Expr} {i j : ℕ} → IsExpr ts d m x i j → Held ts (n.expr x)
   held_term : {d : ℕ} {m : Bool} {x : Term} {i j : ℕ} → IsTerm ts d m x i j → Held ts (n.term x)
   held_intro : {d : ℕ} {x : Intro} {i j : ℕ} → IsIntro ts d x i j → Held ts (n.intro x)
-  held_template : {d : ℕ} {m : Bool} {x : Template} {i j : ℕ} → IsParts ts d m x.parts i j → x.first ≡ first_of ts m i j → x.past ≡ j → Held ts (n.template x)
+  held_template : {d : ℕ} {m : Bool} {x : Template} {i j : ℕ} → IsParts ts d m x.parts i j → x.first ≡ first_token_in ts m i j → x.past ≡ j → Held ts (n.template x)
   held_if : {d : ℕ} {m : Bool} {x : IfDirective} {i j : ℕ} → IsPart ts d m (part.If x) i j → Held ts (n.if_directive x)
   held_for : {d : ℕ} {m : Bool} {x : ForDirective} {i j : ℕ} → IsPart ts d m (part.For x) i j → Held ts (n.for_directive x)
 
@@ -66,7 +66,7 @@ module _ {ts : List Token} where
   -- what stands on a level is an expression
   lift : {d : ℕ} {m : Bool} {l : ℕ} {x : Expr} {i j : ℕ} (k : ℕ) → k + l ≡ levels → IsLevel ts d m l x i j → IsExpr ts d m x i j
   lift {d} {m} {l} {x} {i} {j} zero e w = let top : l ≡ levels = omega (arith, e) in plain (subst (λ z. IsLevel ts d m z x i j) top w)
-  lift (suc k) e w = lift k (omega (arith, e)) (level w no_links)
+  lift (suc k) e w = lift k (omega (arith, e)) (level w no_operations)
 
   held_level : {d : ℕ} {m : Bool} {l : ℕ} {x : Expr} {i j : ℕ} (k : ℕ) → k + l ≡ levels → IsLevel ts d m l x i j → Held ts (n.expr x)
   held_level k e w = held_expr (lift k e w)
@@ -74,10 +74,10 @@ module _ {ts : List Token} where
   held_unary : {d : ℕ} {m : Bool} {x : Expr} {i j : ℕ} → IsUnary ts d m x i j → Held ts (n.expr x)
   held_unary w = held_level levels refl (lowest w)
 
-  all_links : {d : ℕ} {m : Bool} {l : ℕ} {xs : List Link} {i j : ℕ} (k : ℕ) → k + l ≡ levels → IsLinks ts d m l xs i j → All ts (map (λ (l : Link). n.expr l.operand) xs)
-  unfolding node.link
-  all_links k e no_links = tt
-  all_links k e (linked p o x xs) = (held_level k e x, all_links k e xs)
+  all_links : {d : ℕ} {m : Bool} {l : ℕ} {xs : List Operation} {i j : ℕ} (k : ℕ) → k + l ≡ levels → IsOperations ts d m l xs i j → All ts (map (λ (l : Operation). n.expr l.operand) xs)
+  unfolding node.operation
+  all_links k e no_operations = tt
+  all_links k e (operation p o x xs) = (held_level k e x, all_links k e xs)
 
   tail_held : {d : ℕ} {m : Bool} {x : Tail} {i j : ℕ} → IsTail ts d m x i j → All ts (n.tail_nodes (out-Tail x))
   tail_held (by_name p q) = are ts _ [] (ap n.tail_nodes (open_name _)) tt
@@ -90,26 +90,26 @@ module _ {ts : List Token} where
   all_tails no_tails = tt
   all_tails (tails x xs) = all_append ts _ _ (tail_held x) (all_tails xs)
 
-  in_unary : {d : ℕ} {m : Bool} {x : Expr} {i j : ℕ} → IsUnary ts d m x i j → All ts (n.form_nodes (out-Form x.form))
+  in_unary : {d : ℕ} {m : Bool} {x : Expr} {i j : ℕ} → IsUnary ts d m x i j → All ts (n.expr_kind_nodes (out-ExprKind x.kind))
   unfolding node.expr
-  in_unary (prefixed {op} {e} p o x) = are ts _ (n.expr e ∷ []) (ap n.form_nodes (open_prefixed op e)) (held_unary x, tt)
-  in_unary (post {head} p no_tails) = are ts _ (n.term head ∷ []) (ap n.form_nodes (open_plain head)) (held_term p, tt)
+  in_unary (with_operator {op} {e} p o x) = are ts _ (n.expr e ∷ []) (ap n.expr_kind_nodes (open_prefixed op e)) (held_unary x, tt)
+  in_unary (post {head} p no_tails) = are ts _ (n.term head ∷ []) (ap n.expr_kind_nodes (open_plain head)) (held_term p, tt)
   in_unary (post {head} p (tails {x} {xs} t r)) =
-      are ts _ (n.term head ∷ flat_map (λ (x : Tail). n.tail_nodes (out-Tail x)) (x ∷ xs)) (ap n.form_nodes (open_tailed head (x ∷ xs))) (held_term p, all_tails (tails t r))
+      are ts _ (n.term head ∷ flat_map (λ (x : Tail). n.tail_nodes (out-Tail x)) (x ∷ xs)) (ap n.expr_kind_nodes (open_tailed head (x ∷ xs))) (held_term p, all_tails (tails t r))
 
-  in_level : {d : ℕ} {m : Bool} {l : ℕ} {x : Expr} {i j : ℕ} (k : ℕ) → k + l ≡ levels → IsLevel ts d m l x i j → All ts (n.form_nodes (out-Form x.form))
+  in_level : {d : ℕ} {m : Bool} {l : ℕ} {x : Expr} {i j : ℕ} (k : ℕ) → k + l ≡ levels → IsLevel ts d m l x i j → All ts (n.expr_kind_nodes (out-ExprKind x.kind))
   unfolding node.expr
   in_level k e (lowest p) = in_unary p
-  in_level k e (level p no_links) = in_level (suc k) (omega (arith, e)) p
-  in_level k e (level {head} p (linked {op} {x} {links} q o y ys)) =
-      are ts _ (n.expr head ∷ map (λ (l : Link). n.expr l.operand) (node.link op x ∷ links)) (ap n.form_nodes (open_chain head (node.link op x ∷ links)))
-      (held_level (suc k) (omega (arith, e)) p, all_links (suc k) (omega (arith, e)) (linked q o y ys))
+  in_level k e (level p no_operations) = in_level (suc k) (omega (arith, e)) p
+  in_level k e (level {head} p (operation {op} {x} {links} q o y ys)) =
+      are ts _ (n.expr head ∷ map (λ (l : Operation). n.expr l.operand) (node.operation op x ∷ links)) (ap n.expr_kind_nodes (open_chain head (node.operation op x ∷ links)))
+      (held_level (suc k) (omega (arith, e)) p, all_links (suc k) (omega (arith, e)) (operation q o y ys))
 
-  in_expr : {d : ℕ} {m : Bool} {x : Expr} {i j : ℕ} → IsExpr ts d m x i j → All ts (n.form_nodes (out-Form x.form))
+  in_expr : {d : ℕ} {m : Bool} {x : Expr} {i j : ℕ} → IsExpr ts d m x i j → All ts (n.expr_kind_nodes (out-ExprKind x.kind))
   unfolding node.expr
   in_expr (plain p) = in_level zero refl p
-  in_expr (conditional {c} {met} {unmet} p q x s y) =
-      are ts _ (n.expr c ∷ n.expr met ∷ n.expr unmet ∷ []) (ap n.form_nodes (open_conditional c met unmet)) (held_level zero refl p, (held_expr x, (held_expr y, tt)))
+  in_expr (conditional {c} {then_branch} {else_branch} p q x s y) =
+      are ts _ (n.expr c ∷ n.expr then_branch ∷ n.expr else_branch ∷ []) (ap n.expr_kind_nodes (open_conditional c then_branch else_branch)) (held_level zero refl p, (held_expr x, (held_expr y, tt)))
 
   -- ---- terms
 
@@ -138,31 +138,31 @@ module _ {ts : List Token} where
   filter_held (no_filter p) = tt
   filter_held (filter w x p) = (held_expr x, tt)
 
-  template_held : {d : ℕ} {m : Bool} {ps : List Part} {i j : ℕ} → IsParts ts d m ps i j → Held ts (n.template (node.template (first_of ts m i j) j ps))
+  template_held : {d : ℕ} {m : Bool} {ps : List Part} {i j : ℕ} → IsParts ts d m ps i j → Held ts (n.template (node.template (first_token_in ts m i j) j ps))
   unfolding node.template
   template_held w = held_template w refl refl
 
-  in_term : {d : ℕ} {m : Bool} {x : Term} {i j : ℕ} → IsTerm ts d m x i j → All ts (n.shape_nodes (out-Shape x.shape))
+  in_term : {d : ℕ} {m : Bool} {x : Term} {i j : ℕ} → IsTerm ts d m x i j → All ts (n.primary_nodes (out-Primary x.kind))
   unfolding node.term node.call node.for_tuple node.for_object
-  in_term (number p) = are ts _ [] (ap n.shape_nodes open_number) tt
-  in_term (identifier p q r) = are ts _ [] (ap n.shape_nodes open_identifier) tt
-  in_term (call {es} p ns q xs) = are ts _ (map n.expr es) (ap n.shape_nodes (open_call _) ∙ ap (map n.expr) (call_arguments _ es _)) (all_arguments xs)
-  in_term (tuple {es} p w xs) = are ts _ (map n.expr es) (ap n.shape_nodes (open_tuple es)) (all_items xs)
-  in_term (object {xs} p w l es) = are ts _ (flat_map n.elem_nodes xs) (ap n.shape_nodes (open_object xs)) (all_elems es)
+  in_term (number p) = are ts _ [] (ap n.primary_nodes open_number) tt
+  in_term (identifier p q r) = are ts _ [] (ap n.primary_nodes open_identifier) tt
+  in_term (call {es} p ns q xs) = are ts _ (map n.expr es) (ap n.primary_nodes (open_call _) ∙ ap (map n.expr) (call_arguments _ es _)) (all_arguments xs)
+  in_term (tuple {es} p w xs) = are ts _ (map n.expr es) (ap n.primary_nodes (open_tuple es)) (all_items xs)
+  in_term (object {xs} p w l es) = are ts _ (flat_map n.elem_nodes xs) (ap n.primary_nodes (open_object xs)) (all_elems es)
   in_term (for_tuple {x} {value} {filter} p y c v f) =
       are ts _ (n.intro x ∷ n.expr value ∷ n.filter_nodes filter)
-      (ap n.shape_nodes (open_for_tuple _) ∙ rw (for_tuple_intro x value filter, for_tuple_value x value filter, for_tuple_filter x value filter) refl)
+      (ap n.primary_nodes (open_for_tuple _) ∙ rw (for_tuple_intro x value filter, for_tuple_value x value filter, for_tuple_filter x value filter) refl)
       (held_intro y, (held_expr v, filter_held f))
   in_term (for_object {x} {key} {value} {grouped} {filter} p y c a w v s f) =
       are ts _ (n.intro x ∷ n.expr key ∷ n.expr value ∷ n.filter_nodes filter)
-      (ap n.shape_nodes (open_for_object _)
+      (ap n.primary_nodes (open_for_object _)
       ∙ rw (for_object_intro x key value grouped filter, for_object_key x key value grouped filter, for_object_value x key value grouped filter, for_object_filter x key value grouped filter) refl)
       (held_intro y, (held_expr a, (held_expr v, filter_held f)))
-  in_term (quoted p ps q) = are ts _ (n.template _ ∷ []) (ap n.shape_nodes (open_quoted _)) (template_held ps, tt)
-  in_term (heredoc p ps q) = are ts _ (n.template _ ∷ []) (ap n.shape_nodes (open_heredoc _)) (template_held ps, tt)
-  in_term (parens {e} p x q) = are ts _ (n.expr e ∷ []) (ap n.shape_nodes (open_parens e)) (held_expr x, tt)
+  in_term (quoted p ps q) = are ts _ (n.template _ ∷ []) (ap n.primary_nodes (open_quoted _)) (template_held ps, tt)
+  in_term (heredoc p ps q) = are ts _ (n.template _ ∷ []) (ap n.primary_nodes (open_heredoc _)) (template_held ps, tt)
+  in_term (parens {e} p x q) = are ts _ (n.expr e ∷ []) (ap n.primary_nodes (open_parens e)) (held_expr x, tt)
 
-  in_intro : {d : ℕ} {x : Intro} {i j : ℕ} → IsIntro ts d x i j → All ts (n.expr x.source ∷ [])
+  in_intro : {d : ℕ} {x : Intro} {i j : ℕ} → IsIntro ts d x i j → All ts (n.expr x.collection ∷ [])
   unfolding node.intro
   in_intro (intro w p s v y) = (held_expr y, tt)
 
@@ -185,9 +185,9 @@ module _ {ts : List Token} where
   else_held (has_else q ps e) = (template_held ps, tt)
 
   in_if_nodes : (a b : ℕ) (c : Expr) (t : Template) (u : Option Template) → Held ts (n.expr c) → Held ts (n.template t) → All ts (n.else_nodes u)
-      → All ts (nodes (n.if_directive (roll-IfDirective (record { first = a; past = b; condition = c; met = t; unmet = u }))))
+      → All ts (nodes (n.if_directive (roll-IfDirective (record { first = a; past = b; condition = c; then_branch = t; else_branch = u }))))
   in_if_nodes a b c t u h g k =
-      are ts (nodes (n.if_directive (roll-IfDirective (record { first = a; past = b; condition = c; met = t; unmet = u })))) (n.expr c ∷ n.template t ∷ n.else_nodes u)
+      are ts (nodes (n.if_directive (roll-IfDirective (record { first = a; past = b; condition = c; then_branch = t; else_branch = u })))) (n.expr c ∷ n.template t ∷ n.else_nodes u)
       (rw (if_directive_condition a b c t u, if_directive_met a b c t u, if_directive_unmet a b c t u) refl) (h, (g, k))
 
   in_if : {d : ℕ} {m : Bool} {p : Part} {i j : ℕ} → IsPart ts d m p i j → (x : IfDirective) → p ≡ part.If x → All ts (nodes (n.if_directive x))
@@ -216,12 +216,12 @@ module _ {ts : List Token} where
   all_labels (text_label p q s r) = (held_label (text_label p q s no_labels), all_labels r)
   all_labels (empty_label p q r) = (held_label (empty_label p q no_labels), all_labels r)
 
-  in_on_line : {d : ℕ} {o : Option Attribute} {i j : ℕ} → IsOnLine ts d o i j → (x : Attribute) → o ≡ Some x → All ts (n.expr x.value ∷ [])
+  in_on_line : {d : ℕ} {o : Option Attribute} {i j : ℕ} → IsOneLineBody ts d o i j → (x : Attribute) → o ≡ Some x → All ts (n.expr x.value ∷ [])
   unfolding node.attribute
   in_on_line nothing x e = absurd (cc)
   in_on_line (just p q y) x e = subst (λ x. All ts (n.expr x.value ∷ [])) (some_is e) (held_expr y, tt)
 
-  line_held : {d : ℕ} {o : Option Attribute} {i j : ℕ} → IsOnLine ts d o i j → All ts (n.content_nodes (Content-F.Line o))
+  line_held : {d : ℕ} {o : Option Attribute} {i j : ℕ} → IsOneLineBody ts d o i j → All ts (n.content_nodes (Content-F.OneLine o))
   line_held nothing = tt
   line_held (just p q y) = (held_on_line (just p q y), tt)
 
@@ -233,7 +233,7 @@ module _ {ts : List Token} where
   all_members (block p ns b s ms c l r) = (subst (Held ts) (sym (ap n.member_node (open_block _))) (held_block (block p ns b s ms c l no_members)), all_members r)
   all_members (line_block p ns b t c l r) = (subst (Held ts) (sym (ap n.member_node (open_block _))) (held_block (line_block p ns b t c l no_members)), all_members r)
 
-  body_held : {d : ℕ} {ms : List Member} {i j : ℕ} → IsMembers ts d ms i j → Held ts (n.body (node.body (first_of ts false i j) j ms))
+  body_held : {d : ℕ} {ms : List Member} {i j : ℕ} → IsMembers ts d ms i j → Held ts (n.body (node.body (first_token_in ts false i j) j ms))
   unfolding node.body
   body_held w = held_body w refl refl
 
@@ -271,14 +271,14 @@ module _ {ts : List Token} where
   inside (held_for {x} w) = in_for w x refl
 
   mutual
-    stands : {x p : Node} → Held ts p → StandsIn x p → Held ts x
+    stands : {x p : Node} → Held ts p → IsWithin x p → Held ts x
     stands h itself = h
     stands h (within a) = among (inside h) a
 
-    among : {x : Node} {ps : List Node} → All ts ps → StandsAmong x ps → Held ts x
-    among a (here s) = stands a.0 s
-    among a (behind s) = among a.1 s
+    among : {x : Node} {ps : List Node} → All ts ps → IsWithinOneOf x ps → Held ts x
+    among a (in_first s) = stands a.0 s
+    among a (in_rest s) = among a.1 s
 
-  pub held : {d : ℕ} {t : Tree} → IsFile ts d t → (x : Node) → StandsIn x (n.body t.body) → Held ts x
+  pub held : {d : ℕ} {t : Tree} → IsFile ts d t → (x : Node) → IsWithin x (n.body t.body) → Held ts x
   unfolding node.tree
   held (file f w l) x s = stands (body_held w) s

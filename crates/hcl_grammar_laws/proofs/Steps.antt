@@ -9,16 +9,16 @@ use Rattle.hcl_token.specs.contracts.kind.Kind.{the_type}
 use Rattle.hcl_token.specs.declared.kind.Kind.{Kind}
 use Rattle.hcl_token.specs.declared.kind.Kind.TheVariants as k
 use Rattle.hcl_grammar.specs.declared.fault.TokenFault.TheVariants.{TooDeep}
-use Rattle.hcl_grammar.specs.Tokens.{Token, token, next, after, same_kind, is_kind, is_word}
-use Rattle.hcl_grammar.specs.Pure.Reading.{Outcome, Step, go_on, sees, past, expect, bump, reads, word}
-use Rattle.hcl_grammar.specs.Lines.{At, Word}
+use Rattle.hcl_grammar.specs.Tokens.{Token, next_token, next_kind, after_next, same_kind, is_kind, is_word}
+use Rattle.hcl_grammar.specs.Pure.Reading.{Outcome, Step, and_then, next_is, after_if_next, expect, bump, next_is_word, expect_word}
+use Rattle.hcl_grammar.specs.Lookahead.{NextIs, NextIsWord}
 
 -- The parser answers this value and goes on from j. Where fewer constructs may nest than do, it may find that too.
 pub data Answers {A : Type 0} (d b : ℕ) (x : A) (j : ℕ) : Outcome A → Type 0 where
   found : Answers d b x j (Ok (x, j))
   deep : {at : ℕ} → b < d → Answers d b x j (Err (TooDeep at))
 
-pub bind : {A B : Type 0} {d b : ℕ} {x : A} {j : ℕ} {y : B} {k : ℕ} {r : Outcome A} (f : A → Step B) → Answers d b x j r → Answers d b y k (f x j) → Answers d b y k (go_on r f)
+pub bind : {A B : Type 0} {d b : ℕ} {x : A} {j : ℕ} {y : B} {k : ℕ} {r : Outcome A} (f : A → Step B) → Answers d b x j r → Answers d b y k (f x j) → Answers d b y k (and_then r f)
 bind f found h = h
 bind f (deep l) h = deep l
 
@@ -34,23 +34,23 @@ pub same-eq : (s t : Kind) → same_kind s t ≡ true → s ≡ t
 unfolding same_kind
 same-eq s t h = same_true the_type (search rules) s t h
 
-pub sees-yes : (ts : List Token) (m : Bool) (t : Kind) (i : ℕ) → At ts m t i → sees ts m t i ≡ true
-unfolding sees
+pub sees-yes : (ts : List Token) (m : Bool) (t : Kind) (i : ℕ) → NextIs ts m t i → next_is ts m t i ≡ true
+unfolding next_is
 sees-yes ts m t i h = ap (λ o. is_kind o t) h ∙ same-self t
 
-pub past-yes : (ts : List Token) (m : Bool) (t : Kind) (i : ℕ) → At ts m t i → past ts m t i ≡ after ts m i
-unfolding past
+pub past-yes : (ts : List Token) (m : Bool) (t : Kind) (i : ℕ) → NextIs ts m t i → after_if_next ts m t i ≡ after_next ts m i
+unfolding after_if_next
 past-yes ts m t i h = rw (sees-yes ts m t i h)
 
-pub past-no : (ts : List Token) (m : Bool) (t : Kind) (i : ℕ) → sees ts m t i ≡ false → past ts m t i ≡ i
-unfolding past
+pub past-no : (ts : List Token) (m : Bool) (t : Kind) (i : ℕ) → next_is ts m t i ≡ false → after_if_next ts m t i ≡ i
+unfolding after_if_next
 past-no ts m t i h = rw h
 
-pub expect-yes : (ts : List Token) (m : Bool) (t : Kind) (i : ℕ) → At ts m t i → expect ts m t i ≡ Ok (tt, after ts m i)
+pub expect-yes : (ts : List Token) (m : Bool) (t : Kind) (i : ℕ) → NextIs ts m t i → expect ts m t i ≡ Ok (tt, after_next ts m i)
 unfolding expect
 expect-yes ts m t i h = rw (sees-yes ts m t i h)
 
-pub bump-yes : (ts : List Token) (m : Bool) (t : Kind) (i : ℕ) → At ts m t i → bump ts m i ≡ Ok (t, after ts m i)
+pub bump-yes : (ts : List Token) (m : Bool) (t : Kind) (i : ℕ) → NextIs ts m t i → bump ts m i ≡ Ok (t, after_next ts m i)
 unfolding bump
 bump-yes ts m t i h = rw h
 
@@ -66,16 +66,16 @@ pub word-is : (w : List ℕ) → is_word w (Some (k.Identifier, w)) ≡ true
 word-is w = rw (same-self k.Identifier) (same_text-self w)
 
 -- a word is an Identifier
-pub word_at : (ts : List Token) (m : Bool) (w : List ℕ) (i : ℕ) → Word ts m w i → At ts m k.Identifier i
-unfolding next
+pub word_at : (ts : List Token) (m : Bool) (w : List ℕ) (i : ℕ) → NextIsWord ts m w i → NextIs ts m k.Identifier i
+unfolding next_kind
 word_at ts m w i h = ap (λ o. option_map (λ (t : Token). t.0) o) h
 
-pub reads-yes : (ts : List Token) (m : Bool) (w : List ℕ) (i : ℕ) → Word ts m w i → reads ts m w i ≡ true
-unfolding reads
+pub reads-yes : (ts : List Token) (m : Bool) (w : List ℕ) (i : ℕ) → NextIsWord ts m w i → next_is_word ts m w i ≡ true
+unfolding next_is_word
 reads-yes ts m w i h = ap (is_word w) h ∙ word-is w
 
-pub word-yes : (ts : List Token) (m : Bool) (w : List ℕ) (i : ℕ) → Word ts m w i → word ts m w i ≡ Ok (tt, after ts m i)
-unfolding word
+pub word-yes : (ts : List Token) (m : Bool) (w : List ℕ) (i : ℕ) → NextIsWord ts m w i → expect_word ts m w i ≡ Ok (tt, after_next ts m i)
+unfolding expect_word
 word-yes ts m w i h = rw (reads-yes ts m w i h)
 
 -- the other way
@@ -88,22 +88,22 @@ is-word w (Some t) h = go (same_kind t.0 k.Identifier) refl (pointwise nat_eq t.
     go true p false q e = absurd (let clash : false ≡ true = e in cc)
     go false p b q e = absurd (let clash : false ≡ true = e in cc)
 
-pub reads-word : (ts : List Token) (m : Bool) (w : List ℕ) (i : ℕ) → reads ts m w i ≡ true → Word ts m w i
-unfolding reads
-reads-word ts m w i h = is-word w (token ts m i) h
+pub reads-word : (ts : List Token) (m : Bool) (w : List ℕ) (i : ℕ) → next_is_word ts m w i ≡ true → NextIsWord ts m w i
+unfolding next_is_word
+reads-word ts m w i h = is-word w (next_token ts m i) h
 
 bool-no : (b : Bool) → (b ≡ true → ⊥) → b ≡ false
 bool-no true h = absurd (h refl)
 bool-no false h = refl
 
-pub reads-no : (ts : List Token) (m : Bool) (w : List ℕ) (i : ℕ) → (Word ts m w i → ⊥) → reads ts m w i ≡ false
-reads-no ts m w i h = bool-no (reads ts m w i) (λ e. h (reads-word ts m w i e))
+pub reads-no : (ts : List Token) (m : Bool) (w : List ℕ) (i : ℕ) → (NextIsWord ts m w i → ⊥) → next_is_word ts m w i ≡ false
+reads-no ts m w i h = bool-no (next_is_word ts m w i) (λ e. h (reads-word ts m w i e))
 
 -- a token that is no Identifier is no word
-pub reads-other : (ts : List Token) (m : Bool) (w : List ℕ) (t : Kind) (i : ℕ) → At ts m t i → same_kind k.Identifier t ≡ false → reads ts m w i ≡ false
+pub reads-other : (ts : List Token) (m : Bool) (w : List ℕ) (t : Kind) (i : ℕ) → NextIs ts m t i → same_kind k.Identifier t ≡ false → next_is_word ts m w i ≡ false
 reads-other ts m w t i h e = reads-no ts m w i (λ x. let both : Some k.Identifier ≡ Some t = sym (word_at ts m w i x) ∙ h in let same : k.Identifier ≡ t = cc in let clash : true ≡ false = sym (same-self k.Identifier) ∙ ap (same_kind k.Identifier) same ∙ e in cc)
 
 -- one word is not another
-pub reads-another : (ts : List Token) (m : Bool) (v w : List ℕ) (i : ℕ) → Word ts m v i → pointwise nat_eq v w ≡ false → reads ts m w i ≡ false
-unfolding reads
+pub reads-another : (ts : List Token) (m : Bool) (v w : List ℕ) (i : ℕ) → NextIsWord ts m v i → pointwise nat_eq v w ≡ false → next_is_word ts m w i ≡ false
+unfolding next_is_word
 reads-another ts m v w i h e = ap (is_word w) h ∙ rw (same-self k.Identifier) e

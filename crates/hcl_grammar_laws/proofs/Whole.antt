@@ -9,10 +9,10 @@ use Rattle.hcl_grammar.specs.Bodies.{IsFile, IsMembers}
 use Rattle.hcl_grammar.specs.Pure.BodyParser.{deeper_members, file, member_of}
 use Rattle.hcl_grammar.specs.Faults.{IsMemory, IsMemoryOrDeep}
 use Rattle.hcl_grammar.specs.Pure.Reading.{Outcome, Reads}
-use Rattle.hcl_grammar.specs.Tokens.{Token, next}
+use Rattle.hcl_grammar.specs.Tokens.{Token, next_kind}
 use Rattle.hcl_grammar_laws.proofs.BodyComplete.{c_member, c_none, file_answers}
 use Rattle.hcl_grammar_laws.proofs.BodySound.{below, file_derived, no_name, s_member_none, s_member_some, sound_body}
-use Rattle.hcl_grammar_laws.specs.Members.{IsMember}
+use Rattle.hcl_grammar_laws.specs.Members.{IsMemberResult}
 use Rattle.hcl_grammar_laws.proofs.Inverts.{done, along}
 use Rattle.hcl_grammar_laws.proofs.Steps.{Answers, found, deep}
 
@@ -57,12 +57,12 @@ module _ (ts : List Token) (b i : ℕ) where
   member_derived (Err f) new h = tt
 
   member_none : (r : Result (Option Member) TokenFault) (new : ℕ) → Reads (member_of ts b (deeper_members ts b) i) r new
-      → IfOk r (λ o. IfNone o ((next ts false i ≢ Some Identifier) × (new ≡ i)))
+      → IfOk r (λ o. IfNone o ((next_kind ts false i ≢ Some Identifier) × (new ≡ i)))
   member_none (Ok (Some m)) new h = tt
   member_none (Ok None) new h = (no_name ts b i new h, s_member_none ts b i new h)
   member_none (Err f) new h = tt
 
-  pub member_is : (r : Result (Option Member) TokenFault) (new : ℕ) → Reads (member_of ts b (deeper_members ts b) i) r new → IsMember ts b i r new
+  pub member_is : (r : Result (Option Member) TokenFault) (new : ℕ) → Reads (member_of ts b (deeper_members ts b) i) r new → IsMemberResult ts b i r new
   member_is r new h = record {
     derived = member_derived r new h;
     none = member_none r new h;

@@ -12,10 +12,10 @@ is_line_comment k.LineComment = true
 is_line_comment _ = false
 
 -- a token; of a line comment the kind alone
-abbrev pub unsaid : Token → Token
-unsaid t = if is_line_comment t.0 then (t.0, []) else t
+abbrev pub without_comment_text : Token → Token
+without_comment_text t = if is_line_comment t.0 then (t.0, []) else t
 
 -- tokens that differ in what their line comments say, and in nothing else, have the same trees
-abbrev pub CommentsSayNothing : Type 0
-CommentsSayNothing = (ts us : List Token) (d : ℕ) (t : Tree) → map unsaid ts ≡ map unsaid us
+abbrev pub CommentTextIsIgnored : Type 0
+CommentTextIsIgnored = (ts us : List Token) (d : ℕ) (t : Tree) → map without_comment_text ts ≡ map without_comment_text us
     → IsFile ts d t → IsFile us d t

@@ -2,7 +2,7 @@
 use Rattle.std.specs.Prelude.{◌≡◌, ℕ, suc, ◌||◌, Bool, true, false, List, slice_get, Some}
 use Rattle.hcl_token.specs.declared.kind.Kind.{Kind}
 use Rattle.hcl_token.specs.declared.kind.Kind.TheVariants as k
-use Rattle.hcl_token.specs.Joins.{begins_with}
+use Rattle.hcl_token.specs.Joins.{starts_with}
 use Rattle.hcl_grammar.specs.declared.tree.Tree.{Tree}
 use Rattle.hcl_grammar.specs.Bodies.{IsFile}
 use Rattle.hcl_grammar.specs.Tokens.{Token}
@@ -12,7 +12,7 @@ abbrev pub glues : Kind → Kind → List ℕ → Bool
 glues k.Less k.Less w = true
 glues k.Dot k.Dot w = true
 glues k.Dot k.DotIndex w = true
-glues k.Number k.Identifier w = begins_with 101 w || begins_with 69 w
+glues k.Number k.Identifier w = starts_with 101 w || starts_with 69 w
 glues _ _ w = false
 
 -- no such two stand side by side, whatever is dropped

@@ -1,6 +1,6 @@
 pub mod OneTree
 pub mod Nesting
-pub mod EachNode
+pub mod NodeSpans
 pub mod Comments
 pub mod Glue
 pub mod Members

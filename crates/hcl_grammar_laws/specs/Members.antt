@@ -5,22 +5,22 @@ use Rattle.hcl_grammar.specs.declared.fault.TokenFault.{TokenFault}
 use Rattle.hcl_grammar.specs.declared.tree.Member.{Member}
 use Rattle.hcl_grammar.specs.Bodies.{IsMembers}
 use Rattle.hcl_grammar.specs.Faults.{IsMemory, IsMemoryOrDeep}
-use Rattle.hcl_grammar.specs.Tokens.{Token, next}
+use Rattle.hcl_grammar.specs.Tokens.{Token, next_kind}
 
 -- The answer at place i, and the place behind it, where b constructs may stand in one another.
-pub record IsMember (ts : List Token) (b i : ℕ) (answer : Result (Option Member) TokenFault)
+pub record IsMemberResult (ts : List Token) (b i : ℕ) (answer : Result (Option Member) TokenFault)
     (new : ℕ) : Type 0 where
   -- what follows the member as a body does so behind the member
   pub derived : IfOk answer
       (λ o. IfSome o (λ m. (ms : List Member) (l : ℕ) → IsMembers ts b ms new l
       → IsMembers ts b (m ∷ ms) i l))
   -- where none is answered, no name comes next, and nothing is taken
-  pub none : IfOk answer (λ o. IfNone o ((next ts false i ≢ Some Identifier) × (new ≡ i)))
+  pub none : IfOk answer (λ o. IfNone o ((next_kind ts false i ≢ Some Identifier) × (new ≡ i)))
   -- where no name comes next, none is answered, or memory failed
-  pub nothing : next ts false i ≢ Some Identifier → MatchResult answer (λ o. o ≡ None) IsMemory
+  pub nothing : next_kind ts false i ≢ Some Identifier → MatchResult answer (λ o. o ≡ None) IsMemory
   -- where a name comes next, the member that a body begins with is answered, or memory failed
-  pub only : (m : Member) (ms : List Member) (l : ℕ) → next ts false i ≡ Some Identifier
+  pub only : (m : Member) (ms : List Member) (l : ℕ) → next_kind ts false i ≡ Some Identifier
       → IsMembers ts b (m ∷ ms) i l → MatchResult answer (λ o. o ≡ Some m) IsMemory
   -- with whatever nesting: it is answered, or it nests too deep, or memory failed
-  pub deeper : (d : ℕ) (m : Member) (ms : List Member) (l : ℕ) → next ts false i ≡ Some Identifier
+  pub deeper : (d : ℕ) (m : Member) (ms : List Member) (l : ℕ) → next_kind ts false i ≡ Some Identifier
       → IsMembers ts d (m ∷ ms) i l → MatchResult answer (λ o. o ≡ Some m) IsMemoryOrDeep

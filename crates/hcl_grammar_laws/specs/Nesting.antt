@@ -5,5 +5,5 @@ use Rattle.hcl_grammar.specs.Bodies.{IsFile}
 use Rattle.hcl_grammar.specs.Tokens.{Token}
 
 -- what nests no deeper than d nests no deeper than more
-abbrev pub NestingIsABound : Type 0
-NestingIsABound = (ts : List Token) (d e : ℕ) (t : Tree) → d ≤ e → IsFile ts d t → IsFile ts e t
+abbrev pub NestingIsMonotone : Type 0
+NestingIsMonotone = (ts : List Token) (d e : ℕ) (t : Tree) → d ≤ e → IsFile ts d t → IsFile ts e t

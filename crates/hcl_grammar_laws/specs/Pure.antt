@@ -1,3 +1,3 @@
 -- For proofs: what the code of a parser stands on.
-pub mod Answering
-pub mod Climbing
+pub mod ParserResults
+pub mod PrecedenceClimbing

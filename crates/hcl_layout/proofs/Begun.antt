@@ -4,7 +4,7 @@ use Rattle.std.proofs.lemmas.Bool.{false≢true}
 use Rattle.hcl_token.specs.declared.kind.Kind.{Kind}
 use Rattle.hcl_token.specs.declared.kind.Kind.TheVariants.{LineEnd, HereOpen}
 use Rattle.hcl_token.specs.Tokens.{Pair}
-use Rattle.hcl_gaps.specs.Lines.{Line, heredocs_after, ends_line, in_front, lines_from, lines_of}
+use Rattle.hcl_gaps.specs.Lines.{Line, heredocs_after, ends_line, prepend_to_first, lines_from, lines_of}
 
 -- the kind of the last of the tokens; this one, if there is none
 abbrev pub last_of : Kind → List Pair → Kind
@@ -21,11 +21,11 @@ abbrev LaterBegun : Kind → List Line → Type 0
 LaterBegun k [] = Unit {0}
 LaterBegun k (line ∷ lines) = AreBegun (last_of k line.pairs) lines
 
-front_later : (k : Kind) (f : Bool) (p : Pair) (lines : List Line) → LaterBegun p.kind lines → LaterBegun k (in_front f p lines)
+front_later : (k : Kind) (f : Bool) (p : Pair) (lines : List Line) → LaterBegun p.kind lines → LaterBegun k (prepend_to_first f p lines)
 front_later k f p [] h = tt
 front_later k f p (line ∷ lines) h = h
 
-front_begun : (k : Kind) (f : Bool) (p : Pair) (lines : List Line) → (f ≡ false → k ≡ LineEnd) → LaterBegun k (in_front f p lines) → AreBegun k (in_front f p lines)
+front_begun : (k : Kind) (f : Bool) (p : Pair) (lines : List Line) → (f ≡ false → k ≡ LineEnd) → LaterBegun k (prepend_to_first f p lines) → AreBegun k (prepend_to_first f p lines)
 front_begun k f p [] begins h = (begins, tt)
 front_begun k f p (line ∷ lines) begins h = (begins, h)
 
@@ -33,8 +33,8 @@ front_begun k f p (line ∷ lines) begins h = (begins, h)
 begun_all : (k : Kind) (held : ℕ) (ps : List Pair) → (nat_lt 0 held ≡ false → k ≡ LineEnd) → LaterBegun k (lines_from held ps) → AreBegun k (lines_from held ps)
 begun_all k held [] begins h = tt
 begun_all k held (p ∷ ps) begins h =
-    (elim (ends_line held p.kind) as (λ v. LaterBegun k (if v then record { frozen = nat_lt 0 held; pairs = p ∷ [] } ∷ lines_from (heredocs_after held p.kind) ps else in_front (nat_lt 0 held) p (lines_from (heredocs_after held p.kind) ps))
-    → AreBegun k (if v then record { frozen = nat_lt 0 held; pairs = p ∷ [] } ∷ lines_from (heredocs_after held p.kind) ps else in_front (nat_lt 0 held) p (lines_from (heredocs_after held p.kind) ps))) [
+    (elim (ends_line held p.kind) as (λ v. LaterBegun k (if v then record { frozen = nat_lt 0 held; pairs = p ∷ [] } ∷ lines_from (heredocs_after held p.kind) ps else prepend_to_first (nat_lt 0 held) p (lines_from (heredocs_after held p.kind) ps))
+    → AreBegun k (if v then record { frozen = nat_lt 0 held; pairs = p ∷ [] } ∷ lines_from (heredocs_after held p.kind) ps else prepend_to_first (nat_lt 0 held) p (lines_from (heredocs_after held p.kind) ps))) [
       | true ↦ λ more. (begins, more)
       | false ↦ λ more. front_begun k (nat_lt 0 held) p (lines_from (heredocs_after held p.kind) ps) begins more
     ]) h
@@ -49,7 +49,7 @@ next_begins (suc held) k h e = absurd (false≢true h)
 later_begun : (k : Kind) (held : ℕ) (ps : List Pair) → LaterBegun k (lines_from held ps)
 later_begun k held [] = tt
 later_begun k held (p ∷ ps) =
-    elim (ends_line held p.kind) as (λ v. ends_line held p.kind ≡ v → LaterBegun k (if v then record { frozen = nat_lt 0 held; pairs = p ∷ [] } ∷ lines_from (heredocs_after held p.kind) ps else in_front (nat_lt 0 held) p (lines_from (heredocs_after held p.kind) ps))) [
+    elim (ends_line held p.kind) as (λ v. ends_line held p.kind ≡ v → LaterBegun k (if v then record { frozen = nat_lt 0 held; pairs = p ∷ [] } ∷ lines_from (heredocs_after held p.kind) ps else prepend_to_first (nat_lt 0 held) p (lines_from (heredocs_after held p.kind) ps))) [
       | true ↦ λ e. begun_all p.kind (heredocs_after held p.kind) ps (next_begins held p.kind e) (later_begun p.kind (heredocs_after held p.kind) ps)
       | false ↦ λ e. front_later k (nat_lt 0 held) p (lines_from (heredocs_after held p.kind) ps) (later_begun p.kind (heredocs_after held p.kind) ps)
     ] refl

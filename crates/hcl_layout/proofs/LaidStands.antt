@@ -7,109 +7,109 @@ use Rattle.hcl_token.specs.declared.kind.Kind.{Kind}
 use Rattle.hcl_token.specs.declared.kind.Kind.TheVariants.{LineEnd, LineComment, Equal, HereClose}
 use Rattle.hcl_token.specs.Tokens.{Pair}
 use Rattle.hcl_token.specs.Joins.{joins_with}
-use Rattle.hcl_scan.specs.Characters.{is_blank}
-use Rattle.hcl_scan.specs.Follows.{has_no_gap, has_no_gap_behind}
+use Rattle.hcl_scan.specs.Characters.{is_whitespace}
+use Rattle.hcl_scan.specs.Follows.{has_no_gap_before, has_no_gap_after}
 use Rattle.hcl_gaps.specs.Kinds.{is_line_end, is_line_comment, is_equal}
 use Rattle.hcl_gaps.specs.Lines.{Line, lines_of, pairs_in}
 use Rattle.hcl_gaps.specs.Indent.{level}
-use Rattle.hcl_gaps.specs.Space.{passed, passed_all, is_spaced, spaces, gap_between}
-use Rattle.hcl_gaps.specs.Cells.{before_first, before_later, has_cells, is_balanced, assignment, closing_comment, widths, cell_gaps, with_gap, moved, moved_all, aligned}
-use Rattle.hcl_gaps.specs.Layout.{spaced, indented, set_line, set_lines, laid_out_body}
+use Rattle.hcl_gaps.specs.Space.{prev_after, prev_after_all, is_spaced, spaces, gap_between}
+use Rattle.hcl_gaps.specs.Cells.{index_of_first, index_after_first, has_cells, is_balanced, assignment, closing_comment, widths, cell_gaps, with_gap, with_cell_gap, with_cell_gaps, aligned}
+use Rattle.hcl_gaps.specs.Layout.{with_spacing, with_indent, format_line, format_lines, layout_body}
 use Rattle.hcl_layout.proofs.Lower.{LinesHaveAll}
 use Rattle.hcl_layout.proofs.Stands.{Stands, AllStand}
 use Rattle.hcl_layout.proofs.Begun.{last_of, AreBegun, lines_begun}
 
-spaces_blank : (n : ℕ) → list_all is_blank (spaces n) ≡ true
-spaces_blank zero = refl
-spaces_blank (suc n) = spaces_blank n
+spaces_whitespace : (n : ℕ) → list_all is_whitespace (spaces n) ≡ true
+spaces_whitespace zero = refl
+spaces_whitespace (suc n) = spaces_whitespace n
 
 -- the token with another gap
-stands_with : (k : Kind) (s : List ℕ) (p : Pair) (gap : List ℕ) → Stands k s p → list_all is_blank gap ≡ true → ((has_no_gap_behind k || has_no_gap p.kind) ≡ true → gap ≡ []) → (gap ≡ [] → joins_with k s p.kind p.spelling ≡ false)
+allowed_with : (k : Kind) (s : List ℕ) (p : Pair) (gap : List ℕ) → Stands k s p → list_all is_whitespace gap ≡ true → ((has_no_gap_after k || has_no_gap_before p.kind) ≡ true → gap ≡ []) → (gap ≡ [] → joins_with k s p.kind p.spelling ≡ false)
     → Stands k s (record p { gap = gap })
-stands_with k s p gap h blank none apart = record { blank = blank; none = none; apart = apart; literal = h.literal; shut = h.shut }
+allowed_with k s p gap h blank none apart = record { whitespace = blank; none = none; apart = apart; literal = h.literal; shut = h.shut }
 
 -- more tokens behind tokens
-stand_behind : (k : Kind) (s : List ℕ) (ps old new : List Pair) → AllStand k s (ps ++ old) → ((t : List ℕ) → AllStand (last_of k ps) t old → AllStand (last_of k ps) t new) → AllStand k s (ps ++ new)
-stand_behind k s [] old new h f = f s h
-stand_behind k s (p ∷ ps) old new h f = (h.0, stand_behind p.kind p.spelling ps old new h.1 f)
+allowed_after : (k : Kind) (s : List ℕ) (ps old new : List Pair) → AllStand k s (ps ++ old) → ((t : List ℕ) → AllStand (last_of k ps) t old → AllStand (last_of k ps) t new) → AllStand k s (ps ++ new)
+allowed_after k s [] old new h f = f s h
+allowed_after k s (p ∷ ps) old new h f = (h.0, allowed_after p.kind p.spelling ps old new h.1 f)
 
 -- ---- indented and spaced
 
-shut_joins : (k : Kind) (s : List ℕ) (j : Kind) (t : List ℕ) → has_no_gap_behind k ≡ true → joins_with k s j t ≡ false
+shut_joins : (k : Kind) (s : List ℕ) (j : Kind) (t : List ℕ) → has_no_gap_after k ≡ true → joins_with k s j t ≡ false
 shut_joins LineComment s j t h = refl
 shut_joins HereClose s j t h = refl
 shut_joins k s j t h = absurd (false≢true h)
 
-between_blank : (literal some : Bool) → list_all is_blank (if literal then [] else (if some then spaces 1 else [])) ≡ true
-between_blank true some = refl
-between_blank false true = refl
-between_blank false false = refl
+between_whitespace : (literal some : Bool) → list_all is_whitespace (if literal then [] else (if some then spaces 1 else [])) ≡ true
+between_whitespace true some = refl
+between_whitespace false true = refl
+between_whitespace false false = refl
 
 between_none : (literal some : Bool) → (literal ≡ false → some ≡ false) → (if literal then [] else (if some then spaces 1 else [])) ≡ []
 between_none true some h = refl
 between_none false some h = rw (h refl) refl
 
-between_apart : (literal spaced joins : Bool) → (literal ≡ true → joins ≡ false) → (if literal then [] else (if spaced || joins then spaces 1 else [])) ≡ [] → joins ≡ false
-between_apart true spaced joins h e = h refl
-between_apart false spaced false h e = refl
+between_apart : (literal with_spacing joins : Bool) → (literal ≡ true → joins ≡ false) → (if literal then [] else (if with_spacing || joins then spaces 1 else [])) ≡ [] → joins ≡ false
+between_apart true with_spacing joins h e = h refl
+between_apart false with_spacing false h e = refl
 between_apart false true true h e = absurd (cc)
 between_apart false false true h e = absurd (cc)
 
-behind_shut : (before : List Kind) (a b : Pair) → Stands a.kind a.spelling b → has_no_gap_behind a.kind ≡ true → has_no_gap b.kind ≡ false → (is_spaced before a b || joins_with a.kind a.spelling b.kind b.spelling) ≡ false
-behind_shut before a b h shut gap = rw (h.shut shut gap, shut_joins a.kind a.spelling b.kind b.spelling shut) refl
+after_shut : (before : List Kind) (a b : Pair) → Stands a.kind a.spelling b → has_no_gap_after a.kind ≡ true → has_no_gap_before b.kind ≡ false → (is_spaced before a b || joins_with a.kind a.spelling b.kind b.spelling) ≡ false
+after_shut before a b h shut gap = rw (h.shut shut gap, shut_joins a.kind a.spelling b.kind b.spelling shut) refl
 
-between_stands : (before : List Kind) (a b : Pair) → Stands a.kind a.spelling b → Stands a.kind a.spelling (record b { gap = gap_between before a b })
-between_stands before a b h =
+between_is_allowed : (before : List Kind) (a b : Pair) → Stands a.kind a.spelling b → Stands a.kind a.spelling (record b { gap = gap_between before a b })
+between_is_allowed before a b h =
     let joins : Bool = joins_with a.kind a.spelling b.kind b.spelling in
     let some : Bool = is_spaced before a b || joins in
-    stands_with a.kind a.spelling b (gap_between before a b) h
-    (between_blank (has_no_gap b.kind) some)
-    (λ e. elim (or_cases (has_no_gap_behind a.kind) (has_no_gap b.kind) e) [
-      | inl shut ↦ between_none (has_no_gap b.kind) some (behind_shut before a b h shut)
-      | inr literal ↦ between_none (has_no_gap b.kind) some (λ gap. absurd (both_ways _ gap literal))
+    allowed_with a.kind a.spelling b (gap_between before a b) h
+    (between_whitespace (has_no_gap_before b.kind) some)
+    (λ e. elim (or_cases (has_no_gap_after a.kind) (has_no_gap_before b.kind) e) [
+      | inl shut ↦ between_none (has_no_gap_before b.kind) some (after_shut before a b h shut)
+      | inr literal ↦ between_none (has_no_gap_before b.kind) some (λ gap. absurd (both_ways _ gap literal))
     ])
-    (between_apart (has_no_gap b.kind) (is_spaced before a b) joins (λ e. (h.literal e).0))
+    (between_apart (has_no_gap_before b.kind) (is_spaced before a b) joins (λ e. (h.literal e).0))
 
-spaced_stand : (before : List Kind) (a : Pair) (ps rest : List Pair) → AllStand a.kind a.spelling (ps ++ rest) → AllStand a.kind a.spelling (spaced before a ps ++ rest)
+spaced_stand : (before : List Kind) (a : Pair) (ps rest : List Pair) → AllStand a.kind a.spelling (ps ++ rest) → AllStand a.kind a.spelling (with_spacing before a ps ++ rest)
 spaced_stand before a [] rest h = h
-spaced_stand before a (b ∷ ps) rest h = (between_stands before a b h.0, spaced_stand (passed a before) b ps rest h.1)
+spaced_stand before a (b ∷ ps) rest h = (between_is_allowed before a b h.0, spaced_stand (prev_after a before) b ps rest h.1)
 
-indent_blank : (ends : Bool) (deep : ℕ) → list_all is_blank (if ends then [] else spaces (2 * deep)) ≡ true
-indent_blank true deep = refl
-indent_blank false deep = spaces_blank (2 * deep)
+indent_whitespace : (ends : Bool) (deep : ℕ) → list_all is_whitespace (if ends then [] else spaces (2 * deep)) ≡ true
+indent_whitespace true deep = refl
+indent_whitespace false deep = spaces_whitespace (2 * deep)
 
-first_stands : (k : Kind) (s : List ℕ) (p : Pair) (deep : ℕ) → k ≡ LineEnd → Stands k s p → Stands k s (record p { gap = if is_line_end p.kind then [] else spaces (2 * deep) })
-first_stands k s p deep e h =
-    stands_with k s p (if is_line_end p.kind then [] else spaces (2 * deep)) h
-    (indent_blank (is_line_end p.kind) deep)
-    (λ g. absurd (elim (or_cases (has_no_gap_behind k) (has_no_gap p.kind) g) as (λ _. ⊥) [
-      | inl shut ↦ both_ways _ (ap has_no_gap_behind e) shut
+first_is_allowed : (k : Kind) (s : List ℕ) (p : Pair) (deep : ℕ) → k ≡ LineEnd → Stands k s p → Stands k s (record p { gap = if is_line_end p.kind then [] else spaces (2 * deep) })
+first_is_allowed k s p deep e h =
+    allowed_with k s p (if is_line_end p.kind then [] else spaces (2 * deep)) h
+    (indent_whitespace (is_line_end p.kind) deep)
+    (λ g. absurd (elim (or_cases (has_no_gap_after k) (has_no_gap_before p.kind) g) as (λ _. ⊥) [
+      | inl shut ↦ both_ways _ (ap has_no_gap_after e) shut
       | inr literal ↦ both_ways _ (h.literal literal).1 (ap is_line_end e)
     ]))
     (λ _. ap (λ j. joins_with j s p.kind p.spelling) e)
 
-indented_stand : (k : Kind) (s : List ℕ) (deep : ℕ) (before : List Kind) (ps rest : List Pair) → k ≡ LineEnd → AllStand k s (ps ++ rest) → AllStand k s (indented deep before ps ++ rest)
+indented_stand : (k : Kind) (s : List ℕ) (deep : ℕ) (before : List Kind) (ps rest : List Pair) → k ≡ LineEnd → AllStand k s (ps ++ rest) → AllStand k s (with_indent deep before ps ++ rest)
 indented_stand k s deep before [] rest e h = h
-indented_stand k s deep before (p ∷ ps) rest e h = (first_stands k s p deep e h.0, spaced_stand before p ps rest h.1)
+indented_stand k s deep before (p ∷ ps) rest e h = (first_is_allowed k s p deep e h.0, spaced_stand before p ps rest h.1)
 
 line_stand : (k : Kind) (s : List ℕ) (deep : ℕ) (before : List Kind) (frozen : Bool) (ps rest : List Pair) → (frozen ≡ false → k ≡ LineEnd) → AllStand k s (ps ++ rest)
-    → AllStand k s ((set_line deep before (record { frozen = frozen; pairs = ps })).pairs ++ rest)
+    → AllStand k s ((format_line deep before (record { frozen = frozen; pairs = ps })).pairs ++ rest)
 line_stand k s deep before true ps rest begins h = h
 line_stand k s deep before false ps rest begins h = indented_stand k s deep before ps rest (begins refl) h
 
-set_stand : (k : Kind) (s : List ℕ) (earlier : List Line) (before : List Kind) (lines : List Line) → AreBegun k lines → AllStand k s (pairs_in lines) → AllStand k s (pairs_in (set_lines earlier before lines))
+set_stand : (k : Kind) (s : List ℕ) (earlier : List Line) (before : List Kind) (lines : List Line) → AreBegun k lines → AllStand k s (pairs_in lines) → AllStand k s (pairs_in (format_lines earlier before lines))
 set_stand k s earlier before [] begun h = h
 set_stand k s earlier before (line ∷ lines) begun h =
-    let more : List Pair = pairs_in (set_lines (earlier ++ line ∷ []) (passed_all line.pairs before) lines) in
+    let more : List Pair = pairs_in (format_lines (earlier ++ line ∷ []) (prev_after_all line.pairs before) lines) in
     line_stand k s (level earlier line) before line.frozen line.pairs more begun.0
-    (stand_behind k s line.pairs (pairs_in lines) more h (λ t. set_stand (last_of k line.pairs) t (earlier ++ line ∷ []) (passed_all line.pairs before) lines begun.1))
+    (allowed_after k s line.pairs (pairs_in lines) more h (λ t. set_stand (last_of k line.pairs) t (earlier ++ line ∷ []) (prev_after_all line.pairs before) lines begun.1))
 
 -- ---- cells
 
 -- a gap may stand before the token behind n others
 abbrev IsFreeAt : ℕ → List Pair → Type 0
 IsFreeAt n [] = Unit {0}
-IsFreeAt zero (p ∷ ps) = (has_no_gap p.kind ≡ false) × (is_line_end p.kind ≡ false)
+IsFreeAt zero (p ∷ ps) = (has_no_gap_before p.kind ≡ false) × (is_line_end p.kind ≡ false)
 IsFreeAt (suc n) (p ∷ ps) = IsFreeAt n ps
 
 abbrev IsFree : Option ℕ → List Pair → Type 0
@@ -131,10 +131,10 @@ some_space : (r : ℕ) → 0 < r → spaces r ≡ [] → ⊥
 some_space zero h e = absurd (omega arith)
 some_space (suc r) h e = absurd (cc)
 
-moved_stands : (k : Kind) (s : List ℕ) (p : Pair) (r : ℕ) → 0 < r → (has_no_gap p.kind ≡ false) × (is_line_end p.kind ≡ false) → Stands k s p → Stands k s (record p { gap = spaces r })
-moved_stands k s p r some free h =
-    stands_with k s p (spaces r) h (spaces_blank r)
-    (λ g. absurd (elim (or_cases (has_no_gap_behind k) (has_no_gap p.kind) g) as (λ _. ⊥) [
+moved_is_allowed : (k : Kind) (s : List ℕ) (p : Pair) (r : ℕ) → 0 < r → (has_no_gap_before p.kind ≡ false) × (is_line_end p.kind ≡ false) → Stands k s p → Stands k s (record p { gap = spaces r })
+moved_is_allowed k s p r some free h =
+    allowed_with k s p (spaces r) h (spaces_whitespace r)
+    (λ g. absurd (elim (or_cases (has_no_gap_after k) (has_no_gap_before p.kind) g) as (λ _. ⊥) [
       | inl shut ↦ both_ways _ free.1 (h.shut shut free.0)
       | inr literal ↦ both_ways _ free.0 literal
     ]))
@@ -142,10 +142,10 @@ moved_stands k s p r some free h =
 
 gap_stand : (k : Kind) (s : List ℕ) (n r : ℕ) (ps rest : List Pair) → 0 < r → IsFreeAt n ps → AllStand k s (ps ++ rest) → AllStand k s (with_gap n (spaces r) ps ++ rest)
 gap_stand k s n r [] rest some free h = h
-gap_stand k s zero r (p ∷ ps) rest some free h = (moved_stands k s p r some free h.0, h.1)
+gap_stand k s zero r (p ∷ ps) rest some free h = (moved_is_allowed k s p r some free h.0, h.1)
 gap_stand k s (suc n) r (p ∷ ps) rest some free h = (h.0, gap_stand p.kind p.spelling n r ps rest some free h.1)
 
-cell_stand : (k : Kind) (s : List ℕ) (found count : Option ℕ) (line : Line) (rest : List Pair) → IsFree found line.pairs → AreSpaces (count ∷ []) → AllStand k s (line.pairs ++ rest) → AllStand k s ((moved found count line).pairs ++ rest)
+cell_stand : (k : Kind) (s : List ℕ) (found count : Option ℕ) (line : Line) (rest : List Pair) → IsFree found line.pairs → AreSpaces (count ∷ []) → AllStand k s (line.pairs ++ rest) → AllStand k s ((with_cell_gap found count line).pairs ++ rest)
 cell_stand k s None count line rest free some h = h
 cell_stand k s (Some n) None line rest free some h = h
 cell_stand k s (Some n) (Some r) line rest free some h = gap_stand k s n r line.pairs rest some.0 free h
@@ -157,18 +157,18 @@ spaces_parts : (r : Option ℕ) (rs : List (Option ℕ)) → AreSpaces (r ∷ rs
 spaces_parts None rs h = (tt, h)
 spaces_parts (Some r) rs h = ((h.0, tt), h.1)
 
-moved_stand : (k : Kind) (s : List ℕ) (cell : Line → Option ℕ) (rs : List (Option ℕ)) (lines : List Line) → CellsFree cell → AreSpaces rs → AllStand k s (pairs_in lines) → AllStand k s (pairs_in (moved_all cell rs lines))
+moved_stand : (k : Kind) (s : List ℕ) (cell : Line → Option ℕ) (rs : List (Option ℕ)) (lines : List Line) → CellsFree cell → AreSpaces rs → AllStand k s (pairs_in lines) → AllStand k s (pairs_in (with_cell_gaps cell rs lines))
 moved_stand k s cell [] lines free some h = h
 moved_stand k s cell (r ∷ rs) [] free some h = h
 moved_stand k s cell (r ∷ rs) (line ∷ lines) free some h =
     let parts = spaces_parts r rs some in
-    let more : List Pair = pairs_in (moved_all cell rs lines) in
+    let more : List Pair = pairs_in (with_cell_gaps cell rs lines) in
     cell_stand k s (cell line) r line more (free line) parts.0
-    (stand_behind k s line.pairs (pairs_in lines) more h (λ t. moved_stand (last_of k line.pairs) t cell rs lines free parts.1))
+    (allowed_after k s line.pairs (pairs_in lines) more h (λ t. moved_stand (last_of k line.pairs) t cell rs lines free parts.1))
 
 -- the cells begin with `=` and with line comments
 abbrev KindsFree : (Kind → Bool) → Type 0
-KindsFree f = (k : Kind) → f k ≡ true → (has_no_gap k ≡ false) × (is_line_end k ≡ false)
+KindsFree f = (k : Kind) → f k ≡ true → (has_no_gap_before k ≡ false) × (is_line_end k ≡ false)
 
 equal_free : KindsFree is_equal
 equal_free Equal h = (refl, refl)
@@ -182,16 +182,16 @@ suc_free : (found : Option ℕ) (p : Pair) (ps : List Pair) → IsFree found ps 
 suc_free None p ps h = tt
 suc_free (Some n) p ps h = h
 
-first_free : (f : Kind → Bool) (ps : List Pair) → KindsFree f → IsFree (before_first (λ (p : Pair). f p.kind) ps) ps
+first_free : (f : Kind → Bool) (ps : List Pair) → KindsFree f → IsFree (index_of_first (λ (p : Pair). f p.kind) ps) ps
 first_free f [] free = tt
-first_free f (p ∷ ps) free = elim (f p.kind) as (λ v. f p.kind ≡ v → IsFree (if v then Some 0 else option_map suc (before_first (λ (q : Pair). f q.kind) ps)) (p ∷ ps)) [
+first_free f (p ∷ ps) free = elim (f p.kind) as (λ v. f p.kind ≡ v → IsFree (if v then Some 0 else option_map suc (index_of_first (λ (q : Pair). f q.kind) ps)) (p ∷ ps)) [
   | true ↦ λ e. free p.kind e
-  | false ↦ λ e. suc_free (before_first (λ (q : Pair). f q.kind) ps) p ps (first_free f ps free)
+  | false ↦ λ e. suc_free (index_of_first (λ (q : Pair). f q.kind) ps) p ps (first_free f ps free)
 ] refl
 
-later_free : (f : Kind → Bool) (ps : List Pair) → KindsFree f → IsFree (before_later (λ (p : Pair). f p.kind) ps) ps
+later_free : (f : Kind → Bool) (ps : List Pair) → KindsFree f → IsFree (index_after_first (λ (p : Pair). f p.kind) ps) ps
 later_free f [] free = tt
-later_free f (p ∷ ps) free = suc_free (before_first (λ (q : Pair). f q.kind) ps) p ps (first_free f ps free)
+later_free f (p ∷ ps) free = suc_free (index_of_first (λ (q : Pair). f q.kind) ps) p ps (first_free f ps free)
 
 if_free : (b : Bool) (found : Option ℕ) (ps : List Pair) → IsFree found ps → IsFree (if b then found else None) ps
 if_free true found ps h = h
@@ -203,21 +203,21 @@ balanced_free (Some n) ps h = if_free (is_balanced (drop n ps)) (Some n) ps h
 
 assignments_free : CellsFree assignment
 assignments_free line =
-    if_free (has_cells line) (elim (before_later (λ (p : Pair). is_equal p.kind) line.pairs) [ None ↦ None | Some n ↦ if is_balanced (drop n line.pairs) then Some n else None ]) line.pairs
-    (balanced_free (before_later (λ (p : Pair). is_equal p.kind) line.pairs) line.pairs (later_free is_equal line.pairs equal_free))
+    if_free (has_cells line) (elim (index_after_first (λ (p : Pair). is_equal p.kind) line.pairs) [ None ↦ None | Some n ↦ if is_balanced (drop n line.pairs) then Some n else None ]) line.pairs
+    (balanced_free (index_after_first (λ (p : Pair). is_equal p.kind) line.pairs) line.pairs (later_free is_equal line.pairs equal_free))
 
 comments_free : CellsFree closing_comment
-comments_free line = if_free (has_cells line) (before_later (λ (p : Pair). is_line_comment p.kind) line.pairs) line.pairs (later_free is_line_comment line.pairs comment_free)
+comments_free line = if_free (has_cells line) (index_after_first (λ (p : Pair). is_line_comment p.kind) line.pairs) line.pairs (later_free is_line_comment line.pairs comment_free)
 
 aligned_stand : (k : Kind) (s : List ℕ) (cell : Line → Option ℕ) (lines : List Line) → CellsFree cell → AllStand k s (pairs_in lines) → AllStand k s (pairs_in (aligned cell lines))
 aligned_stand k s cell lines free h = moved_stand k s cell (cell_gaps [] (widths cell lines)) lines free (gaps_some [] (widths cell lines)) h
 
 -- ---- all stages
 
-pub body_stand : LinesHaveAll → (s : List ℕ) (ps : List Pair) → AllStand LineEnd s ps → AllStand LineEnd s (laid_out_body ps)
+pub body_stand : LinesHaveAll → (s : List ℕ) (ps : List Pair) → AllStand LineEnd s ps → AllStand LineEnd s (layout_body ps)
 body_stand lines_have_all s ps h =
     let lines : List Line = lines_of ps in
     let old : AllStand LineEnd s (pairs_in lines) = subst (AllStand LineEnd s) (sym (lines_have_all ps)) h in
-    let first : List Line = set_lines [] [] lines in
+    let first : List Line = format_lines [] [] lines in
     let set = set_stand LineEnd s [] [] lines (lines_begun ps) old in
     aligned_stand LineEnd s closing_comment (aligned assignment first) comments_free (aligned_stand LineEnd s assignment first assignments_free set)

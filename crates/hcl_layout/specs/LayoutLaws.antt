@@ -1,10 +1,10 @@
 -- What holds of the layouts of texts.
 use Rattle.std.specs.Prelude.{◌≡◌, ◌↔◌, ℕ, ◌≤◌, false, List, [], length}
-use Rattle.hcl_token.specs.CutText.{CutText}
+use Rattle.hcl_token.specs.TokenizedText.{TokenizedText}
 use Rattle.hcl_token.specs.Tokens.{Pair, whole_text}
-use Rattle.hcl_scan.specs.Cut.{MAX_TEXT, IsCut}
-use Rattle.hcl_scan.specs.Follows.{AreApart, AreGaps}
-use Rattle.hcl_gaps.specs.Layout.{laid_out, layout_text, IsLaidOut}
+use Rattle.hcl_scan.specs.Tokenization.{MAX_TEXT, IsTokenization}
+use Rattle.hcl_scan.specs.Follows.{AreApart, AreAllowedGaps}
+use Rattle.hcl_gaps.specs.Layout.{layout_pairs, layout_text, IsLaidOut}
 use Rattle.hcl_grammar.specs.declared.tree.Tree.{Tree}
 use Rattle.hcl_text_laws.specs.Parses.{Parses}
 use Rattle.hcl_layout.specs.Layouts.{IsLayout, HaveSameTokens}
@@ -15,20 +15,20 @@ use Rattle.hcl_layout.specs.Layouts.{IsLayout, HaveSameTokens}
 -- the tokens, and none is empty between two that join.
 abbrev pub LayoutFits : Type 0
 LayoutFits =
-    (text : List ℕ) (pairs : List Pair) (last : List ℕ) → IsCut text pairs last → AreApart pairs
-    → AreGaps false (laid_out pairs) [] × AreApart (laid_out pairs)
+    (text : List ℕ) (pairs : List Pair) (last : List ℕ) → IsTokenization text pairs last → AreApart pairs
+    → AreAllowedGaps false (layout_pairs pairs) [] × AreApart (layout_pairs pairs)
 
 -- There the layout, if it is within the limit, is cut into the same tokens, with the gaps of the
 -- layout.
-abbrev pub LayoutIsCut : Type 0
-LayoutIsCut =
-    (text : List ℕ) (pairs : List Pair) (last : List ℕ) → IsCut text pairs last → AreApart pairs
-    → length (whole_text (laid_out pairs) []) ≤ MAX_TEXT
-    → IsCut (whole_text (laid_out pairs) []) (laid_out pairs) []
+abbrev pub LayoutTokenizes : Type 0
+LayoutTokenizes =
+    (text : List ℕ) (pairs : List Pair) (last : List ℕ) → IsTokenization text pairs last → AreApart pairs
+    → length (whole_text (layout_pairs pairs) []) ≤ MAX_TEXT
+    → IsTokenization (whole_text (layout_pairs pairs) []) (layout_pairs pairs) []
 
 -- There the gaps are those of the layout exactly where the layout is the text.
 abbrev pub LaidOutIsText : Type 0
-LaidOutIsText = (cut : CutText) → IsCut cut.text cut.pairs cut.last → AreApart cut.pairs
+LaidOutIsText = (cut : TokenizedText) → IsTokenization cut.text cut.pairs cut.last → AreApart cut.pairs
     → IsLaidOut cut ↔ (layout_text cut ≡ cut.text)
 
 -- ---- on texts

@@ -1,10 +1,10 @@
 -- Texts and their layouts. Terraform style conventions, in this project's own profile.
 use Rattle.std.specs.Prelude.{◌≡◌, ℕ, ◌<◌, List, [], length}
-use Rattle.edit_list.specs.Pieces.{EditList, Turns}
+use Rattle.edit_list.specs.Pieces.{EditList, Transforms}
 use Rattle.hcl_token.specs.Tokens.{Pair, whole_text}
-use Rattle.hcl_scan.specs.Cut.{MAX_TEXT, IsCut}
+use Rattle.hcl_scan.specs.Tokenization.{MAX_TEXT, IsTokenization}
 use Rattle.hcl_scan.specs.Follows.{tokens_of}
-use Rattle.hcl_gaps.specs.Layout.{laid_out}
+use Rattle.hcl_gaps.specs.Layout.{layout_pairs}
 use Rattle.hcl_grammar.specs.declared.tree.Tree.{Tree}
 use Rattle.hcl_text_laws.specs.Parses.{Parses}
 
@@ -12,8 +12,8 @@ use Rattle.hcl_text_laws.specs.Parses.{Parses}
 pub record IsLayout (text new : List ℕ) : Type 0 where
   pub pairs : List Pair
   pub last : List ℕ
-  pub cut : IsCut text pairs last
-  pub made : new ≡ whole_text (laid_out pairs) []
+  pub tokenization : IsTokenization text pairs last
+  pub text_is : new ≡ whole_text (layout_pairs pairs) []
 
 -- the layout of a text has more bytes than a text may have
 pub record IsTooLong (text : List ℕ) : Type 0 where
@@ -27,16 +27,16 @@ pub record HaveSameTokens (text new : List ℕ) : Type 0 where
   pub others : List Pair
   pub last : List ℕ
   pub other : List ℕ
-  pub cut : IsCut text pairs last
-  pub new_cut : IsCut new others other
+  pub tokenization : IsTokenization text pairs last
+  pub new_tokenization : IsTokenization new others other
   pub same : tokens_of others ≡ tokens_of pairs
 
 -- Edits lay out a text, over which this tree stands: they turn it into its layout, which has the
 -- same tokens, parses to the same tree, and is its own layout.
-pub record LaysOut (edits : EditList) (text : List ℕ) (t : Tree) : Type 0 where
+pub record IsLayoutEdits (edits : EditList) (text : List ℕ) (t : Tree) : Type 0 where
   pub new : List ℕ
   pub layout : IsLayout text new
-  pub turns : Turns edits text new
+  pub transforms : Transforms edits text new
   pub tokens : HaveSameTokens text new
   pub parses : Parses new t
   pub again : IsLayout new new

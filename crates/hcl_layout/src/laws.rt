@@ -1,22 +1,22 @@
 //! What holds of the layouts of texts. Each law is the contract of a function that does nothing.
 
-ghost use Rattle.hcl_layout.specs.LayoutLaws.{LayoutFits, LayoutIsCut, LaidOutIsText, OneLayout, LayoutParses, LayoutKeepsTokens, LayoutIsLaidOut, LayoutOfLayout};
+ghost use Rattle.hcl_layout.specs.LayoutLaws.{LayoutFits, LayoutTokenizes, LaidOutIsText, OneLayout, LayoutParses, LayoutKeepsTokens, LayoutIsLaidOut, LayoutOfLayout};
 
 /// The gaps of a layout can stand between the tokens, and none is empty between two that join.
 pub fn layout_fits()
     ensures { LayoutFits }
 {
-    hcl_scan::laws::cut_follows();
+    hcl_scan::laws::tokenization_follows_modes();
     hcl_scan::laws::gaps_of();
     hcl_gaps::laws::lines_have_all_tokens();
 }
 
 /// A layout within the limit is cut into the same tokens, with the gaps of the layout.
-pub fn layout_is_cut()
-    ensures { LayoutIsCut }
+pub fn layout_tokenizes()
+    ensures { LayoutTokenizes }
 {
     layout_fits();
-    hcl_scan::laws::cut_follows();
+    hcl_scan::laws::tokenization_follows_modes();
     hcl_scan::laws::other_gaps();
     hcl_scan::laws::writes_back();
     hcl_gaps::laws::keeps_tokens();
@@ -26,45 +26,45 @@ pub fn layout_is_cut()
 pub fn laid_out_is_text()
     ensures { LaidOutIsText }
 {
-    layout_is_cut();
-    hcl_scan::laws::one_cut();
+    layout_tokenizes();
+    hcl_scan::laws::one_tokenization();
 }
 
 /// A text has one layout at most.
 pub fn one_layout()
     ensures { OneLayout }
 {
-    hcl_scan::laws::one_cut();
+    hcl_scan::laws::one_tokenization();
 }
 
 /// The layout of a text that parses, if it is within the limit, parses to the same tree.
 pub fn layout_parses()
     ensures { LayoutParses }
 {
-    layout_is_cut();
-    hcl_scan::laws::one_cut();
+    layout_tokenizes();
+    hcl_scan::laws::one_tokenization();
     hcl_gaps::laws::keeps_tokens();
-    hcl_text_laws::laws::parsed_apart();
+    hcl_text_laws::laws::parsed_tokens_are_apart();
 }
 
 /// It has the same tokens.
 pub fn layout_keeps_tokens()
     ensures { LayoutKeepsTokens }
 {
-    layout_is_cut();
-    hcl_scan::laws::one_cut();
+    layout_tokenizes();
+    hcl_scan::laws::one_tokenization();
     hcl_gaps::laws::keeps_tokens();
-    hcl_text_laws::laws::parsed_apart();
+    hcl_text_laws::laws::parsed_tokens_are_apart();
 }
 
 /// It is its own layout.
 pub fn layout_is_laid_out()
     ensures { LayoutIsLaidOut }
 {
-    layout_is_cut();
-    hcl_scan::laws::one_cut();
+    layout_tokenizes();
+    hcl_scan::laws::one_tokenization();
     hcl_gaps::laws::own_layout();
-    hcl_text_laws::laws::parsed_apart();
+    hcl_text_laws::laws::parsed_tokens_are_apart();
 }
 
 /// To lay it out again changes nothing.

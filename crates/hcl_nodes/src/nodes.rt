@@ -1,6 +1,6 @@
 //! The nodes of a tree, each made by one function.
 //!
-//! `first` is the number of a node's first token, `past` the number past its last. Expressions,
+//! `first` is the number of a node's first token, `after_if_next` the number past its last. Expressions,
 //! terms, templates and blocks hold them in 32 bits: past these a node is refused as a growth is,
 //! since no list of tokens has room for so many.
 
@@ -11,15 +11,16 @@ ghost use Rattle.hcl_grammar.specs.Pure.Reading.{Reads};
 
 use hcl_grammar::fault::TokenFault;
 use hcl_grammar::tree::{
-    Attribute, Block, Body, Call, Content, Elem, Expr, ForDirective, ForObject, ForTuple, Form,
-    IfDirective, Intro, Label, Link, Member, Operator, Part, Shape, Tail, Template, Term, Tree,
+    Attribute, BinaryOperator, Block, Body, Call, Content, Elem, Expr, ExprKind, ForDirective,
+    ForObject, ForTuple, IfDirective, Intro, Label, Member, Operation, Part, Primary, Tail,
+    Template, Term, Tree,
 };
 use plain_tree::{Boxed, Items};
 use std::alloc::{AllocError, Global};
 
 /// The numbers of a node's first token and past its last, in 32 bits; `AllocError` past them.
 #[inline]
-fn narrow(first: usize, past: usize) -> Result<(u32, u32), AllocError>
+fn to_u32_pair(first: usize, past: usize) -> Result<(u32, u32), AllocError>
     ensures ok { IfOk result (λ n. (n.0 ≡ first) × (n.1 ≡ past)) }
     ensures err { IfErr result (λ _. (2 ^ 32 ≤ first) ⊎ (2 ^ 32 ≤ past)) }
 {
@@ -33,31 +34,39 @@ fn narrow(first: usize, past: usize) -> Result<(u32, u32), AllocError>
 /// An expression.
 #[inline(always)]
 #[tactic(auto, unfolding(hcl_grammar::specs::Nodes::expr))]
-pub fn expr(first: usize, past: usize, form: Form) -> Result<Expr, TokenFault>
+pub fn expr(first: usize, past: usize, form: ExprKind) -> Result<Expr, TokenFault>
     ensures node { Reads (Ok (nodes.expr first past form, past)) result past }
     ensures err { IfErr result (λ _. (2 ^ 32 ≤ first) ⊎ (2 ^ 32 ≤ past)) }
 {
-    let (first, past) = narrow(first, past)?;
-    Ok(Expr { first, past, form })
+    let (first, past) = to_u32_pair(first, past)?;
+    Ok(Expr {
+        first,
+        past,
+        kind: form,
+    })
 }
 
 /// A term.
 #[inline(always)]
 #[tactic(auto, unfolding(hcl_grammar::specs::Nodes::term))]
-pub fn term(first: usize, past: usize, shape: Shape) -> Result<Term, TokenFault>
+pub fn term(first: usize, past: usize, shape: Primary) -> Result<Term, TokenFault>
     ensures node { Reads (Ok (nodes.term first past shape, past)) result past }
     ensures err { IfErr result (λ _. (2 ^ 32 ≤ first) ⊎ (2 ^ 32 ≤ past)) }
 {
-    let (first, past) = narrow(first, past)?;
-    Ok(Term { first, past, shape })
+    let (first, past) = to_u32_pair(first, past)?;
+    Ok(Term {
+        first,
+        past,
+        kind: shape,
+    })
 }
 
 /// An operator, and the operand behind it.
-#[tactic(auto, unfolding(hcl_grammar::specs::Nodes::link))]
-pub fn link(operator: Operator, operand: Expr) -> Link
-    ensures { result ≡ nodes.link operator operand }
+#[tactic(auto, unfolding(hcl_grammar::specs::Nodes::operation))]
+pub fn operation(operator: BinaryOperator, operand: Expr) -> Operation
+    ensures { result ≡ nodes.operation operator operand }
 {
-    Link { operator, operand }
+    Operation { operator, operand }
 }
 
 /// A key of an object and its value.
@@ -69,14 +78,14 @@ pub fn elem(key: Expr, value: Expr) -> Elem
 }
 
 /// An operand with the operators behind it; with none, the operand alone.
-pub fn chain(
+pub fn binary(
     alloc: Global,
     first: usize,
     past: usize,
     head: Expr,
-    links: Items<Link>,
+    links: Items<Operation>,
 ) -> Result<Expr, TokenFault>
-    ensures node { Reads (Ok (nodes.chain first past head links, past)) result past }
+    ensures node { Reads (Ok (nodes.binary first past head links, past)) result past }
     ensures alone { links ≡ [] → result ≡ Ok head }
 {
     if links.is_empty() {
@@ -84,33 +93,33 @@ pub fn chain(
     } else {
         let head = Boxed::new(alloc, head)?;
         let links = Boxed::new(alloc, links)?;
-        expr(first, past, Form::Chain(head, links))
+        expr(first, past, ExprKind::Binary(head, links))
     }
 }
 
 /// A term without tails.
 #[inline]
-pub fn plain(first: usize, past: usize, term: Term) -> Result<Expr, TokenFault>
-    ensures node { Reads (Ok (nodes.tailed first past term [], past)) result past }
+pub fn term_expr(first: usize, past: usize, term: Term) -> Result<Expr, TokenFault>
+    ensures node { Reads (Ok (nodes.postfix first past term [], past)) result past }
     ensures err { IfErr result (λ _. (2 ^ 32 ≤ first) ⊎ (2 ^ 32 ≤ past)) }
 {
-    expr(first, past, Form::Plain(term))
+    expr(first, past, ExprKind::Term(term))
 }
 
 /// A term with the tails behind it; with none, the term alone.
-pub fn tailed(
+pub fn postfix(
     first: usize,
     past: usize,
     head: Boxed<Term>,
     tails: Boxed<Items<Tail>>,
 ) -> Result<Expr, TokenFault>
-    ensures node { Reads (Ok (nodes.tailed first past head tails, past)) result past }
+    ensures node { Reads (Ok (nodes.postfix first past head tails, past)) result past }
     ensures err { IfErr result (λ _. (2 ^ 32 ≤ first) ⊎ (2 ^ 32 ≤ past)) }
 {
     if tails.get().is_empty() {
-        plain(first, past, head.into_inner())
+        term_expr(first, past, head.into_inner())
     } else {
-        expr(first, past, Form::Tailed(head, tails))
+        expr(first, past, ExprKind::Postfix(head, tails))
     }
 }
 
@@ -120,29 +129,35 @@ pub fn call(
     alloc: Global,
     names: Items<usize>,
     arguments: Items<Expr>,
-    spread: bool,
-) -> Result<Shape, AllocError>
-    ensures { IfOk result (λ s. s ≡ nodes.call names arguments spread) }
+    expand_final: bool,
+) -> Result<Primary, AllocError>
+    ensures { IfOk result (λ s. s ≡ nodes.call names arguments expand_final) }
 {
     let call = Call {
         names,
         arguments,
-        spread,
+        expand_final,
     };
-    Ok(Shape::Call(Boxed::new(alloc, call)?))
+    Ok(Primary::Call(Boxed::new(alloc, call)?))
 }
 
 /// What a `for` begins with.
 #[tactic(auto, unfolding(hcl_grammar::specs::Nodes::intro))]
-pub fn intro(first: usize, past: usize, name: usize, second: Option<usize>, source: Expr) -> Intro
-    ensures { result ≡ nodes.intro first past name second source }
+pub fn intro(
+    first: usize,
+    past: usize,
+    name: usize,
+    second_name: Option<usize>,
+    collection: Expr,
+) -> Intro
+    ensures { result ≡ nodes.intro first past name second_name collection }
 {
     Intro {
         first,
         past,
         name,
-        second,
-        source,
+        second_name,
+        collection,
     }
 }
 
@@ -153,7 +168,7 @@ pub fn for_tuple(
     intro: Intro,
     value: Expr,
     filter: Option<Boxed<Expr>>,
-) -> Result<Shape, AllocError>
+) -> Result<Primary, AllocError>
     ensures { IfOk result (λ s. s ≡ nodes.for_tuple intro value filter) }
 {
     let comprehension = ForTuple {
@@ -161,7 +176,7 @@ pub fn for_tuple(
         value,
         filter,
     };
-    Ok(Shape::ForTuple(Boxed::new(alloc, comprehension)?))
+    Ok(Primary::ForTuple(Boxed::new(alloc, comprehension)?))
 }
 
 /// A `for` in braces.
@@ -173,7 +188,7 @@ pub fn for_object(
     value: Expr,
     grouped: bool,
     filter: Option<Boxed<Expr>>,
-) -> Result<Shape, AllocError>
+) -> Result<Primary, AllocError>
     ensures { IfOk result (λ s. s ≡ nodes.for_object intro key value grouped filter) }
 {
     let comprehension = ForObject {
@@ -183,7 +198,7 @@ pub fn for_object(
         grouped,
         filter,
     };
-    Ok(Shape::ForObject(Boxed::new(alloc, comprehension)?))
+    Ok(Primary::ForObject(Boxed::new(alloc, comprehension)?))
 }
 
 /// The parts of a template.
@@ -192,7 +207,7 @@ pub fn template(first: usize, past: usize, parts: Items<Part>) -> Result<Templat
     ensures ok { IfOk result (λ t. t ≡ nodes.template first past parts) }
     ensures err { IfErr result (λ _. (2 ^ 32 ≤ first) ⊎ (2 ^ 32 ≤ past)) }
 {
-    let (first, past) = narrow(first, past)?;
+    let (first, past) = to_u32_pair(first, past)?;
     Ok(Template { first, past, parts })
 }
 
@@ -203,17 +218,17 @@ pub fn if_part(
     first: usize,
     past: usize,
     condition: Expr,
-    met: Template,
-    unmet: Option<Template>,
+    then_branch: Template,
+    else_branch: Option<Template>,
 ) -> Result<Part, AllocError>
-    ensures { IfOk result (λ p. p ≡ nodes.if_part first past condition met unmet) }
+    ensures { IfOk result (λ p. p ≡ nodes.if_part first past condition then_branch else_branch) }
 {
     let directive = IfDirective {
         first,
         past,
         condition,
-        met,
-        unmet,
+        then_branch,
+        else_branch,
     };
     Ok(Part::If(Boxed::new(alloc, directive)?))
 }
@@ -252,17 +267,17 @@ pub fn attribute(first: usize, past: usize, value: Boxed<Expr>) -> Attribute
 }
 
 /// The attribute of a block on one line.
-pub fn line(alloc: Global, attribute: Attribute) -> Result<Content, AllocError>
-    ensures { IfOk result (λ c. c ≡ content.Line (Some attribute)) }
+pub fn one_line(alloc: Global, attribute: Attribute) -> Result<Content, AllocError>
+    ensures { IfOk result (λ c. c ≡ content.OneLine (Some attribute)) }
 {
-    Ok(Content::Line(Some(Boxed::new(alloc, attribute)?)))
+    Ok(Content::OneLine(Some(Boxed::new(alloc, attribute)?)))
 }
 
 /// The body of a block on lines of its own.
-pub fn lines(alloc: Global, body: Body) -> Result<Content, AllocError>
-    ensures { IfOk result (λ c. c ≡ content.Lines body) }
+pub fn block_body(alloc: Global, body: Body) -> Result<Content, AllocError>
+    ensures { IfOk result (λ c. c ≡ content.Body body) }
 {
-    Ok(Content::Lines(Boxed::new(alloc, body)?))
+    Ok(Content::Body(Boxed::new(alloc, body)?))
 }
 
 /// A label of a block.
@@ -284,11 +299,11 @@ pub fn block(
     ensures ok { IfOk result (λ m. m ≡ nodes.block first past labels content) }
     ensures err { IfErr result (λ _. (2 ^ 32 ≤ first) ⊎ (2 ^ 32 ≤ past)) }
 {
-    let (first, past) = narrow(first, past)?;
+    let (first, past) = to_u32_pair(first, past)?;
     Ok(Member::Block(Block {
         first,
         past,
-        word: first,
+        block_type: first,
         labels,
         content,
     }))

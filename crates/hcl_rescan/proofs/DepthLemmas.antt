@@ -4,14 +4,14 @@ use Rattle.std.proofs.lemmas.Bool.{cond_both}
 use Rattle.std.proofs.lemmas.List.Folds.{drop_split}
 use Rattle.hcl_token.specs.declared.kind.Kind.{Kind}
 use Rattle.hcl_token.specs.declared.kind.Kind.TheVariants.{OpenBrace, CloseBrace, QuoteOpen, QuoteClose, HereOpen, HereClose, HereLit, InterpOpen, DirectiveOpen, SeqClose}
-use Rattle.hcl_token.specs.CutText.{CutText, kind_of}
+use Rattle.hcl_token.specs.TokenizedText.{TokenizedText, kind_of}
 use Rattle.hcl_token.specs.Tokens.{Pair}
-use Rattle.hcl_scan.specs.Modes.{Mode, mode_of, in_sequence, is_braces, read_on, within_line, after}
+use Rattle.hcl_scan.specs.Modes.{Mode, mode_of, is_in_sequence, is_braces, after_literal, clear_line_start, modes_after}
 use Rattle.hcl_scan.specs.Modes.Mode.{Expression, Sequence, Braces, Quoted, Heredoc}
-use Rattle.hcl_scan.specs.Lexeme.{stands_in}
+use Rattle.hcl_scan.specs.Lexeme.{is_allowed_in}
 use Rattle.hcl_scan.specs.Follows.{FollowsFrom}
-use Rattle.hcl_rescan.specs.Inner.Lines.{IsFront, depth_after}
-use Rattle.hcl_scan.proofs.PairLemmas.{modes_behind}
+use Rattle.hcl_rescan.specs.Inner.WholeLines.{IsLineStart, depth_after}
+use Rattle.hcl_scan.proofs.PairLemmas.{modes_after_pairs}
 use Rattle.hcl_rescan.proofs.LineLemmas.{modes_more, one_at, range_more, pair_there, kind_is}
 
 -- each mode is that of an opening
@@ -26,24 +26,24 @@ drop_opened (Expression ∷ modes) h = absurd h
 drop_opened (Sequence ∷ modes) h = h
 drop_opened (Braces ∷ modes) h = h
 drop_opened (Quoted ∷ modes) h = h
-drop_opened (Heredoc name fresh ∷ modes) h = h
+drop_opened (Heredoc name at_line_start ∷ modes) h = h
 
-within_opened : (modes : List Mode) → AreOpened modes → AreOpened (within_line modes)
+within_opened : (modes : List Mode) → AreOpened modes → AreOpened (clear_line_start modes)
 within_opened [] h = tt
 within_opened (Expression ∷ modes) h = absurd h
 within_opened (Sequence ∷ modes) h = h
 within_opened (Braces ∷ modes) h = h
 within_opened (Quoted ∷ modes) h = h
-within_opened (Heredoc name fresh ∷ modes) h = h
+within_opened (Heredoc name at_line_start ∷ modes) h = h
 
-read_opened : (piece : List ℕ) (mode : Mode) (modes : List Mode) → AreOpened (mode ∷ modes) → AreOpened (read_on piece mode ∷ modes)
+read_opened : (piece : List ℕ) (mode : Mode) (modes : List Mode) → AreOpened (mode ∷ modes) → AreOpened (after_literal piece mode ∷ modes)
 read_opened piece Expression modes h = absurd h
 read_opened piece Sequence modes h = h
 read_opened piece Braces modes h = h
 read_opened piece Quoted modes h = h
-read_opened piece (Heredoc name fresh) modes h = h
+read_opened piece (Heredoc name at_line_start) modes h = h
 
-opened_after : (kind : Kind) (s : List ℕ) (modes : List Mode) → AreOpened modes → AreOpened (after kind s modes)
+opened_after : (kind : Kind) (s : List ℕ) (modes : List Mode) → AreOpened modes → AreOpened (modes_after kind s modes)
 opened_after QuoteOpen s modes h = h
 opened_after HereOpen s modes h = h
 opened_after InterpOpen s modes h = within_opened modes h
@@ -51,21 +51,21 @@ opened_after DirectiveOpen s modes h = within_opened modes h
 opened_after QuoteClose s modes h = drop_opened modes h
 opened_after HereClose s modes h = drop_opened modes h
 opened_after SeqClose s modes h = drop_opened modes h
-opened_after OpenBrace s modes h = cond_both (in_sequence (mode_of modes)) (Braces ∷ modes) modes AreOpened (λ _. h) (λ _. h)
+opened_after OpenBrace s modes h = cond_both (is_in_sequence (mode_of modes)) (Braces ∷ modes) modes AreOpened (λ _. h) (λ _. h)
 opened_after CloseBrace s modes h = cond_both (is_braces (mode_of modes)) (drop 1 modes) modes AreOpened (λ _. drop_opened modes h) (λ _. h)
 opened_after HereLit s [] h = tt
 opened_after HereLit s (mode ∷ modes) h = read_opened s mode modes h
 opened_after kind s modes h = h
 
-within_length : (modes : List Mode) → length (within_line modes) ≡ length modes
+within_length : (modes : List Mode) → length (clear_line_start modes) ≡ length modes
 within_length [] = refl
 within_length (Expression ∷ modes) = refl
 within_length (Sequence ∷ modes) = refl
 within_length (Braces ∷ modes) = refl
 within_length (Quoted ∷ modes) = refl
-within_length (Heredoc name fresh ∷ modes) = refl
+within_length (Heredoc name at_line_start ∷ modes) = refl
 
-depth_is : (kind : Kind) (s : List ℕ) (modes : List Mode) → stands_in (mode_of modes) kind ≡ true → AreOpened modes → length (after kind s modes) ≡ depth_after kind (length modes)
+depth_is : (kind : Kind) (s : List ℕ) (modes : List Mode) → is_allowed_in (mode_of modes) kind ≡ true → AreOpened modes → length (modes_after kind s modes) ≡ depth_after kind (length modes)
 depth_is QuoteOpen s modes st h = omega arith
 depth_is HereOpen s modes st h = omega arith
 depth_is InterpOpen s modes st h = omega (arith, within_length modes)
@@ -78,28 +78,28 @@ depth_is OpenBrace s (Expression ∷ modes) st h = absurd h
 depth_is OpenBrace s (Sequence ∷ modes) st h = omega arith
 depth_is OpenBrace s (Braces ∷ modes) st h = omega arith
 depth_is OpenBrace s (Quoted ∷ modes) st h = absurd (cc)
-depth_is OpenBrace s (Heredoc name fresh ∷ modes) st h = absurd (cc)
+depth_is OpenBrace s (Heredoc name at_line_start ∷ modes) st h = absurd (cc)
 depth_is CloseBrace s [] st h = refl
 depth_is CloseBrace s (Expression ∷ modes) st h = absurd h
 depth_is CloseBrace s (Sequence ∷ modes) st h = absurd (cc)
 depth_is CloseBrace s (Braces ∷ modes) st h = omega arith
 depth_is CloseBrace s (Quoted ∷ modes) st h = absurd (cc)
-depth_is CloseBrace s (Heredoc name fresh ∷ modes) st h = absurd (cc)
+depth_is CloseBrace s (Heredoc name at_line_start ∷ modes) st h = absurd (cc)
 depth_is HereLit s [] st h = refl
 depth_is HereLit s (mode ∷ modes) st h = refl
 depth_is kind s modes st h = refl
 
-opened_behind : (ps : List Pair) (modes : List Mode) → AreOpened modes → AreOpened (modes_behind modes ps)
-opened_behind [] modes h = h
-opened_behind (p ∷ ps) modes h = opened_behind ps (after p.kind p.spelling modes) (opened_after p.kind p.spelling modes h)
+opened_after_pairs : (ps : List Pair) (modes : List Mode) → AreOpened modes → AreOpened (modes_after_pairs modes ps)
+opened_after_pairs [] modes h = h
+opened_after_pairs (p ∷ ps) modes h = opened_after_pairs ps (modes_after p.kind p.spelling modes) (opened_after p.kind p.spelling modes h)
 
-stands_behind : (ps : List Pair) (q : Pair) (qs : List Pair) (modes : List Mode) (last : List ℕ) → FollowsFrom modes (ps ++ q ∷ qs) last [] → stands_in (mode_of (modes_behind modes ps)) q.kind ≡ true
-stands_behind [] q qs modes last f = f.2.0
-stands_behind (p ∷ ps) q qs modes last f = stands_behind ps q qs (after p.kind p.spelling modes) last f.4
+allowed_after : (ps : List Pair) (q : Pair) (qs : List Pair) (modes : List Mode) (last : List ℕ) → FollowsFrom modes (ps ++ q ∷ qs) last [] → is_allowed_in (mode_of (modes_after_pairs modes ps)) q.kind ≡ true
+allowed_after [] q qs modes last f = f.2.0
+allowed_after (p ∷ ps) q qs modes last f = allowed_after ps q qs (modes_after p.kind p.spelling modes) last f.4
 
 -- behind one token more
-pub depth_more : (cut : CutText) (from at i depth : ℕ) (kind : Kind) → IsFront cut from at → from ≤ i → i < length cut.pairs → Some kind ≡ kind_of cut.pairs i
-    → depth ≡ length (modes_behind [] (slice_range cut.pairs from i)) → depth_after kind depth ≡ length (modes_behind [] (slice_range cut.pairs from (i + 1)))
+pub depth_more : (cut : TokenizedText) (from at i depth : ℕ) (kind : Kind) → IsLineStart cut from at → from ≤ i → i < length cut.pairs → Some kind ≡ kind_of cut.pairs i
+    → depth ≡ length (modes_after_pairs [] (slice_range cut.pairs from i)) → depth_after kind depth ≡ length (modes_after_pairs [] (slice_range cut.pairs from (i + 1)))
 depth_more cut from at i depth kind f le within is so_far =
     let there = pair_there cut.pairs i within in
     let p : Pair = there.0 in
@@ -107,9 +107,9 @@ depth_more cut from at i depth kind f le within is so_far =
     let rest : List Pair = drop (suc i) cut.pairs in
     let split : drop from cut.pairs ≡ before ++ p ∷ rest = drop_split cut.pairs from i le ∙ ap (λ (x : List Pair). before ++ x) (one_at cut.pairs i p there.1) in
     let follow : FollowsFrom [] (before ++ p ∷ rest) cut.last [] = subst (λ (x : List Pair). FollowsFrom [] x cut.last []) split f.rest.follow in
-    let modes : List Mode = modes_behind [] before in
-    let one : length (after p.kind p.spelling modes) ≡ depth_after p.kind (length modes) = depth_is p.kind p.spelling modes (stands_behind before p rest [] cut.last follow) (opened_behind before [] tt) in
-    let more : modes_behind [] (slice_range cut.pairs from (i + 1)) ≡ after p.kind p.spelling modes = ap (modes_behind []) (range_more cut.pairs from i p le there.1) ∙ modes_more before p [] in
+    let modes : List Mode = modes_after_pairs [] before in
+    let one : length (modes_after p.kind p.spelling modes) ≡ depth_after p.kind (length modes) = depth_is p.kind p.spelling modes (allowed_after before p rest [] cut.last follow) (opened_after_pairs before [] tt) in
+    let more : modes_after_pairs [] (slice_range cut.pairs from (i + 1)) ≡ modes_after p.kind p.spelling modes = ap (modes_after_pairs []) (range_more cut.pairs from i p le there.1) ∙ modes_more before p [] in
     ap₂ depth_after (sym (kind_is cut.pairs i p kind there.1 is)) so_far ∙ sym one ∙ ap length (sym more)
 
 -- where none is open

@@ -7,38 +7,38 @@ use Rattle.hcl_token.specs.declared.item.Item.{Item}
 use Rattle.hcl_token.specs.declared.token.Token.{Token}
 use Rattle.hcl_token.specs.declared.kind.Kind.{Kind}
 use Rattle.hcl_token.specs.declared.kind.Kind.TheVariants.{Mark, LineEnd, LineComment, QuoteLit, HereLit}
-use Rattle.hcl_token.specs.CutText.{CutText, kind_of, item_of, item_behind}
-use Rattle.hcl_token.specs.Items.{pair_at, pairs_from, pairs_of, InOrder}
+use Rattle.hcl_token.specs.TokenizedText.{TokenizedText, kind_of, item_of, item_after}
+use Rattle.hcl_token.specs.Pairs.{pair_at, pairs_from, pairs_of, InOrder}
 use Rattle.hcl_token.specs.Joins.{joins_with}
 use Rattle.hcl_token.specs.Tokens.{Pair, whole_text}
-use Rattle.hcl_scan.specs.Characters.{is_blank}
-use Rattle.hcl_scan.specs.Modes.{Mode, mode_of, after}
+use Rattle.hcl_scan.specs.Characters.{is_whitespace}
+use Rattle.hcl_scan.specs.Modes.{Mode, mode_of, modes_after}
 use Rattle.hcl_scan.specs.Lexeme.{IsLexeme}
-use Rattle.hcl_scan.specs.Cut.{IsCut, MAX_TEXT}
-use Rattle.hcl_scan.specs.Follows.{neighbour, Behind, FollowsFrom, Follows, IsApart, AreApart, mark}
-use Rattle.hcl_rescan.specs.Inner.Lines.{EndsInLine, AreLines, AreLast, IsFront, IsStretch, IsBegun, IsWhole, items_at}
+use Rattle.hcl_scan.specs.Tokenization.{IsTokenization, MAX_TEXT}
+use Rattle.hcl_scan.specs.Follows.{following_text, AllowsNext, FollowsFrom, Follows, IsApart, AreApart, mark}
+use Rattle.hcl_rescan.specs.Inner.WholeLines.{EndsWithLineEnd, AreWholeLines, AreSelfContained, IsLineStart, IsLineRange, IsRescannedTo, IsRescanned, tokens_at}
 use Rattle.hcl_scan.proofs.MarkerLemmas.{markers_after, marker_of_mode}
-use Rattle.hcl_scan.proofs.Neighbours.{lexeme_filled}
+use Rattle.hcl_scan.proofs.FollowingText.{lexeme_filled}
 use Rattle.hcl_scan.proofs.OpenMarkers.{HaveMarkers}
-use Rattle.hcl_scan.proofs.PairLemmas.{modes_behind, joining_rest}
+use Rattle.hcl_scan.proofs.PairLemmas.{modes_after_pairs, joining_rest}
 use Rattle.hcl_scan.proofs.WritesBack.{writes_back}
 
 -- ---- the last line end asks nothing of what is behind it
 
 -- what a token asks of the next ones is asked of the first of them alone
-behind_next : (kind : Kind) (q : Pair) (ps others : List Pair) (last other : List ℕ) → Behind kind (q ∷ ps) last → Behind kind (q ∷ others) other
-behind_next LineComment q ps others last other h = h
-behind_next QuoteLit q ps others last other h = h
-behind_next HereLit q ps others last other h = h
-behind_next kind q ps others last other h = tt
+allows_next_first : (kind : Kind) (q : Pair) (ps others : List Pair) (last other : List ℕ) → AllowsNext kind (q ∷ ps) last → AllowsNext kind (q ∷ others) other
+allows_next_first LineComment q ps others last other h = h
+allows_next_first QuoteLit q ps others last other h = h
+allows_next_first HereLit q ps others last other h = h
+allows_next_first kind q ps others last other h = tt
 
 lexeme_end : (mode : Mode) (kind : Kind) (s rest other : List ℕ) → kind ≡ LineEnd → IsLexeme mode kind s rest → IsLexeme mode kind s other
 lexeme_end mode LineEnd s rest other e h = h
 lexeme_end mode kind s rest other e h = absurd (cc)
 
-behind_end : (kind : Kind) (ps : List Pair) (last : List ℕ) → kind ≡ LineEnd → Behind kind ps last
-behind_end LineEnd ps last e = tt
-behind_end kind ps last e = absurd (cc)
+allows_next_end : (kind : Kind) (ps : List Pair) (last : List ℕ) → kind ≡ LineEnd → AllowsNext kind ps last
+allows_next_end LineEnd ps last e = tt
+allows_next_end kind ps last e = absurd (cc)
 
 joins_end : (kind other : Kind) (s t : List ℕ) → kind ≡ LineEnd → joins_with kind s other t ≡ false
 joins_end LineEnd other s t e = refl
@@ -51,21 +51,21 @@ apart_end kind s (q ∷ qs) e = λ _. joins_end kind q.kind s q.spelling e
 -- ---- cut off
 
 -- behind a stretch that ends in a line end with no opening open, the rest goes on by itself
-follow_front : (ps rest : List Pair) (modes : List Mode) (last : List ℕ) → EndsInLine ps → modes_behind modes ps ≡ [] → FollowsFrom modes (ps ++ rest) last [] → FollowsFrom modes ps [] []
-follow_front [] rest modes last end none f = none
-follow_front (p ∷ []) rest modes last end none f =
-    (f.0, f.1, lexeme_end (mode_of modes) p.kind p.spelling (neighbour rest last) [] end f.2, behind_end p.kind [] [] end, none)
-follow_front (p ∷ q ∷ ps) rest modes last end none f =
-    (f.0, f.1, f.2, behind_next p.kind q (ps ++ rest) ps last [] f.3, follow_front (q ∷ ps) rest (after p.kind p.spelling modes) last end none f.4)
+follow_prefix : (ps rest : List Pair) (modes : List Mode) (last : List ℕ) → EndsWithLineEnd ps → modes_after_pairs modes ps ≡ [] → FollowsFrom modes (ps ++ rest) last [] → FollowsFrom modes ps [] []
+follow_prefix [] rest modes last end none f = none
+follow_prefix (p ∷ []) rest modes last end none f =
+    (f.0, f.1, lexeme_end (mode_of modes) p.kind p.spelling (following_text rest last) [] end f.2, allows_next_end p.kind [] [] end, none)
+follow_prefix (p ∷ q ∷ ps) rest modes last end none f =
+    (f.0, f.1, f.2, allows_next_first p.kind q (ps ++ rest) ps last [] f.3, follow_prefix (q ∷ ps) rest (modes_after p.kind p.spelling modes) last end none f.4)
 
-follow_rest : (ps rest : List Pair) (modes : List Mode) (last : List ℕ) → modes_behind modes ps ≡ [] → FollowsFrom modes (ps ++ rest) last [] → FollowsFrom [] rest last []
+follow_rest : (ps rest : List Pair) (modes : List Mode) (last : List ℕ) → modes_after_pairs modes ps ≡ [] → FollowsFrom modes (ps ++ rest) last [] → FollowsFrom [] rest last []
 follow_rest [] rest modes last none f = subst (λ (m : List Mode). FollowsFrom m rest last []) none f
-follow_rest (p ∷ ps) rest modes last none f = follow_rest ps rest (after p.kind p.spelling modes) last none f.4
+follow_rest (p ∷ ps) rest modes last none f = follow_rest ps rest (modes_after p.kind p.spelling modes) last none f.4
 
-apart_front : (ps rest : List Pair) → AreApart (ps ++ rest) → AreApart ps
-apart_front [] rest a = tt
-apart_front (p ∷ []) rest a = (tt, tt)
-apart_front (p ∷ q ∷ ps) rest a = (a.0, apart_front (q ∷ ps) rest a.1)
+apart_prefix : (ps rest : List Pair) → AreApart (ps ++ rest) → AreApart ps
+apart_prefix [] rest a = tt
+apart_prefix (p ∷ []) rest a = (tt, tt)
+apart_prefix (p ∷ q ∷ ps) rest a = (a.0, apart_prefix (q ∷ ps) rest a.1)
 
 apart_rest : (ps rest : List Pair) → AreApart (ps ++ rest) → AreApart rest
 apart_rest [] rest a = a
@@ -73,32 +73,32 @@ apart_rest (p ∷ ps) rest a = apart_rest ps rest a.1
 
 -- ---- put before others
 
-follow_both : (ps rest : List Pair) (modes : List Mode) (last : List ℕ) → EndsInLine ps → FollowsFrom modes ps [] [] → FollowsFrom [] rest last [] → FollowsFrom modes (ps ++ rest) last []
+follow_both : (ps rest : List Pair) (modes : List Mode) (last : List ℕ) → EndsWithLineEnd ps → FollowsFrom modes ps [] [] → FollowsFrom [] rest last [] → FollowsFrom modes (ps ++ rest) last []
 follow_both [] rest modes last end f g = subst (λ (m : List Mode). FollowsFrom m rest last []) (sym f) g
 follow_both (p ∷ []) rest modes last end f g =
-    (f.0, f.1, lexeme_end (mode_of modes) p.kind p.spelling [] (neighbour rest last) end f.2, behind_end p.kind rest last end, subst (λ (m : List Mode). FollowsFrom m rest last []) (sym f.4) g)
+    (f.0, f.1, lexeme_end (mode_of modes) p.kind p.spelling [] (following_text rest last) end f.2, allows_next_end p.kind rest last end, subst (λ (m : List Mode). FollowsFrom m rest last []) (sym f.4) g)
 follow_both (p ∷ q ∷ ps) rest modes last end f g =
-    (f.0, f.1, f.2, behind_next p.kind q ps (ps ++ rest) [] last f.3, follow_both (q ∷ ps) rest (after p.kind p.spelling modes) last end f.4 g)
+    (f.0, f.1, f.2, allows_next_first p.kind q ps (ps ++ rest) [] last f.3, follow_both (q ∷ ps) rest (modes_after p.kind p.spelling modes) last end f.4 g)
 
-apart_both : (ps rest : List Pair) → EndsInLine ps → AreApart ps → AreApart rest → AreApart (ps ++ rest)
+apart_both : (ps rest : List Pair) → EndsWithLineEnd ps → AreApart ps → AreApart rest → AreApart (ps ++ rest)
 apart_both [] rest end a b = b
 apart_both (p ∷ []) rest end a b = (apart_end p.kind p.spelling rest end, b)
 apart_both (p ∷ q ∷ ps) rest end a b = (a.0, apart_both (q ∷ ps) rest end a.1 b)
 
-ends_both : (ps rest : List Pair) → EndsInLine ps → EndsInLine rest → EndsInLine (ps ++ rest)
+ends_both : (ps rest : List Pair) → EndsWithLineEnd ps → EndsWithLineEnd rest → EndsWithLineEnd (ps ++ rest)
 ends_both [] rest end more = more
 ends_both (p ∷ []) [] end more = end
 ends_both (p ∷ []) (q ∷ rest) end more = more
 ends_both (p ∷ q ∷ ps) rest end more = ends_both (q ∷ ps) rest end more
 
-pub lines_both : (ps rest : List Pair) → AreLines ps → AreLines rest → AreLines (ps ++ rest)
+pub lines_both : (ps rest : List Pair) → AreWholeLines ps → AreWholeLines rest → AreWholeLines (ps ++ rest)
 lines_both ps rest a b = record {
   follow = follow_both ps rest [] [] a.ended a.follow b.follow;
   ended = ends_both ps rest a.ended b.ended;
   apart = apart_both ps rest a.ended a.apart b.apart;
 }
 
-pub last_both : (ps rest : List Pair) (last : List ℕ) → AreLines ps → AreLast rest last → AreLast (ps ++ rest) last
+pub last_both : (ps rest : List Pair) (last : List ℕ) → AreWholeLines ps → AreSelfContained rest last → AreSelfContained (ps ++ rest) last
 last_both ps rest last a b = record {
   follow = follow_both ps rest [] last a.ended a.follow b.follow;
   apart = apart_both ps rest a.ended a.apart b.apart;
@@ -106,11 +106,11 @@ last_both ps rest last a b = record {
 
 -- ---- one token more
 
-pub modes_more : (ps : List Pair) (p : Pair) (modes : List Mode) → modes_behind modes (ps ++ p ∷ []) ≡ after p.kind p.spelling (modes_behind modes ps)
+pub modes_more : (ps : List Pair) (p : Pair) (modes : List Mode) → modes_after_pairs modes (ps ++ p ∷ []) ≡ modes_after p.kind p.spelling (modes_after_pairs modes ps)
 modes_more [] p modes = refl
-modes_more (q ∷ ps) p modes = modes_more ps p (after q.kind q.spelling modes)
+modes_more (q ∷ ps) p modes = modes_more ps p (modes_after q.kind q.spelling modes)
 
-ends_more : (ps : List Pair) (p : Pair) → p.kind ≡ LineEnd → EndsInLine (ps ++ p ∷ [])
+ends_more : (ps : List Pair) (p : Pair) → p.kind ≡ LineEnd → EndsWithLineEnd (ps ++ p ∷ [])
 ends_more [] p e = e
 ends_more (q ∷ []) p e = e
 ends_more (q ∷ r ∷ ps) p e = ends_more (r ∷ ps) p e
@@ -177,13 +177,13 @@ length_one p = omega (arith, length-append p.gap (p.spelling ++ []), length-appe
 
 -- ---- a line more
 
-after_end : (kind : Kind) (s : List ℕ) (modes : List Mode) → kind ≡ LineEnd → after kind s modes ≡ modes
+after_end : (kind : Kind) (s : List ℕ) (modes : List Mode) → kind ≡ LineEnd → modes_after kind s modes ≡ modes
 after_end LineEnd s modes e = refl
 after_end kind s modes e = absurd (cc)
 
 -- a text whose first token is no byte order mark
 pub unmarked : (pairs : List Pair) (last : List ℕ) (kind : Kind) → Follows pairs last [] → Some kind ≡ kind_of pairs 0 → kind ≢ Mark → FollowsFrom [] pairs last []
-unmarked pairs last kind f e other = at_front f.front
+unmarked pairs last kind f e other = at_front f.prefix
   where
     at_front : (pairs ≡ f.body) ⊎ (pairs ≡ mark ∷ f.body) → FollowsFrom [] pairs last []
     at_front (inl same) = subst (λ (x : List Pair). FollowsFrom [] x last []) (sym same) f.follows
@@ -192,18 +192,18 @@ unmarked pairs last kind f e other = at_front f.front
         absurd (other (cc))
 
 -- the line that ends with this token, and what stands behind it
-pub next_line : (cut : CutText) (from at i : ℕ) (p : Pair) → IsFront cut from at → from ≤ i → i < length cut.pairs → slice_get cut.pairs i ≡ Some p → p.kind ≡ LineEnd
-    → modes_behind [] (slice_range cut.pairs from i) ≡ []
-    → IsFront cut (i + 1) (length (whole_text (take (i + 1) cut.pairs) [])) × IsStretch cut.pairs from (i + 1)
+pub next_line : (cut : TokenizedText) (from at i : ℕ) (p : Pair) → IsLineStart cut from at → from ≤ i → i < length cut.pairs → slice_get cut.pairs i ≡ Some p → p.kind ≡ LineEnd
+    → modes_after_pairs [] (slice_range cut.pairs from i) ≡ []
+    → IsLineStart cut (i + 1) (length (whole_text (take (i + 1) cut.pairs) [])) × IsLineRange cut.pairs from (i + 1)
 next_line cut from at i p f le within e end none =
     let ps : List Pair = cut.pairs in
     let line : List Pair = slice_range ps from (i + 1) in
     let rest : List Pair = drop (i + 1) ps in
     let split : drop from ps ≡ line ++ rest = drop_split ps from (i + 1) (omega arith) in
     let more : line ≡ slice_range ps from i ++ p ∷ [] = range_more ps from i p le e in
-    let ended : EndsInLine line = subst EndsInLine (sym more) (ends_more (slice_range ps from i) p end) in
-    let modes : modes_behind [] line ≡ [] =
-    ap (modes_behind []) more ∙ modes_more (slice_range ps from i) p [] ∙ after_end p.kind p.spelling (modes_behind [] (slice_range ps from i)) end ∙ none in
+    let ended : EndsWithLineEnd line = subst EndsWithLineEnd (sym more) (ends_more (slice_range ps from i) p end) in
+    let modes : modes_after_pairs [] line ≡ [] =
+    ap (modes_after_pairs []) more ∙ modes_more (slice_range ps from i) p [] ∙ after_end p.kind p.spelling (modes_after_pairs [] (slice_range ps from i)) end ∙ none in
     let follow : FollowsFrom [] (line ++ rest) cut.last [] = subst (λ (x : List Pair). FollowsFrom [] x cut.last []) split f.rest.follow in
     let apart : AreApart (line ++ rest) = subst AreApart split f.rest.apart in (
       record {
@@ -213,14 +213,14 @@ next_line cut from at i p f le within e end none =
       },
       record {
         ordered = omega arith;
-        lines = record { follow = follow_front line rest [] cut.last ended modes follow; ended = ended; apart = apart_front line rest apart };
+        lines = record { follow = follow_prefix line rest [] cut.last ended modes follow; ended = ended; apart = apart_prefix line rest apart };
       },
     )
 
 -- where a token ends
-pub stop_is : (ps : List Pair) (i : ℕ) (p : Pair) (item : Item) → slice_get ps i ≡ Some p → Some item ≡ item_of ps i → item ≡ item_behind (take i ps) p
+pub stop_is : (ps : List Pair) (i : ℕ) (p : Pair) (item : Item) → slice_get ps i ≡ Some p → Some item ≡ item_of ps i → item ≡ item_after (take i ps) p
 stop_is ps i p item e same =
-    let found : Some item ≡ Some (item_behind (take i ps) p) = same ∙ ap (option_map (λ (q : Pair). item_behind (take i ps) q)) e in
+    let found : Some item ≡ Some (item_after (take i ps) p) = same ∙ ap (option_map (λ (q : Pair). item_after (take i ps) q)) e in
     cc
 
 take_next : (ps : List Pair) (i : ℕ) (p : Pair) → slice_get ps i ≡ Some p → take (i + 1) ps ≡ take i ps ++ p ∷ []
@@ -237,7 +237,7 @@ pub record Placed (ps : List Pair) (i : ℕ) (p : Pair) (item : Item) : Type 0 w
 pub placed : (ps : List Pair) (i : ℕ) (p : Pair) (item : Item) → slice_get ps i ≡ Some p → Some item ≡ item_of ps i → Placed ps i p item
 placed ps i p item e same =
     let before : List Pair = take i ps in
-    let is : item ≡ item_behind before p = stop_is ps i p item e same in
+    let is : item ≡ item_after before p = stop_is ps i p item e same in
     let start : item.start ≡ length (whole_text before []) + length p.gap = ap (λ (x : Item). x.start) is ∙ joining_rest before p.gap in
     let stop : item.stop ≡ length (whole_text before []) + length p.gap + length p.spelling =
     ap (λ (x : Item). x.stop) is ∙ joining_rest before (p.gap ++ p.spelling) ∙ omega (arith, length-append p.gap p.spelling) in
@@ -257,14 +257,14 @@ pair_there (q ∷ ps) (suc i) h = pair_there ps i (omega arith)
 
 -- ---- the text begun
 
-pub items_more : (ps : List Pair) (p : Pair) (at : ℕ) → items_at at (ps ++ p ∷ []) ≡ items_at at ps ++ items_at (at + length (whole_text ps [])) (p ∷ [])
-items_more [] p at = ap (λ n. items_at n (p ∷ [])) (omega arith)
+pub items_more : (ps : List Pair) (p : Pair) (at : ℕ) → tokens_at at (ps ++ p ∷ []) ≡ tokens_at at ps ++ tokens_at (at + length (whole_text ps [])) (p ∷ [])
+items_more [] p at = ap (λ n. tokens_at n (p ∷ [])) (omega arith)
 items_more (q ∷ ps) p at =
     let next : ℕ = at + length q.gap + length q.spelling in
     let far : next + length (whole_text ps []) ≡ at + length (whole_text (q ∷ ps) []) =
     omega (arith, length-append q.gap (q.spelling ++ whole_text ps []), length-append q.spelling (whole_text ps [])) in
     ap (λ (x : List Token). record { start = at + length q.gap; stop = next; kind = q.kind } ∷ x)
-    (items_more ps p next ∙ ap (λ n. items_at next ps ++ items_at n (p ∷ [])) far)
+    (items_more ps p next ∙ ap (λ n. tokens_at next ps ++ tokens_at n (p ∷ [])) far)
 
 range_at : (text a b rest : List ℕ) (at : ℕ) → drop at text ≡ a ++ (b ++ rest) → slice_range text (at + length a) (at + length a + length b) ≡ b
 range_at text a b rest at e =
@@ -276,7 +276,7 @@ same_pair : (p : Pair) (gap spelling : List ℕ) → gap ≡ p.gap → spelling 
 same_pair p gap spelling e f = ap₂ (λ (x y : List ℕ). record { gap = x; kind = p.kind; spelling = y }) e f
 
 -- pairs that stand in a text are those of their items
-pub pairs_again : (ps : List Pair) (text : List ℕ) (at : ℕ) (rest : List ℕ) → drop at text ≡ whole_text ps rest → pairs_from text at (items_at at ps) ≡ ps
+pub pairs_again : (ps : List Pair) (text : List ℕ) (at : ℕ) (rest : List ℕ) → drop at text ≡ whole_text ps rest → pairs_from text at (tokens_at at ps) ≡ ps
 pairs_again [] text at rest e = refl
 pairs_again (p ∷ ps) text at rest e =
     let more : List ℕ = whole_text ps rest in
@@ -293,13 +293,13 @@ pairs_again (p ∷ ps) text at rest e =
     ∙ drop_at (p.gap ++ p.spelling) more (length p.gap + length p.spelling) (length-append p.gap p.spelling) in
     ap₂ (λ (x : Pair) (xs : List Pair). x ∷ xs) (same_pair p (slice_range text at start) (slice_range text start stop) gap spelling) (pairs_again ps text stop rest behind)
 
-order_again : (ps : List Pair) (at : ℕ) → InOrder at (items_at at ps) (at + length (whole_text ps []))
+order_again : (ps : List Pair) (at : ℕ) → InOrder at (tokens_at at ps) (at + length (whole_text ps []))
 order_again [] at = omega arith
 order_again (p ∷ ps) at =
     let next : ℕ = at + length p.gap + length p.spelling in
     let far : next + length (whole_text ps []) ≡ at + length (whole_text (p ∷ ps) []) =
     omega (arith, length-append p.gap (p.spelling ++ whole_text ps []), length-append p.spelling (whole_text ps [])) in
-    (omega arith, omega arith, subst (λ n. InOrder next (items_at next ps) n) far (order_again ps next))
+    (omega arith, omega arith, subst (λ n. InOrder next (tokens_at next ps) n) far (order_again ps next))
 
 order_both : (xs ys : List Token) (from at to : ℕ) → InOrder from xs at → InOrder at ys to → InOrder from (xs ++ ys) to
 order_both [] ys from at to a b = subst (λ n. InOrder n ys to) (sym a) b
@@ -312,20 +312,20 @@ pairs_both text (x ∷ xs) ys from at a = ap (λ (ps : List Pair). pair_at text 
 
 -- what pairs that stand behind the text begun do to it
 record Grown (text : List ℕ) (items : List Token) (at : ℕ) (ps : List Pair) (rest : List ℕ) : Type 0 where
-  pairs : pairs_of text (items ++ items_at at ps) ≡ pairs_of text items ++ ps
-  text_is : text ≡ whole_text (pairs_of text (items ++ items_at at ps)) rest
-  order : InOrder 0 (items ++ items_at at ps) (at + length (whole_text ps []))
+  pairs : pairs_of text (items ++ tokens_at at ps) ≡ pairs_of text items ++ ps
+  text_is : text ≡ whole_text (pairs_of text (items ++ tokens_at at ps)) rest
+  order : InOrder 0 (items ++ tokens_at at ps) (at + length (whole_text ps []))
   rest_is : drop (at + length (whole_text ps [])) text ≡ rest
   within : at + length (whole_text ps []) + length rest ≡ length text
 
-begun_behind : (text : List ℕ) (items : List Token) (at : ℕ) (ps : List Pair) (rest : List ℕ) → IsBegun text items at → drop at text ≡ whole_text ps rest → Grown text items at ps rest
-begun_behind text items at ps rest b e =
-    let pairs : pairs_of text (items ++ items_at at ps) ≡ pairs_of text items ++ ps =
-    pairs_both text items (items_at at ps) 0 at b.order ∙ ap (λ (x : List Pair). pairs_of text items ++ x) (pairs_again ps text at rest e) in
+rescanned_after : (text : List ℕ) (items : List Token) (at : ℕ) (ps : List Pair) (rest : List ℕ) → IsRescannedTo text items at → drop at text ≡ whole_text ps rest → Grown text items at ps rest
+rescanned_after text items at ps rest b e =
+    let pairs : pairs_of text (items ++ tokens_at at ps) ≡ pairs_of text items ++ ps =
+    pairs_both text items (tokens_at at ps) 0 at b.order ∙ ap (λ (x : List Pair). pairs_of text items ++ x) (pairs_again ps text at rest e) in
     record {
       pairs = pairs;
       text_is = b.text_is ∙ ap (whole_text (pairs_of text items)) e ∙ sym (whole_both (pairs_of text items) ps rest) ∙ ap (λ (x : List Pair). whole_text x rest) (sym pairs);
-      order = order_both items (items_at at ps) 0 at (at + length (whole_text ps [])) b.order (order_again ps at);
+      order = order_both items (tokens_at at ps) 0 at (at + length (whole_text ps [])) b.order (order_again ps at);
       rest_is =
           sym (drop-drop (length (whole_text ps [])) at text)
           ∙ ap (drop (length (whole_text ps []))) (e ∙ whole_rest ps rest)
@@ -334,42 +334,42 @@ begun_behind text items at ps rest b e =
     }
 
 -- the text begun, with lines more
-pub begun_more : (text : List ℕ) (items : List Token) (at : ℕ) (ps : List Pair) (rest : List ℕ) → IsBegun text items at → AreLines ps → drop at text ≡ whole_text ps rest → IsBegun text (items ++ items_at at ps) (at + length (whole_text ps []))
-begun_more text items at ps rest b lines e =
-    let more : Grown text items at ps rest = begun_behind text items at ps rest b e in
+pub rescanned_more : (text : List ℕ) (items : List Token) (at : ℕ) (ps : List Pair) (rest : List ℕ) → IsRescannedTo text items at → AreWholeLines ps → drop at text ≡ whole_text ps rest → IsRescannedTo text (items ++ tokens_at at ps) (at + length (whole_text ps []))
+rescanned_more text items at ps rest b lines e =
+    let more : Grown text items at ps rest = rescanned_after text items at ps rest b e in
     record {
       within = omega (arith, more.within);
-      lines = subst AreLines (sym more.pairs) (lines_both (pairs_of text items) ps b.lines lines);
-      text_is = more.text_is ∙ ap (whole_text (pairs_of text (items ++ items_at at ps))) (sym more.rest_is);
+      lines = subst AreWholeLines (sym more.pairs) (lines_both (pairs_of text items) ps b.lines lines);
+      text_is = more.text_is ∙ ap (whole_text (pairs_of text (items ++ tokens_at at ps))) (sym more.rest_is);
       order = more.order;
     }
 
 -- the text begun, with its last tokens
-pub begun_last : (text : List ℕ) (items : List Token) (at : ℕ) (ps : List Pair) (last : List ℕ) → length text ≤ MAX_TEXT → IsBegun text items at → AreLast ps last → list_all is_blank last ≡ true → drop at text ≡ whole_text ps last
-    → IsWhole text (items ++ items_at at ps) (length text - length last)
-begun_last text items at ps last short b rest blank e =
-    let new : List Pair = pairs_of text (items ++ items_at at ps) in
-    let more : Grown text items at ps last = begun_behind text items at ps last b e in
+pub rescanned_last : (text : List ℕ) (items : List Token) (at : ℕ) (ps : List Pair) (last : List ℕ) → length text ≤ MAX_TEXT → IsRescannedTo text items at → AreSelfContained ps last → list_all is_whitespace last ≡ true → drop at text ≡ whole_text ps last
+    → IsRescanned text (items ++ tokens_at at ps) (length text - length last)
+rescanned_last text items at ps last short b rest blank e =
+    let new : List Pair = pairs_of text (items ++ tokens_at at ps) in
+    let more : Grown text items at ps last = rescanned_after text items at ps last b e in
     let end : at + length (whole_text ps []) ≡ length text - length last = omega (arith, more.within) in
     let is_last : drop (length text - length last) text ≡ last = ap (λ n. drop n text) (sym end) ∙ more.rest_is in
-    let are : AreLast new last = subst (λ (x : List Pair). AreLast x last) (sym more.pairs) (last_both (pairs_of text items) ps last b.lines rest) in
-    let follows : Follows new last [] = record { body = new; front = inl refl; follows = are.follow; blank = blank } in
-    let cut : IsCut (whole_text new last) new last = writes_back new last follows are.apart (subst (λ (x : List ℕ). length x ≤ MAX_TEXT) more.text_is short) in
+    let are : AreSelfContained new last = subst (λ (x : List Pair). AreSelfContained x last) (sym more.pairs) (last_both (pairs_of text items) ps last b.lines rest) in
+    let follows : Follows new last [] = record { body = new; prefix = inl refl; follows = are.follow; whitespace = blank } in
+    let cut : IsTokenization (whole_text new last) new last = writes_back new last follows are.apart (subst (λ (x : List ℕ). length x ≤ MAX_TEXT) more.text_is short) in
     record {
-      cut = subst (λ (x : List ℕ). IsCut text new x) (sym is_last) (subst (λ (x : List ℕ). IsCut x new last) (sym more.text_is) cut);
-      order = subst (λ n. InOrder 0 (items ++ items_at at ps) n) end more.order;
+      tokenization = subst (λ (x : List ℕ). IsTokenization text new x) (sym is_last) (subst (λ (x : List ℕ). IsTokenization x new last) (sym more.text_is) cut);
+      order = subst (λ n. InOrder 0 (items ++ tokens_at at ps) n) end more.order;
       within = omega arith;
     }
 
 -- ---- the bytes of a stretch
 
-pub record StretchText (cut : CutText) (from at to end : ℕ) : Type 0 where
+pub record RangeText (cut : TokenizedText) (from at to end : ℕ) : Type 0 where
   pub ordered : at ≤ end
   pub within : end ≤ length cut.text
   pub bytes : slice_range cut.text at end ≡ whole_text (slice_range cut.pairs from to) []
 
-pub stretch_text : (cut : CutText) (from at to end : ℕ) → cut.text ≡ whole_text cut.pairs cut.last → IsFront cut from at → IsFront cut to end → from ≤ to → StretchText cut from at to end
-stretch_text cut from at to end whole f g le =
+pub range_text : (cut : TokenizedText) (from at to end : ℕ) → cut.text ≡ whole_text cut.pairs cut.last → IsLineStart cut from at → IsLineStart cut to end → from ≤ to → RangeText cut from at to end
+range_text cut from at to end whole f g le =
     let ps : List Pair = cut.pairs in
     let before : List ℕ = whole_text (take from ps) [] in
     let mid : List Pair = slice_range ps from to in
@@ -400,31 +400,31 @@ stretch_text cut from at to end whole f g le =
 -- ---- an item moved
 
 -- what is known of an item of a stretch that begins at this front
-pub record IsWithin (cut : CutText) (from at i : ℕ) (item : Item) : Type 0 where
-  pub front : at ≤ MAX_TEXT
+pub record IsWithin (cut : TokenizedText) (from at i : ℕ) (item : Item) : Type 0 where
+  pub prefix : at ≤ MAX_TEXT
   pub start : at ≤ item.start
   pub stop : item.start ≤ item.stop
   pub short : item.stop ≤ MAX_TEXT
 
-place_more : (cut : CutText) (from at i : ℕ) → IsFront cut from at → from ≤ i → length (whole_text (take i cut.pairs) []) ≡ at + length (whole_text (slice_range cut.pairs from i) [])
+place_more : (cut : TokenizedText) (from at i : ℕ) → IsLineStart cut from at → from ≤ i → length (whole_text (take i cut.pairs) []) ≡ at + length (whole_text (slice_range cut.pairs from i) [])
 place_more cut from at i f le =
     ap (λ (x : List Pair). length (whole_text x [])) (take_range cut.pairs from i le)
     ∙ length_both (take from cut.pairs) (slice_range cut.pairs from i)
     ∙ omega (arith, f.place)
 
-place_in : (cut : CutText) (i : ℕ) → cut.text ≡ whole_text cut.pairs cut.last → length (whole_text (take i cut.pairs) []) ≤ length cut.text
+place_in : (cut : TokenizedText) (i : ℕ) → cut.text ≡ whole_text cut.pairs cut.last → length (whole_text (take i cut.pairs) []) ≤ length cut.text
 place_in cut i whole =
     let split : whole_text cut.pairs [] ≡ whole_text (take i cut.pairs ++ drop i cut.pairs) [] = ap (λ (x : List Pair). whole_text x []) (sym (take-append-drop i cut.pairs)) in
     omega (arith, ap length whole, joining_rest cut.pairs cut.last, ap length split, length_both (take i cut.pairs) (drop i cut.pairs))
 
-pub within_text : (cut : CutText) (from at i : ℕ) (item : Item) → IsCut cut.text cut.pairs cut.last → IsFront cut from at → from ≤ i → i < length cut.pairs → Some item ≡ item_of cut.pairs i → IsWithin cut from at i item
+pub within_text : (cut : TokenizedText) (from at i : ℕ) (item : Item) → IsTokenization cut.text cut.pairs cut.last → IsLineStart cut from at → from ≤ i → i < length cut.pairs → Some item ≡ item_of cut.pairs i → IsWithin cut from at i item
 within_text cut from at i item c f le within e =
     let there = pair_there cut.pairs i within in
     let known : Placed cut.pairs i there.0 item = placed cut.pairs i there.0 item there.1 e in
     let front : length (whole_text (take i cut.pairs) []) ≡ at + length (whole_text (slice_range cut.pairs from i) []) = place_more cut from at i f le in
-    let stop : length (whole_text (take (i + 1) cut.pairs) []) ≤ length cut.text = place_in cut (i + 1) c.cuts.text_is in
+    let stop : length (whole_text (take (i + 1) cut.pairs) []) ≤ length cut.text = place_in cut (i + 1) c.tokenizes.text_is in
     record {
-      front = omega (arith, front, stop, known.gap_at, known.stop, known.next, c.short);
+      prefix = omega (arith, front, stop, known.gap_at, known.stop, known.next, c.short);
       start = omega (arith, front, known.start);
       stop = omega (arith, known.start, known.stop);
       short = omega (arith, stop, known.next, c.short);
@@ -432,12 +432,12 @@ within_text cut from at i item c f le within e =
 
 -- a token behind others has a byte
 follow_filled : (ps rest : List Pair) (p : Pair) (modes : List Mode) (last : List ℕ) → HaveMarkers modes → FollowsFrom modes (ps ++ p ∷ rest) last [] → 0 < length p.spelling
-follow_filled [] rest p modes last m f = lexeme_filled (mode_of modes) p.kind p.spelling (neighbour rest last) (marker_of_mode modes m) f.2
+follow_filled [] rest p modes last m f = lexeme_filled (mode_of modes) p.kind p.spelling (following_text rest last) (marker_of_mode modes m) f.2
 follow_filled (q ∷ ps) rest p modes last m f =
-    follow_filled ps rest p (after q.kind q.spelling modes) last (markers_after q.kind q.spelling (neighbour (ps ++ p ∷ rest) last) modes f.2.1 m) f.4
+    follow_filled ps rest p (modes_after q.kind q.spelling modes) last (markers_after q.kind q.spelling (following_text (ps ++ p ∷ rest) last) modes f.2.1 m) f.4
 
 -- an item of a stretch that fits from another place on begins before the end
-pub moved_fits : (cut : CutText) (from at i end to : ℕ) (item : Item) → IsFront cut from at → from ≤ i → i < end → end ≤ length cut.pairs → Some item ≡ item_of cut.pairs i
+pub moved_fits : (cut : TokenizedText) (from at i end to : ℕ) (item : Item) → IsLineStart cut from at → from ≤ i → i < end → end ≤ length cut.pairs → Some item ≡ item_of cut.pairs i
     → to + length (whole_text (slice_range cut.pairs from end) []) ≤ MAX_TEXT → to + (item.start - at) < MAX_TEXT
 moved_fits cut from at i end to item f le inside within e fits =
     let ps : List Pair = cut.pairs in
@@ -465,9 +465,9 @@ same_token token start stop kind e f g =
     ap with_start e ∙ ap with_stop f ∙ ap with_kind g
 
 -- one item more of the stretch, as it stands from another place on
-pub moved_more : (cut : CutText) (from at i to : ℕ) (item : Item) (other : Token) → IsFront cut from at → from ≤ i → i < length cut.pairs → Some item ≡ item_of cut.pairs i
+pub moved_more : (cut : TokenizedText) (from at i to : ℕ) (item : Item) (other : Token) → IsLineStart cut from at → from ≤ i → i < length cut.pairs → Some item ≡ item_of cut.pairs i
     → other.start ≡ to + (item.start - at) → other.stop ≡ to + (item.stop - at) → other.kind ≡ item.kind
-    → items_at to (slice_range cut.pairs from (i + 1)) ≡ items_at to (slice_range cut.pairs from i) ++ other ∷ []
+    → tokens_at to (slice_range cut.pairs from (i + 1)) ≡ tokens_at to (slice_range cut.pairs from i) ++ other ∷ []
 moved_more cut from at i to item other f le within e start stop kind =
     let there = pair_there cut.pairs i within in
     let p : Pair = there.0 in
@@ -478,9 +478,9 @@ moved_more cut from at i to item other f le within e start stop kind =
     let is : other ≡ record { start = far + length p.gap; stop = far + length p.gap + length p.spelling; kind = p.kind } =
     same_token other (far + length p.gap) (far + length p.gap + length p.spelling) p.kind
     (omega (arith, start, front, known.start)) (omega (arith, stop, front, known.stop)) (kind ∙ known.kind) in
-    ap (items_at to) (range_more cut.pairs from i p le there.1)
+    ap (tokens_at to) (range_more cut.pairs from i p le there.1)
     ∙ items_more before p to
-    ∙ ap (λ (x : Token). items_at to before ++ x ∷ []) (sym is)
+    ∙ ap (λ (x : Token). tokens_at to before ++ x ∷ []) (sym is)
 
 -- ---- from token to token
 
@@ -490,30 +490,30 @@ kind_is ps i p kind e same =
     cc
 
 -- the line that ends with this token
-pub line_ends : (cut : CutText) (from at i : ℕ) (kind : Kind) (item : Item) → IsFront cut from at → from ≤ i → i < length cut.pairs → Some kind ≡ kind_of cut.pairs i → kind ≡ LineEnd → Some item ≡ item_of cut.pairs i
-    → modes_behind [] (slice_range cut.pairs from i) ≡ [] → IsFront cut (i + 1) item.stop × IsStretch cut.pairs from (i + 1) × (from < i + 1)
-line_ends cut from at i kind item f le within is end is_item none =
+pub line_start_at_line_end : (cut : TokenizedText) (from at i : ℕ) (kind : Kind) (item : Item) → IsLineStart cut from at → from ≤ i → i < length cut.pairs → Some kind ≡ kind_of cut.pairs i → kind ≡ LineEnd → Some item ≡ item_of cut.pairs i
+    → modes_after_pairs [] (slice_range cut.pairs from i) ≡ [] → IsLineStart cut (i + 1) item.stop × IsLineRange cut.pairs from (i + 1) × (from < i + 1)
+line_start_at_line_end cut from at i kind item f le within is end is_item none =
     let there = pair_there cut.pairs i within in
     let line = next_line cut from at i there.0 f le within there.1 (kind_is cut.pairs i there.0 kind there.1 is ∙ end) none in
     let next = (placed cut.pairs i there.0 item there.1 is_item).next in
-    (subst (IsFront cut (i + 1)) (sym next) line.0, line.1, omega arith)
+    (subst (IsLineStart cut (i + 1)) (sym next) line.0, line.1, omega arith)
 
 -- ---- lines taken over
 
 -- lines of the one text whose bytes stand in the other behind what is begun
-pub taken : (text : List ℕ) (items new : List Token) (at : ℕ) (cut : CutText) (from front to end : ℕ) (bytes : List ℕ) → IsBegun text items at → IsStretch cut.pairs from to → StretchText cut from front to end
-    → bytes ≡ slice_range cut.text front end → drop at text ≡ bytes ++ drop (at + length bytes) text → new ≡ items ++ items_at at (slice_range cut.pairs from to) → IsBegun text new (at + length bytes)
+pub taken : (text : List ℕ) (items new : List Token) (at : ℕ) (cut : TokenizedText) (from front to end : ℕ) (bytes : List ℕ) → IsRescannedTo text items at → IsLineRange cut.pairs from to → RangeText cut from front to end
+    → bytes ≡ slice_range cut.text front end → drop at text ≡ bytes ++ drop (at + length bytes) text → new ≡ items ++ tokens_at at (slice_range cut.pairs from to) → IsRescannedTo text new (at + length bytes)
 taken text items new at cut from front to end bytes b s t e stands is =
     let lines : List Pair = slice_range cut.pairs from to in
     let rest : List ℕ = drop (at + length bytes) text in
     let same : bytes ≡ whole_text lines [] = e ∙ t.bytes in
     let whole : drop at text ≡ whole_text lines rest = stands ∙ ap (λ (x : List ℕ). x ++ rest) same ∙ sym (whole_rest lines rest) in
     let size : length bytes ≡ length (whole_text lines []) = ap length same in
-    let more : IsBegun text (items ++ items_at at lines) (at + length (whole_text lines [])) = begun_more text items at lines rest b s.lines whole in
-    subst (λ (x : List Token). IsBegun text x (at + length bytes)) (sym is) (subst (λ n. IsBegun text (items ++ items_at at lines) (at + n)) (sym size) more)
+    let more : IsRescannedTo text (items ++ tokens_at at lines) (at + length (whole_text lines [])) = rescanned_more text items at lines rest b s.lines whole in
+    subst (λ (x : List Token). IsRescannedTo text x (at + length bytes)) (sym is) (subst (λ n. IsRescannedTo text (items ++ tokens_at at lines) (at + n)) (sym size) more)
 
 -- and they fit there
-pub lines_fit : (text bytes : List ℕ) (at : ℕ) (cut : CutText) (from front to end : ℕ) → StretchText cut from front to end → bytes ≡ slice_range cut.text front end
+pub lines_fit : (text bytes : List ℕ) (at : ℕ) (cut : TokenizedText) (from front to end : ℕ) → RangeText cut from front to end → bytes ≡ slice_range cut.text front end
     → drop at text ≡ bytes ++ drop (at + length bytes) text → at ≤ length text → length text ≤ MAX_TEXT → at + length (whole_text (slice_range cut.pairs from to) []) ≤ MAX_TEXT
 lines_fit text bytes at cut from front to end t e stands within short =
     omega (arith, ap length (e ∙ t.bytes), ap length stands, length-append bytes (drop (at + length bytes) text), length-drop {A = ℕ} at text)
@@ -522,38 +522,38 @@ all_range : (ps : List Pair) → slice_range ps 0 (length ps) ≡ ps
 all_range ps = ap (λ n. take n ps) (omega arith) ∙ take_all (length ps) ps (omega arith)
 
 -- the tokens of a part that was cut by itself fit where it stands
-pub part_fits : (text piece : List ℕ) (at to : ℕ) (cut : CutText) → IsCut piece cut.pairs cut.last → piece ≡ slice_range text at to → at ≤ to → to ≤ length text → length text ≤ MAX_TEXT
+pub part_fits : (text piece : List ℕ) (at to : ℕ) (cut : TokenizedText) → IsTokenization piece cut.pairs cut.last → piece ≡ slice_range text at to → at ≤ to → to ≤ length text → length text ≤ MAX_TEXT
     → at + length (whole_text (slice_range cut.pairs 0 (length cut.pairs)) []) ≤ MAX_TEXT
 part_fits text piece at to cut c e le within short =
     let size : length piece ≡ to - at = ap length e ∙ length-take-le (to - at) (drop at text) (omega (arith, length-drop {A = ℕ} at text)) in
     let all : length (whole_text (slice_range cut.pairs 0 (length cut.pairs)) []) ≡ length (whole_text cut.pairs []) =
     ap (λ (x : List Pair). length (whole_text x [])) (all_range cut.pairs) in
-    omega (arith, size, all, ap length c.cuts.text_is, joining_rest cut.pairs cut.last)
+    omega (arith, size, all, ap length c.tokenizes.text_is, joining_rest cut.pairs cut.last)
 
 -- lines that were cut by themselves
-pub lines_scanned : (text piece : List ℕ) (items new : List Token) (at len : ℕ) (cut : CutText) → IsBegun text items at → at + len ≤ length text → piece ≡ slice_range text at (at + len) → IsCut piece cut.pairs cut.last → AreLast cut.pairs cut.last
-    → EndsInLine cut.pairs → cut.last ≡ [] → new ≡ items ++ items_at at (slice_range cut.pairs 0 (length cut.pairs)) → IsBegun text new (at + len)
+pub lines_scanned : (text piece : List ℕ) (items new : List Token) (at len : ℕ) (cut : TokenizedText) → IsRescannedTo text items at → at + len ≤ length text → piece ≡ slice_range text at (at + len) → IsTokenization piece cut.pairs cut.last → AreSelfContained cut.pairs cut.last
+    → EndsWithLineEnd cut.pairs → cut.last ≡ [] → new ≡ items ++ tokens_at at (slice_range cut.pairs 0 (length cut.pairs)) → IsRescannedTo text new (at + len)
 lines_scanned text piece items new at len cut b within e c last ended none is =
     let ps : List Pair = cut.pairs in
     let rest : List ℕ = drop (at + len) text in
-    let lines : AreLines ps = record { follow = subst (λ (x : List ℕ). FollowsFrom [] ps x []) none last.follow; ended = ended; apart = last.apart } in
-    let bytes : whole_text ps [] ≡ slice_range text at (at + len) = ap (whole_text ps) (sym none) ∙ sym c.cuts.text_is ∙ e in
+    let lines : AreWholeLines ps = record { follow = subst (λ (x : List ℕ). FollowsFrom [] ps x []) none last.follow; ended = ended; apart = last.apart } in
+    let bytes : whole_text ps [] ≡ slice_range text at (at + len) = ap (whole_text ps) (sym none) ∙ sym c.tokenizes.text_is ∙ e in
     let whole : drop at text ≡ whole_text ps rest = drop_split text at (at + len) (omega arith) ∙ ap (λ (x : List ℕ). x ++ rest) (sym bytes) ∙ sym (whole_rest ps rest) in
     let width : at + len - at ≡ len = omega arith in
     let size : length (whole_text ps []) ≡ len = ap length bytes ∙ length-take-le (at + len - at) (drop at text) (omega (arith, length-drop {A = ℕ} at text)) ∙ width in
-    let more : IsBegun text (items ++ items_at at ps) (at + length (whole_text ps [])) = begun_more text items at ps rest b lines whole in
-    let same : new ≡ items ++ items_at at ps = is ∙ ap (λ (x : List Pair). items ++ items_at at x) (all_range ps) in
-    subst (λ (x : List Token). IsBegun text x (at + len)) (sym same) (subst (λ n. IsBegun text (items ++ items_at at ps) (at + n)) size more)
+    let more : IsRescannedTo text (items ++ tokens_at at ps) (at + length (whole_text ps [])) = rescanned_more text items at ps rest b lines whole in
+    let same : new ≡ items ++ tokens_at at ps = is ∙ ap (λ (x : List Pair). items ++ tokens_at at x) (all_range ps) in
+    subst (λ (x : List Token). IsRescannedTo text x (at + len)) (sym same) (subst (λ n. IsRescannedTo text (items ++ tokens_at at ps) (at + n)) size more)
 
 -- what is left, cut by itself
-pub rest_scanned : (text piece : List ℕ) (items new : List Token) (at : ℕ) (cut : CutText) → length text ≤ MAX_TEXT → IsBegun text items at → piece ≡ slice_range text at (length text) → IsCut piece cut.pairs cut.last → AreLast cut.pairs cut.last
-    → new ≡ items ++ items_at at (slice_range cut.pairs 0 (length cut.pairs)) → IsWhole text new (length text - length cut.last)
+pub rest_scanned : (text piece : List ℕ) (items new : List Token) (at : ℕ) (cut : TokenizedText) → length text ≤ MAX_TEXT → IsRescannedTo text items at → piece ≡ slice_range text at (length text) → IsTokenization piece cut.pairs cut.last → AreSelfContained cut.pairs cut.last
+    → new ≡ items ++ tokens_at at (slice_range cut.pairs 0 (length cut.pairs)) → IsRescanned text new (length text - length cut.last)
 rest_scanned text piece items new at cut short b e c last is =
     let ps : List Pair = cut.pairs in
     let all : slice_range text at (length text) ≡ drop at text = take_all (length text - at) (drop at text) (omega (arith, length-drop {A = ℕ} at text)) in
-    let whole : drop at text ≡ whole_text ps cut.last = sym all ∙ sym e ∙ c.cuts.text_is in
-    let same : new ≡ items ++ items_at at ps = is ∙ ap (λ (x : List Pair). items ++ items_at at x) (all_range ps) in
-    subst (λ (x : List Token). IsWhole text x (length text - length cut.last)) (sym same) (begun_last text items at ps cut.last short b last c.blank whole)
+    let whole : drop at text ≡ whole_text ps cut.last = sym all ∙ sym e ∙ c.tokenizes.text_is in
+    let same : new ≡ items ++ tokens_at at ps = is ∙ ap (λ (x : List Pair). items ++ tokens_at at x) (all_range ps) in
+    subst (λ (x : List Token). IsRescanned text x (length text - length cut.last)) (sym same) (rescanned_last text items at ps cut.last short b last c.whitespace whole)
 
 -- ---- tokens that don't join
 
@@ -580,9 +580,9 @@ pub apart_all : (ps : List Pair) (i : ℕ) → length ps ≤ i → AreApart (tak
 apart_all ps i all a = subst AreApart (take_all i ps all) a
 
 -- the last token ends a line
-pub last_ends : (ps : List Pair) (kind : Kind) → 0 < length ps → Some kind ≡ kind_of ps (length ps - 1) → kind ≡ LineEnd → EndsInLine ps
+pub last_ends : (ps : List Pair) (kind : Kind) → 0 < length ps → Some kind ≡ kind_of ps (length ps - 1) → kind ≡ LineEnd → EndsWithLineEnd ps
 last_ends ps kind some is end =
     let last = pair_there ps (length ps - 1) (omega arith) in
     let back : length ps - 1 + 1 ≡ length ps = omega arith in
     let all : ps ≡ take (length ps - 1) ps ++ last.0 ∷ [] = sym (take_all (length ps) ps (omega arith)) ∙ ap (λ n. take n ps) (sym back) ∙ take_next ps (length ps - 1) last.0 last.1 in
-    subst EndsInLine (sym all) (ends_more (take (length ps - 1) ps) last.0 (kind_is ps (length ps - 1) last.0 kind last.1 is ∙ end))
+    subst EndsWithLineEnd (sym all) (ends_more (take (length ps - 1) ps) last.0 (kind_is ps (length ps - 1) last.0 kind last.1 is ∙ end))

@@ -1,6 +1,6 @@
 //! The cut of a text that came from one that was cut.
 #![tactic(auto)]
 
-mod again;
+mod incremental;
 
-pub use again::{Replaced, scan_again};
+pub use incremental::{ReplacedRange, rescan};

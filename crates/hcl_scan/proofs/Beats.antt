@@ -9,19 +9,19 @@ use Rattle.hcl_scan.specs.Characters.{is_sigil}
 use Rattle.hcl_scan.specs.Modes.{Mode}
 use Rattle.hcl_scan.specs.Modes.Mode.{Expression, Sequence, Braces, Quoted, Heredoc}
 use Rattle.hcl_scan.specs.Inner.Markers.{HasMarker}
-use Rattle.hcl_scan.specs.Runs.{line_behind, AreUnits}
+use Rattle.hcl_scan.specs.Runs.{is_line_start_after, AreUnitsOf}
 use Rattle.hcl_scan.specs.Inner.RunLength.{run_length}
-use Rattle.hcl_scan.specs.Lexeme.{stands_in, quote_unit, Spells, IsLexeme}
-use Rattle.hcl_scan.specs.Inner.Next.{begins_opening, quoted_token, token}
+use Rattle.hcl_scan.specs.Lexeme.{is_allowed_in, quote_unit, Spells, IsLexeme}
+use Rattle.hcl_scan.specs.Inner.NextToken.{is_at_opening, quoted_token, token}
 use Rattle.hcl_scan.proofs.Found.{Beats, same_kind}
 use Rattle.hcl_scan.proofs.RunLemmas.{IsRun-adds}
-use Rattle.hcl_scan.proofs.BeatsPlain.{spelt, plain_beats}
-use Rattle.hcl_scan.proofs.HereBeats.{OpeningBeats, interp_beats, directive_beats, here_token_beats}
+use Rattle.hcl_scan.proofs.BeatsPlain.{spelt, ordinary_beats}
+use Rattle.hcl_scan.proofs.HeredocBeats.{OpeningBeats, interp_beats, directive_beats, heredoc_token_beats}
 
 -- ---- in quoted text
 
 -- where a unit begins, neither the closing quote nor an opening does
-pub unit_begins : (t : List ℕ) → 0 < quote_unit false t → ((slice_index t 0 == 34) ≡ false) × (begins_opening t ≡ false)
+pub unit_begins : (t : List ℕ) → 0 < quote_unit false t → ((slice_index t 0 == 34) ≡ false) × (is_at_opening t ≡ false)
 unit_begins [] h = absurd (omega arith)
 unit_begins (b ∷ rest) h = (
   ne_eqb b 34 (λ e. absurd (omega (arith, rw e at h))),
@@ -34,7 +34,7 @@ unit_begins (b ∷ rest) h = (
       ]),
 )
 
-lit_beats : (us : List (List ℕ)) (s rest : List ℕ) → s ≡ concat us → s ≢ [] → AreUnits quote_unit false us rest → Beats (quoted_token (s ++ rest)) QuoteLit (length s)
+lit_beats : (us : List (List ℕ)) (s rest : List ℕ) → s ≡ concat us → s ≢ [] → AreUnitsOf quote_unit false us rest → Beats (quoted_token (s ++ rest)) QuoteLit (length s)
 lit_beats [] s rest e filled are = absurd (filled e)
 lit_beats (v ∷ vs) s rest e filled are =
     let t : List ℕ = s ++ rest in
@@ -42,7 +42,7 @@ lit_beats (v ∷ vs) s rest e filled are =
     let split : t ≡ v ++ more = ap (λ (x : List ℕ). x ++ rest) e ∙ append_assoc v (concat vs) rest in
     let unit : 0 < quote_unit false t = rw (split, are.1) are.0 in
     let begins = unit_begins t unit in
-    let count : run_length quote_unit false t ≡ length s + run_length quote_unit (line_behind false s) rest = IsRun-adds quote_unit false s rest (v ∷ vs, e, are) in
+    let count : run_length quote_unit false t ≡ length s + run_length quote_unit (is_line_start_after false s) rest = IsRun-adds quote_unit false s rest (v ∷ vs, e, are) in
     let size : length s ≡ length v + length (concat vs) = ap length e ∙ length-append v (concat vs) in
     let some : (run_length quote_unit false t == 0) ≡ false = ne_eqb _ 0 (λ z. absurd (omega (arith, are.0))) in
     rw (begins.0, begins.1, some) (same_kind QuoteLit _ _ (omega arith))
@@ -60,7 +60,7 @@ opens kind s rest h =
     let no_quote : (slice_index t 0 == 34) ≡ false = sigil_no_quote (slice_index t 0) (and_parts (is_sigil (slice_index t 0)) (slice_index t 1 == 123) h.0).0 in
     rw (no_quote, h.0) h.1
 
-quoted_beats : (kind : Kind) (s rest : List ℕ) → stands_in Quoted kind ≡ true → Spells Quoted kind s rest → Beats (quoted_token (s ++ rest)) kind (length s)
+quoted_beats : (kind : Kind) (s rest : List ℕ) → is_allowed_in Quoted kind ≡ true → Spells Quoted kind s rest → Beats (quoted_token (s ++ rest)) kind (length s)
 quoted_beats QuoteClose s rest st e = written QuoteClose s rest _ (spelt _ s e) (inr (refl, refl))
 quoted_beats InterpOpen s rest st e = opens InterpOpen s rest (interp_beats Quoted s rest e)
 quoted_beats DirectiveOpen s rest st e = opens DirectiveOpen s rest (directive_beats Quoted s rest e)
@@ -70,8 +70,8 @@ quoted_beats kind s rest st e = absurd (false≢true st)
 -- ---- in each mode
 
 pub beats : (mode : Mode) (kind : Kind) (s rest : List ℕ) → HasMarker mode → IsLexeme mode kind s rest → Beats (token mode (s ++ rest)) kind (length s)
-beats Expression kind s rest m h = plain_beats Expression refl kind s rest h.0 h.1
-beats Sequence kind s rest m h = plain_beats Sequence refl kind s rest h.0 h.1
-beats Braces kind s rest m h = plain_beats Braces refl kind s rest h.0 h.1
+beats Expression kind s rest m h = ordinary_beats Expression refl kind s rest h.0 h.1
+beats Sequence kind s rest m h = ordinary_beats Sequence refl kind s rest h.0 h.1
+beats Braces kind s rest m h = ordinary_beats Braces refl kind s rest h.0 h.1
 beats Quoted kind s rest m h = quoted_beats kind s rest h.0 h.1
-beats (Heredoc name fresh) kind s rest m h = here_token_beats name fresh kind s rest m h
+beats (Heredoc name at_line_start) kind s rest m h = heredoc_token_beats name at_line_start kind s rest m h

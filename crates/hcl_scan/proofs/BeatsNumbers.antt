@@ -5,7 +5,7 @@ use Rattle.std.proofs.lemmas.Bool.Decides.{nat_tests}
 use Rattle.std.specs.Char.{is_ascii_digit}
 use Rattle.std.specs.List.{list_all}
 use Rattle.hcl_scan.specs.Lexeme.{is_decimal, IsFraction, IsExponent}
-use Rattle.hcl_scan.specs.Inner.Next.{decimal_length, fraction_length, is_sign, is_exponent_letter, exponent_length, tail_length, number_length}
+use Rattle.hcl_scan.specs.Inner.NextToken.{decimal_length, fraction_length, is_sign, is_exponent_letter, exponent_length, tail_length, number_length}
 
 -- ---- digits
 
@@ -45,8 +45,8 @@ pub letter_head : (s : List ℕ) → IsExponent s → 0 < length s → is_expone
 letter_head s (inl e) some = absurd (omega (arith, ap length e))
 letter_head s (inr (letter, sign, digits, e, h, signed, decimal)) some = ap (λ (x : List ℕ). is_exponent_letter (slice_index x 0)) e ∙ h
 
-plain_le : (letter : ℕ) (digits rest : List ℕ) → is_exponent_letter letter ≡ true → is_decimal digits ≡ true → 1 + length digits ≤ exponent_length (letter ∷ (digits ++ rest))
-plain_le letter digits rest h decimal =
+ordinary_le : (letter : ℕ) (digits rest : List ℕ) → is_exponent_letter letter ≡ true → is_decimal digits ≡ true → 1 + length digits ≤ exponent_length (letter ∷ (digits ++ rest))
+ordinary_le letter digits rest h decimal =
     let first : is_ascii_digit (slice_index (digits ++ rest) 0) ≡ true = head_digit digits rest decimal in
     rw (h, first) (omega (arith, digits_add digits rest (all_digits digits decimal)))
 
@@ -60,7 +60,7 @@ exponent_le : (s rest : List ℕ) → IsExponent s → length s ≤ exponent_len
 exponent_le s rest (inl e) = omega (arith, ap length e)
 exponent_le s rest (inr (letter, sign, digits, e, h, inl none, decimal)) =
     let spelt : s ≡ letter ∷ digits = e ∙ ap (λ (x : List ℕ). letter ∷ (x ++ digits)) none in
-    subst (λ (x : List ℕ). length x ≤ exponent_length (x ++ rest)) (sym spelt) (omega (arith, plain_le letter digits rest h decimal))
+    subst (λ (x : List ℕ). length x ≤ exponent_length (x ++ rest)) (sym spelt) (omega (arith, ordinary_le letter digits rest h decimal))
 exponent_le s rest (inr (letter, sign, digits, e, h, inr (inl plus), decimal)) =
     let spelt : s ≡ letter ∷ 43 ∷ digits = e ∙ ap (λ (x : List ℕ). letter ∷ (x ++ digits)) plus in
     subst (λ (x : List ℕ). length x ≤ exponent_length (x ++ rest)) (sym spelt) (omega (arith, signed_le letter 43 digits rest h refl refl decimal))

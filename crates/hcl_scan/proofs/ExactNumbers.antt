@@ -7,7 +7,7 @@ use Rattle.std.specs.Cmp.Derive.{both_true}
 use Rattle.std.specs.List.{list_all}
 use Rattle.hcl_token.specs.Joins.{is_digits}
 use Rattle.hcl_scan.specs.Lexeme.{is_decimal, IsFraction, IsExponent}
-use Rattle.hcl_scan.specs.Inner.Next.{decimal_length, fraction_length, is_sign, is_exponent_letter, exponent_length, tail_length, number_length}
+use Rattle.hcl_scan.specs.Inner.NextToken.{decimal_length, fraction_length, is_sign, is_exponent_letter, exponent_length, tail_length, number_length}
 use Rattle.hcl_scan.proofs.BeatsNumbers.{digits_add, all_digits, head_digit, no_digits, head_of, letter_no_digit, letter_no_point, letter_head, no_point, tail_of, tail_head, number_of}
 use Rattle.hcl_scan.proofs.Ends.{EndsNumber}
 
@@ -17,8 +17,8 @@ digits_exact s rest decimal none = digits_add s rest (all_digits s decimal) ∙ 
 -- ---- exponents
 
 module _ (rest : List ℕ) (no_digit : is_ascii_digit (slice_index rest 0) ≡ false) (no_letter : is_exponent_letter (slice_index rest 0) ≡ false) where
-  plain_exact : (letter : ℕ) (digits : List ℕ) → is_exponent_letter letter ≡ true → is_decimal digits ≡ true → exponent_length (letter ∷ (digits ++ rest)) ≡ 1 + length digits
-  plain_exact letter digits h decimal =
+  ordinary_exact : (letter : ℕ) (digits : List ℕ) → is_exponent_letter letter ≡ true → is_decimal digits ≡ true → exponent_length (letter ∷ (digits ++ rest)) ≡ 1 + length digits
+  ordinary_exact letter digits h decimal =
       let first : is_ascii_digit (slice_index (digits ++ rest) 0) ≡ true = head_digit digits rest decimal in
       rw (h, first) (omega (arith, digits_exact digits rest decimal no_digit))
 
@@ -32,7 +32,7 @@ module _ (rest : List ℕ) (no_digit : is_ascii_digit (slice_index rest 0) ≡ f
   exponent_exact s (inl e) = subst (λ (x : List ℕ). exponent_length (x ++ rest) ≡ length x) (sym e) (rw no_letter refl)
   exponent_exact s (inr (letter, sign, digits, e, h, inl none, decimal)) =
       let spelt : s ≡ letter ∷ digits = e ∙ ap (λ (x : List ℕ). letter ∷ (x ++ digits)) none in
-      subst (λ (x : List ℕ). exponent_length (x ++ rest) ≡ length x) (sym spelt) (omega (arith, plain_exact letter digits h decimal))
+      subst (λ (x : List ℕ). exponent_length (x ++ rest) ≡ length x) (sym spelt) (omega (arith, ordinary_exact letter digits h decimal))
   exponent_exact s (inr (letter, sign, digits, e, h, inr (inl plus), decimal)) =
       let spelt : s ≡ letter ∷ 43 ∷ digits = e ∙ ap (λ (x : List ℕ). letter ∷ (x ++ digits)) plus in
       subst (λ (x : List ℕ). exponent_length (x ++ rest) ≡ length x) (sym spelt) (omega (arith, signed_exact letter 43 digits h refl refl decimal))
@@ -70,7 +70,7 @@ module _ (rest : List ℕ) (no_digit : is_ascii_digit (slice_index rest 0) ≡ f
       let n : ℕ = suc (length digits) in
       let digit : is_ascii_digit (slice_index body 0) ≡ true = head_digit digits (x ++ rest) decimal in
       let first : fraction_length t ≡ 1 + decimal_length body = rw digit refl in
-      let stop : is_ascii_digit (slice_index (x ++ rest) 0) ≡ false = behind_digits x is in
+      let stop : is_ascii_digit (slice_index (x ++ rest) 0) ≡ false = after_digits x is in
       let count : decimal_length body ≡ length digits = digits_exact digits (x ++ rest) decimal stop in
       let size : length (digits ++ x) ≡ length digits + length x = length-append digits x in
       let width : fraction_length t ≡ n = first ∙ omega (arith, count) in
@@ -78,9 +78,9 @@ module _ (rest : List ℕ) (no_digit : is_ascii_digit (slice_index rest 0) ≡ f
       let value : tail_length t ≡ n + exponent_length (x ++ rest) = tail_of t n width ∙ ap (λ (y : List ℕ). n + exponent_length y) behind in
       value ∙ omega (arith, size, exponent_exact x is)
     where
-      behind_digits : (y : List ℕ) → IsExponent y → is_ascii_digit (slice_index (y ++ rest) 0) ≡ false
-      behind_digits [] is = no_digit
-      behind_digits (b ∷ y) is = letter_no_digit b (letter_head (b ∷ y) is (omega arith))
+      after_digits : (y : List ℕ) → IsExponent y → is_ascii_digit (slice_index (y ++ rest) 0) ≡ false
+      after_digits [] is = no_digit
+      after_digits (b ∷ y) is = letter_no_digit b (letter_head (b ∷ y) is (omega arith))
 
   tail_exact : (f x : List ℕ) → IsFraction f → IsExponent x → (f ++ x ≡ [] → fraction_length rest ≡ 0) → tail_length ((f ++ x) ++ rest) ≡ length (f ++ x)
   tail_exact f x (inl e) is none =

@@ -4,7 +4,7 @@ use Rattle.std.proofs.lemmas.Bool.{cases_lt}
 use Rattle.hcl_token.specs.declared.kind.Kind.{Kind}
 use Rattle.hcl_scan.specs.Modes.{Mode}
 use Rattle.hcl_scan.specs.Lexeme.{IsLexeme}
-use Rattle.hcl_scan.specs.Inner.Front.{Found}
+use Rattle.hcl_scan.specs.Inner.LexemeStarts.{LexedToken}
 
 -- a lexeme of the kind, with so many bytes, stands at the front
 pub record IsFound (mode : Mode) (t : List ℕ) (kind : Kind) (n : ℕ) : Type 0 where
@@ -17,12 +17,12 @@ pub record IsFound (mode : Mode) (t : List ℕ) (kind : Kind) (n : ℕ) : Type 0
   pub utf8 : IsUtf8 rest
 
 -- what is found is a lexeme
-abbrev pub Sound : Mode → List ℕ → Found → Type 0
+abbrev pub Sound : Mode → List ℕ → LexedToken → Type 0
 Sound mode t None = Unit {0}
 Sound mode t (Some f) = IsFound mode t f.0 f.1
 
 -- what is found is longer than this lexeme, or it is this lexeme
-abbrev pub Beats : Found → Kind → ℕ → Type 0
+abbrev pub Beats : LexedToken → Kind → ℕ → Type 0
 Beats None kind n = ⊥
 Beats (Some f) kind n = (n < f.1) ⊎ ((n ≡ f.1) × (kind ≡ f.0))
 

@@ -5,11 +5,11 @@ use Rattle.std.specs.Char.{is_ascii_digit}
 use Rattle.std.specs.List.{list_all}
 use Rattle.hcl_token.specs.declared.kind.Kind.{Kind}
 use Rattle.hcl_token.specs.declared.kind.Kind.TheVariants.{Mark, LineEnd, LineComment, InlineComment, Identifier, Number, DotIndex, Slash, HereOpen, SeqClose, InterpOpen, DirectiveOpen, QuoteLit, HereClose, HereLit}
-use Rattle.hcl_scan.specs.Modes.{Mode, is_literal, begins_line}
+use Rattle.hcl_scan.specs.Modes.{Mode, is_literal, is_at_line_start}
 use Rattle.hcl_scan.specs.Modes.Mode.{Quoted, Heredoc}
-use Rattle.hcl_scan.specs.Lexeme.{is_quoted, is_heredoc, stands_in, is_decimal, fixed, Spells}
-use Rattle.hcl_scan.specs.Inner.Front.{begins_word}
-use Rattle.hcl_scan.proofs.HereLemmas.{identifier_some}
+use Rattle.hcl_scan.specs.Lexeme.{is_quoted, is_heredoc, is_allowed_in, is_decimal, fixed_spelling, Spells}
+use Rattle.hcl_scan.specs.Inner.LexemeStarts.{is_word_start}
+use Rattle.hcl_scan.proofs.HeredocLemmas.{identifier_some}
 
 -- the first byte of the only spelling
 abbrev head_of : Option (List ℕ) → List ℕ
@@ -27,14 +27,14 @@ heads HereOpen = 60 ∷ []
 heads SeqClose = 125 ∷ 126 ∷ []
 heads InterpOpen = 36 ∷ []
 heads DirectiveOpen = 37 ∷ []
-heads kind = head_of (fixed kind)
+heads kind = head_of (fixed_spelling kind)
 
 abbrev pub is_one_of : ℕ → List ℕ → Bool
 is_one_of b [] = false
 is_one_of b (x ∷ xs) = b == x || is_one_of b xs
 
 abbrev pub HeadIs : Kind → ℕ → Type 0
-HeadIs Identifier b = begins_word b ≡ true
+HeadIs Identifier b = is_word_start b ≡ true
 HeadIs Number b = is_ascii_digit b ≡ true
 HeadIs kind b = is_one_of b (heads kind) ≡ true
 
@@ -45,7 +45,7 @@ is_filled None = true
 is_filled (Some []) = false
 is_filled (Some (b ∷ t)) = true
 
-filled : (kind : Kind) → is_filled (fixed kind) ≡ true
+filled : (kind : Kind) → is_filled (fixed_spelling kind) ≡ true
 filled Mark = refl
 filled kind = refl
 
@@ -68,10 +68,10 @@ quoted_literal Quoted h = refl
 quoted_literal m h = absurd (false≢true h)
 
 heredoc_literal : (m : Mode) → is_heredoc m ≡ true → is_literal m ≡ true
-heredoc_literal (Heredoc name fresh) h = refl
+heredoc_literal (Heredoc name at_line_start) h = refl
 heredoc_literal m h = absurd (false≢true h)
 
-pub begins_so : (mode : Mode) (kind : Kind) (s rest : List ℕ) → is_literal mode ≡ false → stands_in mode kind ≡ true → Spells mode kind s rest → Begins kind s
+pub begins_so : (mode : Mode) (kind : Kind) (s rest : List ℕ) → is_literal mode ≡ false → is_allowed_in mode kind ≡ true → Spells mode kind s rest → Begins kind s
 begins_so mode LineEnd s rest plain st (inl e) = subst (Begins LineEnd) (sym e) (omega arith, refl)
 begins_so mode LineEnd s rest plain st (inr e) = subst (Begins LineEnd) (sym e) (omega arith, refl)
 begins_so mode LineComment s rest plain st (inl (body, e, run)) = subst (Begins LineComment) (sym e) (omega arith, refl)
@@ -80,7 +80,7 @@ begins_so mode InlineComment s rest plain st (body, e, run) = subst (Begins Inli
 begins_so mode Identifier s rest plain st h = identifier_some s h
 begins_so mode Number s rest plain st (whole, fraction, exponent, e, decimal, f, x) = subst (Begins Number) (sym e) (digit_head whole (fraction ++ exponent) decimal)
 begins_so mode DotIndex s rest plain st (digits, e, decimal) = subst (Begins DotIndex) (sym e) (omega arith, refl)
-begins_so mode Slash s rest plain st (e, h) = fixed_head (fixed Slash) s refl e
+begins_so mode Slash s rest plain st (e, h) = fixed_head (fixed_spelling Slash) s refl e
 begins_so mode HereOpen s rest plain st (dash, name, end, e, is, ident, line) = subst (Begins HereOpen) (sym e) (omega arith, refl)
 begins_so mode SeqClose s rest plain st (inl e) = subst (Begins SeqClose) (sym e) (omega arith, refl)
 begins_so mode SeqClose s rest plain st (inr e) = subst (Begins SeqClose) (sym e) (omega arith, refl)
@@ -88,14 +88,14 @@ begins_so mode InterpOpen s rest plain st e = absurd (both_ways _ plain st)
 begins_so mode DirectiveOpen s rest plain st e = absurd (both_ways _ plain st)
 begins_so mode QuoteLit s rest plain st e = absurd (both_ways _ plain (quoted_literal mode st))
 begins_so mode HereLit s rest plain st e = absurd (both_ways _ plain (heredoc_literal mode st))
-begins_so mode HereClose s rest plain st e = absurd (both_ways _ plain (heredoc_literal mode (and_parts (is_heredoc mode) (begins_line mode) st).0))
+begins_so mode HereClose s rest plain st e = absurd (both_ways _ plain (heredoc_literal mode (and_parts (is_heredoc mode) (is_at_line_start mode) st).0))
 begins_so mode Mark s rest plain st e = absurd (false≢true st)
-begins_so mode kind s rest plain st e = fixed_head (fixed kind) s (filled kind) e
+begins_so mode kind s rest plain st e = fixed_head (fixed_spelling kind) s (filled kind) e
 
 -- ---- what holds of each such byte
 
 abbrev pub Passes : (ℕ → Bool) → Kind → Type 0
-Passes p Identifier = (b : ℕ) → begins_word b ≡ true → p b ≡ true
+Passes p Identifier = (b : ℕ) → is_word_start b ≡ true → p b ≡ true
 Passes p Number = (b : ℕ) → is_ascii_digit b ≡ true → p b ≡ true
 Passes p kind = list_all p (heads kind) ≡ true
 

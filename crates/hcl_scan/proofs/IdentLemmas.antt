@@ -8,8 +8,8 @@ use Rattle.std.proofs.lemmas.Bool.{cases_lt}
 use Rattle.std.proofs.lemmas.Bool.Decides.{nat_tests}
 use Rattle.unicode_ident.proofs.IdentLemmas.{is_xid_start-ascii, is_xid_continue-ascii}
 use Rattle.hcl_token.specs.declared.kind.Kind.TheVariants.{Identifier}
-use Rattle.hcl_scan.specs.Characters.{starts, continues}
-use Rattle.hcl_scan.specs.Inner.Front.{continue_length, identifier_of, identifier, is_letter, goes_on, begins_word}
+use Rattle.hcl_scan.specs.Characters.{is_id_start, is_id_continue}
+use Rattle.hcl_scan.specs.Inner.LexemeStarts.{id_continue_length, identifier_of, identifier, is_letter, is_ascii_id_continue, is_word_start}
 
 module _ (text rest : List ℕ) (at c : ℕ) (bytes : drop at text ≡ encode_utf8 c ++ rest) where
   pub chars_at : IsUtf8 (drop at text) → chars (drop at text) ≡ c ∷ chars (drop (at + len_utf8 c) text)
@@ -38,80 +38,80 @@ pub chars_end : (text : List ℕ) (at : ℕ) → length text ≤ at → chars (d
 chars_end text at h = ap chars (drop_all at text h) ∙ chars-nil
 
 -- how a run of characters goes on at an ASCII character
-pub continue_length_ascii : (text : List ℕ) (at : ℕ) → IsUtf8 (drop at text) → at < length text → slice_index text at < 128
-    → (continue_length (chars (drop at text)) ≡ (if continues (slice_index text at) then 1 + continue_length (chars (drop (at + 1) text)) else 0)) × IsUtf8 (drop (at + 1) text)
-continue_length_ascii text at u h ascii =
+pub id_continue_length_ascii : (text : List ℕ) (at : ℕ) → IsUtf8 (drop at text) → at < length text → slice_index text at < 128
+    → (id_continue_length (chars (drop at text)) ≡ (if is_id_continue (slice_index text at) then 1 + id_continue_length (chars (drop (at + 1) text)) else 0)) × IsUtf8 (drop (at + 1) text)
+id_continue_length_ascii text at u h ascii =
     let e = chars_ascii text at u h ascii in
-    let rest = continue_length (chars (drop (at + 1) text)) in
-    (ap continue_length e.0 ∙ ap (λ n. if continues (slice_index text at) then n + rest else 0) (len_utf8_ascii (slice_index text at) ascii), e.1)
+    let rest = id_continue_length (chars (drop (at + 1) text)) in
+    (ap id_continue_length e.0 ∙ ap (λ n. if is_id_continue (slice_index text at) then n + rest else 0) (len_utf8_ascii (slice_index text at) ascii), e.1)
 
 -- at ASCII characters
-continues_same : (b : ℕ) → b < 128 → continues b ≡ goes_on b
+continues_same : (b : ℕ) → b < 128 → is_id_continue b ≡ is_ascii_id_continue b
 continues_same b ascii = ap (λ x. x || (b == 45)) (is_xid_continue-ascii b ascii)
 
-goes_on_ascii : (b : ℕ) → goes_on b ≡ true → b < 128
-goes_on_ascii b on = grind (arith, nat_tests)
+id_continue_ascii : (b : ℕ) → is_ascii_id_continue b ≡ true → b < 128
+id_continue_ascii b on = grind (arith, nat_tests)
 
 -- the run goes on
-pub goes_on_at : (text : List ℕ) (at : ℕ) → IsUtf8 (drop at text) → at < length text → goes_on (slice_index text at) ≡ true
-    → (continue_length (chars (drop at text)) ≡ 1 + continue_length (chars (drop (at + 1) text))) × IsUtf8 (drop (at + 1) text)
-goes_on_at text at u h on =
-    let ascii : slice_index text at < 128 = goes_on_ascii (slice_index text at) on in
-    rw (continues_same (slice_index text at) ascii, on) at (continue_length_ascii text at u h ascii)
+pub id_continue_at : (text : List ℕ) (at : ℕ) → IsUtf8 (drop at text) → at < length text → is_ascii_id_continue (slice_index text at) ≡ true
+    → (id_continue_length (chars (drop at text)) ≡ 1 + id_continue_length (chars (drop (at + 1) text))) × IsUtf8 (drop (at + 1) text)
+id_continue_at text at u h on =
+    let ascii : slice_index text at < 128 = id_continue_ascii (slice_index text at) on in
+    rw (continues_same (slice_index text at) ascii, on) at (id_continue_length_ascii text at u h ascii)
 
 -- the run goes on by so many bytes
 abbrev pub GoesOn : List ℕ → ℕ → ℕ → Type 0
 GoesOn text at n =
-    (n + continue_length (chars (drop (at + n) text)) ≡ continue_length (chars (drop at text))) × IsUtf8 (drop (at + n) text)
+    (n + id_continue_length (chars (drop (at + n) text)) ≡ id_continue_length (chars (drop at text))) × IsUtf8 (drop (at + n) text)
 
-goes_on_more : (text : List ℕ) (at n m : ℕ) → m ≡ n + 1 → at + n < length text → goes_on (slice_index text (at + n)) ≡ true → GoesOn text at n → GoesOn text at m
-goes_on_more text at n m next h on so_far =
-    let step = goes_on_at text (at + n) so_far.1 h on in
+id_continue_more : (text : List ℕ) (at n m : ℕ) → m ≡ n + 1 → at + n < length text → is_ascii_id_continue (slice_index text (at + n)) ≡ true → GoesOn text at n → GoesOn text at m
+id_continue_more text at n m next h on so_far =
+    let step = id_continue_at text (at + n) so_far.1 h on in
     let place : at + n + 1 ≡ at + m = omega arith in
-    let rest = ap (λ k. continue_length (chars (drop k text))) place in
+    let rest = ap (λ k. id_continue_length (chars (drop k text))) place in
     (omega (arith, so_far.0, step.0, rest), subst (λ k. IsUtf8 (drop k text)) place step.1)
 
-module _ (text : List ℕ) (at : ℕ) (u : IsUtf8 (drop at text)) (h : at + 4 ≤ length text) (on : goes_on (slice_index text at) ≡ true) where
+module _ (text : List ℕ) (at : ℕ) (u : IsUtf8 (drop at text)) (h : at + 4 ≤ length text) (on : is_ascii_id_continue (slice_index text at) ≡ true) where
   pub goes_on_1 : GoesOn text at 1
   goes_on_1 =
-      let step = goes_on_at text at u (omega arith) on in
+      let step = id_continue_at text at u (omega arith) on in
       (sym step.0, step.1)
 
-  module _ (on_1 : goes_on (slice_index text (at + 1)) ≡ true) where
+  module _ (on_1 : is_ascii_id_continue (slice_index text (at + 1)) ≡ true) where
     pub goes_on_2 : GoesOn text at 2
-    goes_on_2 = goes_on_more text at 1 2 refl (omega arith) on_1 goes_on_1
+    goes_on_2 = id_continue_more text at 1 2 refl (omega arith) on_1 goes_on_1
 
-    module _ (on_2 : goes_on (slice_index text (at + 2)) ≡ true) where
+    module _ (on_2 : is_ascii_id_continue (slice_index text (at + 2)) ≡ true) where
       pub goes_on_3 : GoesOn text at 3
-      goes_on_3 = goes_on_more text at 2 3 refl (omega arith) on_2 goes_on_2
+      goes_on_3 = id_continue_more text at 2 3 refl (omega arith) on_2 goes_on_2
 
-      pub goes_on_4 : goes_on (slice_index text (at + 3)) ≡ true → GoesOn text at 4
-      goes_on_4 on_3 = goes_on_more text at 3 4 refl (omega arith) on_3 goes_on_3
+      pub goes_on_4 : is_ascii_id_continue (slice_index text (at + 3)) ≡ true → GoesOn text at 4
+      goes_on_4 on_3 = id_continue_more text at 3 4 refl (omega arith) on_3 goes_on_3
 
 -- the run ends
-pub continue_none : (text : List ℕ) (at : ℕ) → IsUtf8 (drop at text) → slice_index text at < 128 → goes_on (slice_index text at) ≡ false
-    → continue_length (chars (drop at text)) ≡ 0
+pub continue_none : (text : List ℕ) (at : ℕ) → IsUtf8 (drop at text) → slice_index text at < 128 → is_ascii_id_continue (slice_index text at) ≡ false
+    → id_continue_length (chars (drop at text)) ≡ 0
 continue_none text at u ascii ends =
     elim (cases_lt at (length text)) [
-      | inr past ↦ ap continue_length (chars_end text at past)
-      | inl h ↦ rw (continues_same (slice_index text at) ascii, ends) at (continue_length_ascii text at u h ascii).0
+      | inr past ↦ ap id_continue_length (chars_end text at past)
+      | inl h ↦ rw (continues_same (slice_index text at) ascii, ends) at (id_continue_length_ascii text at u h ascii).0
     ]
 
-pub letter_ascii : (b : ℕ) → is_letter b ≡ true → (b < 128) × (begins_word b ≡ true)
+pub letter_ascii : (b : ℕ) → is_letter b ≡ true → (b < 128) × (is_word_start b ≡ true)
 letter_ascii b letter = (grind (arith, nat_tests), grind (arith, nat_tests))
 
-pub word_letter : (b : ℕ) → b < 128 → begins_word b ≡ true → is_letter b ≡ true
+pub word_letter : (b : ℕ) → b < 128 → is_word_start b ≡ true → is_letter b ≡ true
 word_letter b ascii word = grind (arith, nat_tests)
 
 -- an ASCII letter or `_` starts an identifier
-word_starts : (b : ℕ) → b < 128 → begins_word b ≡ true → starts b ≡ true
+word_starts : (b : ℕ) → b < 128 → is_word_start b ≡ true → is_id_start b ≡ true
 word_starts b ascii word = rw (is_xid_start-ascii b ascii) (grind (arith, nat_tests))
 
-pub identifier_ascii : (text : List ℕ) (at : ℕ) → IsUtf8 (drop at text) → at < length text → slice_index text at < 128 → begins_word (slice_index text at) ≡ true
-    → identifier (drop at text) ≡ Some (Identifier, 1 + continue_length (chars (drop (at + 1) text)))
+pub identifier_ascii : (text : List ℕ) (at : ℕ) → IsUtf8 (drop at text) → at < length text → slice_index text at < 128 → is_word_start (slice_index text at) ≡ true
+    → identifier (drop at text) ≡ Some (Identifier, 1 + id_continue_length (chars (drop (at + 1) text)))
 identifier_ascii text at u h ascii word =
     let more : List ℕ = chars (drop (at + 1) text) in
-    let starts_here : starts (slice_index text at) ≡ true = word_starts (slice_index text at) ascii word in
+    let starts_here : is_id_start (slice_index text at) ≡ true = word_starts (slice_index text at) ascii word in
     ap identifier_of (chars_ascii text at u h ascii).0
-    ∙ ap (λ (x : Bool). if x then Some (Identifier, len_utf8 (slice_index text at) + continue_length more) else None) starts_here
-    ∙ ap (λ n. Some (Identifier, n + continue_length more)) (len_utf8_ascii (slice_index text at) ascii)
+    ∙ ap (λ (x : Bool). if x then Some (Identifier, len_utf8 (slice_index text at) + id_continue_length more) else None) starts_here
+    ∙ ap (λ n. Some (Identifier, n + id_continue_length more)) (len_utf8_ascii (slice_index text at) ascii)

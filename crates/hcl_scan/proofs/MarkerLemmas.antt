@@ -9,13 +9,13 @@ use Rattle.std.specs.Str.{chars, NonePass}
 use Rattle.unicode_ident.proofs.IdentLemmas.{is_xid_start-ascii, is_xid_continue-ascii}
 use Rattle.hcl_token.specs.declared.kind.Kind.{Kind}
 use Rattle.hcl_token.specs.declared.kind.Kind.TheVariants.{OpenBrace, CloseBrace, QuoteOpen, QuoteClose, HereOpen, HereClose, HereLit, InterpOpen, DirectiveOpen, SeqClose}
-use Rattle.hcl_scan.specs.Characters.{starts, continues}
-use Rattle.hcl_scan.specs.Modes.{Mode, mode_of, in_sequence, is_braces, marker_of, read_on, within_line, after}
+use Rattle.hcl_scan.specs.Characters.{is_id_start, is_id_continue}
+use Rattle.hcl_scan.specs.Modes.{Mode, mode_of, is_in_sequence, is_braces, marker_of, after_literal, clear_line_start, modes_after}
 use Rattle.hcl_scan.specs.Modes.Mode.{Expression, Sequence, Braces, Quoted, Heredoc}
 use Rattle.hcl_scan.specs.Lexeme.{is_identifier, IsIdentifier, IsLineEnd, Spells}
 use Rattle.hcl_scan.specs.Inner.Markers.{HasMarker}
 use Rattle.hcl_scan.proofs.OpenMarkers.{HaveMarkers}
-use Rattle.hcl_scan.proofs.HereLemmas.{prefix_adds, identifier_some}
+use Rattle.hcl_scan.proofs.HeredocLemmas.{prefix_adds, identifier_some}
 
 -- ---- bytes that stand in no identifier
 
@@ -25,18 +25,18 @@ all_bytes p (b ∷ t) each = both_true (each 0 (omega arith)) (all_bytes p t (λ
 
 module _ (p : ℕ → Bool)
     (ascii : (b : ℕ) → 128 ≤ b → p b ≡ false)
-    (no_start : (b : ℕ) → b < 128 → starts b ≡ true → p b ≡ false)
-    (no_continue : (b : ℕ) → b < 128 → continues b ≡ true → p b ≡ false) where
-  none_continue : (cs : List ℕ) → list_all continues cs ≡ true → NonePass p cs
+    (no_start : (b : ℕ) → b < 128 → is_id_start b ≡ true → p b ≡ false)
+    (no_continue : (b : ℕ) → b < 128 → is_id_continue b ≡ true → p b ≡ false) where
+  none_continue : (cs : List ℕ) → list_all is_id_continue cs ≡ true → NonePass p cs
   none_continue [] h = tt
   none_continue (c ∷ cs) h =
-      let both = and_parts (continues c) (list_all continues cs) h in
+      let both = and_parts (is_id_continue c) (list_all is_id_continue cs) h in
       (elim (cases_lt c 128) [ inl low ↦ no_continue c low both.0 | inr high ↦ ascii c high ], none_continue cs both.1)
 
   none_in : (cs : List ℕ) → is_identifier cs ≡ true → NonePass p cs
   none_in [] h = absurd (cc)
   none_in (c ∷ cs) h =
-      let both = and_parts (starts c) (list_all continues cs) h in
+      let both = and_parts (is_id_start c) (list_all is_id_continue cs) h in
       (elim (cases_lt c 128) [ inl low ↦ no_start c low both.0 | inr high ↦ ascii c high ], none_continue cs both.1)
 
   byte_of : (name : List ℕ) → IsIdentifier name → (i : ℕ) → i < length name → p (slice_index name i) ≡ false
@@ -59,10 +59,10 @@ ends b = b == 10 || b == 13
 ends_ascii : (b : ℕ) → 128 ≤ b → ends b ≡ false
 ends_ascii b h = grind (arith, nat_tests)
 
-ends_no_start : (b : ℕ) → b < 128 → starts b ≡ true → ends b ≡ false
+ends_no_start : (b : ℕ) → b < 128 → is_id_start b ≡ true → ends b ≡ false
 ends_no_start b low h = let e = rw (is_xid_start-ascii b low) at h in grind (arith, nat_tests)
 
-ends_no_continue : (b : ℕ) → b < 128 → continues b ≡ true → ends b ≡ false
+ends_no_continue : (b : ℕ) → b < 128 → is_id_continue b ≡ true → ends b ≡ false
 ends_no_continue b low h = let e = rw (is_xid_continue-ascii b low) at h in grind (arith, nat_tests)
 
 -- before LF or CR
@@ -88,14 +88,14 @@ pub marker_spelt : (dash name end : List ℕ) → (dash ≡ []) ⊎ (dash ≡ co
     → marker_of (codes "<<" ++ (dash ++ (name ++ end))) ≡ name
 marker_spelt dash name end (inl e) ident line =
     let word = identifier_some name ident in
-    let first : slice_index (name ++ end) 0 ≡ slice_index name 0 = front_of name end word.0 in
+    let first : slice_index (name ++ end) 0 ≡ slice_index name 0 = mark_prefix name end word.0 in
     let no_dash : (slice_index (name ++ end) 0 == 45) ≡ false =
     ne_eqb (slice_index (name ++ end) 0) 45 (λ k. let b : ℕ = slice_index name 0 in let same : b ≡ 45 = sym first ∙ k in absurd (grind (arith, nat_tests))) in
     rw (e, no_dash) (name_before name end ident line)
   where
-    front_of : (xs ys : List ℕ) → 0 < length xs → slice_index (xs ++ ys) 0 ≡ slice_index xs 0
-    front_of [] ys h = absurd (omega arith)
-    front_of (x ∷ xs) ys h = refl
+    mark_prefix : (xs ys : List ℕ) → 0 < length xs → slice_index (xs ++ ys) 0 ≡ slice_index xs 0
+    mark_prefix [] ys h = absurd (omega arith)
+    mark_prefix (x ∷ xs) ys h = refl
 marker_spelt dash name end (inr e) ident line = rw e (name_before name end ident line)
 
 -- ---- each token keeps it
@@ -104,22 +104,22 @@ drop_keeps : (modes : List Mode) → HaveMarkers modes → HaveMarkers (drop 1 m
 drop_keeps [] h = tt
 drop_keeps (mode ∷ modes) h = h.1
 
-within_keeps : (modes : List Mode) → HaveMarkers modes → HaveMarkers (within_line modes)
+within_keeps : (modes : List Mode) → HaveMarkers modes → HaveMarkers (clear_line_start modes)
 within_keeps [] h = tt
-within_keeps (Heredoc name fresh ∷ modes) h = h
+within_keeps (Heredoc name at_line_start ∷ modes) h = h
 within_keeps (Expression ∷ modes) h = h
 within_keeps (Sequence ∷ modes) h = h
 within_keeps (Braces ∷ modes) h = h
 within_keeps (Quoted ∷ modes) h = h
 
-read_keeps : (piece : List ℕ) (mode : Mode) → HasMarker mode → HasMarker (read_on piece mode)
-read_keeps piece (Heredoc name fresh) h = h
+read_keeps : (piece : List ℕ) (mode : Mode) → HasMarker mode → HasMarker (after_literal piece mode)
+read_keeps piece (Heredoc name at_line_start) h = h
 read_keeps piece Expression h = h
 read_keeps piece Sequence h = h
 read_keeps piece Braces h = h
 read_keeps piece Quoted h = h
 
-pub markers_after : (kind : Kind) (s rest : List ℕ) (modes : List Mode) → Spells (mode_of modes) kind s rest → HaveMarkers modes → HaveMarkers (after kind s modes)
+pub markers_after : (kind : Kind) (s rest : List ℕ) (modes : List Mode) → Spells (mode_of modes) kind s rest → HaveMarkers modes → HaveMarkers (modes_after kind s modes)
 markers_after QuoteOpen s rest modes spells h = (tt, h)
 markers_after HereOpen s rest modes (dash, name, end, e, is, ident, line) h =
     (subst IsIdentifier (sym (ap marker_of e ∙ marker_spelt dash name end is ident line)) ident, h)
@@ -129,7 +129,7 @@ markers_after QuoteClose s rest modes spells h = drop_keeps modes h
 markers_after HereClose s rest modes spells h = drop_keeps modes h
 markers_after SeqClose s rest modes spells h = drop_keeps modes h
 markers_after OpenBrace s rest modes spells h =
-    cond_both (in_sequence (mode_of modes)) (Braces ∷ modes) modes HaveMarkers (λ _. (tt, h)) (λ _. h)
+    cond_both (is_in_sequence (mode_of modes)) (Braces ∷ modes) modes HaveMarkers (λ _. (tt, h)) (λ _. h)
 markers_after CloseBrace s rest modes spells h =
     cond_both (is_braces (mode_of modes)) (drop 1 modes) modes HaveMarkers (λ _. drop_keeps modes h) (λ _. h)
 markers_after HereLit s rest [] spells h = tt

@@ -1,10 +1,10 @@
 -- What one opening more does to the modes and the places, and whether a line begins behind a text.
 use Rattle.std.proofs.Common.{◌≡◌, ℕ, suc, ◌-◌, ◌<◌, ◌==◌, Bool, List, [], ◌∷◌, ◌++◌, length, map, reverse, slice_index, refl, sym, ap, ◌∙◌, arith, take_all}
 use Rattle.std.proofs.lemmas.List.{reverse-append, length-reverse, length-map}
-use Rattle.hcl_scan.specs.Runs.{line_behind}
+use Rattle.hcl_scan.specs.Runs.{is_line_start_after}
 use Rattle.hcl_scan.specs.declared.mode.Opening.{Opening}
 use Rattle.hcl_scan.specs.Inner.Openings.{mode_view, modes_of, places_of}
-use Rattle.hcl_scan.proofs.RunLemmas.{line_behind-last}
+use Rattle.hcl_scan.proofs.RunLemmas.{line_start_after-last}
 
 pub modes_of-push : (openings : List Opening) (o : Opening) → modes_of (openings ++ o ∷ []) ≡ mode_view o.mode ∷ modes_of openings
 modes_of-push openings o = ap (λ (x : List Opening). map (λ (p : Opening). mode_view p.mode) x) (reverse-append openings (o ∷ []))
@@ -15,10 +15,10 @@ places_of-push openings o = ap (λ (x : List Opening). map (λ (p : Opening). p.
 pub ruleset opening_lemmas = (modes_of-push, places_of-push)
 
 -- the last byte tells
-pub line_behind-end : (fresh : Bool) (t : List ℕ) → 0 < length t → line_behind fresh t ≡ (slice_index t (length t - 1) == 10)
-line_behind-end fresh t some =
+pub line_start_after-end : (at_line_start : Bool) (t : List ℕ) → 0 < length t → is_line_start_after at_line_start t ≡ (slice_index t (length t - 1) == 10)
+line_start_after-end at_line_start t some =
     let n : ℕ = length t - 1 in
-    ap (line_behind fresh) (sym (take_all (suc n) t (omega arith))) ∙ line_behind-last fresh t n (omega arith)
+    ap (is_line_start_after at_line_start) (sym (take_all (suc n) t (omega arith))) ∙ line_start_after-last at_line_start t n (omega arith)
 
 pub none_open : (openings : List Opening) → modes_of openings ≡ [] → openings ≡ []
 none_open openings e =

@@ -6,19 +6,19 @@ use Rattle.std.specs.List.{list_all}
 use Rattle.hcl_token.specs.declared.kind.Kind.{Kind}
 use Rattle.hcl_token.specs.declared.kind.Kind.TheVariants.{Mark, LineComment, InlineComment, Identifier, Number, Star, Slash, CloseBrace, SeqClose, QuoteClose, InterpOpen, DirectiveOpen, QuoteLit, HereClose, HereLit}
 use Rattle.hcl_token.specs.Tokens.{Pair}
-use Rattle.hcl_token.specs.Joins.{begins_with, joins_with}
-use Rattle.hcl_scan.specs.Characters.{is_blank}
-use Rattle.hcl_scan.specs.Modes.{Mode, mode_of, is_literal, closes_sequence, begins_line, after}
+use Rattle.hcl_token.specs.Joins.{starts_with, joins_with}
+use Rattle.hcl_scan.specs.Characters.{is_whitespace}
+use Rattle.hcl_scan.specs.Modes.{Mode, mode_of, is_literal, can_close_sequence, is_at_line_start, modes_after}
 use Rattle.hcl_scan.specs.Modes.Mode.{Sequence, Quoted, Heredoc}
-use Rattle.hcl_scan.specs.Closing.{ends_line}
-use Rattle.hcl_scan.specs.Lexeme.{is_quoted, is_heredoc, stands_in, Spells, IsLexeme}
-use Rattle.hcl_scan.specs.Cut.{IsGap}
-use Rattle.hcl_scan.specs.Inner.Front.{begins_word}
-use Rattle.hcl_scan.specs.Follows.{neighbour, EndsLine, IsOther, Behind, FollowsFrom, Follows, mark, IsApart, AreApart, tokens_of, has_no_gap, has_no_gap_behind, AreGaps}
+use Rattle.hcl_scan.specs.Closing.{is_at_line_end_or_eof}
+use Rattle.hcl_scan.specs.Lexeme.{is_quoted, is_heredoc, is_allowed_in, Spells, IsLexeme}
+use Rattle.hcl_scan.specs.Tokenization.{IsGap}
+use Rattle.hcl_scan.specs.Inner.LexemeStarts.{is_word_start}
+use Rattle.hcl_scan.specs.Follows.{following_text, LineEndsHere, NextIsNot, AllowsNext, FollowsFrom, Follows, mark, IsApart, AreApart, tokens_of, has_no_gap_before, has_no_gap_after, AreAllowedGaps}
 use Rattle.hcl_scan.proofs.Heads.{heads, HeadIs, begins_so, one_passes}
 use Rattle.hcl_scan.proofs.Unique.{same_pair}
-use Rattle.hcl_scan.proofs.RunNeighbours.{inline_same}
-use Rattle.hcl_scan.proofs.CutFollows.{blank_no_line, line_byte}
+use Rattle.hcl_scan.proofs.RunFollowingText.{inline_same}
+use Rattle.hcl_scan.proofs.TokenizationFollows.{whitespace_no_line, line_byte}
 
 -- ---- the same tokens
 
@@ -48,7 +48,7 @@ next_same (q ∷ qs) (p ∷ ps) e = let h = same_head q p qs ps e in (h.kinds, h
 -- ---- gaps
 
 -- a token that stands in literal text has no gap before it
-literal_no_gap : (mode : Mode) (kind : Kind) → stands_in mode kind ≡ true → is_literal mode ≡ true → has_no_gap kind ≡ true
+literal_no_gap : (mode : Mode) (kind : Kind) → is_allowed_in mode kind ≡ true → is_literal mode ≡ true → has_no_gap_before kind ≡ true
 literal_no_gap mode Mark st h = refl
 literal_no_gap mode QuoteClose st h = refl
 literal_no_gap mode QuoteLit st h = refl
@@ -56,7 +56,7 @@ literal_no_gap mode InterpOpen st h = refl
 literal_no_gap mode DirectiveOpen st h = refl
 literal_no_gap mode HereClose st h = refl
 literal_no_gap mode HereLit st h = refl
-literal_no_gap mode CloseBrace st h = absurd (both_ways _ (not-true (is_literal mode) (and_parts (not (closes_sequence mode)) (not (is_literal mode)) st).1) h)
+literal_no_gap mode CloseBrace st h = absurd (both_ways _ (not-true (is_literal mode) (and_parts (not (can_close_sequence mode)) (not (is_literal mode)) st).1) h)
 literal_no_gap Sequence SeqClose st h = absurd (false≢true h)
 literal_no_gap mode SeqClose st h = absurd (false≢true st)
 literal_no_gap mode kind st h = absurd (both_ways _ (not-true (is_literal mode) st) h)
@@ -66,72 +66,72 @@ abbrev NoGap : List Pair → List ℕ → Type 0
 NoGap [] last = last ≡ []
 NoGap (p ∷ ps) last = p.gap ≡ []
 
-same_neighbour : (qs ps : List Pair) (other last : List ℕ) → NextSame qs ps → NoGap qs other → NoGap ps last → neighbour ps last ≡ neighbour qs other
-same_neighbour [] [] other last same none none' = none' ∙ sym none
-same_neighbour [] (p ∷ ps) other last same none none' = absurd same
-same_neighbour (q ∷ qs) [] other last same none none' = absurd same
-same_neighbour (q ∷ qs) (p ∷ ps) other last same none none' = ap₂ (λ (x y : List ℕ). x ++ y) (none' ∙ sym none) (sym same.1)
+same_following_text : (qs ps : List Pair) (other last : List ℕ) → NextSame qs ps → NoGap qs other → NoGap ps last → following_text ps last ≡ following_text qs other
+same_following_text [] [] other last same none none' = none' ∙ sym none
+same_following_text [] (p ∷ ps) other last same none none' = absurd same
+same_following_text (q ∷ qs) [] other last same none none' = absurd same
+same_following_text (q ∷ qs) (p ∷ ps) other last same none none' = ap₂ (λ (x y : List ℕ). x ++ y) (none' ∙ sym none) (sym same.1)
 
-shut_none : (qs : List Pair) (other : List ℕ) → AreGaps true qs other → NoGap qs other
+shut_none : (qs : List Pair) (other : List ℕ) → AreAllowedGaps true qs other → NoGap qs other
 shut_none [] other gaps = gaps.1 refl
 shut_none (q ∷ qs) other gaps = gaps.1 refl
 
-line_none : (ps : List Pair) (last : List ℕ) → EndsLine ps last → NoGap ps last
+line_none : (ps : List Pair) (last : List ℕ) → LineEndsHere ps last → NoGap ps last
 line_none [] last h = h
 line_none (p ∷ ps) last h = h.0
 
 -- the first token, or the last gap
 abbrev FirstOf : Mode → List Pair → List ℕ → Type 0
-FirstOf mode [] last = (list_all is_blank last ≡ true) × (is_literal mode ≡ false)
-FirstOf mode (p ∷ ps) last = IsGap mode p.gap × IsLexeme mode p.kind p.spelling (neighbour ps last)
+FirstOf mode [] last = (list_all is_whitespace last ≡ true) × (is_literal mode ≡ false)
+FirstOf mode (p ∷ ps) last = IsGap mode p.gap × IsLexeme mode p.kind p.spelling (following_text ps last)
 
-first_of_list : (modes : List Mode) (ps : List Pair) (last : List ℕ) → list_all is_blank last ≡ true → FollowsFrom modes ps last [] → FirstOf (mode_of modes) ps last
+first_of_list : (modes : List Mode) (ps : List Pair) (last : List ℕ) → list_all is_whitespace last ≡ true → FollowsFrom modes ps last [] → FirstOf (mode_of modes) ps last
 first_of_list modes [] last blank f = (blank, rw f refl)
 first_of_list modes (p ∷ ps) last blank f = (f.0, f.2)
 
-no_line : (b : ℕ) (t : List ℕ) → is_blank b ≡ true → ends_line (b ∷ t) ≡ true → ⊥
-no_line b t blank h = both_ways _ (blank_no_line b blank) (line_byte b t h)
+no_line : (b : ℕ) (t : List ℕ) → is_whitespace b ≡ true → is_at_line_end_or_eof (b ∷ t) ≡ true → ⊥
+no_line b t blank h = both_ways _ (whitespace_no_line b blank) (line_byte b t h)
 
 -- behind a closing line no gap stands
-close_none : (mode : Mode) (ps : List Pair) (last : List ℕ) → FirstOf mode ps last → ends_line (neighbour ps last) ≡ true → NoGap ps last
+close_none : (mode : Mode) (ps : List Pair) (last : List ℕ) → FirstOf mode ps last → is_at_line_end_or_eof (following_text ps last) ≡ true → NoGap ps last
 close_none mode [] last first h = empty last first.0 h
   where
-    empty : (t : List ℕ) → list_all is_blank t ≡ true → ends_line t ≡ true → t ≡ []
+    empty : (t : List ℕ) → list_all is_whitespace t ≡ true → is_at_line_end_or_eof t ≡ true → t ≡ []
     empty [] all k = refl
-    empty (b ∷ t) all k = absurd (no_line b t (and_parts (is_blank b) (list_all is_blank t) all).0 k)
+    empty (b ∷ t) all k = absurd (no_line b t (and_parts (is_whitespace b) (list_all is_whitespace t) all).0 k)
 close_none mode (p ∷ ps) last first h = empty p.gap first.0.0 h
   where
-    empty : (gap : List ℕ) → list_all is_blank gap ≡ true → ends_line (gap ++ p.spelling) ≡ true → gap ≡ []
+    empty : (gap : List ℕ) → list_all is_whitespace gap ≡ true → is_at_line_end_or_eof (gap ++ p.spelling) ≡ true → gap ≡ []
     empty [] all k = refl
-    empty (b ∷ gap) all k = absurd (no_line b (gap ++ p.spelling) (and_parts (is_blank b) (list_all is_blank gap) all).0 k)
+    empty (b ∷ gap) all k = absurd (no_line b (gap ++ p.spelling) (and_parts (is_whitespace b) (list_all is_whitespace gap) all).0 k)
 
 -- in literal text no gap stands, in the one list and in the other
 literal_none : (mode : Mode) → is_literal mode ≡ true → (ps : List Pair) (last : List ℕ) → FirstOf mode ps last → NoGap ps last
 literal_none mode literal [] last first = absurd (both_ways _ first.1 literal)
 literal_none mode literal (p ∷ ps) last first = first.0.1 literal
 
-literal_shut : (mode : Mode) → is_literal mode ≡ true → (must_be_empty : Bool) (qs ps : List Pair) (other last : List ℕ) → NextSame qs ps → FirstOf mode ps last → AreGaps must_be_empty qs other → NoGap qs other
+literal_shut : (mode : Mode) → is_literal mode ≡ true → (must_be_empty : Bool) (qs ps : List Pair) (other last : List ℕ) → NextSame qs ps → FirstOf mode ps last → AreAllowedGaps must_be_empty qs other → NoGap qs other
 literal_shut mode literal must_be_empty [] [] other last same first gaps = absurd (both_ways _ first.1 literal)
 literal_shut mode literal must_be_empty [] (p ∷ ps) other last same first gaps = absurd same
 literal_shut mode literal must_be_empty (q ∷ qs) [] other last same first gaps = absurd same
 literal_shut mode literal must_be_empty (q ∷ qs) (p ∷ ps) other last same first gaps =
-    gaps.1 (or_right must_be_empty (has_no_gap q.kind) (ap has_no_gap same.0 ∙ literal_no_gap mode p.kind first.1.0 literal))
+    gaps.1 (or_right must_be_empty (has_no_gap_before q.kind) (ap has_no_gap_before same.0 ∙ literal_no_gap mode p.kind first.1.0 literal))
 
 -- ---- `/`
 
 abbrev no_comment : ℕ → Bool
 no_comment b = not (b == 42 || b == 47)
 
-blank_no_comment : (b : ℕ) → is_blank b ≡ true → no_comment b ≡ true
-blank_no_comment b h = grind (arith, nat_tests)
+whitespace_no_comment : (b : ℕ) → is_whitespace b ≡ true → no_comment b ≡ true
+whitespace_no_comment b h = grind (arith, nat_tests)
 
-word_no_comment : (b : ℕ) → begins_word b ≡ true → no_comment b ≡ true
+word_no_comment : (b : ℕ) → is_word_start b ≡ true → no_comment b ≡ true
 word_no_comment b h = grind (arith, nat_tests)
 
 digit_no_comment : (b : ℕ) → HeadIs Number b → no_comment b ≡ true
 digit_no_comment b h = grind (arith, nat_tests)
 
-other_no_comment : (t : List ℕ) → begins_with 47 t ≡ false → not (slice_index t 0 == 42) ≡ true → no_comment (slice_index t 0) ≡ true
+other_no_comment : (t : List ℕ) → starts_with 47 t ≡ false → not (slice_index t 0 == 42) ≡ true → no_comment (slice_index t 0) ≡ true
 other_no_comment [] h k = refl
 other_no_comment (b ∷ t) h k = grind (arith, nat_tests)
 
@@ -141,106 +141,106 @@ slash_next s Identifier t j h = word_no_comment (slice_index t 0) h
 slash_next s Number t j h = digit_no_comment (slice_index t 0) h
 slash_next s kind t j h = other_no_comment t j (one_passes (λ b. not (b == 42)) (slice_index t 0) (heads kind) h refl)
 
-slash_behind : (mode : Mode) → is_literal mode ≡ false → (s : List ℕ) (must_be_empty : Bool) (qs ps : List Pair) (other last : List ℕ) → NextSame qs ps → FirstOf mode ps last → AreGaps must_be_empty qs other → IsApart Slash s qs
-    → no_comment (slice_index (neighbour qs other) 0) ≡ true
-slash_behind mode plain s must_be_empty [] ps other last same first gaps apart = blanks other gaps.0
+slash_after : (mode : Mode) → is_literal mode ≡ false → (s : List ℕ) (must_be_empty : Bool) (qs ps : List Pair) (other last : List ℕ) → NextSame qs ps → FirstOf mode ps last → AreAllowedGaps must_be_empty qs other → IsApart Slash s qs
+    → no_comment (slice_index (following_text qs other) 0) ≡ true
+slash_after mode plain s must_be_empty [] ps other last same first gaps apart = whitespace_found other gaps.0
   where
-    blanks : (t : List ℕ) → list_all is_blank t ≡ true → no_comment (slice_index t 0) ≡ true
-    blanks [] all = refl
-    blanks (b ∷ t) all = blank_no_comment b (and_parts (is_blank b) (list_all is_blank t) all).0
-slash_behind mode plain s must_be_empty (q ∷ qs) [] other last same first gaps apart = absurd same
-slash_behind mode plain s must_be_empty (q ∷ qs) (p ∷ ps) other last same first gaps apart = at_gap q.gap gaps.0 apart
+    whitespace_found : (t : List ℕ) → list_all is_whitespace t ≡ true → no_comment (slice_index t 0) ≡ true
+    whitespace_found [] all = refl
+    whitespace_found (b ∷ t) all = whitespace_no_comment b (and_parts (is_whitespace b) (list_all is_whitespace t) all).0
+slash_after mode plain s must_be_empty (q ∷ qs) [] other last same first gaps apart = absurd same
+slash_after mode plain s must_be_empty (q ∷ qs) (p ∷ ps) other last same first gaps apart = at_gap q.gap gaps.0 apart
   where
-    at_gap : (gap : List ℕ) → list_all is_blank gap ≡ true → (gap ≡ [] → joins_with Slash s q.kind q.spelling ≡ false) → no_comment (slice_index (gap ++ q.spelling) 0) ≡ true
+    at_gap : (gap : List ℕ) → list_all is_whitespace gap ≡ true → (gap ≡ [] → joins_with Slash s q.kind q.spelling ≡ false) → no_comment (slice_index (gap ++ q.spelling) 0) ≡ true
     at_gap [] all j =
-        let head = begins_so mode p.kind p.spelling (neighbour ps last) plain first.1.0 first.1.1 in
+        let head = begins_so mode p.kind p.spelling (following_text ps last) plain first.1.0 first.1.1 in
         let parted : joins_with Slash s p.kind p.spelling ≡ false = ap₂ (joins_with Slash s) (sym same.0) (sym same.1) ∙ j refl in
         ap (λ (x : List ℕ). no_comment (slice_index x 0)) same.1 ∙ slash_next s p.kind p.spelling parted head.1
-    at_gap (b ∷ gap) all j = blank_no_comment b (and_parts (is_blank b) (list_all is_blank gap) all).0
+    at_gap (b ∷ gap) all j = whitespace_no_comment b (and_parts (is_whitespace b) (list_all is_whitespace gap) all).0
 
 -- ---- a token with another neighbour
 
-respelt : (modes : List Mode) (kind : Kind) (s : List ℕ) (qs ps : List Pair) (other last : List ℕ) → stands_in (mode_of modes) kind ≡ true → Behind kind ps last → FirstOf (mode_of (after kind s modes)) ps last
-    → NextSame qs ps → AreGaps (has_no_gap_behind kind) qs other → IsApart kind s qs → Spells (mode_of modes) kind s (neighbour ps last) → Spells (mode_of modes) kind s (neighbour qs other)
+respelt : (modes : List Mode) (kind : Kind) (s : List ℕ) (qs ps : List Pair) (other last : List ℕ) → is_allowed_in (mode_of modes) kind ≡ true → AllowsNext kind ps last → FirstOf (mode_of (modes_after kind s modes)) ps last
+    → NextSame qs ps → AreAllowedGaps (has_no_gap_after kind) qs other → IsApart kind s qs → Spells (mode_of modes) kind s (following_text ps last) → Spells (mode_of modes) kind s (following_text qs other)
 respelt modes LineComment s qs ps other last st behind first same gaps apart h =
-    subst (Spells (mode_of modes) LineComment s) (same_neighbour qs ps other last same (shut_none qs other gaps) (line_none ps last behind)) h
-respelt modes InlineComment s qs ps other last st behind first same gaps apart (body, e, run) = (body, e, inline_same (neighbour ps last) (neighbour qs other) body run)
+    subst (Spells (mode_of modes) LineComment s) (same_following_text qs ps other last same (shut_none qs other gaps) (line_none ps last behind)) h
+respelt modes InlineComment s qs ps other last st behind first same gaps apart (body, e, run) = (body, e, inline_same (following_text ps last) (following_text qs other) body run)
 respelt modes Slash s qs ps other last st behind first same gaps apart (e, h) =
-    (e, not-true _ (slash_behind (mode_of modes) (not-true (is_literal (mode_of modes)) st) s false qs ps other last same first gaps apart))
+    (e, not-true _ (slash_after (mode_of modes) (not-true (is_literal (mode_of modes)) st) s false qs ps other last same first gaps apart))
 respelt (Quoted ∷ ms) QuoteLit s qs ps other last st behind first same gaps apart h =
-    subst (Spells Quoted QuoteLit s) (same_neighbour qs ps other last same (literal_shut Quoted refl false qs ps other last same first gaps) (literal_none Quoted refl ps last first)) h
+    subst (Spells Quoted QuoteLit s) (same_following_text qs ps other last same (literal_shut Quoted refl false qs ps other last same first gaps) (literal_none Quoted refl ps last first)) h
 respelt modes QuoteLit s qs ps other last st behind first same gaps apart h = absurd (false≢true st)
-respelt (Heredoc name fresh ∷ ms) HereLit s qs ps other last st behind first same gaps apart h =
-    let mode : Mode = mode_of (after HereLit s (Heredoc name fresh ∷ ms)) in
-    subst (Spells (Heredoc name fresh) HereLit s) (same_neighbour qs ps other last same (literal_shut mode refl false qs ps other last same first gaps) (literal_none mode refl ps last first)) h
+respelt (Heredoc name at_line_start ∷ ms) HereLit s qs ps other last st behind first same gaps apart h =
+    let mode : Mode = mode_of (modes_after HereLit s (Heredoc name at_line_start ∷ ms)) in
+    subst (Spells (Heredoc name at_line_start) HereLit s) (same_following_text qs ps other last same (literal_shut mode refl false qs ps other last same first gaps) (literal_none mode refl ps last first)) h
 respelt modes HereLit s qs ps other last st behind first same gaps apart h = absurd (false≢true st)
 respelt modes HereClose s qs ps other last st behind first same gaps apart h =
-    subst (Spells (mode_of modes) HereClose s) (same_neighbour qs ps other last same (shut_none qs other gaps) (close_none (mode_of (after HereClose s modes)) ps last first h.5)) h
+    subst (Spells (mode_of modes) HereClose s) (same_following_text qs ps other last same (shut_none qs other gaps) (close_none (mode_of (modes_after HereClose s modes)) ps last first h.5)) h
 respelt modes kind s qs ps other last st behind first same gaps apart h = h
 
-line_behind_same : (qs ps : List Pair) (other last : List ℕ) → NextSame qs ps → AreGaps true qs other → EndsLine ps last → EndsLine qs other
-line_behind_same [] ps other last same gaps h = gaps.1 refl
-line_behind_same (q ∷ qs) [] other last same gaps h = absurd same
-line_behind_same (q ∷ qs) (p ∷ ps) other last same gaps h = (gaps.1 refl, same.0 ∙ h.1)
+line_start_after_same : (qs ps : List Pair) (other last : List ℕ) → NextSame qs ps → AreAllowedGaps true qs other → LineEndsHere ps last → LineEndsHere qs other
+line_start_after_same [] ps other last same gaps h = gaps.1 refl
+line_start_after_same (q ∷ qs) [] other last same gaps h = absurd same
+line_start_after_same (q ∷ qs) (p ∷ ps) other last same gaps h = (gaps.1 refl, same.0 ∙ h.1)
 
-other_same : (kind : Kind) (qs ps : List Pair) → NextSame qs ps → IsOther kind ps → IsOther kind qs
+other_same : (kind : Kind) (qs ps : List Pair) → NextSame qs ps → NextIsNot kind ps → NextIsNot kind qs
 other_same kind [] ps same h = tt
 other_same kind (q ∷ qs) [] same h = absurd same
 other_same kind (q ∷ qs) (p ∷ ps) same h = λ e. h (sym same.0 ∙ e)
 
-behind_same : (kind : Kind) (qs ps : List Pair) (other last : List ℕ) → NextSame qs ps → AreGaps (has_no_gap_behind kind) qs other → Behind kind ps last → Behind kind qs other
-behind_same LineComment qs ps other last same gaps h = line_behind_same qs ps other last same gaps h
-behind_same QuoteLit qs ps other last same gaps h = other_same QuoteLit qs ps same h
-behind_same HereLit qs ps other last same gaps h = other_same HereLit qs ps same h
-behind_same kind qs ps other last same gaps h = tt
+allows_next_same : (kind : Kind) (qs ps : List Pair) (other last : List ℕ) → NextSame qs ps → AreAllowedGaps (has_no_gap_after kind) qs other → AllowsNext kind ps last → AllowsNext kind qs other
+allows_next_same LineComment qs ps other last same gaps h = line_start_after_same qs ps other last same gaps h
+allows_next_same QuoteLit qs ps other last same gaps h = other_same QuoteLit qs ps same h
+allows_next_same HereLit qs ps other last same gaps h = other_same HereLit qs ps same h
+allows_next_same kind qs ps other last same gaps h = tt
 
 -- ---- the tokens
 
 -- what a token, told by its parts, owes
 abbrev Step : List Mode → List ℕ → Kind → List ℕ → List Pair → List ℕ → Type 0
 Step modes gap kind s qs other =
-    IsGap (mode_of modes) gap × IsUtf8 s × IsLexeme (mode_of modes) kind s (neighbour qs other) × Behind kind qs other × FollowsFrom (after kind s modes) qs other []
+    IsGap (mode_of modes) gap × IsUtf8 s × IsLexeme (mode_of modes) kind s (following_text qs other) × AllowsNext kind qs other × FollowsFrom (modes_after kind s modes) qs other []
 
-regap : (ps qs : List Pair) (modes : List Mode) (last other : List ℕ) (must_be_empty : Bool) → tokens_of qs ≡ tokens_of ps → list_all is_blank last ≡ true → FollowsFrom modes ps last [] → AreGaps must_be_empty qs other → AreApart qs → FollowsFrom modes qs other []
+regap : (ps qs : List Pair) (modes : List Mode) (last other : List ℕ) (must_be_empty : Bool) → tokens_of qs ≡ tokens_of ps → list_all is_whitespace last ≡ true → FollowsFrom modes ps last [] → AreAllowedGaps must_be_empty qs other → AreApart qs → FollowsFrom modes qs other []
 regap [] [] modes last other must_be_empty e blank f gaps apart = f
 regap [] (q ∷ qs) modes last other must_be_empty e blank f gaps apart = absurd (cc)
 regap (p ∷ ps) [] modes last other must_be_empty e blank f gaps apart = absurd (cc)
 regap (p ∷ ps) (q ∷ qs) modes last other must_be_empty e blank f gaps apart =
     let same = same_head q p qs ps e in
     let mode : Mode = mode_of modes in
-    let behind : List Mode = after p.kind p.spelling modes in
+    let behind : List Mode = modes_after p.kind p.spelling modes in
     let first : FirstOf (mode_of behind) ps last = first_of_list behind ps last blank f.4 in
     let next : NextSame qs ps = next_same qs ps same.tails in
-    let more : AreGaps (has_no_gap_behind p.kind) qs other = subst (λ k. AreGaps (has_no_gap_behind k) qs other) same.kinds gaps.2 in
+    let more : AreAllowedGaps (has_no_gap_after p.kind) qs other = subst (λ k. AreAllowedGaps (has_no_gap_after k) qs other) same.kinds gaps.2 in
     let parted : IsApart p.kind p.spelling qs = subst (λ k. IsApart k p.spelling qs) same.kinds (subst (λ (x : List ℕ). IsApart q.kind x qs) same.spellings apart.0) in
-    let gap : IsGap mode q.gap = (gaps.0, λ literal. gaps.1 (or_right must_be_empty (has_no_gap q.kind) (ap has_no_gap same.kinds ∙ literal_no_gap mode p.kind f.2.0 literal))) in
-    let lexeme : IsLexeme mode p.kind p.spelling (neighbour qs other) = (f.2.0, respelt modes p.kind p.spelling qs ps other last f.2.0 f.3 first next more parted f.2.1) in
+    let gap : IsGap mode q.gap = (gaps.0, λ literal. gaps.1 (or_right must_be_empty (has_no_gap_before q.kind) (ap has_no_gap_before same.kinds ∙ literal_no_gap mode p.kind f.2.0 literal))) in
+    let lexeme : IsLexeme mode p.kind p.spelling (following_text qs other) = (f.2.0, respelt modes p.kind p.spelling qs ps other last f.2.0 f.3 first next more parted f.2.1) in
     let step : Step modes q.gap p.kind p.spelling qs other =
-    (gap, f.1, lexeme, behind_same p.kind qs ps other last next more f.3, regap ps qs behind last other (has_no_gap_behind p.kind) same.tails blank f.4 more apart.1) in
+    (gap, f.1, lexeme, allows_next_same p.kind qs ps other last next more f.3, regap ps qs behind last other (has_no_gap_after p.kind) same.tails blank f.4 more apart.1) in
     subst (λ k. Step modes q.gap k q.spelling qs other) (sym same.kinds) (subst (λ (x : List ℕ). Step modes q.gap p.kind x qs other) (sym same.spellings) step)
 
-last_blank : (must_be_empty : Bool) (qs : List Pair) (other : List ℕ) → AreGaps must_be_empty qs other → list_all is_blank other ≡ true
-last_blank must_be_empty [] other gaps = gaps.0
-last_blank must_be_empty (q ∷ qs) other gaps = last_blank (has_no_gap_behind q.kind) qs other gaps.2
+last_whitespace : (must_be_empty : Bool) (qs : List Pair) (other : List ℕ) → AreAllowedGaps must_be_empty qs other → list_all is_whitespace other ≡ true
+last_whitespace must_be_empty [] other gaps = gaps.0
+last_whitespace must_be_empty (q ∷ qs) other gaps = last_whitespace (has_no_gap_after q.kind) qs other gaps.2
 
-pub other_gaps : (pairs others : List Pair) (last other : List ℕ) → Follows pairs last [] → tokens_of others ≡ tokens_of pairs → AreGaps false others other → AreApart others → Follows others other []
-other_gaps pairs others last other f e gaps apart = at_front others f.front e gaps apart
+pub other_gaps : (pairs others : List Pair) (last other : List ℕ) → Follows pairs last [] → tokens_of others ≡ tokens_of pairs → AreAllowedGaps false others other → AreApart others → Follows others other []
+other_gaps pairs others last other f e gaps apart = at_front others f.prefix e gaps apart
   where
-    at_front : (qs : List Pair) → (pairs ≡ f.body) ⊎ (pairs ≡ mark ∷ f.body) → tokens_of qs ≡ tokens_of pairs → AreGaps false qs other → AreApart qs → Follows qs other []
+    at_front : (qs : List Pair) → (pairs ≡ f.body) ⊎ (pairs ≡ mark ∷ f.body) → tokens_of qs ≡ tokens_of pairs → AreAllowedGaps false qs other → AreApart qs → Follows qs other []
     at_front qs (inl k) same g a = record {
       body = qs;
-      front = inl refl;
-      follows = regap f.body qs [] last other false (same ∙ ap tokens_of k) f.blank f.follows g a;
-      blank = last_blank false qs other g;
+      prefix = inl refl;
+      follows = regap f.body qs [] last other false (same ∙ ap tokens_of k) f.whitespace f.follows g a;
+      whitespace = last_whitespace false qs other g;
     }
     at_front [] (inr k) same g a = let none : tokens_of [] ≡ tokens_of (mark ∷ f.body) = same ∙ ap tokens_of k in absurd (cc)
     at_front (q ∷ qs) (inr k) same g a =
         let head = same_head q mark qs f.body (same ∙ ap tokens_of k) in
         record {
           body = qs;
-          front = inr (ap (λ x. x ∷ qs) (same_pair q mark (g.1 (ap has_no_gap head.kinds)) head.kinds head.spellings));
-          follows = regap f.body qs [] last other (has_no_gap_behind q.kind) head.tails f.blank f.follows g.2 a.1;
-          blank = last_blank false (q ∷ qs) other g;
+          prefix = inr (ap (λ x. x ∷ qs) (same_pair q mark (g.1 (ap has_no_gap_before head.kinds)) head.kinds head.spellings));
+          follows = regap f.body qs [] last other (has_no_gap_after q.kind) head.tails f.whitespace f.follows g.2 a.1;
+          whitespace = last_whitespace false (q ∷ qs) other g;
         }
 
 -- ---- the gaps of tokens that follow the modes
@@ -250,41 +250,41 @@ quoted_literal Quoted h = refl
 quoted_literal mode h = absurd (false≢true h)
 
 heredoc_literal : (mode : Mode) → is_heredoc mode ≡ true → is_literal mode ≡ true
-heredoc_literal (Heredoc name fresh) h = refl
+heredoc_literal (Heredoc name at_line_start) h = refl
 heredoc_literal mode h = absurd (false≢true h)
 
-no_gap_literal : (mode : Mode) (kind : Kind) → stands_in mode kind ≡ true → has_no_gap kind ≡ true → is_literal mode ≡ true
+no_gap_literal : (mode : Mode) (kind : Kind) → is_allowed_in mode kind ≡ true → has_no_gap_before kind ≡ true → is_literal mode ≡ true
 no_gap_literal mode Mark st h = absurd (false≢true st)
 no_gap_literal mode QuoteClose st h = quoted_literal mode st
 no_gap_literal mode QuoteLit st h = quoted_literal mode st
 no_gap_literal mode InterpOpen st h = st
 no_gap_literal mode DirectiveOpen st h = st
-no_gap_literal mode HereClose st h = heredoc_literal mode (and_parts (is_heredoc mode) (begins_line mode) st).0
+no_gap_literal mode HereClose st h = heredoc_literal mode (and_parts (is_heredoc mode) (is_at_line_start mode) st).0
 no_gap_literal mode HereLit st h = heredoc_literal mode st
 no_gap_literal mode kind st h = absurd (false≢true h)
 
 -- behind a token that asks for no gap there is none
-shuts_none : (modes : List Mode) (kind : Kind) (s : List ℕ) (ps : List Pair) (last : List ℕ) → Spells (mode_of modes) kind s (neighbour ps last) → Behind kind ps last → FirstOf (mode_of (after kind s modes)) ps last → has_no_gap_behind kind ≡ true → NoGap ps last
+shuts_none : (modes : List Mode) (kind : Kind) (s : List ℕ) (ps : List Pair) (last : List ℕ) → Spells (mode_of modes) kind s (following_text ps last) → AllowsNext kind ps last → FirstOf (mode_of (modes_after kind s modes)) ps last → has_no_gap_after kind ≡ true → NoGap ps last
 shuts_none modes LineComment s ps last spells behind first h = line_none ps last behind
-shuts_none modes HereClose s ps last spells behind first h = close_none (mode_of (after HereClose s modes)) ps last first spells.5
+shuts_none modes HereClose s ps last spells behind first h = close_none (mode_of (modes_after HereClose s modes)) ps last first spells.5
 shuts_none modes kind s ps last spells behind first h = absurd (false≢true h)
 
-gaps_from : (ps : List Pair) (modes : List Mode) (last : List ℕ) (must_be_empty : Bool) → list_all is_blank last ≡ true → FollowsFrom modes ps last [] → (must_be_empty ≡ true → NoGap ps last) → AreGaps must_be_empty ps last
+gaps_from : (ps : List Pair) (modes : List Mode) (last : List ℕ) (must_be_empty : Bool) → list_all is_whitespace last ≡ true → FollowsFrom modes ps last [] → (must_be_empty ≡ true → NoGap ps last) → AreAllowedGaps must_be_empty ps last
 gaps_from [] modes last must_be_empty blank f none = (blank, none)
 gaps_from (p ∷ ps) modes last must_be_empty blank f none =
-    let behind : List Mode = after p.kind p.spelling modes in
+    let behind : List Mode = modes_after p.kind p.spelling modes in
     let first : FirstOf (mode_of behind) ps last = first_of_list behind ps last blank f.4 in (
       f.0.0,
-      λ h. elim (or_cases must_be_empty (has_no_gap p.kind) h) [
+      λ h. elim (or_cases must_be_empty (has_no_gap_before p.kind) h) [
         | inl k ↦ none k
         | inr k ↦ f.0.1 (no_gap_literal (mode_of modes) p.kind f.2.0 k)
       ],
-      gaps_from ps behind last (has_no_gap_behind p.kind) blank f.4 (shuts_none modes p.kind p.spelling ps last f.2.1 f.3 first),
+      gaps_from ps behind last (has_no_gap_after p.kind) blank f.4 (shuts_none modes p.kind p.spelling ps last f.2.1 f.3 first),
     )
 
-pub gaps_of : (pairs : List Pair) (last : List ℕ) → Follows pairs last [] → AreGaps false pairs last
-gaps_of pairs last f = at_front f.front
+pub gaps_of : (pairs : List Pair) (last : List ℕ) → Follows pairs last [] → AreAllowedGaps false pairs last
+gaps_of pairs last f = at_front f.prefix
   where
-    at_front : (pairs ≡ f.body) ⊎ (pairs ≡ mark ∷ f.body) → AreGaps false pairs last
-    at_front (inl e) = subst (λ (x : List Pair). AreGaps false x last) (sym e) (gaps_from f.body [] last false f.blank f.follows (λ h. absurd (false≢true h)))
-    at_front (inr e) = subst (λ (x : List Pair). AreGaps false x last) (sym e) (refl, λ _. refl, gaps_from f.body [] last false f.blank f.follows (λ h. absurd (false≢true h)))
+    at_front : (pairs ≡ f.body) ⊎ (pairs ≡ mark ∷ f.body) → AreAllowedGaps false pairs last
+    at_front (inl e) = subst (λ (x : List Pair). AreAllowedGaps false x last) (sym e) (gaps_from f.body [] last false f.whitespace f.follows (λ h. absurd (false≢true h)))
+    at_front (inr e) = subst (λ (x : List Pair). AreAllowedGaps false x last) (sym e) (refl, λ _. refl, gaps_from f.body [] last false f.whitespace f.follows (λ h. absurd (false≢true h)))

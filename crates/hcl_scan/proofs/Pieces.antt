@@ -8,10 +8,10 @@ use Rattle.std.specs.Char.{is_ascii_digit}
 use Rattle.std.specs.Cmp.Derive.{both_true}
 use Rattle.std.specs.List.{list_all, prefix_len}
 use Rattle.std.specs.Str.{all_scalars}
-use Rattle.hcl_scan.specs.Characters.{continues}
+use Rattle.hcl_scan.specs.Characters.{is_id_continue}
 use Rattle.hcl_scan.specs.Lexeme.{is_decimal, IsFraction, IsSign, IsExponent}
-use Rattle.hcl_scan.specs.Inner.Next.{continue_length, decimal_length, fraction_length, is_sign, is_exponent_letter, exponent_length}
-use Rattle.hcl_scan.proofs.TextLemmas.{front_1, utf8_past}
+use Rattle.hcl_scan.specs.Inner.NextToken.{id_continue_length, decimal_length, fraction_length, is_sign, is_exponent_letter, exponent_length}
+use Rattle.hcl_scan.proofs.TextLemmas.{first_1, utf8_past}
 
 -- ---- digits
 
@@ -25,11 +25,11 @@ prefix_all p (b ∷ t) =
 
 -- the text is cut behind a piece of so many bytes
 pub record Split (Is : List ℕ → Type 0) (n : ℕ) (t : List ℕ) : Type 0 where
-  pub front : List ℕ
+  pub prefix : List ℕ
   pub rest : List ℕ
-  pub text_is : t ≡ front ++ rest
-  pub len : length front ≡ n
-  pub is : Is front
+  pub text_is : t ≡ prefix ++ rest
+  pub len : length prefix ≡ n
+  pub is : Is prefix
   pub behind : rest ≡ drop n t
   pub utf8 : IsUtf8 t → IsUtf8 rest
 
@@ -56,7 +56,7 @@ decimal_split t digit =
     let all : list_all is_ascii_digit (take n t) ≡ true = prefix_all is_ascii_digit t in
     let whole : t ≡ take n t ++ drop n t = sym (take-append-drop n t) in
     record {
-      front = take n t;
+      prefix = take n t;
       rest = drop n t;
       text_is = whole;
       len = size;
@@ -69,26 +69,26 @@ decimal_split t digit =
 
 -- the leading characters that continue an identifier
 pub record ContinueSplit (cs : List ℕ) : Type 0 where
-  pub front : List ℕ
+  pub prefix : List ℕ
   pub rest : List ℕ
-  pub text_is : cs ≡ front ++ rest
-  pub len : length (encode_utf8_all front) ≡ continue_length cs
-  pub all : list_all continues front ≡ true
+  pub text_is : cs ≡ prefix ++ rest
+  pub len : length (encode_utf8_all prefix) ≡ id_continue_length cs
+  pub all : list_all is_id_continue prefix ≡ true
 
 pub continue_split : (cs : List ℕ) → ContinueSplit cs
-continue_split [] = record { front = []; rest = []; text_is = refl; len = refl; all = refl }
+continue_split [] = record { prefix = []; rest = []; text_is = refl; len = refl; all = refl }
 continue_split (c ∷ cs) =
-    elim (continues c) as (λ b. continues c ≡ b → ContinueSplit (c ∷ cs)) [
+    elim (is_id_continue c) as (λ b. is_id_continue c ≡ b → ContinueSplit (c ∷ cs)) [
       | true ↦ λ h.
           let s : ContinueSplit cs = continue_split cs in
           record {
-            front = c ∷ s.front;
+            prefix = c ∷ s.prefix;
             rest = s.rest;
             text_is = ap (λ (x : List ℕ). c ∷ x) s.text_is;
-            len = rw h (length-append (encode_utf8 c) (encode_utf8_all s.front) ∙ omega (arith, length-encode c, s.len));
+            len = rw h (length-append (encode_utf8 c) (encode_utf8_all s.prefix) ∙ omega (arith, length-encode c, s.len));
             all = both_true h s.all;
           }
-      | false ↦ λ h. record { front = []; rest = c ∷ cs; text_is = refl; len = rw h refl; all = refl }
+      | false ↦ λ h. record { prefix = []; rest = c ∷ cs; text_is = refl; len = rw h refl; all = refl }
     ] refl
 
 pub scalars_parts : (xs ys : List ℕ) → all_scalars (xs ++ ys) ≡ true → (all_scalars xs ≡ true) × (all_scalars ys ≡ true)
@@ -102,16 +102,16 @@ scalars_parts (x ∷ xs) ys h =
 
 -- a piece of no bytes
 none_split : (Is : List ℕ → Type 0) (t : List ℕ) → Is [] → Split Is 0 t
-none_split Is t is = record { front = []; rest = t; text_is = refl; len = refl; is = is; behind = refl; utf8 = λ u. u }
+none_split Is t is = record { prefix = []; rest = t; text_is = refl; len = refl; is = is; behind = refl; utf8 = λ u. u }
 
 -- one ASCII byte more before a piece
 after_1 : (Is More : List ℕ → Type 0) (t : List ℕ) (x n : ℕ) → t ≡ x ∷ drop 1 t → x < 128 → Split Is n (drop 1 t) → ((s : List ℕ) → Is s → More (x ∷ s)) → Split More (1 + n) t
 after_1 Is More t x n e h s more = record {
-  front = x ∷ s.front;
+  prefix = x ∷ s.prefix;
   rest = s.rest;
   text_is = e ∙ ap (λ (y : List ℕ). x ∷ y) s.text_is;
   len = omega (arith, s.len);
-  is = more s.front s.is;
+  is = more s.prefix s.is;
   behind = s.behind ∙ drop-drop n 1 t ∙ ap (λ k. drop k t) (omega arith);
   utf8 = λ u. s.utf8 (utf8_past x (drop 1 t) h (subst IsUtf8 e u));
 }
@@ -124,7 +124,7 @@ fraction_split t =
     cond_both (slice_index t 0 == 46 && is_ascii_digit (slice_index t 1)) _ _ (λ n. Split IsFraction n t)
     (λ h.
     let both = and_parts (slice_index t 0 == 46) (is_ascii_digit (slice_index t 1)) h in
-    let e : t ≡ 46 ∷ drop 1 t = front_1 t 46 (eqb-true (slice_index t 0) 46 both.0) (omega arith) in
+    let e : t ≡ 46 ∷ drop 1 t = first_1 t 46 (eqb-true (slice_index t 0) 46 both.0) (omega arith) in
     after_1 (λ s. IsTrue (is_decimal s)) IsFraction t 46 _ e (omega arith) (decimal_split (drop 1 t) (ap is_ascii_digit (at_drop t) ∙ both.1))
     (λ s is. inr (s, refl, is)))
     (λ _. none_split IsFraction t (inl refl))
@@ -160,7 +160,7 @@ exponent_split t =
     (λ h.
     let letter : ℕ = slice_index t 0 in
     let ascii : letter < 128 = letter_ascii letter h in
-    let e : t ≡ letter ∷ drop 1 t = front_1 t letter refl (letter_some letter h) in
+    let e : t ≡ letter ∷ drop 1 t = first_1 t letter refl (letter_some letter h) in
     let more : (s : List ℕ) → IsSigned s → IsExponent (letter ∷ s) = λ s is. inr (letter, is.0, is.1, ap (λ (y : List ℕ). letter ∷ y) is.2, h, is.3, is.4) in
     cond_both (is_ascii_digit (slice_index t 1)) _ _ (λ n. Split IsExponent n t)
     (λ digit.
@@ -171,7 +171,7 @@ exponent_split t =
     let both = and_parts (is_sign (slice_index t 1)) (is_ascii_digit (slice_index t 2)) k in
     let t' : List ℕ = drop 1 t in
     let second : ℕ = slice_index t 1 in
-    let e' : t' ≡ second ∷ drop 1 t' = front_1 t' second (at_drop t) (sign_some second both.0) in
+    let e' : t' ≡ second ∷ drop 1 t' = first_1 t' second (at_drop t) (sign_some second both.0) in
     let third : slice_index (drop 1 t') 0 ≡ slice_index t 2 = at_drop t' ∙ get_or-drop 1 t 1 0 in
     let digits : Split (λ s. IsTrue (is_decimal s)) (decimal_length (drop 1 t')) (drop 1 t') = decimal_split (drop 1 t') (ap is_ascii_digit third ∙ both.1) in
     let signed : Split IsSigned (1 + decimal_length (drop 1 t')) t' =

@@ -6,16 +6,16 @@ use Rattle.std.specs.Char.{is_ascii_digit}
 use Rattle.std.specs.Cmp.Derive.{both_true}
 use Rattle.hcl_token.specs.declared.kind.Kind.TheVariants.{LineEnd, CloseBrace, Less, QuoteOpen, SeqClose, QuoteClose, InterpOpen, DirectiveOpen}
 use Rattle.hcl_scan.specs.Characters.{is_sigil}
-use Rattle.hcl_scan.specs.Modes.{Mode, is_literal, closes_sequence}
+use Rattle.hcl_scan.specs.Modes.{Mode, is_literal, can_close_sequence}
 use Rattle.hcl_scan.specs.Modes.Mode.{Expression, Sequence, Braces, Quoted, Heredoc}
 use Rattle.hcl_scan.specs.Inner.Markers.{HasMarker}
-use Rattle.hcl_scan.specs.Runs.{line_behind}
+use Rattle.hcl_scan.specs.Runs.{is_line_start_after}
 use Rattle.hcl_scan.specs.Inner.RunLength.{run_length}
 use Rattle.hcl_scan.specs.Lexeme.{quote_unit}
-use Rattle.hcl_scan.specs.Inner.HereNext.{here_open}
-use Rattle.hcl_scan.specs.Inner.Next.{Found, begins_word, here_or_less, punctuation, expression_token, begins_opening, opening, quoted_token, token}
+use Rattle.hcl_scan.specs.Inner.HeredocToken.{here_open}
+use Rattle.hcl_scan.specs.Inner.NextToken.{LexedToken, is_word_start, heredoc_or_less, punctuation, expression_token, is_at_opening, opening, quoted_token, token}
 use Rattle.hcl_scan.proofs.Found.{IsFound, Sound}
-use Rattle.hcl_scan.proofs.HereSound.{here_open_sound, here_token_sound}
+use Rattle.hcl_scan.proofs.HeredocSound.{here_open_sound, heredoc_token_sound}
 use Rattle.hcl_scan.proofs.RunLemmas.{RunSplit, run-split}
 use Rattle.hcl_scan.proofs.SoundOperators.{fixed_1, fixed_2, fixed_3, at_1, at_2, at_3, operator_sound}
 use Rattle.hcl_scan.proofs.SoundWords.{comment_of, inline_sound, number_sound, index_sound, identifier_sound}
@@ -28,11 +28,11 @@ module _ (mode : Mode) (t : List ℕ) (u : IsUtf8 t) (plain : is_literal mode �
   outside : not (is_literal mode) ≡ true
   outside = ap not plain
 
-  punctuation_sound : Sound mode t (punctuation (closes_sequence mode) t)
+  punctuation_sound : Sound mode t (punctuation (can_close_sequence mode) t)
   punctuation_sound =
       let a : ℕ = slice_index t 0 in
       let b : ℕ = slice_index t 1 in
-      let P : Found → Type 0 = λ f. Sound mode t f in
+      let P : LexedToken → Type 0 = λ f. Sound mode t f in
       cond_both (a == 10) _ _ P
       (λ h. fixed_1 mode t u LineEnd 10 (at_1 mode t u 10 h (omega arith)) (omega arith) (outside, inl refl))
       (λ _. cond_both (a == 13) _ _ P
@@ -53,25 +53,25 @@ module _ (mode : Mode) (t : List ℕ) (u : IsUtf8 t) (plain : is_literal mode �
       (λ _. cond_both (a == 125) _ _ P
       (λ h. brace (at_1 mode t u 125 h (omega arith)))
       (λ _. cond_both (a == 126) _ _ P
-      (λ h. cond_both (b == 125 && closes_sequence mode) _ None P
-      (λ k. let both = and_parts (b == 125) (closes_sequence mode) k in
+      (λ h. cond_both (b == 125 && can_close_sequence mode) _ None P
+      (λ k. let both = and_parts (b == 125) (can_close_sequence mode) k in
       fixed_2 mode t u SeqClose 126 125 (at_2 mode t u 126 125 h both.0 (omega arith) (omega arith)) (omega arith) (omega arith) (both.1, inr refl))
       (λ _. tt))
       (λ _. operator_sound mode t u plain)))))))))
     where
-      brace : t ≡ 125 ∷ drop 1 t → Sound mode t (cond (closes_sequence mode) (Some (SeqClose, 1)) (Some (CloseBrace, 1)))
+      brace : t ≡ 125 ∷ drop 1 t → Sound mode t (cond (can_close_sequence mode) (Some (SeqClose, 1)) (Some (CloseBrace, 1)))
       brace e =
-          cond_both (closes_sequence mode) _ _ (λ f. Sound mode t f)
+          cond_both (can_close_sequence mode) _ _ (λ f. Sound mode t f)
           (λ k. fixed_1 mode t u SeqClose 125 e (omega arith) (k, inl refl))
           (λ k. fixed_1 mode t u CloseBrace 125 e (omega arith) (both_true (ap not k) outside, refl))
 
-  less_sound : (slice_index t 0 == 60) ≡ true → (f : Found) → Sound mode t f → Sound mode t (here_or_less f)
+  less_sound : (slice_index t 0 == 60) ≡ true → (f : LexedToken) → Sound mode t f → Sound mode t (heredoc_or_less f)
   less_sound h None found = fixed_1 mode t u Less 60 (at_1 mode t u 60 h (omega arith)) (omega arith) (outside, refl)
   less_sound h (Some f) found = found
 
-  expression_sound : Sound mode t (expression_token (closes_sequence mode) t)
+  expression_sound : Sound mode t (expression_token (can_close_sequence mode) t)
   expression_sound =
-      cond_both (begins_word (slice_index t 0)) _ _ (λ f. Sound mode t f)
+      cond_both (is_word_start (slice_index t 0)) _ _ (λ f. Sound mode t f)
       (λ _. identifier_sound mode t u plain)
       (λ _. cond_both (is_ascii_digit (slice_index t 0)) _ _ (λ f. Sound mode t f)
       (λ digit. number_sound mode t u plain digit)
@@ -82,7 +82,7 @@ module _ (mode : Mode) (t : List ℕ) (u : IsUtf8 t) (plain : is_literal mode �
 -- ---- literal text
 
 -- an opening of a template sequence
-pub opening_sound : (mode : Mode) (t : List ℕ) → IsUtf8 t → is_literal mode ≡ true → begins_opening t ≡ true → IsFound mode t (opening t).0 (opening t).1
+pub opening_sound : (mode : Mode) (t : List ℕ) → IsUtf8 t → is_literal mode ≡ true → is_at_opening t ≡ true → IsFound mode t (opening t).0 (opening t).1
 opening_sound mode t u literal h =
     let both = and_parts (is_sigil (slice_index t 0)) (slice_index t 1 == 123) h in
     elim (or_cases (slice_index t 0 == 36) (slice_index t 0 == 37) both.0) [
@@ -98,25 +98,25 @@ opening_sound mode t u literal h =
 
 quoted_sound : (t : List ℕ) → IsUtf8 t → Sound Quoted t (quoted_token t)
 quoted_sound t u =
-    let P : Found → Type 0 = λ f. Sound Quoted t f in
+    let P : LexedToken → Type 0 = λ f. Sound Quoted t f in
     cond_both (slice_index t 0 == 34) _ _ P
     (λ h. fixed_1 Quoted t u QuoteClose 34 (at_1 Quoted t u 34 h (omega arith)) (omega arith) (refl, refl))
-    (λ _. cond_both (begins_opening t) _ _ P
+    (λ _. cond_both (is_at_opening t) _ _ P
     (λ h. opening_sound Quoted t u refl h)
     (λ _. cond_both (run_length quote_unit false t == 0) None _ P
     (λ _. tt)
     (λ h.
     let s : RunSplit quote_unit false t = run-split quote_unit quote_unit_fits false t in
     let some : 0 < run_length quote_unit false t = grind (arith, nat_tests) in
-    let filled : s.front ≢ [] = λ e. absurd (omega (arith, s.len, ap length e)) in
+    let filled : s.prefix ≢ [] = λ e. absurd (omega (arith, s.len, ap length e)) in
     record {
-      spelling = s.front;
+      spelling = s.prefix;
       rest = s.rest;
       text_is = s.text_is;
       len = s.len;
       lexeme = (refl, (filled, s.run));
       some = some;
-      utf8 = utf8_rest s.front s.rest (subst IsUtf8 s.text_is u) (quote_stops (line_behind false s.front) s.rest s.stops);
+      utf8 = utf8_rest s.prefix s.rest (subst IsUtf8 s.text_is u) (quote_stops (is_line_start_after false s.prefix) s.rest s.stops);
     })))
 
 pub sound : (mode : Mode) (t : List ℕ) → HasMarker mode → IsUtf8 t → Sound mode t (token mode t)
@@ -124,4 +124,4 @@ sound Expression t m u = expression_sound Expression t u refl
 sound Sequence t m u = expression_sound Sequence t u refl
 sound Braces t m u = expression_sound Braces t u refl
 sound Quoted t m u = quoted_sound t u
-sound (Heredoc name fresh) t m u = here_token_sound name fresh t m u
+sound (Heredoc name at_line_start) t m u = heredoc_token_sound name at_line_start t m u

@@ -5,9 +5,9 @@ use Rattle.hcl_token.specs.declared.kind.Kind.{Kind}
 use Rattle.hcl_token.specs.declared.kind.Kind.TheVariants.{Plus, Minus, Star, Slash, Percent, And, Or, Bang, DoubleEqual, NotEqual, Less, Greater, LessEqual, GreaterEqual, Question, Colon, DoubleColon, Equal, FatArrow, OpenBrace, OpenBracket, CloseBracket, OpenParen, CloseParen, Comma, Dot, Ellipsis}
 use Rattle.hcl_scan.specs.Modes.{Mode, is_literal}
 use Rattle.hcl_scan.specs.Lexeme.{IsLexeme}
-use Rattle.hcl_scan.specs.Inner.Next.{Found, single, compound, is_compound, operator}
+use Rattle.hcl_scan.specs.Inner.NextToken.{LexedToken, single, compound, is_compound, operator}
 use Rattle.hcl_scan.proofs.Found.{IsFound, Sound}
-use Rattle.hcl_scan.proofs.TextLemmas.{front_1, front_2, front_3, utf8_past}
+use Rattle.hcl_scan.proofs.TextLemmas.{first_1, first_2, first_3, utf8_past}
 
 -- a spelling of one, two or three ASCII bytes
 module _ (mode : Mode) (t : List ℕ) (u : IsUtf8 t) where
@@ -45,13 +45,13 @@ module _ (mode : Mode) (t : List ℕ) (u : IsUtf8 t) where
   }
 
   pub at_1 : (x : ℕ) → (slice_index t 0 == x) ≡ true → 0 < x → t ≡ x ∷ drop 1 t
-  at_1 x h some = front_1 t x (eqb-true (slice_index t 0) x h) some
+  at_1 x h some = first_1 t x (eqb-true (slice_index t 0) x h) some
 
   pub at_2 : (x y : ℕ) → (slice_index t 0 == x) ≡ true → (slice_index t 1 == y) ≡ true → 0 < x → 0 < y → t ≡ x ∷ y ∷ drop 2 t
-  at_2 x y h k some more = front_2 t x y (eqb-true (slice_index t 0) x h) (eqb-true (slice_index t 1) y k) some more
+  at_2 x y h k some more = first_2 t x y (eqb-true (slice_index t 0) x h) (eqb-true (slice_index t 1) y k) some more
 
   pub at_3 : (x y z : ℕ) → (slice_index t 0 == x) ≡ true → (slice_index t 1 == y) ≡ true → (slice_index t 2 == z) ≡ true → 0 < x → 0 < y → 0 < z → t ≡ x ∷ y ∷ z ∷ drop 3 t
-  at_3 x y z h k l = front_3 t x y z (eqb-true (slice_index t 0) x h) (eqb-true (slice_index t 1) y k) (eqb-true (slice_index t 2) z l)
+  at_3 x y z h k l = first_3 t x y z (eqb-true (slice_index t 0) x h) (eqb-true (slice_index t 1) y k) (eqb-true (slice_index t 2) z l)
 
   module _ (plain : is_literal mode ≡ false) where
     outside : not (is_literal mode) ≡ true
@@ -67,7 +67,7 @@ module _ (mode : Mode) (t : List ℕ) (u : IsUtf8 t) where
     single_sound : Sound mode t (single (slice_index t 0))
     single_sound =
         let a : ℕ = slice_index t 0 in
-        let P : Found → Type 0 = λ f. Sound mode t f in
+        let P : LexedToken → Type 0 = λ f. Sound mode t f in
         cond_both (a == 123) _ _ P (λ h. one OpenBrace 123 h (omega arith) (omega arith) (outside, refl))
         (λ _. cond_both (a == 91) _ _ P (λ h. one OpenBracket 91 h (omega arith) (omega arith) (outside, refl))
         (λ _. cond_both (a == 93) _ _ P (λ h. one CloseBracket 93 h (omega arith) (omega arith) (outside, refl))
@@ -86,7 +86,7 @@ module _ (mode : Mode) (t : List ℕ) (u : IsUtf8 t) where
         let a : ℕ = slice_index t 0 in
         let b : ℕ = slice_index t 1 in
         let c : ℕ = slice_index t 2 in
-        let P : Found → Type 0 = λ f. Sound mode t f in
+        let P : LexedToken → Type 0 = λ f. Sound mode t f in
         cond_both (a == 61) _ _ P
         (λ h. cond_both (b == 61) _ _ P (λ k. two DoubleEqual 61 61 h k (omega arith) (omega arith) (omega arith) (omega arith) (outside, refl))
         (λ _. cond_both (b == 62) _ _ P (λ k. two FatArrow 61 62 h k (omega arith) (omega arith) (omega arith) (omega arith) (outside, refl)) (λ _. one Equal 61 h (omega arith) (omega arith) (outside, refl))))

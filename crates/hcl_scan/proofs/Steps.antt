@@ -7,38 +7,38 @@ use Rattle.std.specs.List.{list_all, prefix_len}
 use Rattle.hcl_token.specs.declared.kind.Kind.{Kind}
 use Rattle.hcl_token.specs.declared.token.Token.{Token}
 use Rattle.hcl_token.specs.Tokens.{Pair, whole_text}
-use Rattle.hcl_token.specs.Items.{pairs_of}
-use Rattle.hcl_scan.specs.Characters.{is_blank}
-use Rattle.hcl_scan.specs.Modes.{Mode, mode_of, is_literal, after}
+use Rattle.hcl_token.specs.Pairs.{pairs_of}
+use Rattle.hcl_scan.specs.Characters.{is_whitespace}
+use Rattle.hcl_scan.specs.Modes.{Mode, mode_of, is_literal, modes_after}
 use Rattle.hcl_scan.specs.Modes.Mode.{Expression, Sequence}
 use Rattle.hcl_scan.specs.Inner.Markers.{HasMarker}
 use Rattle.hcl_scan.proofs.OpenMarkers.{HaveMarkers}
 use Rattle.hcl_scan.specs.Lexeme.{IsLexeme, IsLongest}
-use Rattle.hcl_scan.specs.Inner.Next.{Found, expression_token, token, gap_length}
-use Rattle.hcl_scan.specs.Cut.{IsGap, CutsFrom, Cuts, IsCut, MAX_TEXT, front_of}
-use Rattle.hcl_scan.specs.Fault.{Stops, fault_at, innermost, places_after, places_behind}
-use Rattle.hcl_scan.proofs.CutTo.{IsCutTo}
+use Rattle.hcl_scan.specs.Inner.NextToken.{LexedToken, expression_token, token, gap_length}
+use Rattle.hcl_scan.specs.Tokenization.{IsGap, TokenizesFrom, TokenizesPrefix, IsTokenization, MAX_TEXT, mark_prefix}
+use Rattle.hcl_scan.specs.Fault.{EndsInFault, fault_at, innermost_template, opening_places_after, opening_places_after_pairs}
+use Rattle.hcl_scan.proofs.TokenizedTo.{IsTokenizedTo}
 use Rattle.hcl_scan.proofs.Pieces.{prefix_all}
 use Rattle.hcl_scan.proofs.Found.{IsFound, Sound, Beats}
 use Rattle.hcl_scan.proofs.MarkerLemmas.{marker_of_mode}
 use Rattle.hcl_scan.proofs.Sound.{sound}
 use Rattle.hcl_scan.proofs.Beats.{beats}
-use Rattle.hcl_scan.proofs.Longest.{found_longest, none_found, token_no_blank, gap_is}
-use Rattle.hcl_scan.proofs.Unique.{split_same, pair_of, utf8_past_blanks}
-use Rattle.hcl_scan.proofs.PairLemmas.{joining_more, joining_rest, cuts_more, markers_behind, places_push, order-push, pairs-push}
+use Rattle.hcl_scan.proofs.Longest.{found_longest, none_found, token_no_whitespace, gap_is}
+use Rattle.hcl_scan.proofs.Unique.{split_same, pair_of, utf8_past_whitespace}
+use Rattle.hcl_scan.proofs.PairLemmas.{joining_more, joining_rest, tokenizes_more, markers_after_pairs, places_push, order-push, pairs-push}
 
 -- the markers of the modes that are left
-markers_cut : (text : List ℕ) (pairs : List Pair) (rest : List ℕ) (left : List Mode) → Cuts text pairs rest left → HaveMarkers left
-markers_cut text pairs rest left c = markers_behind c.body [] left rest tt c.cuts
+markers_tokenized : (text : List ℕ) (pairs : List Pair) (rest : List ℕ) (left : List Mode) → TokenizesPrefix text pairs rest left → HaveMarkers left
+markers_tokenized text pairs rest left c = markers_after_pairs c.body [] left rest tt c.tokenizes
 
-pub marker_cut : (text : List ℕ) (items : List Token) (at : ℕ) (modes : List Mode) (places : List ℕ) → IsCutTo text items at modes places → HasMarker (mode_of modes)
-marker_cut text items at modes places c = marker_of_mode modes (markers_cut text (pairs_of text items) (drop at text) modes c.cuts)
+pub marker_tokenized : (text : List ℕ) (items : List Token) (at : ℕ) (modes : List Mode) (places : List ℕ) → IsTokenizedTo text items at modes places → HasMarker (mode_of modes)
+marker_tokenized text items at modes places c = marker_of_mode modes (markers_tokenized text (pairs_of text items) (drop at text) modes c.tokenizes)
 
 gap_is_gap : (mode : Mode) (t : List ℕ) → (gap_length mode t ≤ length t) × IsGap mode (take (gap_length mode t) t)
 gap_is_gap mode t =
     elim (is_literal mode) as (λ b. is_literal mode ≡ b → (gap_length mode t ≤ length t) × IsGap mode (take (gap_length mode t) t)) [
       | true ↦ λ h. rw h (omega arith, (refl, λ _. refl))
-      | false ↦ λ h. rw h (prefix_len-le-length is_blank t, (prefix_all is_blank t, λ k. absurd (false≢true k)))
+      | false ↦ λ h. rw h (prefix_len-le-length is_whitespace t, (prefix_all is_whitespace t, λ k. absurd (false≢true k)))
     ] refl
 
 -- the gap at a place, and what follows it
@@ -46,7 +46,7 @@ pub record GapAt (text : List ℕ) (mode : Mode) (at start : ℕ) : Type 0 where
   pub within : start ≤ length text
   pub after_at : at ≤ start
   pub split : drop at text ≡ slice_range text at start ++ drop start text
-  pub blank : IsGap mode (slice_range text at start)
+  pub whitespace : IsGap mode (slice_range text at start)
   pub utf8 : IsUtf8 (drop start text)
 
 pub gap_at : (text : List ℕ) (mode : Mode) (at start : ℕ) → at ≤ length text → IsUtf8 (drop at text) → start ≡ at + gap_length mode (drop at text) → GapAt text mode at start
@@ -61,23 +61,23 @@ gap_at text mode at start within u e =
       within = omega (arith, g.0, length-drop {A = ℕ} at text);
       after_at = omega arith;
       split = split;
-      blank = blank;
-      utf8 = utf8_past_blanks (take (start - at) t) (drop start text) blank.0 (subst IsUtf8 split u);
+      whitespace = blank;
+      utf8 = utf8_past_whitespace (take (start - at) t) (drop start text) blank.0 (subst IsUtf8 split u);
     }
 
 -- the cut goes on by a token
 pub one_more : (text : List ℕ) (items : List Token) (at : ℕ) (modes : List Mode) (places : List ℕ) (start : ℕ) (kind : Kind) (len : ℕ)
-    → IsCutTo text items at modes places
+    → IsTokenizedTo text items at modes places
     → start ≡ at + gap_length (mode_of modes) (drop at text)
     → token (mode_of modes) (drop start text) ≡ Some (kind, len)
     → (0 < len)
-    × IsCutTo text (items ++ record { start = start; stop = start + len; kind = kind } ∷ []) (start + len)
-    (after kind (slice_range text start (start + len)) modes) (places_after kind start modes places)
+    × IsTokenizedTo text (items ++ record { start = start; stop = start + len; kind = kind } ∷ []) (start + len)
+    (modes_after kind (slice_range text start (start + len)) modes) (opening_places_after kind start modes places)
 one_more text items at modes places start kind len c start_is found =
     let mode : Mode = mode_of modes in
     let stop : ℕ = start + len in
     let item : Token = record { start = start; stop = stop; kind = kind } in
-    let m : HasMarker mode = marker_cut text items at modes places c in
+    let m : HasMarker mode = marker_tokenized text items at modes places c in
     let g : GapAt text mode at start = gap_at text mode at start c.within c.utf8 start_is in
     let t : List ℕ = drop start text in
     let f : IsFound mode t kind len = subst (Sound mode t) found (sound mode t m g.utf8) in
@@ -94,32 +94,32 @@ one_more text items at modes places start kind len c start_is found =
     let gap : List ℕ = slice_range text at start in
     let both : drop at text ≡ gap ++ (s ++ more) = g.split ∙ ap (λ (x : List ℕ). gap ++ x) split in
     let pairs : List Pair = pairs_of text items in
-    let body : List Pair = c.cuts.body in
+    let body : List Pair = c.tokenizes.body in
     let pair : Pair = pair_of gap kind s in
     let pushed : pairs_of text (items ++ item ∷ []) ≡ pairs ++ pair ∷ [] = pairs-push text items 0 at item c.order in
-    let text_is : text ≡ whole_text pairs (gap ++ (s ++ more)) = c.cuts.text_is ∙ ap (whole_text pairs) both in
+    let text_is : text ≡ whole_text pairs (gap ++ (s ++ more)) = c.tokenizes.text_is ∙ ap (whole_text pairs) both in
     let place : length (whole_text pairs gap) ≡ start =
     omega (arith, ap length text_is, joining_rest pairs (gap ++ (s ++ more)), joining_rest pairs gap, length-append gap (s ++ more), length-append s more, short, ap length split, length-drop {A = ℕ} start text, within) in
-    let cuts : CutsFrom [] (body ++ pair ∷ []) more (after kind s modes) =
-    cuts_more body [] modes gap s more kind (subst (λ (x : List ℕ). CutsFrom [] body x modes) both c.cuts.cuts) g.blank longest in
-    let openings : places_after kind start modes places ≡ places_behind 0 [] [] (pairs ++ pair ∷ []) =
-    ap (places_after kind start modes) c.places ∙ sym (places_push text pairs (drop at text) modes start gap s kind c.cuts place) in (
+    let cuts : TokenizesFrom [] (body ++ pair ∷ []) more (modes_after kind s modes) =
+    tokenizes_more body [] modes gap s more kind (subst (λ (x : List ℕ). TokenizesFrom [] body x modes) both c.tokenizes.tokenizes) g.whitespace longest in
+    let openings : opening_places_after kind start modes places ≡ opening_places_after_pairs 0 [] [] (pairs ++ pair ∷ []) =
+    ap (opening_places_after kind start modes) c.places ∙ sym (places_push text pairs (drop at text) modes start gap s kind c.tokenizes place) in (
       f.some,
       record {
         within = within;
         utf8 = subst IsUtf8 same.1 f.utf8;
-        cuts = record {
+        tokenizes = record {
           text_is = text_is ∙ sym (joining_more pairs gap s more kind) ∙ ap (λ (x : List Pair). whole_text x more) (sym pushed);
           body = body ++ pair ∷ [];
-          front = pushed ∙ ap (λ (x : List Pair). x ++ pair ∷ []) c.cuts.front ∙ append_assoc (front_of text) body (pair ∷ []);
-          cuts = cuts;
+          prefix = pushed ∙ ap (λ (x : List Pair). x ++ pair ∷ []) c.tokenizes.prefix ∙ append_assoc (mark_prefix text) body (pair ∷ []);
+          tokenizes = cuts;
         };
-        places = openings ∙ ap (places_behind 0 [] []) (sym pushed);
+        places = openings ∙ ap (opening_places_after_pairs 0 [] []) (sym pushed);
         order = order-push items 0 at item c.order g.after_at (omega arith);
       },
     )
 
-pub token_within : (mode : Mode) (text : List ℕ) (at : ℕ) → HasMarker mode → at ≤ length text → IsUtf8 (drop at text) → (found : Found) → found ≡ token mode (drop at text)
+pub token_within : (mode : Mode) (text : List ℕ) (at : ℕ) → HasMarker mode → at ≤ length text → IsUtf8 (drop at text) → (found : LexedToken) → found ≡ token mode (drop at text)
     → IfSome found (λ f. (0 < f.1) × (at + f.1 ≤ length text))
 token_within mode text at m within u None e = tt
 token_within mode text at m within u (Some f) e =
@@ -128,7 +128,7 @@ token_within mode text at m within u (Some f) e =
     let size : length t ≡ f.1 + length is.rest = ap length is.text_is ∙ length-append is.spelling is.rest ∙ ap (λ n. n + length is.rest) is.len in
     (is.some, omega (arith, size, length-drop {A = ℕ} at text))
 
-pub expression_within : (closes : Bool) (text : List ℕ) (at : ℕ) → at ≤ length text → IsUtf8 (drop at text) → (found : Found) → found ≡ expression_token closes (drop at text)
+pub expression_within : (closes : Bool) (text : List ℕ) (at : ℕ) → at ≤ length text → IsUtf8 (drop at text) → (found : LexedToken) → found ≡ expression_token closes (drop at text)
     → IfSome found (λ f. (0 < f.1) × (at + f.1 ≤ length text))
 expression_within true text at within u found e = token_within Sequence text at tt within u found e
 expression_within false text at within u found e = token_within Expression text at tt within u found e
@@ -137,12 +137,12 @@ expression_within false text at within u found e = token_within Expression text 
 lexeme_found : (mode : Mode) (kind : Kind) (s rest : List ℕ) → HasMarker mode → IsLexeme mode kind s rest → (f : Kind × ℕ) × (token mode (s ++ rest) ≡ Some f)
 lexeme_found mode kind s rest m lexeme = by_found (token mode (s ++ rest)) refl (beats mode kind s rest m lexeme)
   where
-    by_found : (x : Found) → token mode (s ++ rest) ≡ x → Beats x kind (length s) → (f : Kind × ℕ) × (token mode (s ++ rest) ≡ Some f)
+    by_found : (x : LexedToken) → token mode (s ++ rest) ≡ x → Beats x kind (length s) → (f : Kind × ℕ) × (token mode (s ++ rest) ≡ Some f)
     by_found None e b = absurd b
     by_found (Some f) e b = (f, e)
 
-pub lexeme_no_blank : (mode : Mode) (kind : Kind) (s rest : List ℕ) → HasMarker mode → IsLexeme mode kind s rest → is_literal mode ≡ false → is_blank (slice_index (s ++ rest) 0) ≡ false
-lexeme_no_blank mode kind s rest m lexeme plain = let f = lexeme_found mode kind s rest m lexeme in token_no_blank mode (s ++ rest) f.0 plain f.1
+pub lexeme_no_whitespace : (mode : Mode) (kind : Kind) (s rest : List ℕ) → HasMarker mode → IsLexeme mode kind s rest → is_literal mode ≡ false → is_whitespace (slice_index (s ++ rest) 0) ≡ false
+lexeme_no_whitespace mode kind s rest m lexeme plain = let f = lexeme_found mode kind s rest m lexeme in token_no_whitespace mode (s ++ rest) f.0 plain f.1
 
 prefix_then_not : (p : ℕ → Bool) (t : List ℕ) → p 0 ≡ false → p (slice_index (drop (prefix_len p t) t) 0) ≡ false
 prefix_then_not p [] h = h
@@ -155,12 +155,12 @@ prefix_then_not p (b ∷ t) h =
     ] refl
 
 -- past the blanks no blank stands
-past_gap : (mode : Mode) (t : List ℕ) → is_literal mode ≡ false → is_blank (slice_index (drop (gap_length mode t) t) 0) ≡ false
-past_gap mode t plain = rw plain (prefix_then_not is_blank t refl)
+past_gap : (mode : Mode) (t : List ℕ) → is_literal mode ≡ false → is_whitespace (slice_index (drop (gap_length mode t) t) 0) ≡ false
+past_gap mode t plain = rw plain (prefix_then_not is_whitespace t refl)
 
 -- the text is cut to its end
-pub finished : (text : List ℕ) (items : List Token) (at start : ℕ) (places : List ℕ) → length text ≤ MAX_TEXT → IsUtf8 text → IsCutTo text items at [] places
-    → start ≡ at + gap_length Expression (drop at text) → start ≡ length text → IsCut text (pairs_of text items) (drop at text)
+pub finished : (text : List ℕ) (items : List Token) (at start : ℕ) (places : List ℕ) → length text ≤ MAX_TEXT → IsUtf8 text → IsTokenizedTo text items at [] places
+    → start ≡ at + gap_length Expression (drop at text) → start ≡ length text → IsTokenization text (pairs_of text items) (drop at text)
 finished text items at start places short u c start_is end =
     let g : GapAt text Expression at start = gap_at text Expression at start c.within c.utf8 start_is in
     let none : drop start text ≡ [] = drop_all start text (omega arith) in
@@ -168,23 +168,23 @@ finished text items at start places short u c start_is end =
     record {
       short = short;
       utf8 = u;
-      cuts = c.cuts;
-      blank = subst (λ (x : List ℕ). list_all is_blank x ≡ true) (sym all) g.blank.0;
+      tokenizes = c.tokenizes;
+      whitespace = subst (λ (x : List ℕ). list_all is_whitespace x ≡ true) (sym all) g.whitespace.0;
     }
 
 -- no token can be cut
-pub stopped : (text : List ℕ) (items : List Token) (at start : ℕ) (modes : List Mode) (places : List ℕ) → IsCutTo text items at modes places
+pub stopped : (text : List ℕ) (items : List Token) (at start : ℕ) (modes : List Mode) (places : List ℕ) → IsTokenizedTo text items at modes places
     → start ≡ at + gap_length (mode_of modes) (drop at text) → token (mode_of modes) (drop start text) ≡ None → (modes ≡ [] → start ≢ length text)
-    → Stops text (fault_at (mode_of modes) (innermost modes places) start (drop start text))
+    → EndsInFault text (fault_at (mode_of modes) (innermost_template modes places) start (drop start text))
 stopped text items at start modes places c start_is none unfinished =
     let mode : Mode = mode_of modes in
-    let m : HasMarker mode = marker_cut text items at modes places c in
+    let m : HasMarker mode = marker_tokenized text items at modes places c in
     let t : List ℕ = drop at text in
     let g : GapAt text mode at start = gap_at text mode at start c.within c.utf8 start_is in
     let gap : List ℕ = slice_range text at start in
     let rest : List ℕ = drop start text in
     let pairs : List Pair = pairs_of text items in
-    let text_is : text ≡ whole_text pairs (gap ++ rest) = c.cuts.text_is ∙ ap (whole_text pairs) g.split in
+    let text_is : text ≡ whole_text pairs (gap ++ rest) = c.tokenizes.text_is ∙ ap (whole_text pairs) g.split in
     let width : length gap ≡ gap_length mode t = length-take-le (start - at) t (omega (arith, g.within, length-drop {A = ℕ} at text)) ∙ omega (arith, g.after_at) in
     let place : length (whole_text pairs gap) ≡ start =
     omega (arith, ap length text_is, joining_rest pairs (gap ++ rest), joining_rest pairs gap, length-append gap rest, length-drop {A = ℕ} start text, g.within) in
@@ -193,15 +193,15 @@ stopped text items at start modes places c start_is none unfinished =
       gap = gap;
       rest = rest;
       left = modes;
-      cuts = record { text_is = text_is; body = c.cuts.body; front = c.cuts.front; cuts = subst (λ (x : List ℕ). CutsFrom [] c.cuts.body x modes) g.split c.cuts.cuts };
+      tokenizes = record { text_is = text_is; body = c.tokenizes.body; prefix = c.tokenizes.prefix; tokenizes = subst (λ (x : List ℕ). TokenizesFrom [] c.tokenizes.body x modes) g.split c.tokenizes.tokenizes };
       ends = λ gap' s more kind blank lexeme same.
-          let width' : length gap' ≡ gap_length mode (gap' ++ (s ++ more)) = gap_is mode gap' (s ++ more) blank (lexeme_no_blank mode kind s more m lexeme) in
+          let width' : length gap' ≡ gap_length mode (gap' ++ (s ++ more)) = gap_is mode gap' (s ++ more) blank (lexeme_no_whitespace mode kind s more m lexeme) in
           let size : length gap ≡ length gap' = width ∙ ap (gap_length mode) (g.split ∙ same) ∙ sym width' in
           none_found mode rest m none kind s more lexeme (sym (split_same gap rest gap' (s ++ more) size same).1);
-      blank = g.blank;
-      past = λ plain. subst (λ (x : List ℕ). is_blank (slice_index x 0) ≡ false) (drop-drop (gap_length mode t) at text ∙ ap (λ n. drop n text) (sym start_is)) (past_gap mode t plain);
+      whitespace = g.whitespace;
+      past = λ plain. subst (λ (x : List ℕ). is_whitespace (slice_index x 0) ≡ false) (drop-drop (gap_length mode t) at text ∙ ap (λ n. drop n text) (sym start_is)) (past_gap mode t plain);
       unfinished = λ e z. unfinished e (omega (arith, ap length z, length-drop {A = ℕ} start text, g.within));
       fault_is =
-          ap (λ n. fault_at mode (innermost modes places) n rest) (sym place)
-          ∙ ap (λ (x : List ℕ). fault_at mode (innermost modes x) (length (whole_text pairs gap)) rest) c.places;
+          ap (λ n. fault_at mode (innermost_template modes places) n rest) (sym place)
+          ∙ ap (λ (x : List ℕ). fault_at mode (innermost_template modes x) (length (whole_text pairs gap)) rest) c.places;
     }

@@ -5,16 +5,16 @@ use Rattle.std.proofs.lemmas.Bool.Decides.{nat_tests}
 use Rattle.std.proofs.lemmas.List.{at_drop_more}
 use Rattle.std.specs.Char.{is_ascii_hexdigit}
 use Rattle.hcl_scan.specs.Runs.{byte_unit}
-use Rattle.hcl_scan.specs.Characters.{begins_line_end, is_sigil, sigil_length}
-use Rattle.hcl_scan.specs.Closing.{is_closing, here_unit}
+use Rattle.hcl_scan.specs.Characters.{is_at_line_end, is_sigil, sigil_length}
+use Rattle.hcl_scan.specs.Closing.{is_closing_line, heredoc_unit}
 use Rattle.hcl_scan.specs.Lexeme.{comment_unit, inline_unit, quote_unit, is_simple_escape, has_four_hex, escape_length}
 use Rattle.hcl_scan.proofs.TextLemmas.{in_text}
 
 -- ---- a unit fits into its text
 
-pub byte_unit_fits : (passes : ℕ → List ℕ → Bool) (fresh : Bool) (t : List ℕ) → byte_unit passes fresh t ≤ length t
-byte_unit_fits passes fresh [] = omega arith
-byte_unit_fits passes fresh (b ∷ t) = cond_both (passes b t) 1 0 (λ n. n ≤ suc (length t)) (λ _. omega arith) (λ _. omega arith)
+pub byte_unit_fits : (passes : ℕ → List ℕ → Bool) (at_line_start : Bool) (t : List ℕ) → byte_unit passes at_line_start t ≤ length t
+byte_unit_fits passes at_line_start [] = omega arith
+byte_unit_fits passes at_line_start (b ∷ t) = cond_both (passes b t) 1 0 (λ n. n ≤ suc (length t)) (λ _. omega arith) (λ _. omega arith)
 
 hex_in_text : (t : List ℕ) (i : ℕ) → is_ascii_hexdigit (slice_index t i) ≡ true → i < length t
 hex_in_text t i h = in_text t i (grind (arith, nat_tests))
@@ -49,57 +49,57 @@ sigil_fits sigil rest =
     omega (arith, in_text rest 1 (omega arith)))
     (λ _. cond_both (slice_index rest 0 == 123) 0 1 (λ n. n ≤ suc (length rest)) (λ _. omega arith) (λ _. omega arith))
 
-pub quote_unit_fits : (fresh : Bool) (t : List ℕ) → quote_unit fresh t ≤ length t
-quote_unit_fits fresh [] = omega arith
-quote_unit_fits fresh (b ∷ rest) =
+pub quote_unit_fits : (at_line_start : Bool) (t : List ℕ) → quote_unit at_line_start t ≤ length t
+quote_unit_fits at_line_start [] = omega arith
+quote_unit_fits at_line_start (b ∷ rest) =
     let P : ℕ → Type 0 = λ n. n ≤ suc (length rest) in
     cond_both (b == 92) _ _ P
     (λ _. cond_both (escape_length rest == 0) 0 _ P (λ _. omega arith) (λ _. omega (arith, escape_fits rest)))
     (λ _. cond_both (is_sigil b) _ _ P (λ _. sigil_fits b rest)
     (λ _. cond_both (b == 34) 0 _ P (λ _. omega arith)
-    (λ _. cond_both (begins_line_end (b ∷ rest)) 0 1 P (λ _. omega arith) (λ _. omega arith))))
+    (λ _. cond_both (is_at_line_end (b ∷ rest)) 0 1 P (λ _. omega arith) (λ _. omega arith))))
 
-pub here_unit_fits : (name : List ℕ) (fresh : Bool) (t : List ℕ) → here_unit name fresh t ≤ length t
-here_unit_fits name fresh [] = omega arith
-here_unit_fits name fresh (b ∷ rest) =
+pub heredoc_unit_fits : (name : List ℕ) (at_line_start : Bool) (t : List ℕ) → heredoc_unit name at_line_start t ≤ length t
+heredoc_unit_fits name at_line_start [] = omega arith
+heredoc_unit_fits name at_line_start (b ∷ rest) =
     let P : ℕ → Type 0 = λ n. n ≤ suc (length rest) in
-    cond_both (fresh && is_closing name (b ∷ rest)) 0 _ P (λ _. omega arith)
+    cond_both (at_line_start && is_closing_line name (b ∷ rest)) 0 _ P (λ _. omega arith)
     (λ _. cond_both (is_sigil b) _ 1 P (λ _. sigil_fits b rest) (λ _. omega arith))
 
 -- ---- what stands where no unit begins
 
-abbrev Stops : List ℕ → ℕ → Type 0
-Stops t n = n ≡ 0 → slice_index t 0 < 128
+abbrev EndsInFault : List ℕ → ℕ → Type 0
+EndsInFault t n = n ≡ 0 → slice_index t 0 < 128
 
-pub comment_stops : (fresh : Bool) (t : List ℕ) → comment_unit fresh t ≡ 0 → slice_index t 0 < 128
-comment_stops fresh [] = λ _. omega arith
-comment_stops fresh (b ∷ rest) =
-    cond_both (not (begins_line_end (b ∷ rest))) 1 0 (Stops (b ∷ rest)) (λ _ h. absurd (omega arith)) (λ ends _. grind (arith, nat_tests))
+pub comment_stops : (at_line_start : Bool) (t : List ℕ) → comment_unit at_line_start t ≡ 0 → slice_index t 0 < 128
+comment_stops at_line_start [] = λ _. omega arith
+comment_stops at_line_start (b ∷ rest) =
+    cond_both (not (is_at_line_end (b ∷ rest))) 1 0 (EndsInFault (b ∷ rest)) (λ _ h. absurd (omega arith)) (λ ends _. grind (arith, nat_tests))
 
-pub quote_stops : (fresh : Bool) (t : List ℕ) → quote_unit fresh t ≡ 0 → slice_index t 0 < 128
-quote_stops fresh [] = λ _. omega arith
-quote_stops fresh (b ∷ rest) =
-    cond_both (b == 92) _ _ (Stops (b ∷ rest)) (λ is _. grind (arith, nat_tests))
-    (λ _. cond_both (is_sigil b) _ _ (Stops (b ∷ rest)) (λ is _. grind (arith, nat_tests))
-    (λ _. cond_both (b == 34) 0 _ (Stops (b ∷ rest)) (λ is _. grind (arith, nat_tests))
-    (λ _. cond_both (begins_line_end (b ∷ rest)) 0 1 (Stops (b ∷ rest)) (λ is _. grind (arith, nat_tests)) (λ _ h. absurd (omega arith)))))
+pub quote_stops : (at_line_start : Bool) (t : List ℕ) → quote_unit at_line_start t ≡ 0 → slice_index t 0 < 128
+quote_stops at_line_start [] = λ _. omega arith
+quote_stops at_line_start (b ∷ rest) =
+    cond_both (b == 92) _ _ (EndsInFault (b ∷ rest)) (λ is _. grind (arith, nat_tests))
+    (λ _. cond_both (is_sigil b) _ _ (EndsInFault (b ∷ rest)) (λ is _. grind (arith, nat_tests))
+    (λ _. cond_both (b == 34) 0 _ (EndsInFault (b ∷ rest)) (λ is _. grind (arith, nat_tests))
+    (λ _. cond_both (is_at_line_end (b ∷ rest)) 0 1 (EndsInFault (b ∷ rest)) (λ is _. grind (arith, nat_tests)) (λ _ h. absurd (omega arith)))))
 
 -- where the run of an inline comment's body ends before the text does, a `*/` stands
-pub inline_stops : (fresh : Bool) (t : List ℕ) → inline_unit fresh t ≡ 0 → 0 < length t → (slice_index t 0 ≡ 42) × (slice_index t 1 ≡ 47)
-inline_stops fresh [] = λ _ some. absurd (omega arith)
-inline_stops fresh (b ∷ rest) =
+pub inline_stops : (at_line_start : Bool) (t : List ℕ) → inline_unit at_line_start t ≡ 0 → 0 < length t → (slice_index t 0 ≡ 42) × (slice_index t 1 ≡ 47)
+inline_stops at_line_start [] = λ _ some. absurd (omega arith)
+inline_stops at_line_start (b ∷ rest) =
     cond_both (not (b == 42 && slice_index rest 0 == 47)) 1 0 (λ n. n ≡ 0 → 0 < suc (length rest) → (b ≡ 42) × (slice_index rest 0 ≡ 47))
     (λ _ h _. absurd (omega arith)) (λ ends _ _. grind (arith, nat_tests))
 
 -- ---- the flag, which comments and quoted text ignore
 
-pub byte_unit_any : (passes : ℕ → List ℕ → Bool) (fresh : Bool) (t : List ℕ) → byte_unit passes fresh t ≡ byte_unit passes false t
-byte_unit_any passes fresh [] = refl
-byte_unit_any passes fresh (b ∷ t) = refl
+pub byte_unit_any : (passes : ℕ → List ℕ → Bool) (at_line_start : Bool) (t : List ℕ) → byte_unit passes at_line_start t ≡ byte_unit passes false t
+byte_unit_any passes at_line_start [] = refl
+byte_unit_any passes at_line_start (b ∷ t) = refl
 
-pub quote_unit_any : (fresh : Bool) (t : List ℕ) → quote_unit fresh t ≡ quote_unit false t
-quote_unit_any fresh [] = refl
-quote_unit_any fresh (b ∷ t) = refl
+pub quote_unit_any : (at_line_start : Bool) (t : List ℕ) → quote_unit at_line_start t ≡ quote_unit false t
+quote_unit_any at_line_start [] = refl
+quote_unit_any at_line_start (b ∷ t) = refl
 
 -- ---- the unit of quoted text at a place
 
@@ -115,23 +115,23 @@ escape_length_at text at =
     let five : drop 5 (drop at text) ≡ drop (at + 1 + 4) text = drop-drop 5 at text ∙ ap (λ n. drop n text) (omega arith) in
     rw (front, one, five) refl
 
-pub quote_unit_at : (text : List ℕ) (at : ℕ) (fresh : Bool) → at < length text
-    → quote_unit fresh (drop at text) ≡ (
+pub quote_unit_at : (text : List ℕ) (at : ℕ) (at_line_start : Bool) → at < length text
+    → quote_unit at_line_start (drop at text) ≡ (
     if slice_index text at == 92 then (if escape_length (drop (at + 1) text) == 0 then 0 else suc (escape_length (drop (at + 1) text)))
     else (if is_sigil (slice_index text at) then sigil_length (slice_index text at) (drop (at + 1) text)
     else (if slice_index text at == 34 then 0
-    else (if begins_line_end (drop at text) then 0 else 1)))
+    else (if is_at_line_end (drop at text) then 0 else 1)))
     )
-quote_unit_at text at fresh h =
-    at_drop_more (quote_unit fresh) text at 0 h
+quote_unit_at text at at_line_start h =
+    at_drop_more (quote_unit at_line_start) text at 0 h
     ∙ ap (λ (t : List ℕ). if slice_index text at == 92 then (if escape_length (drop (at + 1) text) == 0 then 0 else suc (escape_length (drop (at + 1) text)))
     else (if is_sigil (slice_index text at) then sigil_length (slice_index text at) (drop (at + 1) text)
     else (if slice_index text at == 34 then 0
-    else (if begins_line_end t then 0 else 1)))) (sym (at_drop_more (λ t. t) text at 0 h))
+    else (if is_at_line_end t then 0 else 1)))) (sym (at_drop_more (λ t. t) text at 0 h))
 
 -- an escape
-pub quote_unit_escape : (text : List ℕ) (at n : ℕ) (fresh : Bool) → at < length text → slice_index text at ≡ 92 → n ≡ escape_length (drop (at + 1) text) → 0 < n
-    → n + 1 ≡ quote_unit fresh (drop at text)
-quote_unit_escape text at n fresh h is len some =
+pub quote_unit_escape : (text : List ℕ) (at n : ℕ) (at_line_start : Bool) → at < length text → slice_index text at ≡ 92 → n ≡ escape_length (drop (at + 1) text) → 0 < n
+    → n + 1 ≡ quote_unit at_line_start (drop at text)
+quote_unit_escape text at n at_line_start h is len some =
     let test : (n == 0) ≡ false = grind (arith, nat_tests) in
-    rw (quote_unit_at text at fresh h, is, ← len, test) (omega arith)
+    rw (quote_unit_at text at at_line_start h, is, ← len, test) (omega arith)

@@ -11,22 +11,22 @@ use Rattle.unicode_ident.specs.Ident.{is_xid_start}
 use Rattle.hcl_token.specs.declared.kind.Kind.{Kind}
 use Rattle.hcl_token.specs.declared.kind.Kind.TheVariants.{Identifier, Number}
 use Rattle.hcl_token.specs.Tokens.{Pair, whole_text}
-use Rattle.hcl_scan.specs.Characters.{is_blank, begins, starts, continues}
-use Rattle.hcl_scan.specs.Modes.{Mode, mode_of, after}
+use Rattle.hcl_scan.specs.Characters.{is_whitespace, is_prefix_of, is_id_start, is_id_continue}
+use Rattle.hcl_scan.specs.Modes.{Mode, mode_of, modes_after}
 use Rattle.hcl_scan.specs.Modes.Mode.{Expression}
 use Rattle.hcl_scan.specs.Inner.Markers.{HasMarker}
 use Rattle.hcl_scan.proofs.OpenMarkers.{HaveMarkers}
 use Rattle.hcl_scan.specs.Lexeme.{is_identifier, Spells, IsLexeme, IsLongest}
-use Rattle.hcl_scan.specs.Cut.{CutsFrom, IsCut, MAX_TEXT, byte_order_mark, front_of}
-use Rattle.hcl_scan.specs.Follows.{neighbour, FollowsFrom, Follows, AreApart, mark}
-use Rattle.hcl_scan.proofs.HereLemmas.{marker_at}
+use Rattle.hcl_scan.specs.Tokenization.{TokenizesFrom, IsTokenization, MAX_TEXT, byte_order_mark, mark_prefix}
+use Rattle.hcl_scan.specs.Follows.{following_text, FollowsFrom, Follows, AreApart, mark}
+use Rattle.hcl_scan.proofs.HeredocLemmas.{marker_at}
 use Rattle.hcl_scan.proofs.MarkerLemmas.{markers_after, marker_of_mode}
 use Rattle.hcl_scan.proofs.BeatsNumbers.{head_of}
 use Rattle.hcl_scan.proofs.Heads.{heads, HeadIs, begins_so, one_passes}
 use Rattle.hcl_scan.proofs.Exact.{exact, exact_longest}
 use Rattle.hcl_scan.proofs.Ends.{Ends}
 use Rattle.hcl_scan.proofs.Apart.{Rest, NextEnds, ends_here}
-use Rattle.hcl_scan.proofs.Neighbours.{spells_alike, far}
+use Rattle.hcl_scan.proofs.FollowingText.{spells_alike, far}
 
 -- ---- UTF-8
 
@@ -34,43 +34,43 @@ one_ascii : (b : ℕ) → b < 128 → IsAscii (b ∷ [])
 one_ascii b h zero = h
 one_ascii b h (suc i) = omega arith
 
-pub utf8_blanks : (t : List ℕ) → list_all is_blank t ≡ true → IsUtf8 t
-utf8_blanks [] all = IsUtf8-nil
-utf8_blanks (b ∷ t) all =
-    let both = and_parts (is_blank b) (list_all is_blank t) all in
+pub utf8_whitespace : (t : List ℕ) → list_all is_whitespace t ≡ true → IsUtf8 t
+utf8_whitespace [] all = IsUtf8-nil
+utf8_whitespace (b ∷ t) all =
+    let both = and_parts (is_whitespace b) (list_all is_whitespace t) all in
     let ascii : b < 128 = grind (arith, nat_tests) in
-    IsUtf8-append (b ∷ []) t (IsUtf8-from_ascii (b ∷ []) (one_ascii b ascii)) (utf8_blanks t both.1)
+    IsUtf8-append (b ∷ []) t (IsUtf8-from_ascii (b ∷ []) (one_ascii b ascii)) (utf8_whitespace t both.1)
 
 -- ---- the tokens
 
 record IsWritten (modes : List Mode) (ps : List Pair) (last : List ℕ) : Type 0 where
-  cuts : CutsFrom modes ps last []
+  tokenizes : TokenizesFrom modes ps last []
   utf8 : IsUtf8 (whole_text ps last)
   rest : Rest (mode_of modes) ps last
   ends : NextEnds (mode_of modes) ps last
 
-written : (ps : List Pair) (modes : List Mode) (last : List ℕ) → HaveMarkers modes → FollowsFrom modes ps last [] → list_all is_blank last ≡ true → AreApart ps → IsWritten modes ps last
+written : (ps : List Pair) (modes : List Mode) (last : List ℕ) → HaveMarkers modes → FollowsFrom modes ps last [] → list_all is_whitespace last ≡ true → AreApart ps → IsWritten modes ps last
 written [] modes last m f blank apart = record {
-  cuts = f;
-  utf8 = utf8_blanks last blank;
+  tokenizes = f;
+  utf8 = utf8_whitespace last blank;
   rest = (blank, rw f refl);
   ends = tt;
 }
 written (p ∷ ps) modes last m f blank apart =
     let mode : Mode = mode_of modes in
     let more : List ℕ = whole_text ps last in
-    let behind : List Mode = after p.kind p.spelling modes in
+    let behind : List Mode = modes_after p.kind p.spelling modes in
     let marked : HasMarker mode = marker_of_mode modes m in
-    let m_behind : HaveMarkers behind = markers_after p.kind p.spelling (neighbour ps last) modes f.2.1 m in
+    let m_behind : HaveMarkers behind = markers_after p.kind p.spelling (following_text ps last) modes f.2.1 m in
     let w : IsWritten behind ps last = written ps behind last m_behind f.4 blank apart.1 in
     let whole : IsLexeme mode p.kind p.spelling more =
-    (f.2.0, spells_alike mode p.kind p.spelling (neighbour ps last) more marked f.2.0 (far modes p.kind p.spelling ps last (m, f.2.0, f.3, marker_of_mode behind m_behind, w.rest)) f.2.1) in
+    (f.2.0, spells_alike mode p.kind p.spelling (following_text ps last) more marked f.2.0 (far modes p.kind p.spelling ps last (m, f.2.0, f.3, marker_of_mode behind m_behind, w.rest)) f.2.1) in
     let ends : Ends mode p.kind p.spelling more = ends_here modes p.kind p.spelling ps last m whole f.3 apart.0 w.rest w.ends in
     let u : IsUtf8 (p.spelling ++ more) = IsUtf8-append p.spelling more f.1 w.utf8 in
     let longest : IsLongest mode p.kind p.spelling more = exact_longest mode p.kind p.spelling more marked u (exact mode p.kind p.spelling more marked whole ends) in
     record {
-      cuts = (f.0, longest, w.cuts);
-      utf8 = IsUtf8-append p.gap (p.spelling ++ more) (utf8_blanks p.gap f.0.0) u;
+      tokenizes = (f.0, longest, w.tokenizes);
+      utf8 = IsUtf8-append p.gap (p.spelling ++ more) (utf8_whitespace p.gap f.0.0) u;
       rest = (f.0, whole);
       ends = ends;
     }
@@ -88,75 +88,75 @@ mark_no_start : is_xid_start 65279 ≡ false
 unfolding unicode_ident
 mark_no_start = refl
 
-not_front : (b : ℕ) (t : List ℕ) → not (b == 239) ≡ true → begins byte_order_mark (b ∷ t) ≡ false
-not_front b t h =
+not_prefix : (b : ℕ) (t : List ℕ) → not (b == 239) ≡ true → is_prefix_of byte_order_mark (b ∷ t) ≡ false
+not_prefix b t h =
     let other : (239 == b) ≡ false = grind (arith, nat_tests) in
     rw other refl
 
-not_begun : (t : List ℕ) → not (slice_index t 0 == 239) ≡ true → begins byte_order_mark t ≡ false
-not_begun [] h = refl
-not_begun (b ∷ t) h = not_front b t h
+not_started : (t : List ℕ) → not (slice_index t 0 == 239) ≡ true → is_prefix_of byte_order_mark t ≡ false
+not_started [] h = refl
+not_started (b ∷ t) h = not_prefix b t h
 
 -- no identifier begins with it
-word_no_mark : (s more cs : List ℕ) → IsUtf8 s → chars s ≡ cs → is_identifier cs ≡ true → begins byte_order_mark (s ++ more) ≡ false
+word_no_mark : (s more cs : List ℕ) → IsUtf8 s → chars s ≡ cs → is_identifier cs ≡ true → is_prefix_of byte_order_mark (s ++ more) ≡ false
 word_no_mark s more [] u e h = absurd (cc)
 word_no_mark s more (c ∷ cs) u e h = false_from_ne_true _ (λ front.
     let bytes : s ≡ encode_utf8 c ++ encode_utf8_all cs = sym (ap encode_utf8_all (sym e) ∙ encodes-chars s u) in
     let left : s ++ more ≡ encode_utf8 c ++ (encode_utf8_all cs ++ more) = ap (λ (y : List ℕ). y ++ more) bytes ∙ append_assoc (encode_utf8 c) (encode_utf8_all cs) more in
     let right : s ++ more ≡ encode 65279 ++ drop 3 (s ++ more) = marker_at byte_order_mark (s ++ more) front ∙ ap (λ (y : List ℕ). y ++ drop 3 (s ++ more)) (sym mark_bytes) in
     let same : c ≡ 65279 = (encode_same c 65279 (encode_utf8_all cs ++ more) (drop 3 (s ++ more)) (sym left ∙ right)).0 in
-    let first : starts c ≡ true = (and_parts (starts c) (list_all continues cs) h).0 in
-    let none : starts c ≡ false = ap starts same ∙ ap (λ x. x || 65279 == 95) mark_no_start in
+    let first : is_id_start c ≡ true = (and_parts (is_id_start c) (list_all is_id_continue cs) h).0 in
+    let none : is_id_start c ≡ false = ap is_id_start same ∙ ap (λ x. x || 65279 == 95) mark_no_start in
     both_ways _ none first)
 
-blank_no_mark : (b : ℕ) → is_blank b ≡ true → not (b == 239) ≡ true
-blank_no_mark b h = grind (arith, nat_tests)
+whitespace_no_mark : (b : ℕ) → is_whitespace b ≡ true → not (b == 239) ≡ true
+whitespace_no_mark b h = grind (arith, nat_tests)
 
 digit_no_mark : (b : ℕ) → HeadIs Number b → not (b == 239) ≡ true
 digit_no_mark b h = grind (arith, nat_tests)
 
-token_no_mark : (kind : Kind) (s more : List ℕ) → Spells Expression kind s more → 0 < length s → HeadIs kind (slice_index s 0) → begins byte_order_mark (s ++ more) ≡ false
+token_no_mark : (kind : Kind) (s more : List ℕ) → Spells Expression kind s more → 0 < length s → HeadIs kind (slice_index s 0) → is_prefix_of byte_order_mark (s ++ more) ≡ false
 token_no_mark Identifier s more h some head = word_no_mark s more (chars s) h.0 refl h.1
-token_no_mark Number s more h some head = not_begun (s ++ more) (ap (λ b. not (b == 239)) (head_of s more some) ∙ digit_no_mark (slice_index s 0) head)
-token_no_mark kind s more h some head = not_begun (s ++ more) (ap (λ b. not (b == 239)) (head_of s more some) ∙ one_passes (λ b. not (b == 239)) (slice_index s 0) (heads kind) head refl)
+token_no_mark Number s more h some head = not_started (s ++ more) (ap (λ b. not (b == 239)) (head_of s more some) ∙ digit_no_mark (slice_index s 0) head)
+token_no_mark kind s more h some head = not_started (s ++ more) (ap (λ b. not (b == 239)) (head_of s more some) ∙ one_passes (λ b. not (b == 239)) (slice_index s 0) (heads kind) head refl)
 
 -- nothing but the mark begins with it
-no_mark : (ps : List Pair) (last : List ℕ) → Rest Expression ps last → begins byte_order_mark (whole_text ps last) ≡ false
-no_mark [] last rest = blanks last rest.0
+no_mark : (ps : List Pair) (last : List ℕ) → Rest Expression ps last → is_prefix_of byte_order_mark (whole_text ps last) ≡ false
+no_mark [] last rest = whitespace_found last rest.0
   where
-    blanks : (t : List ℕ) → list_all is_blank t ≡ true → begins byte_order_mark t ≡ false
-    blanks [] all = refl
-    blanks (b ∷ t) all = not_front b t (blank_no_mark b (and_parts (is_blank b) (list_all is_blank t) all).0)
+    whitespace_found : (t : List ℕ) → list_all is_whitespace t ≡ true → is_prefix_of byte_order_mark t ≡ false
+    whitespace_found [] all = refl
+    whitespace_found (b ∷ t) all = not_prefix b t (whitespace_no_mark b (and_parts (is_whitespace b) (list_all is_whitespace t) all).0)
 no_mark (q ∷ qs) last rest = at_gap q.gap rest.0.0
   where
-    at_gap : (gap : List ℕ) → list_all is_blank gap ≡ true → begins byte_order_mark (gap ++ (q.spelling ++ whole_text qs last)) ≡ false
+    at_gap : (gap : List ℕ) → list_all is_whitespace gap ≡ true → is_prefix_of byte_order_mark (gap ++ (q.spelling ++ whole_text qs last)) ≡ false
     at_gap [] all =
         let head = begins_so Expression q.kind q.spelling (whole_text qs last) refl rest.1.0 rest.1.1 in
         token_no_mark q.kind q.spelling (whole_text qs last) rest.1.1 head.0 head.1
-    at_gap (b ∷ gap) all = not_front b (gap ++ (q.spelling ++ whole_text qs last)) (blank_no_mark b (and_parts (is_blank b) (list_all is_blank gap) all).0)
+    at_gap (b ∷ gap) all = not_prefix b (gap ++ (q.spelling ++ whole_text qs last)) (whitespace_no_mark b (and_parts (is_whitespace b) (list_all is_whitespace gap) all).0)
 
 -- ---- the text
 
-pub writes_back : (pairs : List Pair) (last : List ℕ) → Follows pairs last [] → AreApart pairs → length (whole_text pairs last) ≤ MAX_TEXT → IsCut (whole_text pairs last) pairs last
-writes_back pairs last f apart short = at_front f.front
+pub writes_back : (pairs : List Pair) (last : List ℕ) → Follows pairs last [] → AreApart pairs → length (whole_text pairs last) ≤ MAX_TEXT → IsTokenization (whole_text pairs last) pairs last
+writes_back pairs last f apart short = at_front f.prefix
   where
-    at_front : (pairs ≡ f.body) ⊎ (pairs ≡ mark ∷ f.body) → IsCut (whole_text pairs last) pairs last
+    at_front : (pairs ≡ f.body) ⊎ (pairs ≡ mark ∷ f.body) → IsTokenization (whole_text pairs last) pairs last
     at_front (inl e) =
-        let w : IsWritten [] f.body last = written f.body [] last tt f.follows f.blank (subst AreApart e apart) in
-        let none : front_of (whole_text pairs last) ≡ [] = rw (ap (λ (x : List Pair). begins byte_order_mark (whole_text x last)) e ∙ no_mark f.body last w.rest) refl in
+        let w : IsWritten [] f.body last = written f.body [] last tt f.follows f.whitespace (subst AreApart e apart) in
+        let none : mark_prefix (whole_text pairs last) ≡ [] = rw (ap (λ (x : List Pair). is_prefix_of byte_order_mark (whole_text x last)) e ∙ no_mark f.body last w.rest) refl in
         record {
           short = short;
           utf8 = subst (λ (x : List Pair). IsUtf8 (whole_text x last)) (sym e) w.utf8;
-          cuts = record { text_is = refl; body = f.body; front = e ∙ ap (λ (x : List Pair). x ++ f.body) (sym none); cuts = w.cuts };
-          blank = f.blank;
+          tokenizes = record { text_is = refl; body = f.body; prefix = e ∙ ap (λ (x : List Pair). x ++ f.body) (sym none); tokenizes = w.tokenizes };
+          whitespace = f.whitespace;
         }
     at_front (inr e) =
-        let w : IsWritten [] f.body last = written f.body [] last tt f.follows f.blank (subst AreApart e apart).1 in
+        let w : IsWritten [] f.body last = written f.body [] last tt f.follows f.whitespace (subst AreApart e apart).1 in
         let whole : whole_text pairs last ≡ byte_order_mark ++ whole_text f.body last = ap (λ (x : List Pair). whole_text x last) e in
-        let front : front_of (whole_text pairs last) ≡ mark ∷ [] = ap front_of whole in
+        let front : mark_prefix (whole_text pairs last) ≡ mark ∷ [] = ap mark_prefix whole in
         record {
           short = short;
           utf8 = subst IsUtf8 (sym whole) (IsUtf8-append byte_order_mark (whole_text f.body last) mark_utf8 w.utf8);
-          cuts = record { text_is = refl; body = f.body; front = e ∙ ap (λ (x : List Pair). x ++ f.body) (sym front); cuts = w.cuts };
-          blank = f.blank;
+          tokenizes = record { text_is = refl; body = f.body; prefix = e ∙ ap (λ (x : List Pair). x ++ f.body) (sym front); tokenizes = w.tokenizes };
+          whitespace = f.whitespace;
         }

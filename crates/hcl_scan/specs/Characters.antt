@@ -4,20 +4,20 @@ use Rattle.std.specs.Prelude.{ℕ, Bool, true, false, ◌&&◌, ◌||◌, if◌t
 use Rattle.unicode_ident.specs.Ident.{is_xid_start, is_xid_continue}
 
 -- a space or a tab
-abbrev pub is_blank : ℕ → Bool
-is_blank b = b == 32 || b == 9
+abbrev pub is_whitespace : ℕ → Bool
+is_whitespace b = b == 32 || b == 9
 
 -- LF, or CR LF
-abbrev pub begins_line_end : List ℕ → Bool
-begins_line_end t = slice_index t 0 == 10 || (slice_index t 0 == 13 && slice_index t 1 == 10)
+abbrev pub is_at_line_end : List ℕ → Bool
+is_at_line_end t = slice_index t 0 == 10 || (slice_index t 0 == 13 && slice_index t 1 == 10)
 
 -- XID_Start (Unicode Standard Annex 31), or `_`
-abbrev pub starts : ℕ → Bool
-starts c = is_xid_start c || c == 95
+abbrev pub is_id_start : ℕ → Bool
+is_id_start c = is_xid_start c || c == 95
 
 -- XID_Continue, or `-`
-abbrev pub continues : ℕ → Bool
-continues c = is_xid_continue c || c == 45
+abbrev pub is_id_continue : ℕ → Bool
+is_id_continue c = is_xid_continue c || c == 45
 
 -- `$` or `%`
 abbrev pub is_sigil : ℕ → Bool
@@ -31,7 +31,7 @@ sigil_length sigil rest =
     else (if slice_index rest 0 == 123 then 0 else 1)
 
 -- the first text stands at the front of the second
-abbrev pub begins : List ℕ → List ℕ → Bool
-begins [] t = true
-begins (m ∷ ms) [] = false
-begins (m ∷ ms) (b ∷ t) = m == b && begins ms t
+abbrev pub is_prefix_of : List ℕ → List ℕ → Bool
+is_prefix_of [] t = true
+is_prefix_of (m ∷ ms) [] = false
+is_prefix_of (m ∷ ms) (b ∷ t) = m == b && is_prefix_of ms t

@@ -7,44 +7,44 @@ use Rattle.hcl_token.specs.declared.kind.Kind.TheVariants.{OpenBrace, CloseBrace
 use Rattle.hcl_token.specs.Tokens.{Pair, whole_text}
 use Rattle.hcl_scan.specs.declared.fault.ScanFault.{ScanFault}
 use Rattle.hcl_scan.specs.declared.fault.ScanFault.TheVariants.{TooLong, NotUtf8, BadCharacter, BadEscape, OpenString, OpenTemplate, OpenHeredoc, OpenComment}
-use Rattle.hcl_scan.specs.Characters.{is_blank}
-use Rattle.hcl_scan.specs.Modes.{Mode, mode_of, is_literal, is_braces, in_sequence, after}
+use Rattle.hcl_scan.specs.Characters.{is_whitespace}
+use Rattle.hcl_scan.specs.Modes.{Mode, mode_of, is_literal, is_braces, is_in_sequence, modes_after}
 use Rattle.hcl_scan.specs.Modes.Mode.{Expression, Sequence, Braces, Quoted, Heredoc}
 use Rattle.hcl_scan.specs.Lexeme.{IsLexeme}
-use Rattle.hcl_scan.specs.Cut.{IsGap, Cuts, MAX_TEXT}
+use Rattle.hcl_scan.specs.Tokenization.{IsGap, TokenizesPrefix, MAX_TEXT}
 
 -- no gap and token can be cut from the front of this text
-abbrev pub IsEnd : Mode → List ℕ → Type 0
-IsEnd mode rest = (gap s more : List ℕ) (kind : Kind) → IsGap mode gap → IsLexeme mode kind s more
+abbrev pub HasNoToken : Mode → List ℕ → Type 0
+HasNoToken mode rest = (gap s more : List ℕ) (kind : Kind) → IsGap mode gap → IsLexeme mode kind s more
     → rest ≢ gap ++ (s ++ more)
 
 -- the places of the openings that are not closed, innermost first, one for each mode: behind a
 -- token that begins at this place
-abbrev pub places_after : Kind → ℕ → List Mode → List ℕ → List ℕ
-places_after QuoteOpen at modes places = at ∷ places
-places_after HereOpen at modes places = at ∷ places
-places_after InterpOpen at modes places = at ∷ places
-places_after DirectiveOpen at modes places = at ∷ places
-places_after QuoteClose at modes places = drop 1 places
-places_after HereClose at modes places = drop 1 places
-places_after SeqClose at modes places = drop 1 places
-places_after OpenBrace at modes places = if in_sequence (mode_of modes) then at ∷ places else places
-places_after CloseBrace at modes places =
+abbrev pub opening_places_after : Kind → ℕ → List Mode → List ℕ → List ℕ
+opening_places_after QuoteOpen at modes places = at ∷ places
+opening_places_after HereOpen at modes places = at ∷ places
+opening_places_after InterpOpen at modes places = at ∷ places
+opening_places_after DirectiveOpen at modes places = at ∷ places
+opening_places_after QuoteClose at modes places = drop 1 places
+opening_places_after HereClose at modes places = drop 1 places
+opening_places_after SeqClose at modes places = drop 1 places
+opening_places_after OpenBrace at modes places = if is_in_sequence (mode_of modes) then at ∷ places else places
+opening_places_after CloseBrace at modes places =
     if is_braces (mode_of modes) then drop 1 places else places
-places_after _ at modes places = places
+opening_places_after _ at modes places = places
 
 -- behind these pairs, of which the first gap begins at this place
-abbrev pub places_behind : ℕ → List Mode → List ℕ → List Pair → List ℕ
-places_behind at modes places [] = places
-places_behind at modes places (p ∷ ps) =
-    places_behind (at + length p.gap + length p.spelling) (after p.kind p.spelling modes)
-    (places_after p.kind (at + length p.gap) modes places) ps
+abbrev pub opening_places_after_pairs : ℕ → List Mode → List ℕ → List Pair → List ℕ
+opening_places_after_pairs at modes places [] = places
+opening_places_after_pairs at modes places (p ∷ ps) =
+    opening_places_after_pairs (at + length p.gap + length p.spelling) (modes_after p.kind p.spelling modes)
+    (opening_places_after p.kind (at + length p.gap) modes places) ps
 
 -- where the innermost template, or template sequence, begins: a `{` is none
-abbrev pub innermost : List Mode → List ℕ → ℕ
-innermost [] places = 0
-innermost (mode ∷ modes) [] = 0
-innermost (mode ∷ modes) (at ∷ places) = if is_braces mode then innermost modes places else at
+abbrev pub innermost_template : List Mode → List ℕ → ℕ
+innermost_template [] places = 0
+innermost_template (mode ∷ modes) [] = 0
+innermost_template (mode ∷ modes) (at ∷ places) = if is_braces mode then innermost_template modes places else at
 
 -- outside of literal text
 abbrev pub token_fault : ℕ → List ℕ → ScanFault
@@ -63,24 +63,24 @@ fault_at Braces opened at (b ∷ rest) = token_fault at (b ∷ rest)
 fault_at Quoted opened at rest =
     if slice_index rest 0 == 92 then BadEscape at else OpenString opened
 -- the end of the text
-fault_at (Heredoc name fresh) opened at rest = OpenHeredoc opened
+fault_at (Heredoc name at_line_start) opened at rest = OpenHeredoc opened
 
 -- the fault stands at the end of the longest front of the text that can be cut, openings left open
 -- allowed
-pub record Stops (text : List ℕ) (fault : ScanFault) : Type 0 where
+pub record EndsInFault (text : List ℕ) (fault : ScanFault) : Type 0 where
   pub pairs : List Pair
   pub gap : List ℕ
   pub rest : List ℕ
   pub left : List Mode
-  pub cuts : Cuts text pairs (gap ++ rest) left
-  pub ends : IsEnd (mode_of left) (gap ++ rest)
+  pub tokenizes : TokenizesPrefix text pairs (gap ++ rest) left
+  pub ends : HasNoToken (mode_of left) (gap ++ rest)
   -- past the blanks
-  pub blank : IsGap (mode_of left) gap
-  pub past : is_literal (mode_of left) ≡ false → is_blank (slice_index rest 0) ≡ false
+  pub whitespace : IsGap (mode_of left) gap
+  pub past : is_literal (mode_of left) ≡ false → is_whitespace (slice_index rest 0) ≡ false
   -- the text is not cut to its end
   pub unfinished : left ≡ [] → rest ≢ []
   pub fault_is : fault
-      ≡ fault_at (mode_of left) (innermost left (places_behind 0 [] [] pairs))
+      ≡ fault_at (mode_of left) (innermost_template left (opening_places_after_pairs 0 [] [] pairs))
       (length (whole_text pairs gap)) rest
 
 -- the fault of a text: it has too many bytes; else it is not UTF-8 at the first byte of the first
@@ -89,4 +89,4 @@ abbrev pub IsFault : List ℕ → ScanFault → Type 0
 IsFault text fault =
     ((fault ≡ TooLong) × (MAX_TEXT < length text))
     ⊎ (((at : ℕ) × (fault ≡ NotUtf8 at) × (length text ≤ MAX_TEXT) × IsValidUpTo text at)
-    ⊎ ((length text ≤ MAX_TEXT) × IsUtf8 text × Stops text fault))
+    ⊎ ((length text ≤ MAX_TEXT) × IsUtf8 text × EndsInFault text fault))

@@ -7,33 +7,33 @@ use Rattle.hcl_token.specs.declared.kind.Kind.{Kind}
 use Rattle.hcl_token.specs.declared.kind.Kind.TheVariants.{Mark, LineEnd, LineComment, QuoteClose, QuoteLit, InterpOpen, DirectiveOpen, HereClose, HereLit}
 use Rattle.hcl_token.specs.Tokens.{Pair}
 use Rattle.hcl_token.specs.Joins.{joins_with}
-use Rattle.hcl_scan.specs.Characters.{is_blank}
-use Rattle.hcl_scan.specs.Modes.{Mode, mode_of, after}
+use Rattle.hcl_scan.specs.Characters.{is_whitespace}
+use Rattle.hcl_scan.specs.Modes.{Mode, mode_of, modes_after}
 use Rattle.hcl_scan.specs.Lexeme.{IsLexeme}
-use Rattle.hcl_scan.specs.Cut.{IsGap, byte_order_mark}
+use Rattle.hcl_scan.specs.Tokenization.{IsGap, byte_order_mark}
 
 -- the gap and the token right behind a token; the last gap, if there is none
-abbrev pub neighbour : List Pair → List ℕ → List ℕ
-neighbour [] last = last
-neighbour (p ∷ ps) last = p.gap ++ p.spelling
+abbrev pub following_text : List Pair → List ℕ → List ℕ
+following_text [] last = last
+following_text (p ∷ ps) last = p.gap ++ p.spelling
 
 -- the line ends here: a line end stands here, or nothing
-abbrev pub EndsLine : List Pair → List ℕ → Type 0
-EndsLine [] last = last ≡ []
-EndsLine (p ∷ ps) last = (p.gap ≡ []) × (p.kind ≡ LineEnd)
+abbrev pub LineEndsHere : List Pair → List ℕ → Type 0
+LineEndsHere [] last = last ≡ []
+LineEndsHere (p ∷ ps) last = (p.gap ≡ []) × (p.kind ≡ LineEnd)
 
 -- the next token is of another kind
-abbrev pub IsOther : Kind → List Pair → Type 0
-IsOther kind [] = ⊤
-IsOther kind (p ∷ ps) = p.kind ≢ kind
+abbrev pub NextIsNot : Kind → List Pair → Type 0
+NextIsNot kind [] = ⊤
+NextIsNot kind (p ∷ ps) = p.kind ≢ kind
 
 -- what a token of the kind asks of those behind it, beside its spelling: a comment goes on to the
 -- end of its line, and no two literals stand side by side
-abbrev pub Behind : Kind → List Pair → List ℕ → Type 0
-Behind LineComment ps last = EndsLine ps last
-Behind QuoteLit ps last = IsOther QuoteLit ps
-Behind HereLit ps last = IsOther HereLit ps
-Behind kind ps last = ⊤
+abbrev pub AllowsNext : Kind → List Pair → List ℕ → Type 0
+AllowsNext LineComment ps last = LineEndsHere ps last
+AllowsNext QuoteLit ps last = NextIsNot QuoteLit ps
+AllowsNext HereLit ps last = NextIsNot HereLit ps
+AllowsNext kind ps last = ⊤
 
 -- From these modes on, each gap can stand in its mode, each token is a lexeme of its mode with its
 -- neighbour behind it, and the modes that are left are these.
@@ -46,9 +46,9 @@ FollowsFrom modes [] last left = modes ≡ left
 FollowsFrom modes (p ∷ ps) last left =
     IsGap (mode_of modes) p.gap
     × IsUtf8 p.spelling
-    × IsLexeme (mode_of modes) p.kind p.spelling (neighbour ps last)
-    × Behind p.kind ps last
-    × FollowsFrom (after p.kind p.spelling modes) ps last left
+    × IsLexeme (mode_of modes) p.kind p.spelling (following_text ps last)
+    × AllowsNext p.kind ps last
+    × FollowsFrom (modes_after p.kind p.spelling modes) ps last left
 
 abbrev pub mark : Pair
 mark = record { gap = []; kind = Mark; spelling = byte_order_mark }
@@ -56,9 +56,9 @@ mark = record { gap = []; kind = Mark; spelling = byte_order_mark }
 -- gaps and tokens, perhaps behind a byte order mark, that leave these modes, and a last gap
 pub record Follows (pairs : List Pair) (last : List ℕ) (left : List Mode) : Type 0 where
   pub body : List Pair
-  pub front : (pairs ≡ body) ⊎ (pairs ≡ mark ∷ body)
+  pub prefix : (pairs ≡ body) ⊎ (pairs ≡ mark ∷ body)
   pub follows : FollowsFrom [] body last left
-  pub blank : list_all is_blank last ≡ true
+  pub whitespace : list_all is_whitespace last ≡ true
 
 -- a token of the kind, so spelt, does not join with the one behind it, if no gap stands between
 -- them
@@ -77,27 +77,27 @@ abbrev pub tokens_of : List Pair → List (Kind × List ℕ)
 tokens_of pairs = map (λ (p : Pair). (p.kind, p.spelling)) pairs
 
 -- the byte order mark and the tokens that stand in literal text, or end it, have no gap before them
-abbrev pub has_no_gap : Kind → Bool
-has_no_gap Mark = true
-has_no_gap QuoteClose = true
-has_no_gap QuoteLit = true
-has_no_gap InterpOpen = true
-has_no_gap DirectiveOpen = true
-has_no_gap HereClose = true
-has_no_gap HereLit = true
-has_no_gap kind = false
+abbrev pub has_no_gap_before : Kind → Bool
+has_no_gap_before Mark = true
+has_no_gap_before QuoteClose = true
+has_no_gap_before QuoteLit = true
+has_no_gap_before InterpOpen = true
+has_no_gap_before DirectiveOpen = true
+has_no_gap_before HereClose = true
+has_no_gap_before HereLit = true
+has_no_gap_before kind = false
 
 -- comments and closing lines have none behind them
-abbrev pub has_no_gap_behind : Kind → Bool
-has_no_gap_behind LineComment = true
-has_no_gap_behind HereClose = true
-has_no_gap_behind kind = false
+abbrev pub has_no_gap_after : Kind → Bool
+has_no_gap_after LineComment = true
+has_no_gap_after HereClose = true
+has_no_gap_after kind = false
 
 -- Each gap is of blanks, and empty where the kinds beside it ask for that; the first stands behind
 -- a token that does, or not.
-abbrev pub AreGaps : Bool → List Pair → List ℕ → Type 0
-AreGaps must_be_empty [] last = (list_all is_blank last ≡ true) × (must_be_empty ≡ true → last ≡ [])
-AreGaps must_be_empty (p ∷ ps) last =
-    (list_all is_blank p.gap ≡ true)
-    × ((must_be_empty || has_no_gap p.kind) ≡ true → p.gap ≡ [])
-    × AreGaps (has_no_gap_behind p.kind) ps last
+abbrev pub AreAllowedGaps : Bool → List Pair → List ℕ → Type 0
+AreAllowedGaps must_be_empty [] last = (list_all is_whitespace last ≡ true) × (must_be_empty ≡ true → last ≡ [])
+AreAllowedGaps must_be_empty (p ∷ ps) last =
+    (list_all is_whitespace p.gap ≡ true)
+    × ((must_be_empty || has_no_gap_before p.kind) ≡ true → p.gap ≡ [])
+    × AreAllowedGaps (has_no_gap_after p.kind) ps last

@@ -1,10 +1,10 @@
 -- Definitions that serve proofs alone: what inner functions are proved equal to, and what is kept
 -- between calls.
 -- The clauses of public calls are said without them.
-pub mod Front
-pub mod HereNext
-pub mod MarkItem
+pub mod LexemeStarts
+pub mod HeredocToken
+pub mod MarkToken
 pub mod Markers
-pub mod Next
+pub mod NextToken
 pub mod Openings
 pub mod RunLength

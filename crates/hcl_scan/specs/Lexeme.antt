@@ -7,39 +7,39 @@ use Rattle.std.specs.Str.{chars}
 use Rattle.hcl_token.specs.declared.kind.Kind.{Kind}
 use Rattle.hcl_token.specs.declared.kind.Kind.TheVariants.{Mark, LineEnd, LineComment, InlineComment, Identifier, Number, DotIndex, Plus, Minus, Star, Slash, Percent, And, Or, Bang, DoubleEqual, NotEqual, Less, Greater, LessEqual, GreaterEqual, Question, Colon, DoubleColon, Equal, FatArrow, OpenBrace, CloseBrace, OpenBracket, CloseBracket, OpenParen, CloseParen, Comma, Dot, Ellipsis, QuoteOpen, HereOpen, SeqClose, QuoteClose, InterpOpen, DirectiveOpen, QuoteLit, HereClose, HereLit}
 use Rattle.hcl_scan.specs.Runs.{UnitLength, IsRun, byte_unit}
-use Rattle.hcl_scan.specs.Modes.{Mode, is_literal, closes_sequence, begins_line, marker}
+use Rattle.hcl_scan.specs.Modes.{Mode, is_literal, can_close_sequence, is_at_line_start, marker}
 use Rattle.hcl_scan.specs.Modes.Mode.{Quoted, Heredoc}
-use Rattle.hcl_scan.specs.Closing.{IsClosingLine, here_unit}
-use Rattle.hcl_scan.specs.Characters.{begins_line_end, starts, continues, is_sigil, sigil_length}
+use Rattle.hcl_scan.specs.Closing.{IsClosingLine, heredoc_unit}
+use Rattle.hcl_scan.specs.Characters.{is_at_line_end, is_id_start, is_id_continue, is_sigil, sigil_length}
 
 abbrev pub is_quoted : Mode → Bool
 is_quoted Quoted = true
 is_quoted _ = false
 
 abbrev pub is_heredoc : Mode → Bool
-is_heredoc (Heredoc name fresh) = true
+is_heredoc (Heredoc name at_line_start) = true
 is_heredoc _ = false
 
 -- whether tokens of the kind can stand in the mode; the byte order mark stands in none, but at the
 -- front of a text
-abbrev pub stands_in : Mode → Kind → Bool
-stands_in mode Mark = false
-stands_in mode QuoteClose = is_quoted mode
-stands_in mode QuoteLit = is_quoted mode
+abbrev pub is_allowed_in : Mode → Kind → Bool
+is_allowed_in mode Mark = false
+is_allowed_in mode QuoteClose = is_quoted mode
+is_allowed_in mode QuoteLit = is_quoted mode
 -- a heredoc closes only where a line of it begins
-stands_in mode HereClose = is_heredoc mode && begins_line mode
-stands_in mode HereLit = is_heredoc mode
-stands_in mode InterpOpen = is_literal mode
-stands_in mode DirectiveOpen = is_literal mode
-stands_in mode SeqClose = closes_sequence mode
-stands_in mode CloseBrace = not (closes_sequence mode) && not (is_literal mode)
-stands_in mode _ = not (is_literal mode)
+is_allowed_in mode HereClose = is_heredoc mode && is_at_line_start mode
+is_allowed_in mode HereLit = is_heredoc mode
+is_allowed_in mode InterpOpen = is_literal mode
+is_allowed_in mode DirectiveOpen = is_literal mode
+is_allowed_in mode SeqClose = can_close_sequence mode
+is_allowed_in mode CloseBrace = not (can_close_sequence mode) && not (is_literal mode)
+is_allowed_in mode _ = not (is_literal mode)
 
 -- ---- units
 
 -- a byte at which no line end begins
 abbrev pub comment_unit : UnitLength
-comment_unit = byte_unit (λ b rest. not (begins_line_end (b ∷ rest)))
+comment_unit = byte_unit (λ b rest. not (is_at_line_end (b ∷ rest)))
 
 -- a byte at which no `*/` begins
 abbrev pub inline_unit : UnitLength
@@ -65,19 +65,19 @@ escape_length t =
 -- a unit of quoted text: an escape, `$${`, `%%{`, or any character but `"`, `\` and a line end, at
 -- which no `${` or `%{` begins
 abbrev pub quote_unit : UnitLength
-quote_unit fresh [] = 0
-quote_unit fresh (b ∷ rest) =
+quote_unit at_line_start [] = 0
+quote_unit at_line_start (b ∷ rest) =
     if b == 92 then (if escape_length rest == 0 then 0 else suc (escape_length rest))
     else (if is_sigil b then sigil_length b rest
     else (if b == 34 then 0
-    else (if begins_line_end (b ∷ rest) then 0 else 1)))
+    else (if is_at_line_end (b ∷ rest) then 0 else 1)))
 
 -- ---- spellings
 
 -- a start character, then continue characters or `-`
 abbrev pub is_identifier : List ℕ → Bool
 is_identifier [] = false
-is_identifier (c ∷ cs) = starts c && list_all continues cs
+is_identifier (c ∷ cs) = is_id_start c && list_all is_id_continue cs
 
 abbrev pub is_decimal : List ℕ → Bool
 is_decimal [] = false
@@ -105,38 +105,38 @@ abbrev pub IsLineEnd : List ℕ → Type 0
 IsLineEnd s = (s ≡ codes "\n") ⊎ (s ≡ codes "\r\n")
 
 -- the spelling of a kind that has only one
-abbrev pub fixed : Kind → Option (List ℕ)
-fixed Plus = Some (codes "+")
-fixed Minus = Some (codes "-")
-fixed Star = Some (codes "*")
-fixed Slash = Some (codes "/")
-fixed Percent = Some (codes "%")
-fixed And = Some (codes "&&")
-fixed Or = Some (codes "||")
-fixed Bang = Some (codes "!")
-fixed DoubleEqual = Some (codes "==")
-fixed NotEqual = Some (codes "!=")
-fixed Less = Some (codes "<")
-fixed Greater = Some (codes ">")
-fixed LessEqual = Some (codes "<=")
-fixed GreaterEqual = Some (codes ">=")
-fixed Question = Some (codes "?")
-fixed Colon = Some (codes ":")
-fixed DoubleColon = Some (codes "::")
-fixed Equal = Some (codes "=")
-fixed FatArrow = Some (codes "=>")
-fixed OpenBrace = Some (codes "{")
-fixed CloseBrace = Some (codes "}")
-fixed OpenBracket = Some (codes "[")
-fixed CloseBracket = Some (codes "]")
-fixed OpenParen = Some (codes "(")
-fixed CloseParen = Some (codes ")")
-fixed Comma = Some (codes ",")
-fixed Dot = Some (codes ".")
-fixed Ellipsis = Some (codes "...")
-fixed QuoteOpen = Some (codes "\"")
-fixed QuoteClose = Some (codes "\"")
-fixed _ = None
+abbrev pub fixed_spelling : Kind → Option (List ℕ)
+fixed_spelling Plus = Some (codes "+")
+fixed_spelling Minus = Some (codes "-")
+fixed_spelling Star = Some (codes "*")
+fixed_spelling Slash = Some (codes "/")
+fixed_spelling Percent = Some (codes "%")
+fixed_spelling And = Some (codes "&&")
+fixed_spelling Or = Some (codes "||")
+fixed_spelling Bang = Some (codes "!")
+fixed_spelling DoubleEqual = Some (codes "==")
+fixed_spelling NotEqual = Some (codes "!=")
+fixed_spelling Less = Some (codes "<")
+fixed_spelling Greater = Some (codes ">")
+fixed_spelling LessEqual = Some (codes "<=")
+fixed_spelling GreaterEqual = Some (codes ">=")
+fixed_spelling Question = Some (codes "?")
+fixed_spelling Colon = Some (codes ":")
+fixed_spelling DoubleColon = Some (codes "::")
+fixed_spelling Equal = Some (codes "=")
+fixed_spelling FatArrow = Some (codes "=>")
+fixed_spelling OpenBrace = Some (codes "{")
+fixed_spelling CloseBrace = Some (codes "}")
+fixed_spelling OpenBracket = Some (codes "[")
+fixed_spelling CloseBracket = Some (codes "]")
+fixed_spelling OpenParen = Some (codes "(")
+fixed_spelling CloseParen = Some (codes ")")
+fixed_spelling Comma = Some (codes ",")
+fixed_spelling Dot = Some (codes ".")
+fixed_spelling Ellipsis = Some (codes "...")
+fixed_spelling QuoteOpen = Some (codes "\"")
+fixed_spelling QuoteClose = Some (codes "\"")
+fixed_spelling _ = None
 
 -- the text is a spelling of the kind in the mode, with rest behind it
 abbrev pub Spells : Mode → Kind → List ℕ → List ℕ → Type 0
@@ -158,7 +158,7 @@ Spells mode DotIndex s rest =
     (digits : List ℕ) × (s ≡ codes "." ++ digits) × IsTrue (is_decimal digits)
 -- no operator directly before `*` or `/`
 Spells mode Slash s rest =
-    (fixed Slash ≡ Some s) × ((slice_index rest 0 == 42 || slice_index rest 0 == 47) ≡ false)
+    (fixed_spelling Slash ≡ Some s) × ((slice_index rest 0 == 42 || slice_index rest 0 == 47) ≡ false)
 -- `<<` or `<<-`, the marker, and the end of the line
 Spells mode HereOpen s rest =
     (dash : List ℕ) × (name : List ℕ) × (end : List ℕ) × (s ≡ codes "<<" ++ (dash ++ (name ++ end)))
@@ -168,11 +168,11 @@ Spells mode InterpOpen s rest = (s ≡ codes "${") ⊎ (s ≡ codes "${~")
 Spells mode DirectiveOpen s rest = (s ≡ codes "%{") ⊎ (s ≡ codes "%{~")
 Spells mode QuoteLit s rest = (s ≢ []) × IsRun quote_unit false s rest
 Spells mode HereClose s rest = IsClosingLine (marker mode) s rest
-Spells mode HereLit s rest = (s ≢ []) × IsRun (here_unit (marker mode)) (begins_line mode) s rest
-Spells mode kind s rest = fixed kind ≡ Some s
+Spells mode HereLit s rest = (s ≢ []) × IsRun (heredoc_unit (marker mode)) (is_at_line_start mode) s rest
+Spells mode kind s rest = fixed_spelling kind ≡ Some s
 
 abbrev pub IsLexeme : Mode → Kind → List ℕ → List ℕ → Type 0
-IsLexeme mode kind s rest = (stands_in mode kind ≡ true) × Spells mode kind s rest
+IsLexeme mode kind s rest = (is_allowed_in mode kind ≡ true) × Spells mode kind s rest
 
 -- no lexeme of the mode at this place is longer
 abbrev pub IsLongest : Mode → Kind → List ℕ → List ℕ → Type 0

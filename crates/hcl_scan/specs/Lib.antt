@@ -1,6 +1,6 @@
 pub mod Characters
 pub mod Closing
-pub mod Cut
+pub mod Tokenization
 pub mod Fault
 pub mod Follows
 pub mod Inner

@@ -4,10 +4,10 @@ ghost use Rattle.std.specs.Prelude.{◌≡◌, ◌∷◌, ◌+◌, ◌<◌, ◌�
 ghost use Rattle.std.specs.Char.{len_utf8};
 ghost use Rattle.std.specs.Str.{chars};
 ghost use Rattle.hcl_token.specs.declared.kind.Kind.TheVariants.{Identifier};
-ghost use Rattle.hcl_scan.specs.Characters.{starts, continues};
-ghost use Rattle.hcl_scan.specs.Inner.Front.{is_letter, goes_on, begins_word, continue_length, identifier};
+ghost use Rattle.hcl_scan.specs.Characters.{is_id_start, is_id_continue};
+ghost use Rattle.hcl_scan.specs.Inner.LexemeStarts.{is_letter, is_ascii_id_continue, is_word_start, id_continue_length, identifier};
 
-use crate::bytes::{byte, goes_on};
+use crate::bytes::{byte_at, is_ascii_id_continue};
 use hcl_token::Kind;
 use unicode_ident::{is_xid_continue, is_xid_start};
 
@@ -24,43 +24,43 @@ fn char_at(text: &str, at: usize) -> char
     rest.chars().next().unwrap()
 }
 
-fn starts(c: char) -> bool
-    ensures { result ≡ starts c }
+fn is_id_start(c: char) -> bool
+    ensures { result ≡ is_id_start c }
 {
     is_xid_start(c) | (c == '_')
 }
 
-fn continues(c: char) -> bool
-    ensures { result ≡ continues c }
+fn is_id_continue(c: char) -> bool
+    ensures { result ≡ is_id_continue c }
 {
     is_xid_continue(c) | (c == '-')
 }
 
 /// A letter, `_`, or the first byte of a character that is not ASCII.
-pub fn begins_word(b: u8) -> bool
-    ensures { result ≡ begins_word b }
+pub fn is_word_start(b: u8) -> bool
+    ensures { result ≡ is_word_start b }
 {
     b.is_ascii_alphabetic() | (b == b'_') | (128 <= b)
 }
 
 /// How many of the four bytes at a place continue an identifier, up to the first that does not.
-fn goes_on_by(text: &str, at: usize) -> usize
+fn count_id_bytes_of_4(text: &str, at: usize) -> usize
     requires within { at + 4 ≤ length text.now }
     requires utf8 { IsUtf8 (drop at text.now) }
-    ensures value { result + continue_length (chars (drop (at + result) text.now))
-        ≡ continue_length (chars (drop at text.now)) }
+    ensures value { result + id_continue_length (chars (drop (at + result) text.now))
+        ≡ id_continue_length (chars (drop at text.now)) }
     ensures within { result ≤ 4 }
     ensures rest { IsUtf8 (drop (at + result) text.now) }
-    ensures stops { result < 4 → goes_on (slice_index text.now (at + result)) ≡ false }
+    ensures stops { result < 4 → is_ascii_id_continue (slice_index text.now (at + result)) ≡ false }
 {
     let bytes = text.as_bytes();
-    if !goes_on(bytes[at]) {
+    if !is_ascii_id_continue(bytes[at]) {
         0
-    } else if !goes_on(bytes[at + 1]) {
+    } else if !is_ascii_id_continue(bytes[at + 1]) {
         1
-    } else if !goes_on(bytes[at + 2]) {
+    } else if !is_ascii_id_continue(bytes[at + 2]) {
         2
-    } else if !goes_on(bytes[at + 3]) {
+    } else if !is_ascii_id_continue(bytes[at + 3]) {
         3
     } else {
         4
@@ -68,39 +68,39 @@ fn goes_on_by(text: &str, at: usize) -> usize
 }
 
 /// The end of the ASCII characters from a place on that continue an identifier.
-fn ascii_end(text: &str, from: usize) -> usize
+fn ascii_id_end(text: &str, from: usize) -> usize
     requires within { from ≤ length text.now }
     requires utf8 { IsUtf8 (drop from text.now) }
-    ensures value { result + continue_length (chars (drop result text.now))
-        ≡ from + continue_length (chars (drop from text.now)) }
+    ensures value { result + id_continue_length (chars (drop result text.now))
+        ≡ from + id_continue_length (chars (drop from text.now)) }
     ensures within { result ≤ length text.now }
     ensures rest { IsUtf8 (drop result text.now) }
-    ensures stops { goes_on (slice_index text.now result) ≡ false }
+    ensures stops { is_ascii_id_continue (slice_index text.now result) ≡ false }
 {
     let mut at = from;
     while at + 4 <= text.len() {
-        let count = goes_on_by(text, at);
+        let count = count_id_bytes_of_4(text, at);
         at += count;
         if count < 4 {
             return at;
         }
     }
-    last_ascii_end(text, at)
+    ascii_id_end_bytewise(text, at)
 }
 
 /// The same, byte by byte.
-fn last_ascii_end(text: &str, from: usize) -> usize
+fn ascii_id_end_bytewise(text: &str, from: usize) -> usize
     requires within { from ≤ length text.now }
     requires utf8 { IsUtf8 (drop from text.now) }
-    ensures value { result + continue_length (chars (drop result text.now))
-        ≡ from + continue_length (chars (drop from text.now)) }
+    ensures value { result + id_continue_length (chars (drop result text.now))
+        ≡ from + id_continue_length (chars (drop from text.now)) }
     ensures within { result ≤ length text.now }
     ensures rest { IsUtf8 (drop result text.now) }
-    ensures stops { goes_on (slice_index text.now result) ≡ false }
+    ensures stops { is_ascii_id_continue (slice_index text.now result) ≡ false }
 {
     let bytes = text.as_bytes();
     let mut at = from;
-    while at < bytes.len() && goes_on(bytes[at]) {
+    while at < bytes.len() && is_ascii_id_continue(bytes[at]) {
         at += 1;
     }
     at
@@ -108,35 +108,35 @@ fn last_ascii_end(text: &str, from: usize) -> usize
 
 /// The end of the characters from a place on that continue an identifier.
 #[inline(always)]
-pub fn continue_end(text: &str, from: usize) -> usize
+pub fn id_end(text: &str, from: usize) -> usize
     requires within { from ≤ length text.now }
     requires utf8 { IsUtf8 (drop from text.now) }
-    ensures value { result ≡ from + continue_length (chars (drop from text.now)) }
+    ensures value { result ≡ from + id_continue_length (chars (drop from text.now)) }
     ensures within { result ≤ length text.now }
     ensures rest { IsUtf8 (drop result text.now) }
 {
-    let end = ascii_end(text, from);
-    if byte(text.as_bytes(), end) < 128 {
+    let end = ascii_id_end(text, from);
+    if byte_at(text.as_bytes(), end) < 128 {
         end
     } else {
-        characters_end(text, end)
+        unicode_id_end(text, end)
     }
 }
 
 /// The same, where not all characters are ASCII.
 #[cold]
 #[inline(never)]
-fn characters_end(text: &str, from: usize) -> usize
+fn unicode_id_end(text: &str, from: usize) -> usize
     requires within { from ≤ length text.now }
     requires utf8 { IsUtf8 (drop from text.now) }
-    ensures value { result ≡ from + continue_length (chars (drop from text.now)) }
+    ensures value { result ≡ from + id_continue_length (chars (drop from text.now)) }
     ensures within { result ≤ length text.now }
     ensures rest { IsUtf8 (drop result text.now) }
 {
     let mut at = from;
     while at < text.len() {
         let c = char_at(text, at);
-        if !continues(c) {
+        if !is_id_continue(c) {
             return at;
         }
         at += c.len_utf8();
@@ -152,7 +152,7 @@ pub fn word_len(text: &str, at: usize) -> usize
     requires letter { is_letter (slice_index text.now at) ≡ true }
     ensures { Some (Identifier, result) ≡ identifier (drop at text.now) }
 {
-    continue_end(text, at + 1) - at
+    id_end(text, at + 1) - at
 }
 
 /// The identifier at a place where a word begins, as its kind and its length.
@@ -160,15 +160,15 @@ pub fn word_len(text: &str, at: usize) -> usize
 pub fn identifier(text: &str, at: usize) -> Option<(Kind, usize)>
     requires within { at < length text.now }
     requires utf8 { IsUtf8 (drop at text.now) }
-    requires word { begins_word (slice_index text.now at) ≡ true }
+    requires word { is_word_start (slice_index text.now at) ≡ true }
     ensures { result ≡ identifier (drop at text.now) }
 {
     if text.as_bytes()[at] < 128 {
         return Some((Kind::Identifier, word_len(text, at)));
     }
     let c = char_at(text, at);
-    if !starts(c) {
+    if !is_id_start(c) {
         return None;
     }
-    Some((Kind::Identifier, continue_end(text, at + c.len_utf8()) - at))
+    Some((Kind::Identifier, id_end(text, at + c.len_utf8()) - at))
 }

@@ -3,21 +3,21 @@
 
 ghost use Rattle.std.specs.Prelude.{◌≡◌, ℕ, ◌≤◌, ◌⊎◌, false, List, [], length};
 ghost use Rattle.hcl_token.specs.Tokens.{Pair, whole_text};
-ghost use Rattle.hcl_scan.specs.Cut.{MAX_TEXT, IsCut};
+ghost use Rattle.hcl_scan.specs.Tokenization.{MAX_TEXT, IsTokenization};
 ghost use Rattle.hcl_scan.specs.declared.fault.ScanFault.{ScanFault};
 ghost use Rattle.hcl_scan.specs.Fault.{IsFault};
-ghost use Rattle.hcl_scan.specs.Follows.{Follows, AreApart, AreGaps, tokens_of};
+ghost use Rattle.hcl_scan.specs.Follows.{Follows, AreApart, AreAllowedGaps, tokens_of};
 
 /// A text has at most one cut.
-pub fn one_cut()
+pub fn one_tokenization()
     ensures { (text : List ℕ) (pairs others : List Pair) (last other : List ℕ)
-        → IsCut text pairs last → IsCut text others other → (pairs ≡ others) × (last ≡ other) }
+        → IsTokenization text pairs last → IsTokenization text others other → (pairs ≡ others) × (last ≡ other) }
 {}
 
 /// A text with a fault has no cut.
-pub fn no_cut_with_fault()
+pub fn no_tokenization_with_fault()
     ensures { (text : List ℕ) (fault : ScanFault) (pairs : List Pair) (last : List ℕ)
-        → IsFault text fault → IsCut text pairs last → ⊥ }
+        → IsFault text fault → IsTokenization text pairs last → ⊥ }
 {}
 
 /// A text has at most one fault.
@@ -31,30 +31,30 @@ pub fn one_fault()
 pub fn writes_back()
     ensures { (pairs : List Pair) (last : List ℕ) → Follows pairs last [] → AreApart pairs
         → length (whole_text pairs last) ≤ MAX_TEXT
-        → IsCut (whole_text pairs last) pairs last }
+        → IsTokenization (whole_text pairs last) pairs last }
 {}
 
 /// The cut of a text follows the modes.
-pub fn cut_follows()
-    ensures { (text : List ℕ) (pairs : List Pair) (last : List ℕ) → IsCut text pairs last
+pub fn tokenization_follows_modes()
+    ensures { (text : List ℕ) (pairs : List Pair) (last : List ℕ) → IsTokenization text pairs last
         → Follows pairs last [] }
 {}
 
 /// Where gaps and tokens follow the modes, each gap can stand between its tokens.
 pub fn gaps_of()
     ensures { (pairs : List Pair) (last : List ℕ) → Follows pairs last []
-        → AreGaps false pairs last }
+        → AreAllowedGaps false pairs last }
 {}
 
 /// The same tokens with other gaps follow the modes, where each gap can stand between its tokens.
 pub fn other_gaps()
     ensures { (pairs others : List Pair) (last other : List ℕ) → Follows pairs last []
         → tokens_of others ≡ tokens_of pairs
-        → AreGaps false others other → AreApart others → Follows others other [] }
+        → AreAllowedGaps false others other → AreApart others → Follows others other [] }
 {}
 
 /// Each text has a cut or a fault.
-pub fn cut_or_fault()
-    ensures { (text : List ℕ) → ((pairs : List Pair) × (last : List ℕ) × IsCut text pairs last)
+pub fn tokenization_or_fault()
+    ensures { (text : List ℕ) → ((pairs : List Pair) × (last : List ℕ) × IsTokenization text pairs last)
         ⊎ ((fault : ScanFault) × IsFault text fault) }
 {}

@@ -6,9 +6,8 @@
 #![tactic(auto)]
 
 mod bytes;
-mod cut;
 mod fault;
-mod here;
+mod heredoc;
 mod ident;
 pub mod laws;
 mod mode;
@@ -17,6 +16,7 @@ mod operator;
 mod runs;
 mod scanned;
 mod token;
+mod tokenize;
 
 pub use fault::ScanFault;
 pub use hcl_token::{Item, Kind, Lines, MAX_TEXT, Place, Places, Token, TokenList};

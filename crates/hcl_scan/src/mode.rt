@@ -3,14 +3,14 @@
 ghost use Rattle.std.specs.Prelude.{◌≡◌, ◌+◌, ◌≤◌, ◌∷◌, ℕ, List, true, false, OnOk, drop, length};
 ghost use Rattle.std.specs.List.{prefix_len};
 ghost use Rattle.hcl_scan.specs.Modes as spec;
-ghost use Rattle.hcl_scan.specs.Modes.{mode_of, is_braces, in_sequence, begins_line, marker_of, after};
+ghost use Rattle.hcl_scan.specs.Modes.{mode_of, is_braces, is_in_sequence, is_at_line_start, marker_of, modes_after};
 ghost use Rattle.hcl_scan.specs.Modes.Mode.{Sequence, Heredoc};
-ghost use Rattle.hcl_scan.specs.Runs.{line_behind};
+ghost use Rattle.hcl_scan.specs.Runs.{is_line_start_after};
 ghost use Rattle.hcl_token.specs.declared.kind.Kind.TheVariants.{HereLit};
-ghost use Rattle.hcl_scan.specs.Fault.{places_after, innermost};
-ghost use Rattle.hcl_scan.specs.Inner.Openings.{mode_view, modes_of, places_of, with_line, with_line_in, is_in_line};
+ghost use Rattle.hcl_scan.specs.Fault.{opening_places_after, innermost_template};
+ghost use Rattle.hcl_scan.specs.Inner.Openings.{mode_view, modes_of, places_of, with_line_start, with_line_start_in, is_not_line_break};
 
-use crate::bytes::{byte, part};
+use crate::bytes::{byte_at, slice};
 use hcl_token::Kind;
 use std::alloc::AllocError;
 
@@ -26,7 +26,10 @@ pub enum Mode<'t> {
     /// In quoted text.
     Quoted,
     /// In the text of a heredoc with this marker; whether a line of it begins here.
-    Heredoc { marker: &'t [u8], fresh: bool },
+    Heredoc {
+        marker: &'t [u8],
+        at_line_start: bool,
+    },
 }
 
 /// An opening that is not closed: where its token begins, in bytes from 0, and how the text behind
@@ -48,8 +51,8 @@ pub fn mode_of<'t>(openings: &[Opening<'t>]) -> Mode<'t>
 }
 
 /// Directly in a template sequence, or in braces of it.
-fn in_sequence(mode: Mode<'_>) -> bool
-    ensures { result ≡ in_sequence (mode_view mode.entry) }
+fn is_in_sequence(mode: Mode<'_>) -> bool
+    ensures { result ≡ is_in_sequence (mode_view mode.entry) }
 {
     match mode {
         Mode::Sequence | Mode::Braces => true,
@@ -68,31 +71,40 @@ fn is_braces(mode: Mode<'_>) -> bool
 }
 
 /// Whether a line of the heredoc begins here.
-fn begins_line(mode: Mode<'_>) -> bool
-    ensures { result ≡ begins_line (mode_view mode.entry) }
+fn is_at_line_start(mode: Mode<'_>) -> bool
+    ensures { result ≡ is_at_line_start (mode_view mode.entry) }
 {
     match mode {
-        Mode::Heredoc { marker: _, fresh } => fresh,
+        Mode::Heredoc {
+            marker: _,
+            at_line_start,
+        } => at_line_start,
         _ => false,
     }
 }
 
 /// The heredoc, at a place where a line of it begins or not.
-fn with_line<'t>(mode: Mode<'t>, fresh: bool) -> Mode<'t>
-    ensures { mode_view result ≡ with_line fresh (mode_view mode.entry) }
+fn with_line_start<'t>(mode: Mode<'t>, at_line_start: bool) -> Mode<'t>
+    ensures { mode_view result ≡ with_line_start at_line_start (mode_view mode.entry) }
 {
     match mode {
-        Mode::Heredoc { marker, fresh: _ } => Mode::Heredoc { marker, fresh },
+        Mode::Heredoc {
+            marker,
+            at_line_start: _,
+        } => Mode::Heredoc {
+            marker,
+            at_line_start,
+        },
         other => other,
     }
 }
 
 /// Whether a line begins behind a text, where one begins before it or not.
-fn line_behind(fresh: bool, text: &[u8]) -> bool
-    ensures { result ≡ line_behind fresh text.now }
+fn is_line_start_after(at_line_start: bool, text: &[u8]) -> bool
+    ensures { result ≡ is_line_start_after at_line_start text.now }
 {
     if text.is_empty() {
-        fresh
+        at_line_start
     } else {
         text[text.len() - 1] == b'\n'
     }
@@ -102,17 +114,17 @@ fn line_behind(fresh: bool, text: &[u8]) -> bool
 fn marker_of(spelling: &[u8]) -> &[u8]
     ensures { result.now ≡ marker_of spelling.now }
 {
-    let from = if byte(spelling, 2) == b'-' { 3 } else { 2 };
+    let from = if byte_at(spelling, 2) == b'-' { 3 } else { 2 };
     if from < spelling.len() {
-        part(spelling, from, marker_end(spelling, from))
+        slice(spelling, from, marker_end(spelling, from))
     } else {
         &[]
     }
 }
 
 /// Neither LF nor CR.
-fn is_in_line(b: u8) -> bool
-    ensures { result ≡ is_in_line b }
+fn is_not_line_break(b: u8) -> bool
+    ensures { result ≡ is_not_line_break b }
 {
     !((b == b'\n') | (b == b'\r'))
 }
@@ -120,11 +132,11 @@ fn is_in_line(b: u8) -> bool
 /// The first LF or CR from a place on.
 fn marker_end(text: &[u8], from: usize) -> usize
     requires { from ≤ length text.now }
-    ensures value { result ≡ from + prefix_len is_in_line (drop from text.now) }
+    ensures value { result ≡ from + prefix_len is_not_line_break (drop from text.now) }
     ensures within { result ≤ length text.now }
 {
     let mut at = from;
-    while at < text.len() && is_in_line(text[at]) {
+    while at < text.len() && is_not_line_break(text[at]) {
         at += 1;
     }
     at
@@ -154,13 +166,20 @@ fn pop<'t>(openings: &mut Vec<Opening<'t>>)
 
 /// The innermost opening, if it is a heredoc, goes on where a line of it begins or not.
 #[tactic(auto, using(crate::proofs::OpeningLemmas::opening_lemmas))]
-fn read_on<'t>(openings: &mut Vec<Opening<'t>>, fresh: bool) -> Result<(), AllocError>
+fn set_line_start<'t>(
+    openings: &mut Vec<Opening<'t>>,
+    at_line_start: bool,
+) -> Result<(), AllocError>
     ensures modes { OnOk result
-        (modes_of openings.new.items ≡ with_line_in fresh (modes_of openings.old.items)) }
+        (modes_of openings.new.items ≡ with_line_start_in at_line_start (modes_of openings.old.items)) }
     ensures places { OnOk result (places_of openings.new.items ≡ places_of openings.old.items) }
 {
     match openings.pop() {
-        Some(opening) => push(openings, opening.at, with_line(opening.mode, fresh)),
+        Some(opening) => push(
+            openings,
+            opening.at,
+            with_line_start(opening.mode, at_line_start),
+        ),
         None => Ok(()),
     }
 }
@@ -169,11 +188,11 @@ fn read_on<'t>(openings: &mut Vec<Opening<'t>>, fresh: bool) -> Result<(), Alloc
 #[inline(never)]
 fn open_sequence<'t>(openings: &mut Vec<Opening<'t>>, at: usize) -> Result<(), AllocError>
     ensures modes { OnOk result
-        (modes_of openings.new.items ≡ Sequence ∷ with_line_in false (modes_of openings.old.items)) }
+        (modes_of openings.new.items ≡ Sequence ∷ with_line_start_in false (modes_of openings.old.items)) }
     ensures places { OnOk result
         (places_of openings.new.items ≡ at ∷ places_of openings.old.items) }
 {
-    read_on(openings, false)?;
+    set_line_start(openings, false)?;
     push(openings, at, Mode::Sequence)
 }
 
@@ -191,27 +210,34 @@ fn open_heredoc<'t>(
         (places_of openings.new.items ≡ at ∷ places_of openings.old.items) }
 {
     let marker = marker_of(spelling);
-    let fresh = true;
-    push(openings, at, Mode::Heredoc { marker, fresh })
+    let at_line_start = true;
+    push(
+        openings,
+        at,
+        Mode::Heredoc {
+            marker,
+            at_line_start,
+        },
+    )
 }
 
 /// The innermost opening, a heredoc, goes on behind a piece of its text.
 #[inline(never)]
-fn read_piece<'t>(openings: &mut Vec<Opening<'t>>, piece: &[u8]) -> Result<(), AllocError>
+fn continue_heredoc<'t>(openings: &mut Vec<Opening<'t>>, piece: &[u8]) -> Result<(), AllocError>
     ensures modes { OnOk result
-        (modes_of openings.new.items ≡ after HereLit piece.now (modes_of openings.old.items)) }
+        (modes_of openings.new.items ≡ modes_after HereLit piece.now (modes_of openings.old.items)) }
     ensures places { OnOk result (places_of openings.new.items ≡ places_of openings.old.items) }
 {
-    let fresh = line_behind(begins_line(mode_of(openings)), piece);
-    read_on(openings, fresh)
+    let at_line_start = is_line_start_after(is_at_line_start(mode_of(openings)), piece);
+    set_line_start(openings, at_line_start)
 }
 
 /// Whether a token of the kind can do anything to the openings.
-pub fn opens_or_closes(kind: Kind) -> bool
+pub fn can_change_openings(kind: Kind) -> bool
     ensures modes { (spelling : List ℕ) (modes : List spec.Mode) → result ≡ false
-        → after kind spelling modes ≡ modes }
+        → modes_after kind spelling modes ≡ modes }
     ensures places { (at : ℕ) (modes : List spec.Mode) (places : List ℕ) → result ≡ false
-        → places_after kind at modes places ≡ places }
+        → opening_places_after kind at modes places ≡ places }
 {
     matches!(
         kind,
@@ -229,19 +255,19 @@ pub fn opens_or_closes(kind: Kind) -> bool
 }
 
 /// What a token of this kind and spelling, which begins at a place, does to the openings.
-pub fn shift<'t>(
+pub fn update_openings<'t>(
     openings: &mut Vec<Opening<'t>>,
     kind: Kind,
     spelling: &'t [u8],
     at: usize,
 ) -> Result<(), AllocError>
     ensures modes { OnOk result
-        (modes_of openings.new.items ≡ after kind spelling.now (modes_of openings.old.items)) }
+        (modes_of openings.new.items ≡ modes_after kind spelling.now (modes_of openings.old.items)) }
     ensures places { OnOk result
         (places_of openings.new.items
-        ≡ places_after kind at (modes_of openings.old.items) (places_of openings.old.items)) }
+        ≡ opening_places_after kind at (modes_of openings.old.items) (places_of openings.old.items)) }
 {
-    if !opens_or_closes(kind) {
+    if !can_change_openings(kind) {
         return Ok(());
     }
     match kind {
@@ -250,7 +276,7 @@ pub fn shift<'t>(
         Kind::InterpOpen | Kind::DirectiveOpen => open_sequence(openings, at)?,
         Kind::QuoteClose | Kind::HereClose | Kind::SeqClose => pop(openings),
         Kind::OpenBrace => {
-            if in_sequence(mode_of(openings)) {
+            if is_in_sequence(mode_of(openings)) {
                 push(openings, at, Mode::Braces)?;
             }
         }
@@ -259,15 +285,15 @@ pub fn shift<'t>(
                 pop(openings);
             }
         }
-        Kind::HereLit => read_piece(openings, spelling)?,
+        Kind::HereLit => continue_heredoc(openings, spelling)?,
         _ => {}
     }
     Ok(())
 }
 
 /// Where the innermost template, or template sequence, begins.
-pub fn opened_at(openings: &[Opening<'_>]) -> usize
-    ensures { result ≡ innermost (modes_of openings.now) (places_of openings.now) }
+pub fn innermost_template_start(openings: &[Opening<'_>]) -> usize
+    ensures { result ≡ innermost_template (modes_of openings.now) (places_of openings.now) }
 {
     let mut i = openings.len();
     while i > 0 {

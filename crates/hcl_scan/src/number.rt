@@ -1,9 +1,9 @@
 //! Numbers.
 
 ghost use Rattle.std.specs.Prelude.{◌≡◌, ◌+◌, ◌≤◌, length, drop};
-ghost use Rattle.hcl_scan.specs.Inner.Next.{is_sign, is_exponent_letter, fraction_length, exponent_length, number_length};
+ghost use Rattle.hcl_scan.specs.Inner.NextToken.{is_sign, is_exponent_letter, fraction_length, exponent_length, number_length};
 
-use crate::bytes::{byte, digits_end};
+use crate::bytes::{byte_at, digits_end};
 
 /// How many bytes the `.` and the digits at a place have, 0 where none stand.
 fn fraction_len(text: &[u8], at: usize) -> usize
@@ -11,7 +11,7 @@ fn fraction_len(text: &[u8], at: usize) -> usize
     ensures value { result ≡ fraction_length (drop at text.now) }
     ensures within { at + result ≤ length text.now }
 {
-    if byte(text, at) == b'.' && byte(text, at + 1).is_ascii_digit() {
+    if byte_at(text, at) == b'.' && byte_at(text, at + 1).is_ascii_digit() {
         digits_end(text, at + 1) - at
     } else {
         0
@@ -36,13 +36,13 @@ fn exponent_len(text: &[u8], at: usize) -> usize
     ensures value { result ≡ exponent_length (drop at text.now) }
     ensures within { at + result ≤ length text.now }
 {
-    if !is_exponent_letter(byte(text, at)) {
+    if !is_exponent_letter(byte_at(text, at)) {
         return 0;
     }
-    let second = byte(text, at + 1);
+    let second = byte_at(text, at + 1);
     if second.is_ascii_digit() {
         digits_end(text, at + 1) - at
-    } else if is_sign(second) && byte(text, at + 2).is_ascii_digit() {
+    } else if is_sign(second) && byte_at(text, at + 2).is_ascii_digit() {
         digits_end(text, at + 2) - at
     } else {
         0

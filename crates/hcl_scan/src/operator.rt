@@ -1,7 +1,7 @@
 //! The operators.
 
 ghost use Rattle.std.specs.Prelude.{◌≡◌, Some, if◌then◌else◌};
-ghost use Rattle.hcl_scan.specs.Inner.Next.{single, compound, operator};
+ghost use Rattle.hcl_scan.specs.Inner.NextToken.{single, compound, operator};
 
 use hcl_token::Kind;
 

@@ -2,12 +2,12 @@
 
 ghost use Rattle.std.specs.Prelude.{◌≡◌, ◌==◌, ◌∷◌, ◌+◌, ◌<◌, ◌≤◌, ℕ, List, length, drop, true, false, ◌&&◌, slice_index};
 ghost use Rattle.std.specs.Char.{is_ascii_hexdigit};
-ghost use Rattle.hcl_scan.specs.Characters.{begins_line_end, is_sigil, sigil_length};
+ghost use Rattle.hcl_scan.specs.Characters.{is_at_line_end, is_sigil, sigil_length};
 ghost use Rattle.hcl_scan.specs.Lexeme.{comment_unit, inline_unit, quote_unit, is_simple_escape, has_four_hex, escape_length};
 ghost use Rattle.hcl_scan.specs.Runs.{UnitLength};
 ghost use Rattle.hcl_scan.specs.Inner.RunLength.{run_length};
 
-use crate::bytes::{begins_line_end, byte, is_plain_quoted};
+use crate::bytes::{byte_at, is_at_line_end, is_ordinary_quoted};
 
 /// A unit, told by its length.
 pub trait Unit {
@@ -15,33 +15,33 @@ pub trait Unit {
 
     /// How many bytes the unit at the place has, 0 where there is none; `fresh` says whether a line
     /// begins there.
-    fn len_at(&self, text: &[u8], at: usize, fresh: bool) -> usize
+    fn len_at(&self, text: &[u8], at: usize, at_line_start: bool) -> usize
         requires { at < length text.now }
-        ensures value { result ≡ len self.now fresh (drop at text.now) }
+        ensures value { result ≡ len self.now at_line_start (drop at text.now) }
         ensures within { at + result ≤ length text.now };
 
     /// Whether the byte is a unit wherever no line begins, and ends no line. Another byte can be one
     /// too: `len_at` decides.
-    fn is_plain(&self, b: u8) -> bool
+    fn is_ordinary(&self, b: u8) -> bool
         ensures unit { result ≡ true → (t : List ℕ) → len self.now false (b ∷ t) ≡ 1 }
         ensures line { result ≡ true → (b == 10) ≡ false };
 }
 
 /// How many of the four bytes at a place are plain, up to the first that is not; no line begins
 /// there.
-fn plain_by<U: Unit>(unit: &U, text: &[u8], at: usize) -> usize
+fn count_ordinary_of_4<U: Unit>(unit: &U, text: &[u8], at: usize) -> usize
     requires { at + 4 ≤ length text.now }
     ensures run { result + run_length (U.len unit.now) false (drop (at + result) text.now)
         ≡ run_length (U.len unit.now) false (drop at text.now) }
     ensures within { result ≤ 4 }
 {
-    if !unit.is_plain(text[at]) {
+    if !unit.is_ordinary(text[at]) {
         0
-    } else if !unit.is_plain(text[at + 1]) {
+    } else if !unit.is_ordinary(text[at + 1]) {
         1
-    } else if !unit.is_plain(text[at + 2]) {
+    } else if !unit.is_ordinary(text[at + 2]) {
         2
-    } else if !unit.is_plain(text[at + 3]) {
+    } else if !unit.is_ordinary(text[at + 3]) {
         3
     } else {
         4
@@ -49,7 +49,7 @@ fn plain_by<U: Unit>(unit: &U, text: &[u8], at: usize) -> usize
 }
 
 /// The end of the plain bytes from a place on, at which no line begins.
-fn plain_end<U: Unit>(unit: &U, text: &[u8], from: usize) -> usize
+fn ordinary_end<U: Unit>(unit: &U, text: &[u8], from: usize) -> usize
     requires { from ≤ length text.now }
     ensures run { result + run_length (U.len unit.now) false (drop result text.now)
         ≡ from + run_length (U.len unit.now) false (drop from text.now) }
@@ -58,17 +58,17 @@ fn plain_end<U: Unit>(unit: &U, text: &[u8], from: usize) -> usize
 {
     let mut at = from;
     while at + 4 <= text.len() {
-        let count = plain_by(unit, text, at);
+        let count = count_ordinary_of_4(unit, text, at);
         at += count;
         if count < 4 {
             return at;
         }
     }
-    last_plain_end(unit, text, at)
+    ordinary_end_bytewise(unit, text, at)
 }
 
 /// The same, byte by byte.
-fn last_plain_end<U: Unit>(unit: &U, text: &[u8], from: usize) -> usize
+fn ordinary_end_bytewise<U: Unit>(unit: &U, text: &[u8], from: usize) -> usize
     requires { from ≤ length text.now }
     ensures run { result + run_length (U.len unit.now) false (drop result text.now)
         ≡ from + run_length (U.len unit.now) false (drop from text.now) }
@@ -76,46 +76,46 @@ fn last_plain_end<U: Unit>(unit: &U, text: &[u8], from: usize) -> usize
     ensures onward { from ≤ result }
 {
     let mut at = from;
-    while at < text.len() && unit.is_plain(text[at]) {
+    while at < text.len() && unit.is_ordinary(text[at]) {
         at += 1;
     }
     at
 }
 
 /// The same where a line begins or not; where one begins no byte is gone over.
-fn past_plain<U: Unit>(unit: &U, text: &[u8], from: usize, fresh: bool) -> usize
+fn skip_ordinary<U: Unit>(unit: &U, text: &[u8], from: usize, at_line_start: bool) -> usize
     requires { from ≤ length text.now }
-    ensures run { result + run_length (U.len unit.now) fresh (drop result text.now)
-        ≡ from + run_length (U.len unit.now) fresh (drop from text.now) }
+    ensures run { result + run_length (U.len unit.now) at_line_start (drop result text.now)
+        ≡ from + run_length (U.len unit.now) at_line_start (drop from text.now) }
     ensures within { result ≤ length text.now }
     ensures onward { from ≤ result }
 {
-    if fresh {
+    if at_line_start {
         from
     } else {
-        plain_end(unit, text, from)
+        ordinary_end(unit, text, from)
     }
 }
 
 /// The end of the longest run of units from a place on; `fresh` says whether a line begins there.
-pub fn run_end<U: Unit>(unit: &U, text: &[u8], from: usize, fresh: bool) -> usize
+pub fn run_end<U: Unit>(unit: &U, text: &[u8], from: usize, at_line_start: bool) -> usize
     requires { from ≤ length text.now }
-    ensures value { result ≡ from + run_length (U.len unit.now) fresh (drop from text.now) }
+    ensures value { result ≡ from + run_length (U.len unit.now) at_line_start (drop from text.now) }
     ensures within { result ≤ length text.now }
 {
     let mut at = from;
-    let mut begins = fresh;
+    let mut is_line_start = at_line_start;
     'units: loop {
-        let on = past_plain(unit, text, at, begins);
+        let on = skip_ordinary(unit, text, at, is_line_start);
         if on == text.len() {
             return on;
         }
-        let len = unit.len_at(text, on, begins);
+        let len = unit.len_at(text, on, is_line_start);
         if len == 0 {
             return on;
         }
         at = on + len;
-        begins = text[at - 1] == b'\n';
+        is_line_start = text[at - 1] == b'\n';
     }
 }
 
@@ -126,10 +126,10 @@ impl Unit for CommentUnit {
     ghost len = { λ _. comment_unit };
 
     fn len_at(&self, text: &[u8], at: usize, _fresh: bool) -> usize {
-        if begins_line_end(text, at) { 0 } else { 1 }
+        if is_at_line_end(text, at) { 0 } else { 1 }
     }
 
-    fn is_plain(&self, b: u8) -> bool {
+    fn is_ordinary(&self, b: u8) -> bool {
         !((b == b'\n') | (b == b'\r'))
     }
 }
@@ -141,14 +141,14 @@ impl Unit for InlineUnit {
     ghost len = { λ _. inline_unit };
 
     fn len_at(&self, text: &[u8], at: usize, _fresh: bool) -> usize {
-        if text[at] == b'*' && byte(text, at + 1) == b'/' {
+        if text[at] == b'*' && byte_at(text, at + 1) == b'/' {
             0
         } else {
             1
         }
     }
 
-    fn is_plain(&self, b: u8) -> bool {
+    fn is_ordinary(&self, b: u8) -> bool {
         !((b == b'*') | (b == b'\n'))
     }
 }
@@ -156,7 +156,7 @@ impl Unit for InlineUnit {
 fn is_hex(text: &[u8], at: usize) -> bool
     ensures { result ≡ is_ascii_hexdigit (slice_index text.now at) }
 {
-    byte(text, at).is_ascii_hexdigit()
+    byte_at(text, at).is_ascii_hexdigit()
 }
 
 fn is_simple_escape(b: u8) -> bool
@@ -188,7 +188,7 @@ fn escape_len(text: &[u8], at: usize) -> usize
     ensures value { result ≡ escape_length (drop at text.now) }
     ensures within { at + result ≤ length text.now }
 {
-    let b = byte(text, at);
+    let b = byte_at(text, at);
     if is_simple_escape(b) {
         1
     } else if b == b'u' {
@@ -208,8 +208,8 @@ pub fn sigil_len(text: &[u8], at: usize, sigil: u8) -> usize
     ensures value { result ≡ sigil_length sigil (drop at text.now) }
     ensures within { at + result ≤ length text.now + 1 }
 {
-    let next = byte(text, at);
-    if next == sigil && byte(text, at + 1) == b'{' {
+    let next = byte_at(text, at);
+    if next == sigil && byte_at(text, at + 1) == b'{' {
         3
     } else if next == b'{' {
         0
@@ -240,14 +240,14 @@ impl Unit for QuoteUnit {
             sigil_len(text, at + 1, b)
         } else if b == b'"' {
             0
-        } else if begins_line_end(text, at) {
+        } else if is_at_line_end(text, at) {
             0
         } else {
             1
         }
     }
 
-    fn is_plain(&self, b: u8) -> bool {
-        is_plain_quoted(b)
+    fn is_ordinary(&self, b: u8) -> bool {
+        is_ordinary_quoted(b)
     }
 }

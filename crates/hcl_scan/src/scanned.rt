@@ -1,16 +1,16 @@
 //! A text with its cut.
 
 ghost use Rattle.std.specs.Prelude.{◌≡◌, ◌+◌, ◌<◌, ◌≤◌, ◌↔◌, [], Some, IsTrue, IsUtf8, length, drop, IfOk, IfErr, ◌⊎◌};
-ghost use Rattle.hcl_token.specs.CutText.{CutText, AreUtf8, kind_of, spelling_of, gap_of, clusters_of, item_of, joins_of, stretch_of};
-ghost use Rattle.hcl_token.specs.Items.{InOrder, pairs_of};
-ghost use Rattle.hcl_token.specs.Lists.{AreTokensOf};
+ghost use Rattle.hcl_token.specs.TokenizedText.{TokenizedText, AreUtf8, kind_of, spelling_of, gap_of, clusters_of, item_of, joins_of, pairs_in_range};
+ghost use Rattle.hcl_token.specs.Pairs.{InOrder, pairs_of};
+ghost use Rattle.hcl_token.specs.TokenLists.{IsTokenListOf};
 ghost use Rattle.hcl_token.specs.Place.{place_of};
-ghost use Rattle.hcl_scan.specs.Cut.{IsCut, MAX_TEXT};
+ghost use Rattle.hcl_scan.specs.Tokenization.{IsTokenization, MAX_TEXT};
 ghost use Rattle.hcl_scan.specs.Fault.{IsFault};
 ghost use Rattle.hcl_scan.specs.declared.fault.ScanFault.TheVariants.{Memory};
 
-use crate::cut::cut_of;
 use crate::fault::ScanFault;
+use crate::tokenize::tokenize;
 use hcl_token::{Item, Kind, Lines, Place, Places, Token, TokenList, Tokens};
 use std::alloc::Global;
 use std::marker::Model;
@@ -24,11 +24,11 @@ pub struct Scanned<'t> {
 }
 
 impl<'t> Model for Scanned<'t> {
-    ghost Value = { CutText };
+    ghost Value = { TokenizedText };
 
     ghost view = { λ s. s.tokens };
 
-    ghost invariant = { λ s. IsCut s.tokens.text s.tokens.pairs s.tokens.last };
+    ghost invariant = { λ s. IsTokenization s.tokens.text s.tokens.pairs s.tokens.last };
 }
 
 /// The cut of a text, or its fault.
@@ -39,7 +39,7 @@ impl<'t> Model for Scanned<'t> {
 /// HCL native syntax specification, Lexical Elements and Templates.
 pub fn scan<'t>(alloc: Global, text: &'t [u8]) -> Result<Scanned<'t>, ScanFault>
     ensures text { IfOk result (λ s. s.text ≡ text.now) }
-    ensures cut { IfOk result (λ s. IsCut text.now s.pairs s.last) }
+    ensures tokenization { IfOk result (λ s. IsTokenization text.now s.pairs s.last) }
     ensures fault { IfErr result
         (λ e. ((e ≡ Memory) × (length text.now ≤ MAX_TEXT) × IsUtf8 text.now)
         ⊎ IsFault text.now e) }
@@ -47,66 +47,66 @@ pub fn scan<'t>(alloc: Global, text: &'t [u8]) -> Result<Scanned<'t>, ScanFault>
     scan_in(alloc, Vec::new(alloc), text)
 }
 
-/// The same, with the tokens in a list that has room, as `Scanned::into_room` gives it back. What
+/// The same, with the tokens in a list that has room, as `Scanned::into_buffer` gives it back. What
 /// stands in the list is given up.
 pub fn scan_in<'t>(
     alloc: Global,
-    room: Vec<Token>,
+    buffer: Vec<Token>,
     text: &'t [u8],
 ) -> Result<Scanned<'t>, ScanFault>
     ensures text { IfOk result (λ s. s.text ≡ text.now) }
-    ensures cut { IfOk result (λ s. IsCut text.now s.pairs s.last) }
+    ensures tokenization { IfOk result (λ s. IsTokenization text.now s.pairs s.last) }
     ensures fault { IfErr result
         (λ e. ((e ≡ Memory) × (length text.now ≤ MAX_TEXT) × IsUtf8 text.now)
         ⊎ IsFault text.now e) }
 {
-    let (items, last_at) = cut_of(alloc, room, text)?;
-    Ok(Scanned::of_tokens(text, items, last_at))
+    let (items, last_gap_at) = tokenize(alloc, buffer, text)?;
+    Ok(Scanned::of_tokens(text, items, last_gap_at))
 }
 
 impl<'t> Scanned<'t> {
     /// A text with tokens that are its cut, and where its last gap begins.
-    pub fn of_tokens(text: &'t [u8], tokens: Vec<Token>, last_at: usize) -> Scanned<'t>
-        requires cut { IsCut text.now (pairs_of text.now tokens.items) (drop last_at text.now) }
-        requires order { InOrder 0 tokens.items last_at }
-        requires within { last_at ≤ length text.now }
+    pub fn of_tokens(text: &'t [u8], tokens: Vec<Token>, last_gap_at: usize) -> Scanned<'t>
+        requires tokenization { IsTokenization text.now (pairs_of text.now tokens.items) (drop last_gap_at text.now) }
+        requires order { InOrder 0 tokens.items last_gap_at }
+        requires within { last_gap_at ≤ length text.now }
         ensures text { result.text ≡ text.now }
-        ensures cut { IsCut text.now result.pairs result.last }
+        ensures tokenization { IsTokenization text.now result.pairs result.last }
     {
         Scanned {
-            tokens: Tokens::new(text, tokens, last_at),
+            tokens: Tokens::new(text, tokens, last_gap_at),
         }
     }
 
     /// The memory of the tokens, which are given up: an empty list with room for as many.
-    pub fn into_room(self) -> Vec<Token>
+    pub fn into_buffer(self) -> Vec<Token>
         ensures { result.items ≡ [] }
     {
-        self.tokens.into_room()
+        self.tokens.into_buffer()
     }
 
-    /// The tokens alone: the text may move, and `over` puts them together again.
-    pub fn without_text(self) -> TokenList
-        ensures { AreTokensOf self.entry result }
+    /// The tokens alone: the text may move, and `attach` puts them together again.
+    pub fn detach(self) -> TokenList
+        ensures { IsTokenListOf self.entry result }
     {
-        self.tokens.without_text()
+        self.tokens.detach()
     }
 
     /// The text with its cut, of which the tokens were kept.
-    pub fn over(text: &'t [u8], list: TokenList) -> Scanned<'t>
-        requires { (cut : CutText) × (cut.text ≡ text.now) × AreTokensOf cut list
-            × IsCut cut.text cut.pairs cut.last }
-        ensures { (cut : CutText) → cut.text ≡ text.now → AreTokensOf cut list → result ≡ cut }
+    pub fn attach(text: &'t [u8], list: TokenList) -> Scanned<'t>
+        requires { (cut : TokenizedText) × (cut.text ≡ text.now) × IsTokenListOf cut list
+            × IsTokenization cut.text cut.pairs cut.last }
+        ensures { (cut : TokenizedText) → cut.text ≡ text.now → IsTokenListOf cut list → result ≡ cut }
     {
         Scanned {
-            tokens: Tokens::over(text, list),
+            tokens: Tokens::attach(text, list),
         }
     }
 
     /// The text: the gaps and the tokens, one behind the other.
     pub fn text(&self) -> &'t [u8]
         ensures text { result.now ≡ self.now.text }
-        ensures cut { IsCut self.now.text self.now.pairs self.now.last }
+        ensures tokenization { IsTokenization self.now.text self.now.pairs self.now.last }
         ensures utf8 { AreUtf8 self.now.pairs }
     {
         self.tokens.text()
@@ -115,7 +115,7 @@ impl<'t> Scanned<'t> {
     /// The number of tokens.
     pub fn len(&self) -> usize
         ensures value { result ≡ length self.now.pairs }
-        ensures cut { IsCut self.now.text self.now.pairs self.now.last }
+        ensures tokenization { IsTokenization self.now.text self.now.pairs self.now.last }
     {
         self.tokens.len()
     }
@@ -189,13 +189,13 @@ impl<'t> Scanned<'t> {
     /// Whether `count` tokens from number `from` on stand in another text from number `to` on: of
     /// the same kinds, spelled alike, and with the same gaps between them. The gaps before the
     /// first are not compared.
-    pub fn same_stretch(&self, from: usize, other: &Scanned<'_>, to: usize, count: usize) -> bool
-        requires here { from + count ≤ length self.now.pairs }
-        requires there { to + count ≤ length other.now.pairs }
+    pub fn has_same_tokens(&self, from: usize, other: &Scanned<'_>, to: usize, count: usize) -> bool
+        requires self_range { from + count ≤ length self.now.pairs }
+        requires other_range { to + count ≤ length other.now.pairs }
         ensures { IsTrue result
-            ↔ (stretch_of self.now.pairs from count ≡ stretch_of other.now.pairs to count) }
+            ↔ (pairs_in_range self.now.pairs from count ≡ pairs_in_range other.now.pairs to count) }
     {
-        self.tokens.same_stretch(from, &other.tokens, to, count)
+        self.tokens.has_same_tokens(from, &other.tokens, to, count)
     }
 
     /// The line and the column of token `i`, from 1, found from the front of the text.

@@ -2,14 +2,14 @@
 
 ghost use Rattle.std.specs.Prelude.{◌≡◌, ◌+◌, ◌<◌, ◌≤◌, length, drop, slice_index, IsUtf8, Some, IfSome, if◌then◌else◌};
 ghost use Rattle.hcl_token.specs.declared.kind.Kind.TheVariants.{SeqClose, CloseBrace};
-ghost use Rattle.hcl_scan.specs.Inner.Next.{inline_comment, dot_token, punctuation, here_or_less, expression_token, quoted_token, gap_length, token};
+ghost use Rattle.hcl_scan.specs.Inner.NextToken.{inline_comment, dot_token, punctuation, heredoc_or_less, expression_token, quoted_token, gap_length, token};
 ghost use Rattle.hcl_scan.specs.Inner.Markers.{HasMarker};
 ghost use Rattle.hcl_scan.specs.Inner.Openings.{mode_view};
-ghost use Rattle.hcl_scan.specs.Modes.{closes_sequence};
+ghost use Rattle.hcl_scan.specs.Modes.{can_close_sequence};
 
-use crate::bytes::{behind_blanks, byte, digits_end, is_letter};
-use crate::here::{begins_intro, begins_opening, here_open, here_token, opening};
-use crate::ident::{begins_word, identifier, word_len};
+use crate::bytes::{byte_at, digits_end, is_letter, skip_whitespace};
+use crate::heredoc::{here_open, heredoc_token, is_at_heredoc_start, is_at_opening, opening};
+use crate::ident::{identifier, is_word_start, word_len};
 use crate::mode::Mode;
 use crate::number::number_len;
 use crate::operator::{equal, operator};
@@ -31,12 +31,12 @@ fn inline_comment(text: &[u8], body: usize) -> Option<(Kind, usize)>
 
 /// The token that begins with neither a letter nor a digit. A `}` closes a template sequence where
 /// `closes` says so.
-fn punctuation(text: &[u8], at: usize, closes: bool) -> Option<(Kind, usize)>
+fn punctuation(text: &[u8], at: usize, can_close: bool) -> Option<(Kind, usize)>
     requires { at < length text.now }
-    ensures { result ≡ punctuation closes (drop at text.now) }
+    ensures { result ≡ punctuation can_close (drop at text.now) }
 {
     let first = text[at];
-    let second = byte(text, at + 1);
+    let second = byte_at(text, at + 1);
     match first {
         b'\n' => Some((Kind::LineEnd, 1)),
         b'\r' => {
@@ -59,15 +59,15 @@ fn punctuation(text: &[u8], at: usize, closes: bool) -> Option<(Kind, usize)>
         }
         b'/' if second == b'*' => inline_comment(text, at + 2),
         b'.' if second.is_ascii_digit() => Some((Kind::DotIndex, digits_end(text, at + 1) - at)),
-        b'}' => close_token(closes),
+        b'}' => close_brace_token(can_close),
         b'~' => {
-            if second == b'}' && closes {
+            if second == b'}' && can_close {
                 Some((Kind::SeqClose, 2))
             } else {
                 None
             }
         }
-        _ => operator(first, second, byte(text, at + 2)),
+        _ => operator(first, second, byte_at(text, at + 2)),
     }
 }
 
@@ -76,11 +76,11 @@ fn dot_token(text: &[u8], at: usize) -> Option<(Kind, usize)>
     requires { at < length text.now }
     ensures { result ≡ dot_token (drop at text.now) }
 {
-    let second = byte(text, at + 1);
+    let second = byte_at(text, at + 1);
     if second.is_ascii_digit() {
         return Some((Kind::DotIndex, digits_end(text, at + 1) - at));
     }
-    if second == b'.' && byte(text, at + 2) == b'.' {
+    if second == b'.' && byte_at(text, at + 2) == b'.' {
         Some((Kind::Ellipsis, 3))
     } else {
         Some((Kind::Dot, 1))
@@ -91,12 +91,12 @@ fn dot_token(text: &[u8], at: usize) -> Option<(Kind, usize)>
 /// a template sequence where `closes` says so.
 ///
 /// The tokens that most texts are made of are told by their first byte.
-fn expression_token(text: &str, at: usize, first: u8, closes: bool) -> Option<(Kind, usize)>
+fn expression_token(text: &str, at: usize, first: u8, can_close: bool) -> Option<(Kind, usize)>
     requires within { at ≤ length text.now }
     requires utf8 { IsUtf8 (drop at text.now) }
     requires first { first ≡ slice_index text.now at }
     requires first_within { 0 < first → at < length text.now }
-    ensures { result ≡ expression_token closes (drop at text.now) }
+    ensures { result ≡ expression_token can_close (drop at text.now) }
 {
     if is_letter(first) {
         return Some((Kind::Identifier, word_len(text, at)));
@@ -105,24 +105,24 @@ fn expression_token(text: &str, at: usize, first: u8, closes: bool) -> Option<(K
     match first {
         b'\n' => Some((Kind::LineEnd, 1)),
         b'"' => Some((Kind::QuoteOpen, 1)),
-        b'=' => equal(byte(bytes, at + 1)),
+        b'=' => equal(byte_at(bytes, at + 1)),
         b'.' => dot_token(bytes, at),
         b',' => Some((Kind::Comma, 1)),
         b'{' => Some((Kind::OpenBrace, 1)),
-        b'}' => close_token(closes),
+        b'}' => close_brace_token(can_close),
         b'[' => Some((Kind::OpenBracket, 1)),
         b']' => Some((Kind::CloseBracket, 1)),
         b'(' => Some((Kind::OpenParen, 1)),
         b')' => Some((Kind::CloseParen, 1)),
-        _ => expression_at(text, at, closes),
+        _ => slow_expression_token(text, at, can_close),
     }
 }
 
 /// The token that begins with a `}`.
-fn close_token(closes: bool) -> Option<(Kind, usize)>
-    ensures { result ≡ (if closes then Some (SeqClose, 1) else Some (CloseBrace, 1)) }
+fn close_brace_token(can_close: bool) -> Option<(Kind, usize)>
+    ensures { result ≡ (if can_close then Some (SeqClose, 1) else Some (CloseBrace, 1)) }
 {
-    if closes {
+    if can_close {
         Some((Kind::SeqClose, 1))
     } else {
         Some((Kind::CloseBrace, 1))
@@ -130,40 +130,40 @@ fn close_token(closes: bool) -> Option<(Kind, usize)>
 }
 
 /// The token outside of literal text, whatever it begins with; none at the end.
-fn expression_at(text: &str, at: usize, closes: bool) -> Option<(Kind, usize)>
+fn slow_expression_token(text: &str, at: usize, can_close: bool) -> Option<(Kind, usize)>
     requires within { at ≤ length text.now }
     requires utf8 { IsUtf8 (drop at text.now) }
-    ensures { result ≡ expression_token closes (drop at text.now) }
+    ensures { result ≡ expression_token can_close (drop at text.now) }
 {
     if at == text.len() {
         None
     } else {
-        other_token(text, at, closes)
+        any_expression_token(text, at, can_close)
     }
 }
 
 /// The same where a byte stands.
-fn other_token(text: &str, at: usize, closes: bool) -> Option<(Kind, usize)>
+fn any_expression_token(text: &str, at: usize, can_close: bool) -> Option<(Kind, usize)>
     requires within { at < length text.now }
     requires utf8 { IsUtf8 (drop at text.now) }
-    ensures { result ≡ expression_token closes (drop at text.now) }
+    ensures { result ≡ expression_token can_close (drop at text.now) }
 {
     let bytes = text.as_bytes();
     let first = bytes[at];
-    if begins_word(first) {
+    if is_word_start(first) {
         identifier(text, at)
     } else if first.is_ascii_digit() {
         Some((Kind::Number, number_len(bytes, at)))
-    } else if begins_intro(bytes, at) {
-        here_or_less(here_open(text, at))
+    } else if is_at_heredoc_start(bytes, at) {
+        heredoc_or_less(here_open(text, at))
     } else {
-        punctuation(bytes, at, closes)
+        punctuation(bytes, at, can_close)
     }
 }
 
 /// Where `<<` opens no heredoc, its first byte is an operator.
-fn here_or_less(found: Option<(Kind, usize)>) -> Option<(Kind, usize)>
-    ensures { result ≡ here_or_less found }
+fn heredoc_or_less(found: Option<(Kind, usize)>) -> Option<(Kind, usize)>
+    ensures { result ≡ heredoc_or_less found }
 {
     match found {
         Some(opening) => Some(opening),
@@ -176,10 +176,10 @@ fn quoted_token(text: &[u8], at: usize) -> Option<(Kind, usize)>
     requires { at ≤ length text.now }
     ensures { result ≡ quoted_token (drop at text.now) }
 {
-    if byte(text, at) == b'"' {
+    if byte_at(text, at) == b'"' {
         return Some((Kind::QuoteClose, 1));
     }
-    if begins_opening(text, at) {
+    if is_at_opening(text, at) {
         return Some(opening(text, at));
     }
     let end = run_end(&QuoteUnit, text, at, false);
@@ -191,15 +191,15 @@ fn quoted_token(text: &[u8], at: usize) -> Option<(Kind, usize)>
 }
 
 /// A `}` here closes a template sequence.
-fn closes_sequence(mode: Mode<'_>) -> bool
-    ensures { result ≡ closes_sequence (mode_view mode.entry) }
+fn can_close_sequence(mode: Mode<'_>) -> bool
+    ensures { result ≡ can_close_sequence (mode_view mode.entry) }
 {
     matches!(mode, Mode::Sequence)
 }
 
 /// What stands behind a place: a gap, and a token or none.
 #[derive(Clone, Copy)]
-pub struct Next {
+pub struct NextToken {
     /// Where the gap ends.
     pub start: usize,
     /// The kind of the token and its length.
@@ -207,7 +207,7 @@ pub struct Next {
 }
 
 /// The gap from a place on and the token behind it; no token where none can be cut, and at the end.
-pub fn step(text: &str, at: usize, mode: Mode<'_>) -> Next
+pub fn next_token(text: &str, at: usize, mode: Mode<'_>) -> NextToken
     requires within { at ≤ length text.now }
     requires utf8 { IsUtf8 (drop at text.now) }
     requires marker { HasMarker (mode_view mode) }
@@ -219,18 +219,21 @@ pub fn step(text: &str, at: usize, mode: Mode<'_>) -> Next
 {
     let bytes = text.as_bytes();
     match mode {
-        Mode::Quoted => Next {
+        Mode::Quoted => NextToken {
             start: at,
             token: quoted_token(bytes, at),
         },
-        Mode::Heredoc { marker, fresh } => Next {
+        Mode::Heredoc {
+            marker,
+            at_line_start,
+        } => NextToken {
             start: at,
-            token: here_token(bytes, at, marker, fresh),
+            token: heredoc_token(bytes, at, marker, at_line_start),
         },
         _ => {
-            let (start, first) = behind_blanks(bytes, at);
-            let token = expression_token(text, start, first, closes_sequence(mode));
-            Next { start, token }
+            let (start, first) = skip_whitespace(bytes, at);
+            let token = expression_token(text, start, first, can_close_sequence(mode));
+            NextToken { start, token }
         }
     }
 }

@@ -10,55 +10,55 @@ use Rattle.std.specs.Cmp.Derive.{both_true}
 use Rattle.unicode_ident.proofs.IdentLemmas.{is_xid_continue-ascii}
 use Rattle.hcl_token.specs.declared.kind.Kind.{Kind}
 use Rattle.hcl_token.specs.declared.kind.Kind.TheVariants as k
-use Rattle.hcl_token.specs.Joins.{begins_with, ends_with, joins_with}
-use Rattle.hcl_scan.specs.Characters.{continues}
+use Rattle.hcl_token.specs.Joins.{starts_with, ends_with, joins_with}
+use Rattle.hcl_scan.specs.Characters.{is_id_continue}
 use Rattle.hcl_scan.specs.Modes.{Mode}
 use Rattle.hcl_scan.specs.Lexeme.{Spells, IsLongest}
 use Rattle.hcl_grammar_laws.specs.Glue.{glues}
-use Rattle.hcl_text_laws.proofs.Longer.{longer, longer_1, front_of, spelt, by_front, digit_of, number_more, number_dot, dot_more, word_more, word_continues, word_some}
+use Rattle.hcl_text_laws.proofs.Longer.{longer, longer_1, mark_prefix, spelt, by_front, digit_of, number_more, number_dot, dot_more, word_more, word_continues, word_some}
 
 ascii_one : (d : ℕ) → d < 128 → IsAscii (d ∷ [])
 ascii_one d h zero = h
 ascii_one d h (suc i) = omega arith
 
 -- one ASCII character more
-word_one : (mode : Mode) (s n r : List ℕ) (d : ℕ) (tail : List ℕ) → n ≡ d ∷ tail → d < 128 → continues d ≡ true → IsLongest mode k.Identifier s (n ++ r) → ⊥
+word_one : (mode : Mode) (s n r : List ℕ) (d : ℕ) (tail : List ℕ) → n ≡ d ∷ tail → d < 128 → is_id_continue d ≡ true → IsLongest mode k.Identifier s (n ++ r) → ⊥
 word_one mode s n r d tail e h c g =
     let ascii = ascii_one d h in
-    let all : list_all continues (chars (d ∷ [])) ≡ true = subst (λ cs. list_all continues cs ≡ true) (sym (chars-IsAscii (d ∷ []) ascii)) (both_true c refl) in
+    let all : list_all is_id_continue (chars (d ∷ [])) ≡ true = subst (λ cs. list_all is_id_continue cs ≡ true) (sym (chars-IsAscii (d ∷ []) ascii)) (both_true c refl) in
     longer_1 mode k.Identifier k.Identifier s d (tail ++ r) (subst (λ n. IsLongest mode k.Identifier s (n ++ r)) e g) (g.0.0, word_more s (d ∷ []) g.0.1 (IsUtf8-from_ascii (d ∷ []) ascii) all)
 
-digit_continues : (d : ℕ) → is_ascii_digit d ≡ true → continues d ≡ true
+digit_continues : (d : ℕ) → is_ascii_digit d ≡ true → is_id_continue d ≡ true
 digit_continues d h = let ascii : d < 128 = grind (arith, nat_tests) in rw (is_xid_continue-ascii d ascii) (grind (arith, nat_tests))
 
 digit_byte : (d : ℕ) → is_ascii_digit d ≡ true → d < 128
 digit_byte d h = grind (arith, nat_tests)
 
-dash_continues : continues 45 ≡ true
+dash_continues : is_id_continue 45 ≡ true
 dash_continues = rw (is_xid_continue-ascii 45 (omega arith)) refl
 
 -- `.` and a digit
 dot_digit : (mode : Mode) (d : ℕ) (r : List ℕ) → is_ascii_digit d ≡ true → Spells mode k.DotIndex (codes "." ++ d ∷ []) r
 dot_digit mode d r h = (d ∷ [], refl, both_true h refl)
 
-head_of : (n r : List ℕ) (b : ℕ) → begins_with b n ≡ true → slice_index (n ++ r) 0 ≡ b
-head_of n r b h = let f = front_of b n h in ap (λ n. slice_index (n ++ r) 0) f.is
+head_of : (n r : List ℕ) (b : ℕ) → starts_with b n ≡ true → slice_index (n ++ r) 0 ≡ b
+head_of n r b h = let f = mark_prefix b n h in ap (λ n. slice_index (n ++ r) 0) f.is
 
 -- a `/` has no `*` and no `/` behind it
-no_slash : (b : ℕ) (n r : List ℕ) → (b == 42 || b == 47) ≡ true → begins_with b n ≡ true → (slice_index (n ++ r) 0 == 42 || slice_index (n ++ r) 0 == 47) ≡ false → ⊥
+no_slash : (b : ℕ) (n r : List ℕ) → (b == 42 || b == 47) ≡ true → starts_with b n ≡ true → (slice_index (n ++ r) 0 == 42 || slice_index (n ++ r) 0 == 47) ≡ false → ⊥
 no_slash b n r c h g = let clash : true ≡ false = sym c ∙ ap (λ b. b == 42 || b == 47) (sym (head_of n r b h)) ∙ g in absurd (cc)
 
-open_with : (s n : List ℕ) → (not (ends_with 126 s) && begins_with 126 n) ≡ true → begins_with 126 n ≡ true
-open_with s n h = (and_parts (not (ends_with 126 s)) (begins_with 126 n) h).1
+open_with : (s n : List ℕ) → (not (ends_with 126 s) && starts_with 126 n) ≡ true → starts_with 126 n ≡ true
+open_with s n h = (and_parts (not (ends_with 126 s)) (starts_with 126 n) h).1
 
-open_no : (s n : List ℕ) → (not (ends_with 126 s) && begins_with 126 n) ≡ true → ends_with 126 s ≡ true → ⊥
-open_no s n h e = let clash : true ≡ false = sym (and_parts (not (ends_with 126 s)) (begins_with 126 n) h).0 ∙ ap not e in absurd (cc)
+open_no : (s n : List ℕ) → (not (ends_with 126 s) && starts_with 126 n) ≡ true → ends_with 126 s ≡ true → ⊥
+open_no s n h e = let clash : true ≡ false = sym (and_parts (not (ends_with 126 s)) (starts_with 126 n) h).0 ∙ ap not e in absurd (cc)
 
-tilde_interp : (mode : Mode) (s n r : List ℕ) → Spells mode k.InterpOpen s (n ++ r) → IsLongest mode k.InterpOpen s (n ++ r) → (not (ends_with 126 s) && begins_with 126 n) ≡ true → ⊥
+tilde_interp : (mode : Mode) (s n r : List ℕ) → Spells mode k.InterpOpen s (n ++ r) → IsLongest mode k.InterpOpen s (n ++ r) → (not (ends_with 126 s) && starts_with 126 n) ≡ true → ⊥
 tilde_interp mode s n r (inl e) g h = by_front mode k.InterpOpen k.InterpOpen s (codes "${") 126 n r e refl (λ r. inr refl) (open_with s n h) g
 tilde_interp mode s n r (inr e) g h = open_no s n h (ap (ends_with 126) e)
 
-tilde_directive : (mode : Mode) (s n r : List ℕ) → Spells mode k.DirectiveOpen s (n ++ r) → IsLongest mode k.DirectiveOpen s (n ++ r) → (not (ends_with 126 s) && begins_with 126 n) ≡ true → ⊥
+tilde_directive : (mode : Mode) (s n r : List ℕ) → Spells mode k.DirectiveOpen s (n ++ r) → IsLongest mode k.DirectiveOpen s (n ++ r) → (not (ends_with 126 s) && starts_with 126 n) ≡ true → ⊥
 tilde_directive mode s n r (inl e) g h = by_front mode k.DirectiveOpen k.DirectiveOpen s (codes "%{") 126 n r e refl (λ r. inr refl) (open_with s n h) g
 tilde_directive mode s n r (inr e) g h = open_no s n h (ap (ends_with 126) e)
 
@@ -91,7 +91,7 @@ module _ (mode other : Mode) (s n r : List ℕ) where
   less_row _ g h = absurd (by_front mode k.Less k.LessEqual s (codes "<") 61 n r (spelt (codes "<") s g.0.1) refl (λ r. refl) h g)
 
   equal_row : (b : Kind) → IsLongest mode k.Equal s (n ++ r) → joins_with k.Equal s b n ≡ true → ⊥
-  equal_row b g h = elim (or_cases (begins_with 61 n) (begins_with 62 n) h) [
+  equal_row b g h = elim (or_cases (starts_with 61 n) (starts_with 62 n) h) [
     | inl e ↦ by_front mode k.Equal k.DoubleEqual s (codes "=") 61 n r (spelt (codes "=") s g.0.1) refl (λ r. refl) e g
     | inr e ↦ by_front mode k.Equal k.FatArrow s (codes "=") 62 n r (spelt (codes "=") s g.0.1) refl (λ r. refl) e g
   ]
@@ -113,7 +113,7 @@ module _ (mode other : Mode) (s n r : List ℕ) where
   dot_row _ g w h = absurd (cc)
 
   slash_row : (b : Kind) → IsLongest mode k.Slash s (n ++ r) → Spells other b n r → joins_with k.Slash s b n ≡ true → ⊥
-  slash_row k.Star g w h = no_slash 42 n r refl (ap (begins_with 42) (spelt (codes "*") n w)) g.0.1.1
+  slash_row k.Star g w h = no_slash 42 n r refl (ap (starts_with 42) (spelt (codes "*") n w)) g.0.1.1
   slash_row _ g w h = no_slash 47 n r refl h g.0.1.1
 
   interp_row : (b : Kind) → IsLongest mode k.InterpOpen s (n ++ r) → joins_with k.InterpOpen s b n ≡ true → ⊥

@@ -1,7 +1,7 @@
 -- Which faults there are, and where in the text they stand.
 use Rattle.std.specs.Prelude.{ℕ, length, unwrap_or}
 use Rattle.std.specs.Option.{option_map}
-use Rattle.hcl_token.specs.CutText.{CutText, item_of}
+use Rattle.hcl_token.specs.TokenizedText.{TokenizedText, item_of}
 use Rattle.hcl_token.specs.declared.item.Item.{Item}
 use Rattle.hcl_grammar.specs.declared.fault.TokenFault.{TokenFault}
 use Rattle.hcl_grammar.specs.declared.fault.TokenFault.TheVariants as token
@@ -20,12 +20,12 @@ IsMemoryOrDeep (fault.TooDeep at) = Unit {0}
 IsMemoryOrDeep (fault.Syntax at) = ⊥
 
 -- the byte where a token begins; the length of the text, if there is none
-abbrev pub start_of : CutText → ℕ → ℕ
-start_of t number =
+abbrev pub byte_offset : TokenizedText → ℕ → ℕ
+byte_offset t number =
     unwrap_or (option_map (λ (i : Item). i.start) (item_of t.pairs number)) (length t.text)
 
 -- a fault by the number of its token, as one by its byte
-abbrev pub in_bytes : CutText → TokenFault → ParseFault
-in_bytes t (token.Syntax number) = fault.Syntax (start_of t number)
-in_bytes t (token.TooDeep number) = fault.TooDeep (start_of t number)
-in_bytes t token.Memory = fault.Memory
+abbrev pub to_parse_fault : TokenizedText → TokenFault → ParseFault
+to_parse_fault t (token.Syntax number) = fault.Syntax (byte_offset t number)
+to_parse_fault t (token.TooDeep number) = fault.TooDeep (byte_offset t number)
+to_parse_fault t token.Memory = fault.Memory

@@ -1,8 +1,8 @@
 -- Which texts parse.
 use Rattle.std.specs.Prelude.{◌≡◌, ℕ, ◌≤◌, false, List, length}
 use Rattle.hcl_token.specs.Tokens.{Pair, whole_text}
-use Rattle.hcl_scan.specs.Cut.{MAX_TEXT, IsCut}
-use Rattle.hcl_scan.specs.Follows.{AreApart, AreGaps, tokens_of}
+use Rattle.hcl_scan.specs.Tokenization.{MAX_TEXT, IsTokenization}
+use Rattle.hcl_scan.specs.Follows.{AreApart, AreAllowedGaps, tokens_of}
 use Rattle.hcl_grammar.specs.declared.bounds.TheConstants.{MAX_NESTING}
 use Rattle.hcl_grammar.specs.declared.tree.Tree.{Tree}
 use Rattle.hcl_grammar.specs.Bodies.{IsFile}
@@ -11,13 +11,13 @@ use Rattle.hcl_grammar.specs.Bodies.{IsFile}
 pub record Parses (text : List ℕ) (t : Tree) : Type 0 where
   pub pairs : List Pair
   pub last : List ℕ
-  pub cut : IsCut text pairs last
+  pub tokenization : IsTokenization text pairs last
   pub derived : IsFile (tokens_of pairs) MAX_NESTING t
 
 -- a text that parses has no empty gap between two tokens that join
-abbrev pub ParsedApart : Type 0
-ParsedApart = (text : List ℕ) (pairs : List Pair) (last : List ℕ) (d : ℕ) (t : Tree)
-    → IsCut text pairs last → IsFile (tokens_of pairs) d t → AreApart pairs
+abbrev pub ParsedTokensAreApart : Type 0
+ParsedTokensAreApart = (text : List ℕ) (pairs : List Pair) (last : List ℕ) (d : ℕ) (t : Tree)
+    → IsTokenization text pairs last → IsFile (tokens_of pairs) d t → AreApart pairs
 
 -- a text has one tree at most
 abbrev pub OneParse : Type 0
@@ -25,9 +25,9 @@ OneParse = (text : List ℕ) (t u : Tree) → Parses text t → Parses text u �
 
 -- The same tokens with other gaps: where each gap can stand between its tokens, and none is empty
 -- between two that join, they are the cut of the text that they make, and it has the same tree.
-abbrev pub Regapped : Type 0
-Regapped = (text : List ℕ) (pairs others : List Pair) (last other : List ℕ) (d : ℕ) (t : Tree)
-    → IsCut text pairs last → IsFile (tokens_of pairs) d t
-    → tokens_of others ≡ tokens_of pairs → AreGaps false others other → AreApart others
+abbrev pub OtherGapsParse : Type 0
+OtherGapsParse = (text : List ℕ) (pairs others : List Pair) (last other : List ℕ) (d : ℕ) (t : Tree)
+    → IsTokenization text pairs last → IsFile (tokens_of pairs) d t
+    → tokens_of others ≡ tokens_of pairs → AreAllowedGaps false others other → AreApart others
     → length (whole_text others other) ≤ MAX_TEXT
-    → IsCut (whole_text others other) others other × IsFile (tokens_of others) d t
+    → IsTokenization (whole_text others other) others other × IsFile (tokens_of others) d t

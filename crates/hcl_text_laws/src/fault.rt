@@ -1,7 +1,7 @@
 //! Why a text does not parse.
 
 ghost use Rattle.std.specs.Prelude.{◌≡◌};
-ghost use Rattle.hcl_text_laws.specs.Faults.{start_of, in_bytes};
+ghost use Rattle.hcl_text_laws.specs.Faults.{byte_offset, to_parse_fault};
 
 use hcl_grammar::fault::TokenFault;
 use hcl_scan::Scanned;
@@ -25,8 +25,8 @@ pub enum ParseFault {
 }
 
 /// The byte where a token begins; the length of the text, if there is none.
-fn start_of(scanned: &Scanned<'_>, number: usize) -> usize
-    ensures { result ≡ start_of scanned.now number }
+fn byte_offset(scanned: &Scanned<'_>, number: usize) -> usize
+    ensures { result ≡ byte_offset scanned.now number }
 {
     if number < scanned.len() {
         scanned.item(number).start as usize
@@ -36,15 +36,15 @@ fn start_of(scanned: &Scanned<'_>, number: usize) -> usize
 }
 
 /// A fault by the number of its token, as one by its byte.
-pub fn in_bytes(scanned: &Scanned<'_>, fault: TokenFault) -> ParseFault
-    ensures { result ≡ in_bytes scanned.now fault }
+pub fn to_parse_fault(scanned: &Scanned<'_>, fault: TokenFault) -> ParseFault
+    ensures { result ≡ to_parse_fault scanned.now fault }
 {
     match fault {
         TokenFault::Syntax(number) => ParseFault::Syntax {
-            at: start_of(scanned, number),
+            at: byte_offset(scanned, number),
         },
         TokenFault::TooDeep(number) => ParseFault::TooDeep {
-            at: start_of(scanned, number),
+            at: byte_offset(scanned, number),
         },
         TokenFault::Memory => ParseFault::Memory,
     }

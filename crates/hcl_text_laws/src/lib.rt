@@ -4,4 +4,4 @@
 mod fault;
 pub mod laws;
 
-pub use fault::{ParseFault, in_bytes};
+pub use fault::{ParseFault, to_parse_fault};

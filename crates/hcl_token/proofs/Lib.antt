@@ -3,8 +3,8 @@ pub mod CountLemmas
 pub mod ClusterLemmas
 pub mod OrderLemmas
 pub mod LineLemmas
-pub mod MilestoneLemmas
+pub mod LineColumnLemmas
 pub mod PlaceLemmas
-pub mod StretchLemmas
+pub mod TokenRangeLemmas
 pub mod TokensLemmas
-pub mod RunLemmas
+pub mod SameTokensLemmas

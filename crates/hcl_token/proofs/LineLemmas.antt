@@ -81,8 +81,8 @@ last_line-append_none (b ∷ s) t e =
     ] refl
 
 -- what stands behind an LF of a text in UTF-8 is in UTF-8
-utf8_behind : (t : List ℕ) (k : ℕ) → k < length t → is_lf (get_or t k 0) ≡ true → IsUtf8 t → IsUtf8 (drop (suc k) t)
-utf8_behind t k inside h u =
+utf8_after : (t : List ℕ) (k : ℕ) → k < length t → is_lf (get_or t k 0) ≡ true → IsUtf8 t → IsUtf8 (drop (suc k) t)
+utf8_after t k inside h u =
     let byte : get_or t k 0 ≡ 10 = eqb-true (get_or t k 0) 10 h in
     let boundary : IsCharBoundary t (k + 1) = IsCharBoundary-after_ascii t k u inside (omega arith) in
     let more : k + 1 ≡ suc k = omega arith in
@@ -106,8 +106,8 @@ last_part t k =
     let more : k + 1 ≡ suc k = omega arith in
     take_all (length t - (k + 1)) (drop (k + 1) t) (omega (arith, length-drop (k + 1) t)) ∙ ap (λ n. drop n t) more
 
-none_behind : (t : List ℕ) (k : ℕ) → NoneAfter (Passes (is_byte 10) t) 0 (length t) k → list_any is_lf (drop (suc k) t) ≡ false
-none_behind t k h =
+none_after : (t : List ℕ) (k : ℕ) → NoneAfter (Passes (is_byte 10) t) 0 (length t) k → list_any is_lf (drop (suc k) t) ≡ false
+none_after t k h =
     list_any_none is_lf (drop (suc k) t) (λ i d inside.
     let within : suc k + i < length t = omega (arith, length-drop (suc k) t) in
     let fails : ¬ Passes (is_byte 10) t (suc k + i) = h.after (suc k + i) (omega arith) within in
@@ -115,7 +115,7 @@ none_behind t k h =
     ap is_lf same ∙ not_true _ fails)
 
 pub last_line_found : (t : List ℕ) (k : ℕ) → NoneAfter (Passes (is_byte 10) t) 0 (length t) k × Passes (is_byte 10) t k → drop (suc k) t ≡ last_line t
-last_line_found t k h = sym (last_line-after t k h.1 (none_behind t k h.0))
+last_line_found t k h = sym (last_line-after t k h.1 (none_after t k h.0))
 
 -- what a search tells that finds none
 pub none_found : (t : List ℕ) → Nowhere (Passes (is_byte 10) t) 0 (length t) → list_any is_lf t ≡ false
@@ -150,6 +150,6 @@ last_line_begin (b ∷ t) h =
 pub utf8_last_line : (t : List ℕ) → IsUtf8 t → IsUtf8 (last_line t)
 utf8_last_line t u =
     elim (list_any is_lf t) as (λ v. list_any is_lf t ≡ v → IsUtf8 (last_line t)) [
-      | true ↦ λ e. let (k, inside, found, is) = last_line_begin t e in subst IsUtf8 (sym is) (utf8_behind t k inside found u)
+      | true ↦ λ e. let (k, inside, found, is) = last_line_begin t e in subst IsUtf8 (sym is) (utf8_after t k inside found u)
       | false ↦ λ e. subst IsUtf8 (sym (last_line-none t e)) u
     ] refl

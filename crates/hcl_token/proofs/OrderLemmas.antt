@@ -5,9 +5,9 @@ use Rattle.std.proofs.lemmas.List.Folds.{drop_split}
 use Rattle.hcl_token.specs.declared.item.Item.{Item}
 use Rattle.hcl_token.specs.declared.token.Token.{Token}
 use Rattle.hcl_token.specs.Tokens.{Pair, whole_text}
-use Rattle.hcl_token.specs.Items.{pair_at, pairs_from, pairs_of, InOrder}
-use Rattle.hcl_token.specs.CutText.{AreUtf8, item_behind}
-use Rattle.hcl_token.specs.Inner.Milestones.{gap_at, gap_from, IsOrdered}
+use Rattle.hcl_token.specs.Pairs.{pair_at, pairs_from, pairs_of, InOrder}
+use Rattle.hcl_token.specs.TokenizedText.{AreUtf8, item_after}
+use Rattle.hcl_token.specs.Inner.LineColumn.{gap_at, gap_from, IsWellFormed}
 
 pub order-le : (tokens : List Token) (from last : ℕ) → InOrder from tokens last → from ≤ last
 order-le [] from last o = omega arith
@@ -53,10 +53,10 @@ pub gap-first : (tokens : List Token) (from : ℕ) → gap_from from tokens 0 �
 gap-first [] from = refl
 gap-first (x ∷ tokens) from = refl
 
-pub gap-behind : (tokens : List Token) (from i : ℕ) (d : Token) → i < length tokens → gap_from from tokens (suc i) ≡ (get_or tokens i d).stop
-gap-behind [] from i d h = absurd (omega arith)
-gap-behind (x ∷ tokens) from zero d h = gap-first tokens x.stop
-gap-behind (x ∷ tokens) from (suc i) d h = gap-behind tokens x.stop i d (omega arith)
+pub gap-after : (tokens : List Token) (from i : ℕ) (d : Token) → i < length tokens → gap_from from tokens (suc i) ≡ (get_or tokens i d).stop
+gap-after [] from i d h = absurd (omega arith)
+gap-after (x ∷ tokens) from zero d h = gap-first tokens x.stop
+gap-after (x ∷ tokens) from (suc i) d h = gap-after tokens x.stop i d (omega arith)
 
 gap-drop : (tokens : List Token) (from i k : ℕ) → gap_from (gap_from from tokens i) (drop i tokens) k ≡ gap_from from tokens (i + k)
 gap-drop tokens from zero k = ap (λ n. gap_from n tokens k) (gap-first tokens from) ∙ ap (gap_from from tokens) (omega arith)
@@ -138,7 +138,7 @@ pub record IsTokenAt (text : List ℕ) (tokens : List Token) (i : ℕ) (token : 
   pub spelling_utf8 : IsUtf8 (slice_range text token.start token.stop)
   pub pair : slice_get (pairs_of text tokens) i ≡ Some (pair_at text (gap_at tokens i) token)
 
-pub token_at : (text : List ℕ) (tokens : List Token) (last i : ℕ) (token d : Token) → IsOrdered text tokens last → i < length tokens → token ≡ get_or tokens i d
+pub token_at : (text : List ℕ) (tokens : List Token) (last i : ℕ) (token d : Token) → IsWellFormed text tokens last → i < length tokens → token ≡ get_or tokens i d
     → IsTokenAt text tokens i token
 token_at text tokens last i token d o h e =
     let places = order-at tokens 0 last i d o.order h in
@@ -169,9 +169,9 @@ same_item item gap_at start stop e f g =
     let with_stop : ℕ → Item = λ n. record { gap_at = gap_at; start = start; stop = n; kind = item.kind } in
     ap with_gap e ∙ ap with_start f ∙ ap with_stop g
 
-pub item_is : (text : List ℕ) (tokens : List Token) (last i at : ℕ) (token : Token) → IsOrdered text tokens last → at ≡ gap_at tokens i → IsTokenAt text tokens i token
+pub item_is : (text : List ℕ) (tokens : List Token) (last i at : ℕ) (token : Token) → IsWellFormed text tokens last → at ≡ gap_at tokens i → IsTokenAt text tokens i token
     → let item : Item = record { gap_at = at; start = token.start; stop = token.stop; kind = token.kind } in
-    item ≡ item_behind (take i (pairs_of text tokens)) (pair_at text (gap_at tokens i) token)
+    item ≡ item_after (take i (pairs_of text tokens)) (pair_at text (gap_at tokens i) token)
 item_is text tokens last i at token o begins k =
     let from : ℕ = gap_at tokens i in
     let before : List Pair = take i (pairs_of text tokens) in

@@ -6,9 +6,9 @@ use Rattle.std.specs.List.{list_all}
 use Rattle.hcl_token.specs.declared.kind.Kind.{Kind}
 use Rattle.hcl_token.specs.declared.kind.Kind.TheVariants.{Identifier, Number, DotIndex, Minus, Star, Slash, Bang, Less, Greater, Colon, Equal, Dot, Ellipsis, SeqClose, InterpOpen, DirectiveOpen}
 
-abbrev pub begins_with : ℕ → List ℕ → Bool
-begins_with byte [] = false
-begins_with byte (b ∷ spelling) = b == byte
+abbrev pub starts_with : ℕ → List ℕ → Bool
+starts_with byte [] = false
+starts_with byte (b ∷ spelling) = b == byte
 
 abbrev pub ends_with : ℕ → List ℕ → Bool
 ends_with byte [] = false
@@ -20,60 +20,60 @@ abbrev pub is_digits : List ℕ → Bool
 is_digits spelling = list_all (λ b. nat_le 48 b && nat_le b 57) spelling
 
 -- behind an Identifier: Identifier, Number, `-`
-abbrev pub after_identifier : Kind → Bool
-after_identifier Identifier = true
-after_identifier Number = true
-after_identifier Minus = true
-after_identifier _ = false
+abbrev pub joins_after_identifier : Kind → Bool
+joins_after_identifier Identifier = true
+joins_after_identifier Number = true
+joins_after_identifier Minus = true
+joins_after_identifier _ = false
 
 -- behind a Number: Number; an Identifier that begins with `e` or `E`; behind digits alone a
 -- DotIndex
-abbrev pub after_number : List ℕ → Kind → List ℕ → Bool
-after_number number Number next = true
-after_number number Identifier next = begins_with 101 next || begins_with 69 next
-after_number number DotIndex next = is_digits number
-after_number number _ next = false
+abbrev pub joins_after_number : List ℕ → Kind → List ℕ → Bool
+joins_after_number number Number next = true
+joins_after_number number Identifier next = starts_with 101 next || starts_with 69 next
+joins_after_number number DotIndex next = is_digits number
+joins_after_number number _ next = false
 
 -- behind a DotIndex: Number
-abbrev pub after_dot_index : Kind → Bool
-after_dot_index Number = true
-after_dot_index _ = false
+abbrev pub joins_after_dot_index : Kind → Bool
+joins_after_dot_index Number = true
+joins_after_dot_index _ = false
 
 -- behind `<`: `<`, or a token that begins with `=`
-abbrev pub after_less : Kind → List ℕ → Bool
-after_less Less next = true
-after_less _ next = begins_with 61 next
+abbrev pub joins_after_less : Kind → List ℕ → Bool
+joins_after_less Less next = true
+joins_after_less _ next = starts_with 61 next
 
 -- behind `.`: Number, `.`, `...`, DotIndex
-abbrev pub after_dot : Kind → Bool
-after_dot Number = true
-after_dot Dot = true
-after_dot Ellipsis = true
-after_dot DotIndex = true
-after_dot _ = false
+abbrev pub joins_after_dot : Kind → Bool
+joins_after_dot Number = true
+joins_after_dot Dot = true
+joins_after_dot Ellipsis = true
+joins_after_dot DotIndex = true
+joins_after_dot _ = false
 
 -- behind `/`: `*`, or a token that begins with `/`
-abbrev pub after_slash : Kind → List ℕ → Bool
-after_slash Star next = true
-after_slash _ next = begins_with 47 next
+abbrev pub joins_after_slash : Kind → List ℕ → Bool
+joins_after_slash Star next = true
+joins_after_slash _ next = starts_with 47 next
 
 -- behind `${` or `%{` without `~`: `~}`
-abbrev pub after_opening : List ℕ → Kind → List ℕ → Bool
-after_opening opening SeqClose next = not (ends_with 126 opening) && begins_with 126 next
-after_opening opening _ next = false
+abbrev pub joins_after_opening : List ℕ → Kind → List ℕ → Bool
+joins_after_opening opening SeqClose next = not (ends_with 126 opening) && starts_with 126 next
+joins_after_opening opening _ next = false
 
 -- a token of this kind and this spelling joins with one of that kind and that spelling
 abbrev pub joins_with : Kind → List ℕ → Kind → List ℕ → Bool
-joins_with Identifier first kind next = after_identifier kind
-joins_with Number first kind next = after_number first kind next
-joins_with DotIndex first kind next = after_dot_index kind
-joins_with Less first kind next = after_less kind next
-joins_with Greater first kind next = begins_with 61 next
-joins_with Equal first kind next = begins_with 61 next || begins_with 62 next
-joins_with Bang first kind next = begins_with 61 next
-joins_with Colon first kind next = begins_with 58 next
-joins_with Dot first kind next = after_dot kind
-joins_with Slash first kind next = after_slash kind next
-joins_with InterpOpen first kind next = after_opening first kind next
-joins_with DirectiveOpen first kind next = after_opening first kind next
+joins_with Identifier first kind next = joins_after_identifier kind
+joins_with Number first kind next = joins_after_number first kind next
+joins_with DotIndex first kind next = joins_after_dot_index kind
+joins_with Less first kind next = joins_after_less kind next
+joins_with Greater first kind next = starts_with 61 next
+joins_with Equal first kind next = starts_with 61 next || starts_with 62 next
+joins_with Bang first kind next = starts_with 61 next
+joins_with Colon first kind next = starts_with 58 next
+joins_with Dot first kind next = joins_after_dot kind
+joins_with Slash first kind next = joins_after_slash kind next
+joins_with InterpOpen first kind next = joins_after_opening first kind next
+joins_with DirectiveOpen first kind next = joins_after_opening first kind next
 joins_with _ first kind next = false

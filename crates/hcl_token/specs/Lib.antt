@@ -1,8 +1,8 @@
-pub mod CutText
+pub mod TokenizedText
 pub mod Inner
-pub mod Items
+pub mod Pairs
 pub mod Joins
-pub mod Lists
+pub mod TokenLists
 pub mod Place
 pub mod TokenSpan
 pub mod Tokens

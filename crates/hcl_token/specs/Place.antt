@@ -20,8 +20,8 @@ is_mark Mark = true
 is_mark _ = false
 
 -- what of a token counts: nothing of the byte order mark, all of any other token
-abbrev pub counted : Pair → List ℕ
-counted p = if is_mark p.kind then [] else p.spelling
+abbrev pub counted_bytes : Pair → List ℕ
+counted_bytes p = if is_mark p.kind then [] else p.spelling
 
 -- no byte order mark has an LF: all LFs before a token count
 abbrev pub MarksHaveNoLf : List Pair → Type 0
@@ -32,7 +32,7 @@ MarksHaveNoLf pairs =
 abbrev pub pieces_before : List Pair → ℕ → List (List ℕ)
 pieces_before [] i = []
 pieces_before (p ∷ ps) zero = p.gap ∷ []
-pieces_before (p ∷ ps) (suc i) = p.gap ∷ counted p ∷ pieces_before ps i
+pieces_before (p ∷ ps) (suc i) = p.gap ∷ counted_bytes p ∷ pieces_before ps i
 
 -- what stands behind the last LF of a text, or all of it where there is none
 abbrev pub last_line : List ℕ → List ℕ

@@ -2,20 +2,20 @@
 
 ghost use Rattle.std.specs.Prelude.{◌≡◌, IsUtf8};
 ghost use Rattle.hcl_token.specs.Place.{clusters};
-ghost use Rattle.hcl_token.specs.Inner.Plain.{is_plain};
+ghost use Rattle.hcl_token.specs.Inner.AsciiText.{is_ascii_without_cr};
 
 use unicode_segmentation::UnicodeSegmentation;
 
 /// Whether a text is ASCII without CR, so that each byte is a cluster.
-pub(crate) fn is_plain(text: &[u8]) -> bool
-    ensures { result ≡ is_plain text.now }
+pub(crate) fn is_ascii_without_cr(text: &[u8]) -> bool
+    ensures { result ≡ is_ascii_without_cr text.now }
 {
     // no early end: over whole lines at a time the processor does this many bytes at once
-    let mut plain = true;
+    let mut ascii = true;
     for byte in text {
-        plain &= (*byte < 128) & (*byte != 13);
+        ascii &= (*byte < 128) & (*byte != 13);
     }
-    plain
+    ascii
 }
 
 fn clusters_of_str(text: &str) -> usize
@@ -29,7 +29,7 @@ pub fn clusters(text: &[u8]) -> usize
     requires { IsUtf8 text.now }
     ensures { result ≡ clusters text.now }
 {
-    if is_plain(text) {
+    if is_ascii_without_cr(text) {
         return text.len();
     }
     match str::from_utf8(text) {

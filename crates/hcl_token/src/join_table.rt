@@ -1,12 +1,12 @@
 //! Which tokens join.
 
 ghost use Rattle.std.specs.Prelude.{◌≡◌, ℕ};
-ghost use Rattle.hcl_token.specs.Joins.{joins_with, begins_with, ends_with, is_digits, after_number, after_opening};
+ghost use Rattle.hcl_token.specs.Joins.{joins_with, starts_with, ends_with, is_digits, joins_after_number, joins_after_opening};
 
 use crate::kind::Kind;
 
-fn begins_with(spelling: &[u8], byte: u8) -> bool
-    ensures { result ≡ begins_with byte spelling.now }
+fn starts_with(spelling: &[u8], byte: u8) -> bool
+    ensures { result ≡ starts_with byte spelling.now }
 {
     match spelling.first() {
         Some(first) => *first == byte,
@@ -29,22 +29,22 @@ fn is_digits(spelling: &[u8]) -> bool
     spelling.iter().all(|b| (48 <= *b) & (*b <= 57))
 }
 
-fn after_number(number: &[u8], kind: Kind, next: &[u8]) -> bool
-    ensures { result ≡ after_number number.now kind next.now }
+fn joins_after_number(number: &[u8], kind: Kind, next: &[u8]) -> bool
+    ensures { result ≡ joins_after_number number.now kind next.now }
 {
     match kind {
         Kind::Number => true,
-        Kind::Identifier => begins_with(next, b'e') | begins_with(next, b'E'),
+        Kind::Identifier => starts_with(next, b'e') | starts_with(next, b'E'),
         Kind::DotIndex => is_digits(number),
         _ => false,
     }
 }
 
-fn after_opening(opening: &[u8], kind: Kind, next: &[u8]) -> bool
-    ensures { result ≡ after_opening opening.now kind next.now }
+fn joins_after_opening(opening: &[u8], kind: Kind, next: &[u8]) -> bool
+    ensures { result ≡ joins_after_opening opening.now kind next.now }
 {
     match kind {
-        Kind::SeqClose => !ends_with(opening, b'~') & begins_with(next, b'~'),
+        Kind::SeqClose => !ends_with(opening, b'~') & starts_with(next, b'~'),
         _ => false,
     }
 }
@@ -58,19 +58,19 @@ pub fn joins(first: Kind, first_spelling: &[u8], second: Kind, second_spelling: 
 {
     match first {
         Kind::Identifier => matches!(second, Kind::Identifier | Kind::Number | Kind::Minus),
-        Kind::Number => after_number(first_spelling, second, second_spelling),
+        Kind::Number => joins_after_number(first_spelling, second, second_spelling),
         Kind::DotIndex => matches!(second, Kind::Number),
-        Kind::Less => matches!(second, Kind::Less) || begins_with(second_spelling, b'='),
-        Kind::Greater | Kind::Bang => begins_with(second_spelling, b'='),
-        Kind::Equal => begins_with(second_spelling, b'=') | begins_with(second_spelling, b'>'),
-        Kind::Colon => begins_with(second_spelling, b':'),
+        Kind::Less => matches!(second, Kind::Less) || starts_with(second_spelling, b'='),
+        Kind::Greater | Kind::Bang => starts_with(second_spelling, b'='),
+        Kind::Equal => starts_with(second_spelling, b'=') | starts_with(second_spelling, b'>'),
+        Kind::Colon => starts_with(second_spelling, b':'),
         Kind::Dot => matches!(
             second,
             Kind::Number | Kind::Dot | Kind::Ellipsis | Kind::DotIndex
         ),
-        Kind::Slash => matches!(second, Kind::Star) || begins_with(second_spelling, b'/'),
+        Kind::Slash => matches!(second, Kind::Star) || starts_with(second_spelling, b'/'),
         Kind::InterpOpen | Kind::DirectiveOpen => {
-            after_opening(first_spelling, second, second_spelling)
+            joins_after_opening(first_spelling, second, second_spelling)
         }
         _ => false,
     }

@@ -2,11 +2,11 @@
 
 ghost use Rattle.std.specs.Prelude.{◌≡◌, ◌<◌, ℕ, List, length};
 ghost use Rattle.hcl_token.specs.Tokens.{Pair};
-ghost use Rattle.hcl_token.specs.Items.{pairs_of};
-ghost use Rattle.hcl_token.specs.Inner.Milestones.{IsOnLine, IsOrdered};
+ghost use Rattle.hcl_token.specs.Pairs.{pairs_of};
+ghost use Rattle.hcl_token.specs.Inner.LineColumn.{IsOnLine, IsWellFormed};
 ghost use Rattle.hcl_token.specs.Place.{MarksHaveNoLf, line_of};
 
-use crate::milestone::{gap_line, token_line};
+use crate::line_column::{gap_line, token_line};
 use crate::token::Token;
 use std::marker::Model;
 
@@ -32,7 +32,7 @@ impl<'s> Model for Lines<'s> {
 
 impl<'s> Lines<'s> {
     pub(crate) fn new(text: &'s [u8], tokens: &'s [Token]) -> Lines<'s>
-        requires order { (last : ℕ) × IsOrdered text.now tokens.now last }
+        requires order { (last : ℕ) × IsWellFormed text.now tokens.now last }
         requires marks { MarksHaveNoLf (pairs_of text.now tokens.now) }
         ensures { result ≡ pairs_of text.now tokens.now }
     {

@@ -2,11 +2,11 @@
 
 ghost use Rattle.std.specs.Prelude.{◌≡◌, ◌<◌, ℕ, List, length};
 ghost use Rattle.hcl_token.specs.Tokens.{Pair};
-ghost use Rattle.hcl_token.specs.Items.{pairs_of};
-ghost use Rattle.hcl_token.specs.Inner.Milestones.{IsAt, IsOrdered};
+ghost use Rattle.hcl_token.specs.Pairs.{pairs_of};
+ghost use Rattle.hcl_token.specs.Inner.LineColumn.{IsGapPlace, IsWellFormed};
 ghost use Rattle.hcl_token.specs.Place.{place_of};
 
-use crate::milestone::{FIRST, gap_place, token_place};
+use crate::line_column::{FIRST_PLACE, gap_place, token_place};
 use crate::place::Place;
 use crate::token::Token;
 use std::marker::Model;
@@ -27,19 +27,19 @@ impl<'s> Model for Places<'s> {
 
     ghost view = { λ p. pairs_of p.text.now p.tokens.now };
 
-    ghost invariant = { λ p. (last : ℕ) × IsAt p.text.now p.tokens.now last p.from p.at };
+    ghost invariant = { λ p. (last : ℕ) × IsGapPlace p.text.now p.tokens.now last p.from p.at };
 }
 
 impl<'s> Places<'s> {
     pub(crate) fn new(text: &'s [u8], tokens: &'s [Token]) -> Places<'s>
-        requires { (last : ℕ) × IsOrdered text.now tokens.now last }
+        requires { (last : ℕ) × IsWellFormed text.now tokens.now last }
         ensures { result ≡ pairs_of text.now tokens.now }
     {
         Places {
             text,
             tokens,
             from: 0,
-            at: FIRST,
+            at: FIRST_PLACE,
         }
     }
 
@@ -50,7 +50,7 @@ impl<'s> Places<'s> {
         ensures same { self.new ≡ self.old }
     {
         let at = if i < self.from {
-            gap_place(self.text, self.tokens, 0, FIRST, i)
+            gap_place(self.text, self.tokens, 0, FIRST_PLACE, i)
         } else {
             gap_place(self.text, self.tokens, self.from, self.at, i)
         };

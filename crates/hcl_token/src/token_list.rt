@@ -7,5 +7,5 @@ use crate::token::Token;
 #[derive(Drop)]
 pub struct TokenList {
     pub(crate) tokens: Vec<Token>,
-    pub(crate) last_at: u32,
+    pub(crate) last_gap_at: u32,
 }

@@ -2,22 +2,22 @@
 
 ghost use Rattle.std.specs.Prelude.{◌≡◌, ◌+◌, ◌<◌, ◌≤◌, ◌↔◌, [], length, drop, IsTrue, IsUtf8, Some};
 ghost use Rattle.hcl_token.specs.declared.tokens.TheConstants.{MAX_TEXT};
-ghost use Rattle.hcl_token.specs.CutText.{CutText, AreUtf8, kind_of, spelling_of, gap_of, clusters_of, item_of, joins_of, stretch_of};
-ghost use Rattle.hcl_token.specs.Items.{InOrder, cut_text, pairs_of};
+ghost use Rattle.hcl_token.specs.TokenizedText.{TokenizedText, AreUtf8, kind_of, spelling_of, gap_of, clusters_of, item_of, joins_of, pairs_in_range};
+ghost use Rattle.hcl_token.specs.Pairs.{InOrder, tokenized_text, pairs_of};
 ghost use Rattle.hcl_token.specs.Place.{MarksHaveNoLf, place_of};
-ghost use Rattle.hcl_token.specs.Inner.Milestones.{IsOrdered};
-ghost use Rattle.hcl_token.specs.Lists.{AreTokensOf};
+ghost use Rattle.hcl_token.specs.Inner.LineColumn.{IsWellFormed};
+ghost use Rattle.hcl_token.specs.TokenLists.{IsTokenListOf};
 ghost use Rattle.hcl_token.specs.Tokens.{whole_text};
 
 use crate::graphemes::clusters;
 use crate::item::Item;
 use crate::join_table::joins;
 use crate::kind::Kind;
+use crate::line_column::{gap_at, slice, token_range};
 use crate::lines::Lines;
-use crate::milestone::{gap_at, part, stretch};
 use crate::place::Place;
 use crate::places::Places;
-use crate::run::same_run;
+use crate::same_tokens::are_same_tokens;
 use crate::token::Token;
 use crate::token_list::TokenList;
 use std::marker::Model;
@@ -32,64 +32,64 @@ pub const MAX_TEXT: usize = 16_777_216;
 pub struct Tokens<'t> {
     text: &'t [u8],
     tokens: Vec<Token>,
-    last_at: u32,
+    last_gap_at: u32,
 }
 
 impl<'t> Model for Tokens<'t> {
-    ghost Value = { CutText };
+    ghost Value = { TokenizedText };
 
-    ghost view = { λ t. cut_text t.text.now t.tokens.items t.last_at };
+    ghost view = { λ t. tokenized_text t.text.now t.tokens.items t.last_gap_at };
 
-    ghost invariant = { λ t. IsOrdered t.text.now t.tokens.items t.last_at };
+    ghost invariant = { λ t. IsWellFormed t.text.now t.tokens.items t.last_gap_at };
 }
 
 impl<'t> Tokens<'t> {
     /// The tokens of a text, which stand one behind the other from its front, and the offset in
     /// bytes of the gap behind the last of them.
-    pub fn new(text: &'t [u8], tokens: Vec<Token>, last_at: usize) -> Tokens<'t>
-        requires order { InOrder 0 tokens.items last_at }
-        requires within { last_at ≤ length text.now }
+    pub fn new(text: &'t [u8], tokens: Vec<Token>, last_gap_at: usize) -> Tokens<'t>
+        requires order { InOrder 0 tokens.items last_gap_at }
+        requires within { last_gap_at ≤ length text.now }
         requires short { length text.now ≤ MAX_TEXT }
         requires utf8 { AreUtf8 (pairs_of text.now tokens.items) }
         ensures text { result.text ≡ text.now }
         ensures pairs { result.pairs ≡ pairs_of text.now tokens.items }
-        ensures last { result.last ≡ drop last_at text.now }
+        ensures last { result.last ≡ drop last_gap_at text.now }
     {
         Tokens {
             text,
             tokens,
-            last_at: last_at as u32,
+            last_gap_at: last_gap_at as u32,
         }
     }
 
     /// The memory of the tokens, which are given up: an empty list with room for as many.
-    pub fn into_room(self) -> Vec<Token>
+    pub fn into_buffer(self) -> Vec<Token>
         ensures { result.items ≡ [] }
     {
-        let mut room = self.tokens;
-        room.clear();
-        room
+        let mut buffer = self.tokens;
+        buffer.clear();
+        buffer
     }
 
     /// The tokens alone.
-    pub fn without_text(self) -> TokenList
-        ensures { AreTokensOf self.entry result }
+    pub fn detach(self) -> TokenList
+        ensures { IsTokenListOf self.entry result }
     {
         TokenList {
             tokens: self.tokens,
-            last_at: self.last_at,
+            last_gap_at: self.last_gap_at,
         }
     }
 
     /// The text with these of its tokens again.
-    pub fn over(text: &'t [u8], list: TokenList) -> Tokens<'t>
-        requires { (cut : CutText) × (cut.text ≡ text.now) × AreTokensOf cut list }
-        ensures { (cut : CutText) → cut.text ≡ text.now → AreTokensOf cut list → result ≡ cut }
+    pub fn attach(text: &'t [u8], list: TokenList) -> Tokens<'t>
+        requires { (tokenized : TokenizedText) × (tokenized.text ≡ text.now) × IsTokenListOf tokenized list }
+        ensures { (tokenized : TokenizedText) → tokenized.text ≡ text.now → IsTokenListOf tokenized list → result ≡ tokenized }
     {
         Tokens {
             text,
             tokens: list.tokens,
-            last_at: list.last_at,
+            last_gap_at: list.last_gap_at,
         }
     }
 
@@ -147,7 +147,7 @@ impl<'t> Tokens<'t> {
         ensures utf8 { IsUtf8 result.now }
     {
         let token = self.tokens[i];
-        part(self.text, token.start(), token.stop())
+        slice(self.text, token.start(), token.stop())
     }
 
     /// The gap before token `i`.
@@ -157,14 +157,14 @@ impl<'t> Tokens<'t> {
         ensures utf8 { IsUtf8 result.now }
     {
         let token = self.tokens[i];
-        part(self.text, gap_at(&self.tokens, i), token.start())
+        slice(self.text, gap_at(&self.tokens, i), token.start())
     }
 
     /// The gap behind the last token.
     pub fn last_gap(&self) -> &'t [u8]
         ensures { result.now ≡ self.now.last }
     {
-        &self.text[self.last_at as usize..]
+        &self.text[self.last_gap_at as usize..]
     }
 
     /// Whether token `i` joins with token `j`, if that stands right behind it with an empty gap
@@ -193,18 +193,18 @@ impl<'t> Tokens<'t> {
     /// Whether `count` tokens from number `from` on stand in another text from number `to` on: of
     /// the same kinds, spelled alike, and with the same gaps between them. The gaps before the
     /// first are not compared.
-    pub fn same_stretch(&self, from: usize, other: &Tokens<'_>, to: usize, count: usize) -> bool
-        requires here { from + count ≤ length self.now.pairs }
-        requires there { to + count ≤ length other.now.pairs }
+    pub fn has_same_tokens(&self, from: usize, other: &Tokens<'_>, to: usize, count: usize) -> bool
+        requires self_range { from + count ≤ length self.now.pairs }
+        requires other_range { to + count ≤ length other.now.pairs }
         ensures { IsTrue result
-            ↔ (stretch_of self.now.pairs from count ≡ stretch_of other.now.pairs to count) }
+            ↔ (pairs_in_range self.now.pairs from count ≡ pairs_in_range other.now.pairs to count) }
     {
         if count == 0 {
             return true;
         }
-        let tokens = stretch(&self.tokens, from, from + count);
-        let others = stretch(&other.tokens, to, to + count);
-        same_run(self.text, tokens, other.text, others)
+        let tokens = token_range(&self.tokens, from, from + count);
+        let others = token_range(&other.tokens, to, to + count);
+        are_same_tokens(self.text, tokens, other.text, others)
     }
 
     /// The line and the column of token `i`, from 1, found from the front of the text.

@@ -1,10 +1,10 @@
 -- A turn of the pure parser of bodies, of which so many are left; and a file, part by part.
 use Rattle.std.proofs.Common.{◌≡◌, ◌≢◌, ℕ, zero, suc, Bool, true, false, List, [], ◌∷◌, ◌++◌, length, Some, None, Result, Ok, Err, refl, subst}
 use Rattle.hcl_grammar.specs.Nodes as node
-use Rattle.hcl_grammar.specs.Pure.BodyParser.{deeper_members, ended, file, member_of, members, members_from}
-use Rattle.hcl_grammar.specs.Pure.Parser.{line}
-use Rattle.hcl_grammar.specs.Pure.Reading.{past}
-use Rattle.hcl_grammar.specs.Tokens.{Token, first_of, next}
+use Rattle.hcl_grammar.specs.Pure.BodyParser.{deeper_members, expect_end, file, member_of, members, members_from}
+use Rattle.hcl_grammar.specs.Pure.Parser.{eat_newline}
+use Rattle.hcl_grammar.specs.Pure.Reading.{after_if_next}
+use Rattle.hcl_grammar.specs.Tokens.{Token, first_token_in, next_kind}
 use Rattle.hcl_grammar.specs.declared.fault.TokenFault.{TokenFault}
 use Rattle.hcl_grammar.specs.declared.fault.TokenFault.TheVariants.{Memory}
 use Rattle.hcl_grammar.specs.declared.tree.Member.{Member}
@@ -24,16 +24,16 @@ module _ (ts : List Token) (d : ℕ) where
   pub begins : (i : ℕ) → members ts d i ≡ left (length ts) [] i
   begins i = at_depth ts d i
 
-  module _ (n : ℕ) (ms : List Member) (at : ℕ) {b : Bool} {behind : ℕ} (e : line ts at ≡ Ok (b, behind)) where
+  module _ (n : ℕ) (ms : List Member) (at : ℕ) {b : Bool} {behind : ℕ} (e : eat_newline ts at ≡ Ok (b, behind)) where
     pub at_line : b ≡ true → left (suc n) ms at ≡ left n ms behind
     unfolding members_from
     at_line is = rw (e, is) refl
 
-    pub at_member : b ≡ false → {x : Member} {past : ℕ} → member_of ts d (deeper_members ts d) behind ≡ Ok (Some x, past) → left (suc n) ms at ≡ left n (ms ++ x ∷ []) past
+    pub at_member : b ≡ false → {x : Member} {after_if_next : ℕ} → member_of ts d (deeper_members ts d) behind ≡ Ok (Some x, after_if_next) → left (suc n) ms at ≡ left n (ms ++ x ∷ []) after_if_next
     unfolding members_from
     at_member is found = rw (e, is, found) refl
 
-    pub at_none : b ≡ false → {past : ℕ} → member_of ts d (deeper_members ts d) behind ≡ Ok (None, past) → left (suc n) ms at ≡ Ok (ms, past)
+    pub at_none : b ≡ false → {after_if_next : ℕ} → member_of ts d (deeper_members ts d) behind ≡ Ok (None, after_if_next) → left (suc n) ms at ≡ Ok (ms, after_if_next)
     unfolding members_from
     at_none is found = rw (e, is, found) refl
 
@@ -46,36 +46,36 @@ module _ (ts : List Token) (d : ℕ) where
   at_end ms at = refl
 
 module _ (ts : List Token) (d i : ℕ) where
-  unread_body : (f : TokenFault) → members ts d (past ts false k.Mark i) ≡ Err f → file ts d i ≡ Err f
+  unread_body : (f : TokenFault) → members ts d (after_if_next ts false k.Mark i) ≡ Err f → file ts d i ≡ Err f
   unfolding file
   unread_body f e = rw e refl
 
-  unread_end : (ms : List Member) (j : ℕ) (f : TokenFault) → members ts d (past ts false k.Mark i) ≡ Ok (ms, j)
-      → ended ts (next ts false (past ts false k.LineComment j)) (past ts false k.LineComment j) ≡ Err f → file ts d i ≡ Err f
+  unread_end : (ms : List Member) (j : ℕ) (f : TokenFault) → members ts d (after_if_next ts false k.Mark i) ≡ Ok (ms, j)
+      → expect_end ts (next_kind ts false (after_if_next ts false k.LineComment j)) (after_if_next ts false k.LineComment j) ≡ Err f → file ts d i ≡ Err f
   unfolding file
   unread_end ms j f e h = rw (e, h) refl
 
-  whole_file : (ms : List Member) (j new : ℕ) → members ts d (past ts false k.Mark i) ≡ Ok (ms, j)
-      → ended ts (next ts false (past ts false k.LineComment j)) (past ts false k.LineComment j) ≡ Ok (tt, new)
-      → file ts d i ≡ Ok (node.tree (length ts) (node.body (first_of ts false (past ts false k.Mark i) j) j ms), new)
+  whole_file : (ms : List Member) (j new : ℕ) → members ts d (after_if_next ts false k.Mark i) ≡ Ok (ms, j)
+      → expect_end ts (next_kind ts false (after_if_next ts false k.LineComment j)) (after_if_next ts false k.LineComment j) ≡ Ok (tt, new)
+      → file ts d i ≡ Ok (node.tree (length ts) (node.body (first_token_in ts false (after_if_next ts false k.Mark i) j) j ms), new)
   unfolding file
   whole_file ms j new e h = rw (e, h) refl
 
   -- a body that is refused is the fault of the file
-  pub body_refused : (f : TokenFault) (at : ℕ) → at ≡ past ts false k.Mark i → (f ≢ Memory → members ts d at ≡ Err f) → f ≢ Memory → file ts d i ≡ Err f
+  pub body_refused : (f : TokenFault) (at : ℕ) → at ≡ after_if_next ts false k.Mark i → (f ≢ Memory → members ts d at ≡ Err f) → f ≢ Memory → file ts d i ≡ Err f
   body_refused f at is h other = unread_body f (subst (λ n. members ts d n ≡ Err f) is (h other))
 
   -- and so is what stands behind it
-  pub end_refused : (ms : List Member) (f : TokenFault) (at j behind : ℕ) → at ≡ past ts false k.Mark i → members ts d at ≡ Ok (ms, j) → behind ≡ past ts false k.LineComment j
-      → ended ts (next ts false behind) behind ≡ Err f → file ts d i ≡ Err f
+  pub end_refused : (ms : List Member) (f : TokenFault) (at j behind : ℕ) → at ≡ after_if_next ts false k.Mark i → members ts d at ≡ Ok (ms, j) → behind ≡ after_if_next ts false k.LineComment j
+      → expect_end ts (next_kind ts false behind) behind ≡ Err f → file ts d i ≡ Err f
   end_refused ms f at j behind is e is_behind h =
-      unread_end ms j f (subst (λ n. members ts d n ≡ Ok (ms, j)) is e) (subst (λ n. ended ts (next ts false n) n ≡ Err f) is_behind h)
+      unread_end ms j f (subst (λ n. members ts d n ≡ Ok (ms, j)) is e) (subst (λ n. expect_end ts (next_kind ts false n) n ≡ Err f) is_behind h)
 
   -- the tree of these members
   abbrev pub file_tree : List Member → ℕ → Tree
-  file_tree ms j = node.tree (length ts) (node.body (first_of ts false (past ts false k.Mark i) j) j ms)
+  file_tree ms j = node.tree (length ts) (node.body (first_token_in ts false (after_if_next ts false k.Mark i) j) j ms)
 
-  pub file_read : (ms : List Member) (at j behind new : ℕ) → at ≡ past ts false k.Mark i → members ts d at ≡ Ok (ms, j) → behind ≡ past ts false k.LineComment j
-      → ended ts (next ts false behind) behind ≡ Ok (tt, new) → file ts d i ≡ Ok (file_tree ms j, new)
+  pub file_read : (ms : List Member) (at j behind new : ℕ) → at ≡ after_if_next ts false k.Mark i → members ts d at ≡ Ok (ms, j) → behind ≡ after_if_next ts false k.LineComment j
+      → expect_end ts (next_kind ts false behind) behind ≡ Ok (tt, new) → file ts d i ≡ Ok (file_tree ms j, new)
   file_read ms at j behind new is e is_behind h =
-      whole_file ms j new (subst (λ n. members ts d n ≡ Ok (ms, j)) is e) (subst (λ n. ended ts (next ts false n) n ≡ Ok (tt, new)) is_behind h)
+      whole_file ms j new (subst (λ n. members ts d n ≡ Ok (ms, j)) is e) (subst (λ n. expect_end ts (next_kind ts false n) n ≡ Ok (tt, new)) is_behind h)

@@ -4,8 +4,8 @@
 
 ghost use Rattle.std.specs.Prelude.{◌≡◌, length, []};
 ghost use Rattle.hcl_grammar.specs.Pure.Reading.{Reads};
-ghost use Rattle.hcl_grammar_laws.specs.Members.{IsMember};
-ghost use Rattle.hcl_tree.specs.Rules as spec;
+ghost use Rattle.hcl_grammar_laws.specs.Members.{IsMemberResult};
+ghost use Rattle.hcl_tree.specs.BodyRules as spec;
 
 use crate::labels::labels;
 use hcl_expr::Reader;
@@ -17,19 +17,19 @@ use hcl_token::Kind;
 use plain_tree::Items;
 
 /// At most one attribute, of a block on one line.
-#[tactic(auto, unfolding(hcl_grammar::specs::Pure::BodyParser::on_line))]
-fn on_line(reader: &Reader<'_, '_>, at: &mut usize) -> Result<Content, TokenFault>
-    ensures { Reads (spec.on_line reader.now at.old) result at.new }
+#[tactic(auto, unfolding(hcl_grammar::specs::Pure::BodyParser::one_line_body))]
+fn one_line_body(reader: &Reader<'_, '_>, at: &mut usize) -> Result<Content, TokenFault>
+    ensures { Reads (spec.one_line_body reader.now at.old) result at.new }
 {
-    let lines = reader.on_lines();
-    let first = lines.start(*at);
+    let lines = reader.outside_brackets();
+    let first = lines.next_index(*at);
     if !lines.eat(Kind::Identifier, at) {
-        return Ok(Content::Line(None));
+        return Ok(Content::OneLine(None));
     }
     lines.expect(Kind::Equal, at)?;
-    let value = lines.boxed(Goal::Whole, at)?;
+    let value = lines.boxed_expr(Goal::Whole, at)?;
     let attribute = nodes::attribute(first, *at, value);
-    Ok(nodes::line(reader.alloc(), attribute)?)
+    Ok(nodes::one_line(reader.alloc(), attribute)?)
 }
 
 /// An attribute, behind its name and `=`.
@@ -37,7 +37,7 @@ fn on_line(reader: &Reader<'_, '_>, at: &mut usize) -> Result<Content, TokenFaul
 fn attribute(reader: &Reader<'_, '_>, first: usize, at: &mut usize) -> Result<Member, TokenFault>
     ensures { Reads (spec.attribute reader.now first at.old) result at.new }
 {
-    let value = reader.on_lines().boxed(Goal::Whole, at)?;
+    let value = reader.outside_brackets().boxed_expr(Goal::Whole, at)?;
     reader.eol(at)?;
     Ok(Member::Attribute(nodes::attribute(first, *at, value)))
 }
@@ -51,8 +51,8 @@ fn nested_body(reader: &Reader<'_, '_>, at: &mut usize) -> Result<Content, Token
     let from = *at;
     let members = members(reader, at)?;
     let to = *at;
-    let first = reader.on_lines().first_of(from, to);
-    Ok(nodes::lines(reader.alloc(), nodes::body(first, to, members))?)
+    let first = reader.outside_brackets().first_token_in(from, to);
+    Ok(nodes::block_body(reader.alloc(), nodes::body(first, to, members))?)
 }
 
 /// What stands behind the `{` of a block that was opened: a line end and a body, or what stands on
@@ -62,10 +62,10 @@ fn nested_body(reader: &Reader<'_, '_>, at: &mut usize) -> Result<Content, Token
 fn block_content(reader: &Reader<'_, '_>, at: &mut usize) -> Result<Content, TokenFault>
     ensures { Reads (spec.block_content reader.now at.old) result at.new }
 {
-    if reader.inner_line(at)? {
+    if reader.eat_inner_newline(at)? {
         return nested_body(reader, at);
     }
-    on_line(reader, at)
+    one_line_body(reader, at)
 }
 
 /// A block, behind its word.
@@ -74,9 +74,9 @@ fn block_content(reader: &Reader<'_, '_>, at: &mut usize) -> Result<Content, Tok
 fn block(reader: &Reader<'_, '_>, first: usize, at: &mut usize) -> Result<Member, TokenFault>
     ensures { Reads (spec.block reader.now first at.old) result at.new }
 {
-    let lines = reader.on_lines();
+    let lines = reader.outside_brackets();
     let labels = labels(reader, at)?;
-    let opening = lines.start(*at);
+    let opening = lines.next_index(*at);
     lines.expect(Kind::OpenBrace, at)?;
     let braces = reader.enter(opening, at)?;
     let content = block_content(&braces, at)?;
@@ -87,11 +87,15 @@ fn block(reader: &Reader<'_, '_>, first: usize, at: &mut usize) -> Result<Member
 
 /// An attribute or a block, behind its first word.
 #[cycle(nest)]
-#[tactic(auto, unfolding(hcl_grammar::specs::Pure::BodyParser::named_member))]
-fn named(reader: &Reader<'_, '_>, first: usize, at: &mut usize) -> Result<Member, TokenFault>
-    ensures { Reads (spec.named reader.now first at.old) result at.new }
+#[tactic(auto, unfolding(hcl_grammar::specs::Pure::BodyParser::attribute_or_block))]
+fn attribute_or_block(
+    reader: &Reader<'_, '_>,
+    first: usize,
+    at: &mut usize,
+) -> Result<Member, TokenFault>
+    ensures { Reads (spec.attribute_or_block reader.now first at.old) result at.new }
 {
-    if reader.on_lines().eat(Kind::Equal, at) {
+    if reader.outside_brackets().eat(Kind::Equal, at) {
         attribute(reader, first, at)
     } else {
         block(reader, first, at)
@@ -104,12 +108,12 @@ fn named(reader: &Reader<'_, '_>, first: usize, at: &mut usize) -> Result<Member
 fn next_member(reader: &Reader<'_, '_>, at: &mut usize) -> Result<Option<Member>, TokenFault>
     ensures { Reads (spec.member reader.now at.old) result at.new }
 {
-    let lines = reader.on_lines();
-    let first = lines.start(*at);
+    let lines = reader.outside_brackets();
+    let first = lines.next_index(*at);
     if !lines.eat(Kind::Identifier, at) {
         return Ok(None);
     }
-    Ok(Some(named(reader, first, at)?))
+    Ok(Some(attribute_or_block(reader, first, at)?))
 }
 
 /// The members of a body.
@@ -119,7 +123,7 @@ pub fn members(reader: &Reader<'_, '_>, at: &mut usize) -> Result<Items<Member>,
 {
     let mut found = Items::new(reader.alloc());
     for _turn in 0..reader.len() {
-        if reader.line(at) {
+        if reader.eat_newline(at) {
             continue;
         }
         let Some(member) = next_member(reader, at)? else {
@@ -135,9 +139,9 @@ pub fn members(reader: &Reader<'_, '_>, at: &mut usize) -> Result<Items<Member>,
 /// Line ends before it are not taken. A text's members, one behind the other, are what `parse`
 /// makes its tree of.
 pub fn member(reader: &Reader<'_, '_>, at: &mut usize) -> Result<Option<Member>, TokenFault>
-    ensures derived { IsMember reader.now.tokens reader.now.depth at.old result at.new }
+    ensures derived { IsMemberResult reader.now.tokens reader.now.depth at.old result at.new }
     ensures reads { Reads (spec.member reader.now at.old) result at.new }
 {
-    hcl_grammar_laws::laws::member_answers();
+    hcl_grammar_laws::laws::member_parser_is_exact();
     next_member(reader, at)
 }

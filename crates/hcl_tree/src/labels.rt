@@ -2,8 +2,8 @@
 //!
 //! HCL native syntax specification, Blocks.
 
-ghost use Rattle.hcl_grammar.specs.Pure.Reading.{Gives, Reads};
-ghost use Rattle.hcl_tree.specs.Rules as spec;
+ghost use Rattle.hcl_grammar.specs.Pure.Reading.{ReadsExactly, Reads};
+ghost use Rattle.hcl_tree.specs.BodyRules as spec;
 
 use hcl_expr::Reader;
 use hcl_grammar::fault::TokenFault;
@@ -15,10 +15,10 @@ use plain_tree::Items;
 /// A label in quotes, behind the opening quote, which is token `first`. It has no interpolation.
 #[tactic(auto, unfolding(hcl_grammar::specs::Pure::BodyParser::quoted_label))]
 fn quoted_label(reader: &Reader<'_, '_>, first: usize, at: &mut usize) -> Result<Label, TokenFault>
-    ensures { Gives (spec.quoted_label reader.now first at.old) result at.new }
+    ensures { ReadsExactly (spec.quoted_label reader.now first at.old) result at.new }
 {
-    let lines = reader.on_lines();
-    let number = lines.start(*at);
+    let lines = reader.outside_brackets();
+    let number = lines.next_index(*at);
     if lines.eat(Kind::QuoteLit, at) {
         lines.expect(Kind::QuoteClose, at)?;
         return Ok(nodes::label(first, *at, Some(number)));
@@ -28,11 +28,11 @@ fn quoted_label(reader: &Reader<'_, '_>, first: usize, at: &mut usize) -> Result
 }
 
 /// A label, if one comes next.
-#[tactic(auto, unfolding(hcl_grammar::specs::Pure::BodyParser::label_of, hcl_grammar::specs::Tokens::after))]
+#[tactic(auto, unfolding(hcl_grammar::specs::Pure::BodyParser::label_of, hcl_grammar::specs::Tokens::after_next))]
 fn label(reader: &Reader<'_, '_>, at: &mut usize) -> Result<Option<Label>, TokenFault>
-    ensures { Gives (spec.label reader.now at.old) result at.new }
+    ensures { ReadsExactly (spec.label reader.now at.old) result at.new }
 {
-    let (first, next) = reader.on_lines().token(*at);
+    let (first, next) = reader.outside_brackets().next_token(*at);
     match next {
         Some(Kind::Identifier) => {
             *at = first + 1;

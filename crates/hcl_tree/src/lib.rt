@@ -6,11 +6,11 @@
 
 mod bodies;
 mod labels;
-mod parsing;
+mod parser;
 
 pub use bodies::member;
 pub use hcl_expr::Reader;
 pub use hcl_grammar::tree::{Attribute, Block, Body, Expr, Template, Term, Tree};
 pub use hcl_grammar::{MAX_NESTING, tree};
 pub use hcl_text_laws::ParseFault;
-pub use parsing::parse;
+pub use parser::parse;

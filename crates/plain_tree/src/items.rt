@@ -36,7 +36,7 @@ impl<T, A: Allocator> Items<T, A> {
     }
 
     /// No element, and room for so many; `AllocError` where that is not there.
-    pub fn with_room(alloc: A, count: usize) -> Result<Items<T, A>, AllocError>
+    pub fn with_capacity(alloc: A, count: usize) -> Result<Items<T, A>, AllocError>
         ensures { IfOk result (λ it. it ≡ []) }
     {
         Ok(Items {
@@ -82,9 +82,9 @@ impl<T: Drop, A: Allocator + Copy> Items<T, A> {
         // A short list grows by half. It moves to a piece of memory that was let go before, which
         // malloc finds sooner than it makes a piece longer.
         let more = if len < 4 { 2 } else { len / 2 + 1 };
-        let mut room = Vec::with_capacity(*self.vec.allocator(), len + more)?;
-        room.append(&mut self.vec)?;
-        self.vec = room;
+        let mut buffer = Vec::with_capacity(*self.vec.allocator(), len + more)?;
+        buffer.append(&mut self.vec)?;
+        self.vec = buffer;
         Ok(())
     }
 

@@ -1,9 +1,11 @@
 //! The text of journals.
 
-use crate::answer::Answer;
+use crate::actual::Answer;
+use crate::edit_syntax::journal_of;
 use crate::row::Row;
-use crate::spelled::journal_of;
-use edit_record::laws::{old_records_turn_alike, text_begins_alike, text_is_one};
+use edit_record::laws::{
+    migration_preserves_meaning, text_is_unambiguous, text_prefix_is_unambiguous,
+};
 use edit_record::{Journal, RecordFault, decode, encode, encoded_len};
 use std::alloc::Global;
 use std::fmt::Write;
@@ -12,7 +14,7 @@ pub fn answer(row: &Row, out: &mut Answer) {
     match row.word(0) {
         "read" => read(row.text(1), out),
         "written" => written(&journal_of(row.word(1), out), out),
-        "fronts" => fronts(row.text(1), out),
+        "fronts" => check_prefixes(row.text(1), out),
         "marks" => marks(row.text(1), row.text(2), out),
         "bytes" => bytes(row.text(1), out),
         _ => out.show(&RecordFault::Memory),
@@ -21,9 +23,9 @@ pub fn answer(row: &Row, out: &mut Answer) {
 
 /// What is read of a text, as it is written.
 fn read(text: &[u8], out: &mut Answer) {
-    text_is_one();
-    text_begins_alike();
-    old_records_turn_alike();
+    text_is_unambiguous();
+    text_prefix_is_unambiguous();
+    migration_preserves_meaning();
     match decode(out.alloc, text) {
         Ok(journal) => written(&journal, out),
         Err(fault) => out.refuse(&fault),
@@ -43,7 +45,7 @@ fn written(journal: &Journal, out: &mut Answer) {
 
 /// Whether each front of the text but the empty one is cut short, at its end; the places of those
 /// that are not.
-fn fronts(text: &[u8], out: &mut Answer) {
+fn check_prefixes(text: &[u8], out: &mut Answer) {
     for at in 1..text.len() {
         if decode(out.alloc, &text[..at]).err() != Some(RecordFault::CutShort { at }) {
             let _ = write!(out, "byte {at}, ");

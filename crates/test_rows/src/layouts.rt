@@ -1,6 +1,6 @@
 //! Texts and their layouts.
 
-use crate::answer::Answer;
+use crate::actual::Answer;
 use crate::records::turned;
 use crate::row::Row;
 use edit_record::Edits;
@@ -14,8 +14,8 @@ pub fn answer(row: &Row, out: &mut Answer) {
     match row.word(0) {
         "laws" => laws(out),
         "memory" => out.show(&LayoutFault::Memory),
-        call => match &laid_out(out.alloc, row.text(1)) {
-            Some((Ok(edits), Ok(is_laid_out))) => tell(call, row, edits, *is_laid_out, out),
+        call => match &layout_of(out.alloc, row.text(1)) {
+            Some((Ok(edits), Ok(is_laid_out))) => write_layout(call, row, edits, *is_laid_out, out),
             Some((Err(fault), Err(other))) => {
                 let _ = write!(out, "{fault}, {other}");
             }
@@ -24,20 +24,20 @@ pub fn answer(row: &Row, out: &mut Answer) {
     }
 }
 
-type LaidOut = (Result<Edits, LayoutFault>, Result<bool, LayoutFault>);
+type TextLayout = (Result<Edits, LayoutFault>, Result<bool, LayoutFault>);
 
 /// The edits that lay a text out, and whether it is laid out.
-fn laid_out(alloc: Global, text: &[u8]) -> Option<LaidOut> {
+fn layout_of(alloc: Global, text: &[u8]) -> Option<TextLayout> {
     match scan(alloc, text) {
         Ok(scanned) => Some((layout(alloc, &scanned), is_laid_out(alloc, &scanned))),
         Err(_) => None,
     }
 }
 
-fn tell(call: &str, row: &Row, edits: &Edits, is_laid_out: bool, out: &mut Answer) {
+fn write_layout(call: &str, row: &Row, edits: &Edits, is_laid_out: bool, out: &mut Answer) {
     match call {
-        "layout" => tell_text(row.text(1), edits, is_laid_out, out),
-        "edits" => tell_edits(edits, out),
+        "layout" => write_text(row.text(1), edits, is_laid_out, out),
+        "edits" => write_edits(edits, out),
         _ => {
             let len = edits.new_len();
             let _ = write!(out, "{len} {is_laid_out}");
@@ -47,11 +47,11 @@ fn tell(call: &str, row: &Row, edits: &Edits, is_laid_out: bool, out: &mut Answe
 
 /// The layout of a text, where it goes back to the text, is its own layout, and it is told whether
 /// the text is it.
-fn tell_text(text: &[u8], edits: &Edits, is_laid_out: bool, out: &mut Answer) {
+fn write_text(text: &[u8], edits: &Edits, is_laid_out: bool, out: &mut Answer) {
     turned(edits, "both", text, out);
     let is_told = is_laid_out == (out.text() == text);
     out.hold(is_told, "it is told otherwise whether the text is laid out");
-    let is_own = match &laid_out(out.alloc, out.text()) {
+    let is_own = match &layout_of(out.alloc, out.text()) {
         Some((Ok(edits), Ok(is_laid_out))) => *is_laid_out && edits.edits().is_empty(),
         _ => false,
     };
@@ -59,7 +59,7 @@ fn tell_text(text: &[u8], edits: &Edits, is_laid_out: bool, out: &mut Answer) {
 }
 
 /// For each edit its place, how many bytes it removes, and how many it adds.
-fn tell_edits(edits: &Edits, out: &mut Answer) {
+fn write_edits(edits: &Edits, out: &mut Answer) {
     for edit in edits.edits() {
         let (at, removed, added) = (edit.at(), edit.removed().len(), edit.added().len());
         let _ = write!(out, "{at}-{removed}+{added} ");

@@ -1,6 +1,6 @@
 //! Rules, what they find, issues and the steps of fixes.
 
-use crate::answer::Answer;
+use crate::actual::Answer;
 use crate::parses::read;
 use crate::records::turned;
 use crate::row::Row;
@@ -8,7 +8,7 @@ use hcl_grammar::tree::Tree;
 use hcl_scan::Scanned;
 use std::fmt::Write;
 use tf_diagnostics::findings;
-use tf_lint::{Fixed, Issue, LintFault, Place, Rule, RuleSet, fix_text, issues};
+use tf_lint::{FixResult, Issue, LintFault, Place, Rule, RuleSet, fix_text, issues};
 use tf_rule::Finding;
 
 pub fn answer(row: &Row, out: &mut Answer) {
@@ -74,10 +74,10 @@ fn line(row: &Row, out: &mut Answer) {
         text,
         fixable: false,
     };
-    tell_line(&issue, row.word(5), out);
+    write_line(&issue, row.word(5), out);
 }
 
-fn tell_line(issue: &Issue, file: &str, out: &mut Answer) {
+fn write_line(issue: &Issue, file: &str, out: &mut Answer) {
     match issue.line(out.alloc, file) {
         Ok(line) => out.put(line.as_str()),
         Err(fault) => out.refuse(&fault),
@@ -89,30 +89,30 @@ pub fn searched(row: &Row, scanned: &Scanned<'_>, tree: &Tree, out: &mut Answer)
     let rules = set_of(row.word(1));
     if row.word(0) == "issues" {
         match issues(out.alloc, scanned, tree, rules) {
-            Ok(issues) => tell_issues(&issues, out),
+            Ok(issues) => write_issue_tokens(&issues, out),
             Err(fault) => out.refuse(&fault),
         }
     } else {
         match findings(out.alloc, scanned, tree, rules) {
-            Ok(found) => tell_findings(&found, scanned, out),
+            Ok(found) => write_findings(&found, scanned, out),
             Err(fault) => out.refuse(&fault),
         }
     }
 }
 
-fn tell_findings(found: &[Finding], scanned: &Scanned<'_>, out: &mut Answer) {
+fn write_findings(found: &[Finding], scanned: &Scanned<'_>, out: &mut Answer) {
     let mut places = scanned.places();
     for finding in found {
         if finding.first() >= scanned.len() {
             return out.put("no such token");
         }
-        tell_finding(finding, places.of(finding.first()), out);
+        write_finding(finding, places.of(finding.first()), out);
         out.put("; ");
     }
 }
 
 /// Its place, its rule, its tokens, whether a fix can mend it, what its message names, and its fix.
-fn tell_finding(found: &Finding, place: Place, out: &mut Answer) {
+fn write_finding(found: &Finding, place: Place, out: &mut Answer) {
     let (line, column, rule) = (place.line, place.column, found.rule().name());
     let (first, past, message, fix) = (found.first(), found.past(), found.message(), found.fix());
     let mends = if found.is_fixable() {
@@ -127,11 +127,11 @@ fn tell_finding(found: &Finding, place: Place, out: &mut Answer) {
 }
 
 /// For each issue its tokens, whether it can be fixed, and its line.
-fn tell_issues(issues: &[Issue], out: &mut Answer) {
+fn write_issue_tokens(issues: &[Issue], out: &mut Answer) {
     for issue in issues {
         let (first, past, fixable) = (issue.first, issue.past, issue.fixable);
         let _ = write!(out, "{first} {past} {fixable} ");
-        tell_line(issue, "f", out);
+        write_line(issue, "f", out);
         out.put("; ");
     }
 }
@@ -142,14 +142,14 @@ fn fix(row: &Row, out: &mut Answer) {
         return out.put("no rule");
     };
     match fix_text(out.alloc, row.text(2), RuleSet::none().with(rule)) {
-        Ok(fixed) => tell_fixed(row, &fixed, out),
+        Ok(fixed) => write_fix_result(row, &fixed, out),
         Err(fault) => out.refuse(&fault),
     }
 }
 
 /// The new text, where the old one comes back, or how many issues the fix mends, and how many edits
 /// it makes.
-fn tell_fixed(row: &Row, fixed: &Fixed, out: &mut Answer) {
+fn write_fix_result(row: &Row, fixed: &FixResult, out: &mut Answer) {
     match &fixed.change {
         Some(change) if row.word(0) == "fix" => {
             turned(&change.edits, "both", row.text(2), out);

@@ -4,21 +4,21 @@
 //! printed are the rows with another answer, each with that answer, and the number of rows.
 #![tactic(auto)]
 
-mod answer;
-mod beside;
+mod actual;
+mod edit_syntax;
 mod journals;
 mod layouts;
 mod lints;
 mod parses;
 mod records;
+mod rescan;
 mod row;
 mod sessions;
-mod spelled;
 mod squashes;
 mod swaps;
 mod tokens;
 
-use answer::Answer;
+use actual::Answer;
 use anyhow::Result;
 use row::Row;
 use std::{env, fs};
@@ -58,7 +58,7 @@ fn try_rows(rt: &HostRuntime, subject: &str, text: &str) -> Result<u64> {
 fn try_row(rt: &HostRuntime, subject: &str, number: usize, line: &str) -> Result<()> {
     let row = Row::read(rt.alloc(), line);
     let mut out = Answer::new(rt.alloc());
-    ask(subject, &row, &mut out);
+    run_row(subject, &row, &mut out);
     if !out.is_of(&row) {
         let found = out.told();
         println!(rt; "{subject}.rows:{number}: {line}\n  answered: {found}")?;
@@ -66,7 +66,7 @@ fn try_row(rt: &HostRuntime, subject: &str, number: usize, line: &str) -> Result
     Ok(())
 }
 
-fn ask(subject: &str, row: &Row, out: &mut Answer) {
+fn run_row(subject: &str, row: &Row, out: &mut Answer) {
     match subject {
         "records" => records::answer(row, out),
         "squashes" => squashes::answer(row, out),

@@ -1,6 +1,6 @@
 //! Texts that parse or not, where they do not, and what is told of their trees.
 
-use crate::answer::Answer;
+use crate::actual::Answer;
 use crate::lints::searched;
 use crate::row::Row;
 use hcl_grammar::tree::Tree;
@@ -21,7 +21,7 @@ pub fn read(row: &Row, text: &[u8], out: &mut Answer) {
         Ok(scanned) => match parse(out.alloc, &scanned) {
             Ok(tree) => {
                 check_says(&scanned, None, out);
-                tell(row, &scanned, &tree, out);
+                write_tree(row, &scanned, &tree, out);
             }
             Err(fault) => {
                 check_says(&scanned, Some(fault), out);
@@ -40,7 +40,7 @@ fn check_says(scanned: &Scanned<'_>, fault: Option<ParseFault>, out: &mut Answer
 
 /// That there is a tree, or how many tokens it has, how many its body, and how many members that
 /// has, or what is found in it.
-fn tell(row: &Row, scanned: &Scanned<'_>, tree: &Tree, out: &mut Answer) {
+fn write_tree(row: &Row, scanned: &Scanned<'_>, tree: &Tree, out: &mut Answer) {
     match row.word(0) {
         "parse" => out.put("parses"),
         "body" => {

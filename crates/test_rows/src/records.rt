@@ -1,11 +1,11 @@
 //! Edits, records and journals: what is made, applied and undone.
 
-use crate::answer::Answer;
+use crate::actual::Answer;
+use crate::edit_syntax::{edits_of, journal_of, list_of, name_of, word_of};
 use crate::row::Row;
-use crate::spelled::{edits_of, journal_of, list_of, name_of, word_of};
 use edit_list::laws::{
-    apply_is_exact, edits_refuse_exactly, make_is_exact, pieces_make, pieces_turn,
-    sides_fix_each_other, turned_texts_have_the_lengths, undo_is_exact,
+    apply_is_exact, change_is_one_to_one, edit_results_are_exact, make_is_exact,
+    pieces_make_valid_edits, pieces_transform, transformed_lengths_match, undo_is_exact,
 };
 use edit_record::{Change, Edits, Record, Refused, Word, apply_all, undo_all};
 use std::fmt::Write;
@@ -13,7 +13,7 @@ use std::fmt::Write;
 pub fn answer(row: &Row, out: &mut Answer) {
     match row.word(0) {
         "make" => made(row, out),
-        "placed" => lengths(&Edits::of_placed(3, 3, Vec::new(out.alloc)), out),
+        "placed" => lengths(&Edits::from_valid(3, 3, Vec::new(out.alloc)), out),
         "edits" => change(&list_of(row.word(1), out), row, out),
         "record" => record(row, out),
         "turns" => change(
@@ -109,11 +109,11 @@ fn popped(row: &Row, out: &mut Answer) {
 fn laws(edits: &Edits, out: &mut Answer) {
     apply_is_exact(edits);
     undo_is_exact(edits);
-    sides_fix_each_other(edits);
-    edits_refuse_exactly(edits);
-    turned_texts_have_the_lengths();
+    change_is_one_to_one(edits);
+    edit_results_are_exact(edits);
+    transformed_lengths_match();
     make_is_exact();
-    pieces_turn();
-    pieces_make();
+    pieces_transform();
+    pieces_make_valid_edits();
     lengths(edits, out);
 }

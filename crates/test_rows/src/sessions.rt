@@ -4,12 +4,12 @@
 //! text that there are then. A field that is left out is not compared. `desk` names the commands.
 //! Where a row can't be read, or memory is refused for what is compared, the last line says so.
 
-mod came;
-mod desk;
-mod ends;
+mod expected;
+mod failing_streams;
+mod session_state;
 
 use anyhow::Result;
-use desk::Desk;
+use session_state::Desk;
 
 /// Does the rows, prints those of which something else comes, and answers how many there are.
 pub fn try_rows(rt: &HostRuntime, text: &str) -> Result<u64> {

@@ -1,10 +1,10 @@
 //! Two lists of edits as one.
 
-use crate::answer::Answer;
+use crate::actual::Answer;
+use crate::edit_syntax::{journal_of, list_of, spell};
 use crate::row::Row;
-use crate::spelled::{journal_of, list_of, spell};
 use edit_record::{Edits, Journal, Unmet, squash};
-use edit_squash::laws::{squash_all_is_one, squash_associates, squash_is_one};
+use edit_squash::laws::{squash_all_is_unique, squash_is_associative, squash_is_unique};
 use std::alloc::Global;
 
 pub fn answer(row: &Row, out: &mut Answer) {
@@ -34,9 +34,9 @@ fn three(row: &Row, out: &mut Answer) {
     let a = list_of(row.word(1), out);
     let b = list_of(row.word(2), out);
     let c = list_of(row.word(3), out);
-    squash_is_one(&a, &b);
-    squash_associates(&a, &b, &c);
-    squash_all_is_one();
+    squash_is_unique(&a, &b);
+    squash_is_associative(&a, &b, &c);
+    squash_all_is_unique();
     told(from_left(out.alloc, &a, &b, &c), out);
     let mut right = Answer::new(out.alloc);
     told(from_right(out.alloc, &a, &b, &c), &mut right);

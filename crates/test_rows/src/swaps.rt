@@ -1,20 +1,20 @@
 //! Lists that change places, and records that are taken out.
 
-use crate::answer::Answer;
+use crate::actual::Answer;
+use crate::edit_syntax::{journal_of, list_of, name_of, spell};
 use crate::row::Row;
-use crate::spelled::{journal_of, list_of, name_of, spell};
-use edit_record::{Edits, Record, SwapFault, TakeOutFault, swap, take_out};
-use edit_swap::laws::{swap_is_one, taking_out_is_one};
+use edit_record::{Edits, MoveFault, Record, SwapFault, move_to_end, swap};
+use edit_swap::laws::{move_to_end_is_unique, swap_is_unique};
 use std::fmt::Write;
 
 pub fn answer(row: &Row, out: &mut Answer) {
     match row.word(0) {
         "second" | "first" => swapped(row, out),
-        "others" | "moved" => taken_out(row, out),
+        "others" | "moved" => move_to_end_row(row, out),
         _ => {
             out.show(&SwapFault::Memory);
             out.put(", ");
-            out.show(&TakeOutFault::Memory);
+            out.show(&MoveFault::Memory);
         }
     }
 }
@@ -23,7 +23,7 @@ pub fn answer(row: &Row, out: &mut Answer) {
 fn swapped(row: &Row, out: &mut Answer) {
     let first = list_of(row.word(1), out);
     let second = list_of(row.word(2), out);
-    swap_is_one();
+    swap_is_unique();
     match swap(out.alloc, &first, &second) {
         Ok((second, first)) => {
             let is_second = row.word(0) == "second";
@@ -34,16 +34,16 @@ fn swapped(row: &Row, out: &mut Answer) {
 }
 
 /// The records without the edits before them, or what the edits are behind the records.
-fn taken_out(row: &Row, out: &mut Answer) {
+fn move_to_end_row(row: &Row, out: &mut Answer) {
     let first = list_of(row.word(1), out);
     let journal = journal_of(row.word(2), out);
-    taking_out_is_one();
-    match take_out(out.alloc, &first, journal.records()) {
+    move_to_end_is_unique();
+    match move_to_end(out.alloc, &first, journal.records()) {
         Ok((others, moved)) => {
             if row.word(0) == "others" {
-                tell_others(&others, out);
+                write_reordered(&others, out);
             } else {
-                tell_moved(&moved, out);
+                write_moved(&moved, out);
             }
         }
         Err(fault) => out.refuse(&fault),
@@ -51,7 +51,7 @@ fn taken_out(row: &Row, out: &mut Answer) {
 }
 
 /// How many records there are, and the last of them.
-fn tell_others(others: &[Record], out: &mut Answer) {
+fn write_reordered(others: &[Record], out: &mut Answer) {
     out.show(&others.len());
     if let Some(last) = others.last() {
         let word = name_of(last.word());
@@ -60,7 +60,7 @@ fn tell_others(others: &[Record], out: &mut Answer) {
     }
 }
 
-fn tell_moved(moved: &Option<Edits>, out: &mut Answer) {
+fn write_moved(moved: &Option<Edits>, out: &mut Answer) {
     match moved {
         Some(list) => spell(list, out),
         None => out.put("stays"),

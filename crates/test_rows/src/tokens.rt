@@ -1,11 +1,12 @@
 //! Tokens: the cuts of texts, places, and what joins.
 
-use crate::answer::Answer;
-use crate::beside;
+use crate::actual::Answer;
 use crate::journals::with_byte;
+use crate::rescan;
 use crate::row::Row;
 use hcl_scan::laws::{
-    cut_follows, gaps_of, no_cut_with_fault, one_cut, one_fault, other_gaps, writes_back,
+    gaps_of, no_tokenization_with_fault, one_fault, one_tokenization, other_gaps,
+    tokenization_follows_modes, writes_back,
 };
 use hcl_scan::{Kind, ScanFault, Scanned, scan};
 use hcl_token::{clusters, joins};
@@ -18,13 +19,13 @@ pub fn answer(row: &Row, out: &mut Answer) {
             yes_or_no(joins(first, row.text(2), second, row.text(4)), out);
         }
         "clusters" => out.show(&clusters(row.word(1).as_bytes())),
-        "fronts" => fronts(row.text(1), out),
-        "kept" | "again" | "same" => beside::answer(row, out),
+        "fronts" => check_prefixes(row.text(1), out),
+        "kept" | "again" | "same" => rescan::answer(row, out),
         "others" => others(row.text(1), row.text(2), out),
         "laws" => laws(out),
         "memory" => out.show(&ScanFault::Memory),
         _ => match scan(out.alloc, row.text(1)) {
-            Ok(scanned) => tell(row, &scanned, out),
+            Ok(scanned) => write_tokens(row, &scanned, out),
             Err(fault) => out.refuse(&fault),
         },
     }
@@ -34,7 +35,7 @@ pub fn yes_or_no(yes: bool, out: &mut Answer) {
     out.put(if yes { "yes" } else { "no" });
 }
 
-fn tell(row: &Row, scanned: &Scanned<'_>, out: &mut Answer) {
+fn write_tokens(row: &Row, scanned: &Scanned<'_>, out: &mut Answer) {
     match row.word(0) {
         "cut" => cut(scanned, out),
         "gaps" => gaps(scanned, out),
@@ -136,7 +137,7 @@ fn is_whole(scanned: &Scanned<'_>, text: &[u8], whole: Answer) -> bool {
 }
 
 /// Each front of the text; the lengths of those that have neither.
-fn fronts(text: &[u8], out: &mut Answer) {
+fn check_prefixes(text: &[u8], out: &mut Answer) {
     for len in 0..=text.len() {
         if !has_cut_or_fault(&text[..len], out) {
             let _ = write!(out, "{len} bytes, ");
@@ -159,11 +160,11 @@ fn others(text: &[u8], bytes: &[u8], out: &mut Answer) {
 }
 
 fn laws(out: &mut Answer) {
-    one_cut();
-    no_cut_with_fault();
+    one_tokenization();
+    no_tokenization_with_fault();
     one_fault();
     writes_back();
-    cut_follows();
+    tokenization_follows_modes();
     gaps_of();
     other_gaps();
     out.put("hold");

@@ -6,19 +6,19 @@
 //! the texts of which something else comes, what occurs in none of them, and their number.
 
 mod counts;
-mod course;
-mod forms;
-mod seen;
+mod coverage;
+mod fix_until_done;
 mod sessions;
-mod takes;
+mod take_command;
+mod token_forms;
 mod walk;
 
 use crate::report::Report;
 use anyhow::Result;
 use counts::Tally;
+use coverage::Seen;
 use hcl_scan::{Scanned, scan};
 use hcl_tree::parse;
-use seen::Seen;
 use std::fmt::Write;
 use std::fs;
 use tf_lint::{RuleSet, issues};
@@ -33,8 +33,8 @@ pub fn run(rt: &HostRuntime) -> Result<()> {
         try_one(rt, line, &mut seen, &mut tally)?;
         count = count.saturating_add(1);
     }
-    seen.tell_missing(rt)?;
-    tally.tell_rare(rt)?;
+    seen.print_missing(rt)?;
+    tally.print_rare(rt)?;
     println!(rt; "{count} texts")?;
     Ok(())
 }
@@ -45,11 +45,11 @@ fn try_one(rt: &HostRuntime, line: &str, seen: &mut Seen, tally: &mut Tally) -> 
     let file = format!(in report.alloc; "corpus/{name}")?;
     let text = fs::read(rt, file.as_str())?;
     let found = line_of(name, &text, seen, tally, &mut report);
-    tell(rt, line, found.as_str(), &report)
+    print_difference(rt, line, found.as_str(), &report)
 }
 
 /// Tells a text of which something else comes than its line says.
-fn tell(rt: &HostRuntime, line: &str, found: &str, report: &Report) -> Result<()> {
+fn print_difference(rt: &HostRuntime, line: &str, found: &str, report: &Report) -> Result<()> {
     if found != line {
         println!(rt; "{line}\n  found: {found}")?;
     }
@@ -70,7 +70,7 @@ fn line_of(
     let mut line = String::new(report.alloc);
     let has_name = line.push_str(name).is_ok();
     look(text, &mut line, seen, tally, report);
-    let left = course::run(text, seen, report);
+    let left = fix_until_done::run(text, seen, report);
     let has_left = write!(line, " left={left}").is_ok();
     report.hold(has_name && has_left, "memory is wanting");
     line
@@ -93,7 +93,7 @@ fn look_at(
 ) {
     match parse(report.alloc, scanned) {
         Ok(tree) => {
-            forms::see(scanned, seen);
+            token_forms::see(scanned, seen);
             walk::see(scanned, &tree, seen, report);
             match issues(report.alloc, scanned, &tree, RuleSet::all()) {
                 Ok(found) => {

@@ -4,7 +4,7 @@
 #![tactic(auto)]
 
 mod corpus;
-mod damage;
+mod corruption;
 mod report;
 mod state;
 
@@ -14,5 +14,5 @@ use std::env;
 fn main(rt: HostRuntime) -> Result<()> {
     let words: Vec<String> = env::args(&rt)?.skip(1).collect(rt.alloc())?;
     corpus::run(&rt)?;
-    damage::run(&rt, words.as_slice())
+    corruption::run(&rt, words.as_slice())
 }

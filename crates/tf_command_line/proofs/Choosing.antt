@@ -7,7 +7,7 @@ use Rattle.tf_rule.specs.declared.rule.Rule.TheVariants.{CommentSyntax}
 use Rattle.tf_rule.specs.declared.rule_set.RuleSet.{RuleSet}
 use Rattle.tf_rule.specs.RuleSets.{has_rule}
 use Rattle.tf_rule.specs.Rules.{all_rules, index_of}
-use Rattle.tf_command_line.specs.Choices.{names, is_named}
+use Rattle.tf_command_line.specs.Choices.{choice_names, is_chosen}
 use Rattle.tf_command_line.specs.declared.rule_choice.Choice.{Choice}
 
 -- each rule stands at its number, so a number is that of one rule
@@ -30,10 +30,10 @@ or_false false = refl
 -- what the choices name with one more
 pub one_more : (choices : List Choice) (i : ℕ) (choice d : Choice) (rule : Rule)
     → i < length choices → get_or choices i d ≡ choice
-    → is_named (take (i + 1) choices) rule ≡ (is_named (take i choices) rule || names choice rule)
+    → is_chosen (take (i + 1) choices) rule ≡ (is_chosen (take i choices) rule || choice_names choice rule)
 one_more choices i choice d rule below is =
-    list_any_more (λ (c : Choice). names c rule) choices i d below
-    ∙ ap (λ c. is_named (take i choices) rule || names c rule) is
+    list_any_more (λ (c : Choice). choice_names c rule) choices i d below
+    ∙ ap (λ c. is_chosen (take i choices) rule || choice_names c rule) is
 
 -- a set with a rule more, and one with a rule less
 pub rule_in : (before after : RuleSet) (one rule : Rule) → has_rule after one ≡ true

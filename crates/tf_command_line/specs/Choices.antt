@@ -7,10 +7,10 @@ use Rattle.tf_command_line.specs.declared.rule_choice.Choice.{Choice}
 use Rattle.tf_command_line.specs.declared.rule_choice.Choice.TheVariants.{All, One}
 
 -- whether a choice names the rule: `all` names every rule
-abbrev pub names : Choice → Rule → Bool
-names All rule = true
-names (One one) rule = index_of rule == index_of one
+abbrev pub choice_names : Choice → Rule → Bool
+choice_names All rule = true
+choice_names (One one) rule = index_of rule == index_of one
 
 -- whether one of the choices does
-abbrev pub is_named : List Choice → Rule → Bool
-is_named choices rule = list_any (λ choice. names choice rule) choices
+abbrev pub is_chosen : List Choice → Rule → Bool
+is_chosen choices rule = list_any (λ choice. choice_names choice rule) choices

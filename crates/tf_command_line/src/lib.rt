@@ -5,4 +5,4 @@ mod command_line;
 mod help;
 mod rule_choice;
 
-pub use command_line::{Action, CommandLine, Stop, Task};
+pub use command_line::{Action, CommandLine, Exit, Task};

@@ -6,21 +6,21 @@ use Rattle.tf_rule.specs.declared.rule_set.RuleSet.{RuleSet}
 use Rattle.tf_rule.specs.RuleSets.{has_rule}
 use Rattle.tf_commands.specs.declared.command.Command.TheVariants.{Fix}
 use Rattle.tf_commands.specs.Faults.{fault_of_fix}
-use Rattle.tf_commands.specs.Makes.{NotRead, RefusesText}
-use Rattle.tf_commands.specs.Reading.{DoesParse}
-use Rattle.tf_lint.proofs.Unread.{parses_of}
+use Rattle.tf_commands.specs.Rewrites.{IsReadFault, RefusesText}
+use Rattle.tf_commands.specs.Parsing.{DoesParse}
+use Rattle.tf_lint.proofs.DoesNotParse.{parses_of}
 use Rattle.tf_lint.specs.declared.fault.FixFault.{FixFault}
 use Rattle.tf_lint.specs.declared.fault.FixFault.TheVariants.{Scan, Parse, FixBroken, TooLong, Memory}
 use Rattle.tf_fix.specs.declared.parsed.Parsed.{Parsed}
-use Rattle.tf_lint.specs.Reading as steps
-use Rattle.tf_fix.specs.Reading.{Reads}
-use Rattle.tf_lint.specs.Reading.{IsText}
+use Rattle.tf_lint.specs.ParseFaults as steps
+use Rattle.tf_fix.specs.ParsedTexts.{IsParseOf}
+use Rattle.tf_lint.specs.ParseFaults.{IsUtf8WithinLimit}
 use Rattle.tf_lint.specs.Steps.{Steps, StepBreaks, FoundThen, StepThen, RunSteps, fix_order, Refuses}
 
-pub does_parse : (text : List ℕ) (p : Parsed) → Reads text p → DoesParse text
+pub does_parse : (text : List ℕ) (p : Parsed) → IsParseOf text p → DoesParse text
 does_parse text p reads = (p.tree, parses_of text p reads)
 
-pub not_read : (text : List ℕ) (fault : FixFault) → steps.NotRead text fault → NotRead text (fault_of_fix fault)
+pub not_read : (text : List ℕ) (fault : FixFault) → steps.IsReadFault text fault → IsReadFault text (fault_of_fix fault)
 not_read text (Scan fault) h = h
 not_read text (Parse fault) h = h
 not_read text (FixBroken rule) h = h

@@ -6,20 +6,20 @@ use Rattle.tf_commands.specs.declared.command.Command.{Command}
 use Rattle.tf_commands.specs.declared.command.Command.TheVariants.{Fmt}
 use Rattle.tf_commands.specs.declared.command.Fault.{Fault}
 use Rattle.tf_commands.specs.Faults.{run_fault_of}
-use Rattle.tf_commands.specs.Streams.{TakesText}
-use Rattle.tf_commands.specs.Makes.{NotRead, RefusesText}
+use Rattle.tf_commands.specs.Streams.{ReadsText}
+use Rattle.tf_commands.specs.Rewrites.{IsReadFault, RefusesText}
 use Rattle.tf_commands.specs.Records.{RefusesStep}
-use Rattle.tf_commands.specs.Lines.{LintsAtFault}
-use Rattle.tf_commands.specs.Streaming.{StepsAtFault, ChecksAtFault}
+use Rattle.tf_commands.specs.LintStream.{LintStreamFault}
+use Rattle.tf_commands.specs.Streaming.{StepStreamFault, CheckStreamFault}
 
 pub not_linted : (name : List ℕ) (rules : RuleSet) (refusal : Fault) (source : Source) (target : Target) (text : List ℕ)
-    → TakesText source text → NotRead text refusal → Untouched target → LintsAtFault name rules (run_fault_of refusal) source target
+    → ReadsText source text → IsReadFault text refusal → Untouched target → LintStreamFault name rules (run_fault_of refusal) source target
 not_linted name rules refusal source target text taken why still = inr (inl ((text, taken, refusal, refl, why), still))
 
 pub not_stepped : (command : Command) (refusal : Fault) (source : Source) (target : Target) (text : List ℕ)
-    → TakesText source text → RefusesStep command text [] refusal → Untouched target → StepsAtFault command (run_fault_of refusal) source target
+    → ReadsText source text → RefusesStep command text [] refusal → Untouched target → StepStreamFault command (run_fault_of refusal) source target
 not_stepped command refusal source target text taken why still = inr (inl ((text, taken, refusal, refl, why), still))
 
 pub not_checked : (refusal : Fault) (source : Source) (text : List ℕ)
-    → TakesText source text → RefusesText Fmt text refusal → ChecksAtFault (run_fault_of refusal) source
+    → ReadsText source text → RefusesText Fmt text refusal → CheckStreamFault (run_fault_of refusal) source
 not_checked refusal source text taken why = inr (text, taken, refusal, refl, why)

@@ -6,7 +6,7 @@ use Rattle.edit_record.specs.declared.fault.RecordFault.{RecordFault}
 use Rattle.edit_record.specs.declared.fault.RecordFault.TheVariants.{BadHead, BadNumber, CutShort, BadEdits, BadEnd, BadSteps}
 use Rattle.tf_fix.specs.declared.fault.LintFault.{LintFault}
 use Rattle.tf_lint.specs.declared.fault.FixFault.{FixFault}
-use Rattle.tf_stream.specs.declared.fault.TakeFault.{TakeFault}
+use Rattle.tf_stream.specs.declared.fault.ReadFault.{ReadFault}
 use Rattle.tf_commands.specs.declared.command.Fault.{Fault}
 use Rattle.tf_commands.specs.declared.fault.RunFault.{RunFault}
 
@@ -40,10 +40,10 @@ run_fault_of (Fault.Refused refused) = RunFault.Refused refused
 run_fault_of Fault.Memory = RunFault.Memory
 run_fault_of (Fault.Blocked number) = RunFault.Blocked number
 
-abbrev pub run_fault_of_take : TakeFault → RunFault
-run_fault_of_take TakeFault.Read = RunFault.Read
-run_fault_of_take TakeFault.Endless = RunFault.Endless
-run_fault_of_take TakeFault.Memory = RunFault.Memory
+abbrev pub run_fault_of_take : ReadFault → RunFault
+run_fault_of_take ReadFault.Read = RunFault.Read
+run_fault_of_take ReadFault.Endless = RunFault.Endless
+run_fault_of_take ReadFault.Memory = RunFault.Memory
 
 abbrev pub run_fault_of_record : RecordFault → RunFault
 run_fault_of_record (BadHead at) = RunFault.BadJournal (BadHead at)

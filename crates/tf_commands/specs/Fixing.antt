@@ -5,17 +5,17 @@ use Rattle.tf_rule.specs.declared.rule_set.RuleSet.{RuleSet}
 use Rattle.tf_commands.specs.declared.command.Fault.{Fault}
 use Rattle.tf_commands.specs.declared.command.Fault.TheVariants.{Scan, Parse, FixBroken, TooLong, NoRecord, Refused, Memory, Blocked}
 use Rattle.tf_lint.specs.declared.fault.FixFault.{FixFault}
-use Rattle.tf_lint.specs.Reading.{IsParseFault}
-use Rattle.tf_lint.specs.Steps.{Made, Fixes, Breaks}
+use Rattle.tf_lint.specs.ParseFaults.{IsParseFault}
+use Rattle.tf_lint.specs.Steps.{Rewrite, Fixes, Breaks}
 
 -- what a fix makes of a text, or why it refuses it
-abbrev pub FixMakes : RuleSet → List ℕ → Result Made Fault → Type 0
-FixMakes rules text (Ok made) = Fixes rules text made
-FixMakes rules text (Err (Scan fault)) = IsFault text fault
-FixMakes rules text (Err (Parse fault)) = IsParseFault text fault
-FixMakes rules text (Err (FixBroken rule)) = Breaks rules text (FixFault.FixBroken rule)
-FixMakes rules text (Err TooLong) = Breaks rules text FixFault.TooLong
-FixMakes rules text (Err NoRecord) = ⊥
-FixMakes rules text (Err (Refused refused)) = ⊥
-FixMakes rules text (Err Memory) = ⊥
-FixMakes rules text (Err (Blocked number)) = ⊥
+abbrev pub FixRewrites : RuleSet → List ℕ → Result Rewrite Fault → Type 0
+FixRewrites rules text (Ok made) = Fixes rules text made
+FixRewrites rules text (Err (Scan fault)) = IsFault text fault
+FixRewrites rules text (Err (Parse fault)) = IsParseFault text fault
+FixRewrites rules text (Err (FixBroken rule)) = Breaks rules text (FixFault.FixBroken rule)
+FixRewrites rules text (Err TooLong) = Breaks rules text FixFault.TooLong
+FixRewrites rules text (Err NoRecord) = ⊥
+FixRewrites rules text (Err (Refused refused)) = ⊥
+FixRewrites rules text (Err Memory) = ⊥
+FixRewrites rules text (Err (Blocked number)) = ⊥

@@ -1,25 +1,25 @@
 -- What `fmt` makes of a text: its layout.
 use Rattle.std.specs.Prelude.{◌≡◌, ◌≤◌, ℕ, List, length, Option, Result, Ok, Err}
-use Rattle.hcl_scan.specs.Cut.{MAX_TEXT}
+use Rattle.hcl_scan.specs.Tokenization.{MAX_TEXT}
 use Rattle.hcl_scan.specs.Fault.{IsFault}
 use Rattle.hcl_gaps.specs.Layout.{layout_edits}
 use Rattle.hcl_layout.specs.Layouts.{IsLayout, IsTooLong}
 use Rattle.tf_commands.specs.declared.command.Fault.{Fault}
 use Rattle.tf_commands.specs.declared.command.Fault.TheVariants.{Scan, Parse, FixBroken, TooLong, NoRecord, Refused, Memory, Blocked}
-use Rattle.tf_commands.specs.Reading.{DoesParse}
+use Rattle.tf_commands.specs.Parsing.{DoesParse}
 use Rattle.tf_fix.specs.declared.parsed.Parsed.{Parsed}
-use Rattle.tf_fix.specs.Reading.{Reads}
+use Rattle.tf_fix.specs.ParsedTexts.{IsParseOf}
 use Rattle.tf_lint.specs.declared.step.NewText.{NewText}
-use Rattle.tf_lint.specs.Fixed.{text_after, edits_after}
-use Rattle.tf_lint.specs.Reading.{IsParseFault}
-use Rattle.tf_lint.specs.Steps.{Made}
+use Rattle.tf_lint.specs.FixResult.{changed_text, changed_edits}
+use Rattle.tf_lint.specs.ParseFaults.{IsParseFault}
+use Rattle.tf_lint.specs.Steps.{Rewrite}
 
 -- A text that parses becomes its layout, if that is within the limit. The edits are exactly the
 -- gaps that differ, each from the whole old gap to the whole new one. Nothing is fixed and no issue
 -- is counted.
-pub record Formats (text : List ℕ) (made : Made) : Type 0 where
+pub record Formats (text : List ℕ) (made : Rewrite) : Type 0 where
   pub parsed : Parsed
-  pub reads : Reads text parsed
+  pub reads : IsParseOf text parsed
   pub layout : IsLayout text made.text
   pub short : length made.text ≤ MAX_TEXT
   pub edits_are : made.edits ≡ layout_edits parsed.scanned
@@ -27,18 +27,18 @@ pub record Formats (text : List ℕ) (made : Made) : Type 0 where
   pub left_is : made.left ≡ 0
 
 -- what was made of this text, if it was laid out so
-abbrev pub formatted : List ℕ → Option NewText → Made
-formatted text change =
-    record { text = text_after text change; edits = edits_after text change; fixed = 0; left = 0 }
+abbrev pub fmt_rewrite : List ℕ → Option NewText → Rewrite
+fmt_rewrite text change =
+    record { text = changed_text text change; edits = changed_edits text change; fixed = 0; left = 0 }
 
 -- what a fmt makes of a text, or why it refuses it
-abbrev pub FmtMakes : List ℕ → Result Made Fault → Type 0
-FmtMakes text (Ok made) = Formats text made
-FmtMakes text (Err (Scan fault)) = IsFault text fault
-FmtMakes text (Err (Parse fault)) = IsParseFault text fault
-FmtMakes text (Err (FixBroken rule)) = ⊥
-FmtMakes text (Err TooLong) = DoesParse text × IsTooLong text
-FmtMakes text (Err NoRecord) = ⊥
-FmtMakes text (Err (Refused refused)) = ⊥
-FmtMakes text (Err Memory) = ⊥
-FmtMakes text (Err (Blocked number)) = ⊥
+abbrev pub FmtRewrites : List ℕ → Result Rewrite Fault → Type 0
+FmtRewrites text (Ok made) = Formats text made
+FmtRewrites text (Err (Scan fault)) = IsFault text fault
+FmtRewrites text (Err (Parse fault)) = IsParseFault text fault
+FmtRewrites text (Err (FixBroken rule)) = ⊥
+FmtRewrites text (Err TooLong) = DoesParse text × IsTooLong text
+FmtRewrites text (Err NoRecord) = ⊥
+FmtRewrites text (Err (Refused refused)) = ⊥
+FmtRewrites text (Err Memory) = ⊥
+FmtRewrites text (Err (Blocked number)) = ⊥

@@ -3,21 +3,21 @@
 -- Without take it is the machine of whole texts.
 use Rattle.std.specs.Prelude.{◌≡◌, ◌≢◌, ℕ, List, [], ◌∷◌, ◌++◌, map, Result, Ok, Err, if◌then◌else◌, MatchBool}
 use Rattle.edit_list.specs.declared.record.Word.{Word}
-use Rattle.edit_list.specs.Pieces.{EditList, Turns}
-use Rattle.edit_list.specs.Journal.{Entered}
-use Rattle.edit_swap.specs.Taking.{TakenOut}
-use Rattle.edit_swap.specs.TakeOut.{edits_of, words_of}
+use Rattle.edit_list.specs.Pieces.{EditList, Transforms}
+use Rattle.edit_list.specs.Journal.{JournalEntry}
+use Rattle.edit_swap.specs.MoveToEnd.{IsMovedToEnd}
+use Rattle.edit_swap.specs.MoveToEndResult.{edits_of, words_of}
 use Rattle.tf_commands.specs.declared.command.Command.{Command}
 use Rattle.tf_commands.specs.declared.command.Command.TheVariants.{Fmt, Fix, Revert, Take}
 use Rattle.tf_commands.specs.declared.command.Done.{Done}
 use Rattle.tf_commands.specs.declared.command.Fault.{Fault}
 use Rattle.tf_commands.specs.declared.command.Fault.TheVariants.{NoRecord}
-use Rattle.tf_lint.specs.Steps.{Made, differ}
-use Rattle.tf_commands.specs.Makes.{Makes}
-use Rattle.tf_lint.specs.Reading.{IsText}
+use Rattle.tf_lint.specs.Steps.{Rewrite, texts_differ}
+use Rattle.tf_commands.specs.Rewrites.{Rewrites}
+use Rattle.tf_lint.specs.ParseFaults.{IsUtf8WithinLimit}
 use Rattle.tf_commands.specs.Machine.{done, is_memory}
-use Rattle.tf_commands.specs.Nth.{Nth}
-use Rattle.tf_commands.specs.TakingNth.{NoneOut, WantsMemory}
+use Rattle.tf_commands.specs.NthItem.{Nth}
+use Rattle.tf_commands.specs.RemovingRecord.{CannotRemove, RemovalMayAllocate}
 
 -- one text on another: the word of the command that put it on, the edits between the two, and the
 -- upper text
@@ -31,8 +31,8 @@ pub record History : Type 0 where
   pub first : List ℕ
   pub layers : List Layer
 
-abbrev pub bare : List ℕ → History
-bare text = record { first = text; layers = [] }
+abbrev pub initial_history : List ℕ → History
+initial_history text = record { first = text; layers = [] }
 
 -- the text of the last layer, or the first text where there is none
 abbrev pub last_text : List ℕ → List Layer → List ℕ
@@ -43,103 +43,103 @@ abbrev pub top_text : History → List ℕ
 top_text h = last_text h.first h.layers
 
 -- the record of each layer, the oldest first
-abbrev pub record_of : Layer → Entered
+abbrev pub record_of : Layer → JournalEntry
 record_of layer = record { word = layer.word; edits = layer.edits }
 
-abbrev pub records_in : List Layer → List Entered
+abbrev pub records_in : List Layer → List JournalEntry
 records_in layers = map record_of layers
 
 -- the edits of each layer turn the text below it into its own
-abbrev pub Rise : List ℕ → List Layer → Type 0
-Rise below [] = Unit {0}
-Rise below (layer ∷ layers) = Turns layer.edits below layer.text × Rise layer.text layers
+abbrev pub LayersAreConsistent : List ℕ → List Layer → Type 0
+LayersAreConsistent below [] = Unit {0}
+LayersAreConsistent below (layer ∷ layers) = Transforms layer.edits below layer.text × LayersAreConsistent layer.text layers
 
 abbrev pub IsHistory : History → Type 0
-IsHistory h = Rise h.first h.layers
+IsHistory h = LayersAreConsistent h.first h.layers
 
 -- ---- fmt and fix
 
 -- a layer with these edits goes on, if the text differs
-abbrev pub layer_on : Word → Made → History → History
-layer_on word made h =
-    if differ (top_text h) made.text
+abbrev pub push_layer : Word → Rewrite → History → History
+push_layer word made h =
+    if texts_differ (top_text h) made.text
     then record {
       first = h.first;
       layers = h.layers ++ (record { word = word; edits = made.edits; text = made.text })
           ∷ [];
     } else h
 
-abbrev pub PutsLayer : Word → Result Made Fault → History → Result Done Fault → History → Type 0
-PutsLayer word (Ok made) old reply new =
-    (reply ≡ Ok (done (differ (top_text old) made.text) made.fixed made.left))
-    × (new ≡ layer_on word made old)
-PutsLayer word (Err fault) old reply new = (reply ≡ Err fault) × (new ≡ old)
+abbrev pub PushesLayer : Word → Result Rewrite Fault → History → Result Done Fault → History → Type 0
+PushesLayer word (Ok made) old reply new =
+    (reply ≡ Ok (done (texts_differ (top_text old) made.text) made.fixed made.left))
+    × (new ≡ push_layer word made old)
+PushesLayer word (Err fault) old reply new = (reply ≡ Err fault) × (new ≡ old)
 
 -- ---- revert
 
 -- The last layer is taken off. The reply says whether the two texts differ.
-pub record LastOff (old : History) (d : Done) (new : History) : Type 0 where
+pub record PopsLast (old : History) (d : Done) (new : History) : Type 0 where
   pub rest : List Layer
   pub last : Layer
   pub layers_are : old.layers ≡ rest ++ last ∷ []
   pub new_is : new ≡ record { first = old.first; layers = rest }
-  pub done_is : d ≡ done (differ (top_text new) (top_text old)) 0 0
+  pub done_is : d ≡ done (texts_differ (top_text new) (top_text old)) 0 0
 
-abbrev pub TakesLayerOff : History → Result Done Fault → History → Type 0
-TakesLayerOff old (Ok d) new = LastOff old d new
-TakesLayerOff old (Err fault) new = (fault ≡ NoRecord) × (old.layers ≡ []) × (new ≡ old)
+abbrev pub PopsLayer : History → Result Done Fault → History → Type 0
+PopsLayer old (Ok d) new = PopsLast old d new
+PopsLayer old (Err fault) new = (fault ≡ NoRecord) × (old.layers ≡ []) × (new ≡ old)
 
 -- ---- take
 
 -- Layer n goes. Its edits change places with those of each later layer in turn; what these become
 -- are the edits of the new layers, which keep their words, and the new texts are what these edits
 -- make one after another of the text below layer n.
-pub record OneOut (n : ℕ) (old : History) (d : Done) (new : History) : Type 0 where
+pub record RemovesLayer (n : ℕ) (old : History) (d : Done) (new : History) : Type 0 where
   pub nth : Nth n old.layers
-  pub others : List Layer
-  pub gone : EditList
-  pub taken : TakenOut nth.it.edits (edits_of (records_in nth.behind))
-      (edits_of (records_in others)) gone
-  pub words : words_of (records_in others) ≡ words_of (records_in nth.behind)
-  pub rise : Rise (last_text old.first nth.before) others
-  pub new_is : new ≡ record { first = old.first; layers = nth.before ++ others }
-  pub done_is : d ≡ done (differ (top_text new) (top_text old)) 0 0
+  pub new_records : List Layer
+  pub moved_edits : EditList
+  pub is_moved : IsMovedToEnd nth.item.edits (edits_of (records_in nth.after))
+      (edits_of (records_in new_records)) moved_edits
+  pub words : words_of (records_in new_records) ≡ words_of (records_in nth.after)
+  pub consistent : LayersAreConsistent (last_text old.first nth.before) new_records
+  pub new_is : new ≡ record { first = old.first; layers = nth.before ++ new_records }
+  pub done_is : d ≡ done (texts_differ (top_text new) (top_text old)) 0 0
 
-abbrev pub TakesLayerOut : ℕ → History → Result Done Fault → History → Type 0
-TakesLayerOut n old (Ok d) new = OneOut n old d new
-TakesLayerOut n old (Err fault) new = NoneOut n (records_in old.layers) fault × (new ≡ old)
+abbrev pub TakeStep : ℕ → History → Result Done Fault → History → Type 0
+TakeStep n old (Ok d) new = RemovesLayer n old d new
+TakeStep n old (Err fault) new = CannotRemove n (records_in old.layers) fault × (new ≡ old)
 
 -- ---- the machine
 
 -- one command over a history, its reply, and the history that it leaves
-abbrev pub Acts : Command → History → Result Done Fault → History → Type 0
-Acts Fmt old reply new =
-    (answer : Result Made Fault) × Makes Fmt (top_text old) answer
-    × PutsLayer Word.Fmt answer old reply new
-Acts (Fix rules) old reply new =
-    (answer : Result Made Fault) × Makes (Fix rules) (top_text old) answer
-    × PutsLayer Word.Fix answer old reply new
-Acts Revert old reply new = TakesLayerOff old reply new
-Acts (Take n) old reply new = TakesLayerOut n old reply new
+abbrev pub HistoryStep : Command → History → Result Done Fault → History → Type 0
+HistoryStep Fmt old reply new =
+    (answer : Result Rewrite Fault) × Rewrites Fmt (top_text old) answer
+    × PushesLayer Word.Fmt answer old reply new
+HistoryStep (Fix rules) old reply new =
+    (answer : Result Rewrite Fault) × Rewrites (Fix rules) (top_text old) answer
+    × PushesLayer Word.Fix answer old reply new
+HistoryStep Revert old reply new = PopsLayer old reply new
+HistoryStep (Take n) old reply new = TakeStep n old reply new
 
 -- A fmt or a fix takes memory only for a text that it looks into, a revert only where there is a
 -- layer, and a take as is said of records.
-abbrev pub MayWantMemory : Command → History → Type 0
-MayWantMemory Fmt h = IsText (top_text h)
-MayWantMemory (Fix rules) h = IsText (top_text h)
-MayWantMemory Revert h = h.layers ≢ []
-MayWantMemory (Take n) h = WantsMemory n (top_text h) (records_in h.layers)
+abbrev pub HistoryMayAllocate : Command → History → Type 0
+HistoryMayAllocate Fmt h = IsUtf8WithinLimit (top_text h)
+HistoryMayAllocate (Fix rules) h = IsUtf8WithinLimit (top_text h)
+HistoryMayAllocate Revert h = h.layers ≢ []
+HistoryMayAllocate (Take n) h = RemovalMayAllocate n (top_text h) (records_in h.layers)
 
 -- One command where growths may be refused: then its reply is Memory, and it changes nothing.
-abbrev pub ActsOrWants : Command → History → Result Done Fault → History → Type 0
-ActsOrWants command old reply new =
-    MatchBool (is_memory reply) (MayWantMemory command old × (new ≡ old))
-    (Acts command old reply new)
+abbrev pub HistoryStepOrMemory : Command → History → Result Done Fault → History → Type 0
+HistoryStepOrMemory command old reply new =
+    MatchBool (is_memory reply) (HistoryMayAllocate command old × (new ≡ old))
+    (HistoryStep command old reply new)
 
 -- Each command has its reply, in order. One whose reply is Memory might as well not be in the list.
-abbrev pub RunLayers : History → List Command → List (Result Done Fault) → History → Type 0
-RunLayers old [] [] new = new ≡ old
-RunLayers old [] (reply ∷ replies) new = ⊥
-RunLayers old (command ∷ commands) [] new = ⊥
-RunLayers old (command ∷ commands) (reply ∷ replies) new =
-    (mid : History) × ActsOrWants command old reply mid × RunLayers mid commands replies new
+abbrev pub HistoryRun : History → List Command → List (Result Done Fault) → History → Type 0
+HistoryRun old [] [] new = new ≡ old
+HistoryRun old [] (reply ∷ replies) new = ⊥
+HistoryRun old (command ∷ commands) [] new = ⊥
+HistoryRun old (command ∷ commands) (reply ∷ replies) new =
+    (mid : History) × HistoryStepOrMemory command old reply mid × HistoryRun mid commands replies new

@@ -10,7 +10,7 @@ use hcl_tree::ParseFault;
 use std::alloc::{AllocError, AllocFailed};
 use std::fmt;
 use tf_lint::Rule;
-use tf_stream::TakeFault;
+use tf_stream::ReadFault;
 use thiserror::Error;
 
 /// What a writer was given.
@@ -91,16 +91,16 @@ impl<T: Drop> From<AllocFailed<T>> for RunFault {
     }
 }
 
-impl From<TakeFault> for RunFault {
+impl From<ReadFault> for RunFault {
     ghost use Rattle.tf_commands.specs.Faults.{run_fault_of_take};
 
     ghost from_gives = { λ fault given. given ≡ run_fault_of_take fault };
 
-    fn from(fault: TakeFault) -> Self {
+    fn from(fault: ReadFault) -> Self {
         match fault {
-            TakeFault::Read => RunFault::Read,
-            TakeFault::Endless => RunFault::Endless,
-            TakeFault::Memory => RunFault::Memory,
+            ReadFault::Read => RunFault::Read,
+            ReadFault::Endless => RunFault::Endless,
+            ReadFault::Memory => RunFault::Memory,
         }
     }
 }

@@ -1,27 +1,27 @@
 //! What a fix makes of a text.
 
 ghost use Rattle.std.specs.Prelude.{◌≡◌, List, [], Ok, IfOk, IfErr, IfSome};
-ghost use Rattle.edit_list.specs.Journal.{Entered};
-ghost use Rattle.edit_list.specs.Pieces.{Turns};
+ghost use Rattle.edit_list.specs.Journal.{JournalEntry};
+ghost use Rattle.edit_list.specs.Pieces.{Transforms};
 ghost use Rattle.tf_commands.specs.Machine.{done};
-ghost use Rattle.tf_commands.specs.Makes.{Makes, RefusesText};
+ghost use Rattle.tf_commands.specs.Rewrites.{Rewrites, RefusesText};
 ghost use Rattle.tf_commands.specs.Records.{DoesStep, RefusesStep};
 ghost use Rattle.tf_commands.specs.declared.command.Command.TheVariants.{Fix};
-ghost use Rattle.tf_lint.specs.Fixed.{made_of, text_after, text_behind, FixesTo};
+ghost use Rattle.tf_lint.specs.FixResult.{rewrite_of, changed_text, fixed_text_or, FixesTo};
 ghost use Rattle.tf_lint.specs.Remaining.{IsRemaining};
 
 use crate::command::{Done, Fault};
 use std::alloc::Global;
-use tf_lint::{Fixed, FixedText, Remaining};
+use tf_lint::{FixResult, FixedText, Remaining};
 use tf_rule::RuleSet;
 
 /// The text fixed by the rules of the set.
-pub fn fix_text(alloc: Global, text: &[u8], rules: RuleSet) -> Result<Fixed, Fault>
-    ensures made { IfOk result (λ fixed. Makes (Fix rules) text.now (Ok (made_of text.now fixed))) }
+pub fn fix_text(alloc: Global, text: &[u8], rules: RuleSet) -> Result<FixResult, Fault>
+    ensures rewrites { IfOk result (λ fixed. Rewrites (Fix rules) text.now (Ok (rewrite_of text.now fixed))) }
     ensures change { IfOk result
-        (λ fixed. IfSome fixed.change (λ change. Turns change.edits text.now change.text.items)) }
+        (λ fixed. IfSome fixed.change (λ change. Transforms change.edits text.now change.text.items)) }
     ensures left { IfOk result
-        (λ fixed. IsRemaining rules (text_after text.now fixed.change) fixed.left) }
+        (λ fixed. IsRemaining rules (changed_text text.now fixed.change) fixed.left) }
     ensures fault { IfErr result (λ fault. RefusesText (Fix rules) text.now fault) }
 {
     match tf_lint::fix_text(alloc, text, rules) {
@@ -31,13 +31,13 @@ pub fn fix_text(alloc: Global, text: &[u8], rules: RuleSet) -> Result<Fixed, Fau
 }
 
 /// The same where nobody asks by which edits.
-fn without_edits(alloc: Global, text: &[u8], rules: RuleSet) -> Result<FixedText, Fault>
-    ensures made { IfOk result (FixesTo rules text.now) }
+fn fix_without_edits(alloc: Global, text: &[u8], rules: RuleSet) -> Result<FixedText, Fault>
+    ensures rewrites { IfOk result (FixesTo rules text.now) }
     ensures left { IfOk result
-        (λ fixed. IsRemaining rules (text_behind text.now fixed.text) fixed.left) }
+        (λ fixed. IsRemaining rules (fixed_text_or text.now fixed.text) fixed.left) }
     ensures fault { IfErr result (λ fault. RefusesText (Fix rules) text.now fault) }
 {
-    match tf_lint::fixed_text(alloc, text, rules) {
+    match tf_lint::fix_without_edits(alloc, text, rules) {
         Ok(fixed) => Ok(fixed),
         Err(fault) => Err(Fault::from(fault)),
     }
@@ -45,12 +45,12 @@ fn without_edits(alloc: Global, text: &[u8], rules: RuleSet) -> Result<FixedText
 
 /// A text fixed by the rules of the set, what that did, and what the rules find in the new text:
 /// what a session with no journal has behind a fix. No session is made, and no edits are kept.
-pub fn fixed_text(
+pub fn fix_without_session(
     alloc: Global,
     text: Vec<u8>,
     rules: RuleSet,
 ) -> Result<(Vec<u8>, Done, Remaining), Fault>
-    ensures done { IfOk result (λ r. (records : List Entered)
+    ensures done { IfOk result (λ r. (records : List JournalEntry)
         × DoesStep (Fix rules) text.items [] r.1 r.0.items records) }
     ensures left { IfOk result (λ r. IsRemaining rules r.0.items r.2) }
     ensures refused { IfErr result (λ fault. RefusesStep (Fix rules) text.items [] fault) }
@@ -59,16 +59,16 @@ pub fn fixed_text(
         text: new,
         fixed,
         left,
-    } = without_edits(alloc, &text, rules)?;
+    } = fix_without_edits(alloc, &text, rules)?;
     let count = left.len();
     let Some(new) = new else {
-        return Ok((text, answer(false, fixed, count), left));
+        return Ok((text, done_of(false, fixed, count), left));
     };
     let changed = new.as_slice() != text.as_slice();
-    Ok((new, answer(changed, fixed, count), left))
+    Ok((new, done_of(changed, fixed, count), left))
 }
 
-fn answer(changed: bool, fixed: usize, left: usize) -> Done
+fn done_of(changed: bool, fixed: usize, left: usize) -> Done
     ensures { result ≡ done changed fixed left }
 {
     Done {

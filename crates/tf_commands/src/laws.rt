@@ -1,44 +1,44 @@
 //! Laws of the machine that `run` stands for: functions that do nothing, for callers whose proofs
 //! want what their clauses say.
 
-ghost use Rattle.tf_commands.specs.OneAnswer.{OneAnswer};
-ghost use Rattle.tf_commands.specs.FmtLaws.{FmtKeepsTokens, FmtChangesOnce};
-ghost use Rattle.tf_commands.specs.JournalLaws.{JournalIsOne};
-ghost use Rattle.tf_commands.specs.TakeLaws.{OneAnswerOverLayers, TakeHasOneAnswer, TakeLeaves, RefusedDoNotCountOverLayers, RevertsGiveTheFirstAgain, JournalIsOneAgain};
-ghost use Rattle.tf_commands.specs.WithoutTake.{WithoutTakeOneMachine};
-ghost use Rattle.tf_commands.specs.RunLaws.{RefusedDoNotCount, RevertsTakeOff, RevertsGiveTheFirst};
+ghost use Rattle.tf_commands.specs.ResultIsUnique.{CommandResultIsUnique};
+ghost use Rattle.tf_commands.specs.FmtLaws.{FmtKeepsTokens, FmtIsIdempotent};
+ghost use Rattle.tf_commands.specs.JournalLaws.{JournalSquashesToOne};
+ghost use Rattle.tf_commands.specs.TakeLaws.{CommandResultIsUniqueOverLayers, TakeResultIsUnique, TakePreservesHistory, OutOfMemoryChangesNothingOverLayers, RevertsRestoreTheFirstAfterTakes, JournalSquashesToOneAfterTakes};
+ghost use Rattle.tf_commands.specs.MachinesAgree.{MachinesAgreeWithoutTake};
+ghost use Rattle.tf_commands.specs.RunLaws.{OutOfMemoryChangesNothing, RevertsPop, RevertsRestoreTheFirst};
 
-use edit_list::laws::{turned_texts_are_one, turned_texts_have_the_lengths};
-use edit_squash::laws::squash_all_is_one;
-use edit_swap::laws::{swap_is_one, taking_out_is_one};
+use edit_list::laws::{apply_is_deterministic, transformed_lengths_match};
+use edit_squash::laws::squash_all_is_unique;
+use edit_swap::laws::{move_to_end_is_unique, swap_is_unique};
 use hcl_layout::laws::{layout_keeps_tokens, layout_of_layout, one_layout};
-use hcl_scan::laws::{no_cut_with_fault, one_cut, one_fault};
-use tf_lint::laws::one_fix;
+use hcl_scan::laws::{no_tokenization_with_fault, one_fault, one_tokenization};
+use tf_lint::laws::fix_is_unique;
 
 /// A command that met a refused growth might as well not be in the list.
-pub fn refused_commands_do_not_count()
-    ensures { RefusedDoNotCount }
+pub fn out_of_memory_changes_nothing()
+    ensures { OutOfMemoryChangesNothing }
 {}
 
 /// Reverts take exactly the last texts off, one each, byte for byte.
-pub fn reverts_take_off_the_last()
-    ensures { RevertsTakeOff }
+pub fn reverts_pop_the_last()
+    ensures { RevertsPop }
 {}
 
 /// After any commands enough reverts give back the first bytes.
-pub fn reverts_give_the_first_text()
-    ensures { RevertsGiveTheFirst }
+pub fn reverts_restore_the_first_text()
+    ensures { RevertsRestoreTheFirst }
 {}
 
 /// A command over a stack of texts has one reply, and leaves one stack.
-pub fn each_command_has_one_answer()
-    ensures { OneAnswer }
+pub fn command_result_is_unique()
+    ensures { CommandResultIsUnique }
 {
-    one_cut();
-    no_cut_with_fault();
+    one_tokenization();
+    no_tokenization_with_fault();
     one_fault();
     one_layout();
-    one_fix();
+    fix_is_unique();
 }
 
 /// Where a fmt answers `Done`, the new text has the tokens of the old one, comments and line ends
@@ -50,8 +50,8 @@ pub fn fmt_keeps_tokens()
 }
 
 /// A fmt after a fmt changes nothing.
-pub fn fmt_changes_once()
-    ensures { FmtChangesOnce }
+pub fn fmt_is_idempotent()
+    ensures { FmtIsIdempotent }
 {
     layout_of_layout();
 }
@@ -59,65 +59,65 @@ pub fn fmt_changes_once()
 /// The records of the journal of any run, squashed from the first on, are one list of edits, which
 /// turns the first text into the last: on the way no list is refused but for want of memory.
 pub fn journal_squashes_to_one()
-    ensures { JournalIsOne }
+    ensures { JournalSquashesToOne }
 {
-    turned_texts_have_the_lengths();
-    squash_all_is_one();
+    transformed_lengths_match();
+    squash_all_is_unique();
 }
 
 /// Without take among the commands, the machine that keeps the edits is the machine of whole texts.
-pub fn without_take_there_is_one_machine()
-    ensures { WithoutTakeOneMachine }
+pub fn machines_agree_without_take()
+    ensures { MachinesAgreeWithoutTake }
 {}
 
 /// What a take leaves is a history again, whose text is the one before it without what the command
 /// did.
-pub fn take_leaves_a_history()
-    ensures { TakeLeaves }
+pub fn take_preserves_history()
+    ensures { TakePreservesHistory }
 {
-    taking_out_is_one();
-    turned_texts_are_one();
+    move_to_end_is_unique();
+    apply_is_deterministic();
 }
 
 /// A take has one reply, and leaves one history.
-pub fn each_take_has_one_answer()
-    ensures { TakeHasOneAnswer }
+pub fn take_result_is_unique()
+    ensures { TakeResultIsUnique }
 {
-    swap_is_one();
-    taking_out_is_one();
-    turned_texts_are_one();
+    swap_is_unique();
+    move_to_end_is_unique();
+    apply_is_deterministic();
 }
 
 /// A command over a first text with its layers of edits has one reply, and leaves one history.
-pub fn each_command_has_one_answer_over_layers()
-    ensures { OneAnswerOverLayers }
+pub fn command_result_is_unique_over_layers()
+    ensures { CommandResultIsUniqueOverLayers }
 {
-    one_cut();
-    no_cut_with_fault();
+    one_tokenization();
+    no_tokenization_with_fault();
     one_fault();
     one_layout();
-    one_fix();
-    swap_is_one();
-    taking_out_is_one();
-    turned_texts_are_one();
+    fix_is_unique();
+    swap_is_unique();
+    move_to_end_is_unique();
+    apply_is_deterministic();
 }
 
 /// A command that met a refused growth might as well not be in the list, takes among its commands
 /// too.
-pub fn refused_commands_do_not_count_over_layers()
-    ensures { RefusedDoNotCountOverLayers }
+pub fn out_of_memory_changes_nothing_over_layers()
+    ensures { OutOfMemoryChangesNothingOverLayers }
 {}
 
 /// After any commands, takes among them, enough reverts give back the first bytes.
-pub fn reverts_give_the_first_text_after_takes()
-    ensures { RevertsGiveTheFirstAgain }
+pub fn reverts_restore_the_first_text_after_takes()
+    ensures { RevertsRestoreTheFirstAfterTakes }
 {}
 
 /// The records of the journal of any run, takes among its commands, are one list of edits from the
 /// first text to the last.
 pub fn journal_squashes_to_one_after_takes()
-    ensures { JournalIsOneAgain }
+    ensures { JournalSquashesToOneAfterTakes }
 {
-    turned_texts_have_the_lengths();
-    squash_all_is_one();
+    transformed_lengths_match();
+    squash_all_is_unique();
 }

@@ -4,16 +4,16 @@ ghost use Rattle.std.specs.Prelude.{◌≡◌, ◌<◌, ◌↔◌, length, true,
 ghost use Rattle.tf_lint.specs.Issues.{reports};
 ghost use Rattle.tf_lint.specs.Reports.{lines_of};
 ghost use Rattle.tf_stream.specs.Told.{has_failed};
-ghost use Rattle.tf_stream.specs.Streams.{from, into, Puts};
+ghost use Rattle.tf_stream.specs.Streams.{source_of, target_of, WritesBytes};
 ghost use Rattle.tf_commands.specs.declared.fault.RunFault.TheVariants.{Memory};
-ghost use Rattle.tf_commands.specs.Lines.{AreLines, Lints, LintsAtFault, NotListed};
-ghost use Rattle.tf_commands.specs.Makes.{NotRead};
+ghost use Rattle.tf_commands.specs.LintStream.{AreLines, LintsStream, LintStreamFault, IssueWriteFault};
+ghost use Rattle.tf_commands.specs.Rewrites.{IsReadFault};
 ghost use Rattle.tf_commands.specs.Streams.{is_write};
 
 use crate::command::Fault;
 use crate::fault::RunFault;
-use crate::reading::search_text;
-use crate::texts::{put_text, take_text};
+use crate::reading::lint_text;
+use crate::text_io::{put_text, take_text};
 use std::alloc::Global;
 use std::io::{Read, Write};
 use tf_lint::{Issue, RuleSet, lines_of_findings, lines_of_issues};
@@ -30,14 +30,14 @@ pub fn lint_stream<R: Read, W: Write>(
     out: &mut Told<W>,
     rules: RuleSet,
 ) -> Result<usize, RunFault>
-    requires text_fresh { has_failed text.old ≡ false }
-    requires out_fresh { has_failed out.old ≡ false }
+    requires text_not_failed { has_failed text.old ≡ false }
+    requires out_not_failed { has_failed out.old ≡ false }
     ensures lines { IfOk result
-        (λ count. Lints name.now rules count (from R.remaining text.old text.new)
-        (into W.contents out.old out.new)) }
+        (λ count. LintsStream name.now rules count (source_of R.remaining text.old text.new)
+        (target_of W.contents out.old out.new)) }
     ensures fault { IfErr result
-        (λ fault. LintsAtFault name.now rules fault (from R.remaining text.old text.new)
-        (into W.contents out.old out.new)) }
+        (λ fault. LintStreamFault name.now rules fault (source_of R.remaining text.old text.new)
+        (target_of W.contents out.old out.new)) }
     ensures read { IsErrOf result RunFault.Read ↔ has_failed text.new ≡ true }
     ensures write { IsErrAnd result (λ fault. is_write fault ≡ true) ↔ has_failed out.new ≡ true }
 {
@@ -50,7 +50,7 @@ pub fn lint_stream<R: Read, W: Write>(
 /// Writes a line for each of these issues of a file with this name, each followed by LF.
 ///
 /// All lines are made before the first is written, so nothing is written at any fault but `Write`.
-pub fn put_issues<W: Write>(
+pub fn write_issues<W: Write>(
     alloc: Global,
     name: &str,
     found: &[Issue],
@@ -58,12 +58,12 @@ pub fn put_issues<W: Write>(
 ) -> Result<(), RunFault>
     requires { has_failed out.old ≡ false }
     ensures lines { OnOk result
-        (Puts (into W.contents out.old out.new) (lines_of name.now (reports found.now))) }
+        (WritesBytes (target_of W.contents out.old out.new) (lines_of name.now (reports found.now))) }
     ensures fault { IfErr result
-        (λ fault. NotListed (lines_of name.now (reports found.now)) fault
-        (into W.contents out.old out.new)) }
+        (λ fault. IssueWriteFault (lines_of name.now (reports found.now)) fault
+        (target_of W.contents out.old out.new)) }
     ensures write { IsErrAnd result (λ fault. is_write fault ≡ true) ↔ has_failed out.new ≡ true }
-    ensures asked { IfErr result (λ fault. fault ≡ Memory → 0 < length found.now) }
+    ensures allocates { IfErr result (λ fault. fault ≡ Memory → 0 < length found.now) }
 {
     let lines = lines_of_issues(alloc, name, found)?;
     put_text(lines.as_bytes(), out)
@@ -77,9 +77,9 @@ fn issue_lines(
     rules: RuleSet,
 ) -> Result<(Vec<u8>, usize), Fault>
     ensures lines { IfOk result (λ made. AreLines name.now rules text.now made.0.items made.1) }
-    ensures fault { IfErr result (λ fault. NotRead text.now fault) }
+    ensures fault { IfErr result (λ fault. IsReadFault text.now fault) }
 {
-    let searched = search_text(alloc, text, rules)?;
+    let searched = lint_text(alloc, text, rules)?;
     let found = searched.found.as_slice();
     match lines_of_findings(alloc, name, &searched.scanned, found) {
         Ok(lines) => Ok((lines.into_bytes(), found.len())),

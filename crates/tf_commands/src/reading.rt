@@ -5,41 +5,41 @@ ghost use Rattle.hcl_grammar.specs.Bodies.{IsFile};
 ghost use Rattle.hcl_grammar.specs.declared.bounds.TheConstants.{MAX_NESTING};
 ghost use Rattle.hcl_grammar.specs.declared.tree.Tree as tree;
 ghost use Rattle.hcl_scan.specs.Follows.{tokens_of};
-ghost use Rattle.tf_commands.specs.Makes.{NotRead};
-ghost use Rattle.tf_commands.specs.Reading.{DoesParse};
-ghost use Rattle.tf_fix.specs.Reading.{Reads};
-ghost use Rattle.tf_lint.specs.Searching.{IsOf};
+ghost use Rattle.tf_commands.specs.Rewrites.{IsReadFault};
+ghost use Rattle.tf_commands.specs.Parsing.{DoesParse};
+ghost use Rattle.tf_fix.specs.ParsedTexts.{IsParseOf};
+ghost use Rattle.tf_lint.specs.LintedText.{IsLintOf};
 ghost use Rattle.tf_fix.specs.declared.parsed.Parsed.{Parsed};
 
 use crate::command::Fault;
 use hcl_scan::Scanned;
 use std::alloc::Global;
-use tf_lint::Searched;
+use tf_lint::LintedText;
 use tf_rule::RuleSet;
 
 /// The tokens of a text, if it parses.
-pub fn read_text<'t>(alloc: Global, text: &'t [u8]) -> Result<Scanned<'t>, Fault>
+pub fn check_syntax<'t>(alloc: Global, text: &'t [u8]) -> Result<Scanned<'t>, Fault>
     ensures reads { IfOk result
-        (λ scanned. (t : tree.Tree) × Reads text.now (record { scanned = scanned; tree = t })) }
+        (λ scanned. (t : tree.Tree) × IsParseOf text.now (record { scanned = scanned; tree = t })) }
     ensures text { IfOk result (λ scanned. scanned.text ≡ text.now) }
     ensures derived { IfOk result
         (λ scanned. (t : tree.Tree) × IsFile (tokens_of scanned.pairs) MAX_NESTING t) }
     ensures parses { OnOk result (DoesParse text.now) }
-    ensures fault { IfErr result (λ fault. NotRead text.now fault) }
+    ensures fault { IfErr result (λ fault. IsReadFault text.now fault) }
 {
-    match tf_lint::check_text(alloc, text) {
+    match tf_lint::check_syntax(alloc, text) {
         Ok(scanned) => Ok(scanned),
         Err(fault) => Err(Fault::from(fault)),
     }
 }
 
 /// The tokens of a text, if it parses, and what the rules of the set find in it.
-pub fn search_text<'t>(alloc: Global, text: &'t [u8], rules: RuleSet) -> Result<Searched<'t>, Fault>
-    ensures searched { IfOk result (λ searched. (p : Parsed) × Reads text.now p × IsOf p searched) }
+pub fn lint_text<'t>(alloc: Global, text: &'t [u8], rules: RuleSet) -> Result<LintedText<'t>, Fault>
+    ensures searched { IfOk result (λ searched. (p : Parsed) × IsParseOf text.now p × IsLintOf p searched) }
     ensures rules { IfOk result (λ searched. searched.rules ≡ rules) }
-    ensures fault { IfErr result (λ fault. NotRead text.now fault) }
+    ensures fault { IfErr result (λ fault. IsReadFault text.now fault) }
 {
-    match tf_lint::search_text(alloc, text, rules, false) {
+    match tf_lint::lint_text(alloc, text, rules, false) {
         Ok(searched) => Ok(searched),
         Err(fault) => Err(Fault::from(fault)),
     }

@@ -2,15 +2,15 @@
 
 ghost use Rattle.std.specs.Prelude.{◌≡◌, ◌<◌, IfOk, IfErr, length};
 ghost use Rattle.tf_commands.specs.Session.{text_of, records_of};
-ghost use Rattle.tf_commands.specs.Machine.{Stack, only, Run, WithoutTake};
-ghost use Rattle.tf_commands.specs.Layers.{History, bare, top_text, records_in, IsHistory, RunLayers};
-ghost use Rattle.tf_commands.specs.Records.{Stands};
+ghost use Rattle.tf_commands.specs.Machine.{Stack, initial_stack, StackRun, WithoutTake};
+ghost use Rattle.tf_commands.specs.Layers.{History, initial_history, top_text, records_in, IsHistory, HistoryRun};
+ghost use Rattle.tf_commands.specs.Records.{IsJournalOfStack};
 
 use crate::command::{Command, Reply};
 use crate::session::Session;
 use edit_list::Journal;
-use edit_list::laws::turned_texts_have_the_lengths;
-use edit_swap::laws::taking_out_is_one;
+use edit_list::laws::transformed_lengths_match;
+use edit_swap::laws::move_to_end_is_unique;
 use std::alloc::{AllocError, Global};
 
 /// The commands in order, over a text with no journal, with one reply for each.
@@ -26,16 +26,16 @@ pub fn run(
     commands: &[Command],
 ) -> Result<(Session, Vec<Reply>), AllocError>
     ensures stack { WithoutTake commands.now
-        → IfOk result (λ ran. (end : Stack) × Run (only text.items) commands.now ran.1.items end
-        × (text_of ran.0 ≡ end.top) × Stands (records_of ran.0) end.top end.below) }
+        → IfOk result (λ ran. (end : Stack) × StackRun (initial_stack text.items) commands.now ran.1.items end
+        × (text_of ran.0 ≡ end.top) × IsJournalOfStack (records_of ran.0) end.top end.below) }
     ensures layers { IfOk result
-        (λ ran. (end : History) × RunLayers (bare text.items) commands.now ran.1.items end
+        (λ ran. (end : History) × HistoryRun (initial_history text.items) commands.now ran.1.items end
         × (text_of ran.0 ≡ top_text end) × (records_of ran.0 ≡ records_in end.layers)
         × IsHistory end) }
-    ensures asked { IfErr result (λ _. 0 < length commands.now) }
+    ensures allocates { IfErr result (λ _. 0 < length commands.now) }
 {
-    taking_out_is_one();
-    turned_texts_have_the_lengths();
+    move_to_end_is_unique();
+    transformed_lengths_match();
     let mut session = Session::start(text, Journal::empty(alloc));
     let mut replies = Vec::new(alloc);
     for command in commands {

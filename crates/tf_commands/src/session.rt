@@ -2,22 +2,22 @@
 
 ghost use Rattle.std.specs.Prelude.{◌≡◌, true, IfOk, IfErr, IfSome, OnErr};
 ghost use Rattle.tf_lint.specs.Remaining.{IsRemaining};
-ghost use Rattle.tf_lint.specs.Steps.{differ};
+ghost use Rattle.tf_lint.specs.Steps.{texts_differ};
 ghost use Rattle.tf_commands.specs.declared.command.Command.TheVariants.{Fix};
 ghost use Rattle.tf_commands.specs.Machine.{done};
-ghost use Rattle.tf_lint.specs.Fixed.{text_after, edits_after};
+ghost use Rattle.tf_lint.specs.FixResult.{changed_text, changed_edits};
 ghost use Rattle.tf_commands.specs.Session.{text_of, records_of};
-ghost use Rattle.tf_commands.specs.Records.{DoesStep, RefusesStep, AddsRecord, TakesLast, RefusesTake};
-ghost use Rattle.tf_commands.specs.TakingNth.{TakesNth, RefusesNth};
+ghost use Rattle.tf_commands.specs.Records.{DoesStep, RefusesStep, AddsRecord, RevertsLast, RefusesRevert};
+ghost use Rattle.tf_commands.specs.RemovingRecord.{RemovesRecord, RefusesRemoval};
 
 use crate::command::{Command, Done, Fault, Reply};
 use crate::fixing::fix_text;
 use crate::formatting::fmt_text;
-use crate::removing::{Remainder, without};
+use crate::removal::{Removal, without_record};
 use edit_list::laws::undo_is_exact;
 use edit_list::{Change as _, Journal, Record, Word};
 use std::alloc::Global;
-use tf_lint::{Fixed, NewText, Remaining, RuleSet};
+use tf_lint::{FixResult, NewText, Remaining, RuleSet};
 
 /// A text, and the journal of the commands that changed it.
 #[derive(Drop)]
@@ -62,14 +62,14 @@ impl Session {
         match command {
             Command::Fmt => {
                 let change = fmt_text(alloc, self.text.as_slice())?;
-                self.put_on(Word::Fmt, change, 0, 0)
+                self.push_change(Word::Fmt, change, 0, 0)
             }
             Command::Fix(rules) => match self.fix(alloc, rules) {
                 Ok((done, _)) => Ok(done),
                 Err(fault) => Err(fault),
             },
-            Command::Revert => self.take_off(alloc),
-            Command::Take(number) => self.take_nth(alloc, number),
+            Command::Revert => self.revert_last(alloc),
+            Command::Take(number) => self.remove_record(alloc, number),
         }
     }
 
@@ -85,27 +85,33 @@ impl Session {
         ensures text { OnErr result (text_of self.new ≡ text_of self.old) }
         ensures journal { OnErr result (records_of self.new ≡ records_of self.old) }
     {
-        let Fixed {
+        let FixResult {
             change,
             fixed,
             left,
         } = fix_text(alloc, self.text.as_slice(), rules)?;
-        match self.put_on(Word::Fix, change, fixed, left.len()) {
+        match self.push_change(Word::Fix, change, fixed, left.len()) {
             Ok(done) => Ok((done, left)),
             Err(fault) => Err(fault),
         }
     }
 
     /// Puts the new text in the place of the old, with a record, if it changed.
-    fn put_on(&mut self, word: Word, change: Option<NewText>, fixed: usize, left: usize) -> Reply
+    fn push_change(
+        &mut self,
+        word: Word,
+        change: Option<NewText>,
+        fixed: usize,
+        left: usize,
+    ) -> Reply
         ensures replied { IfOk result
-            (λ d. d ≡ done (differ (text_of self.old)
-            (text_after (text_of self.old) change)) fixed left) }
-        ensures put { IfOk result (λ d. text_of self.new ≡ text_after (text_of self.old) change) }
+            (λ d. d ≡ done (texts_differ (text_of self.old)
+            (changed_text (text_of self.old) change)) fixed left) }
+        ensures pushed { IfOk result (λ d. text_of self.new ≡ changed_text (text_of self.old) change) }
         ensures added { IfOk result
-            (λ d. AddsRecord (differ (text_of self.old)
-            (text_after (text_of self.old) change)) word
-            (edits_after (text_of self.old) change) (records_of self.old)
+            (λ d. AddsRecord (texts_differ (text_of self.old)
+            (changed_text (text_of self.old) change)) word
+            (changed_edits (text_of self.old) change) (records_of self.old)
             (records_of self.new)) }
         ensures refused { IfErr result (λ fault. fault ≡ Fault.Memory) }
         ensures text { OnErr result (text_of self.new ≡ text_of self.old) }
@@ -137,12 +143,12 @@ impl Session {
     }
 
     /// Undoes the last record and takes it off. Nothing can fail once the record is undone.
-    fn take_off(&mut self, alloc: Global) -> Reply
+    fn revert_last(&mut self, alloc: Global) -> Reply
         ensures done { IfOk result
-            (λ d. TakesLast (text_of self.old) (records_of self.old) d (text_of self.new)
+            (λ d. RevertsLast (text_of self.old) (records_of self.old) d (text_of self.new)
             (records_of self.new)) }
         ensures refused { IfErr result
-            (λ fault. RefusesTake (text_of self.old) (records_of self.old) fault) }
+            (λ fault. RefusesRevert (text_of self.old) (records_of self.old) fault) }
         ensures text { OnErr result (text_of self.new ≡ text_of self.old) }
         ensures journal { OnErr result (records_of self.new ≡ records_of self.old) }
     {
@@ -167,22 +173,21 @@ impl Session {
 
     /// Takes the record of this number out from before the later ones. Nothing can fail once all
     /// new records are made.
-    fn take_nth(&mut self, alloc: Global, number: u32) -> Reply
+    fn remove_record(&mut self, alloc: Global, number: u32) -> Reply
         ensures done { IfOk result
-            (λ d. TakesNth number (text_of self.old) (records_of self.old) d (text_of self.new)
+            (λ d. RemovesRecord number (text_of self.old) (records_of self.old) d (text_of self.new)
             (records_of self.new)) }
         ensures refused { IfErr result
-            (λ fault. RefusesNth number (text_of self.old) (records_of self.old) fault) }
+            (λ fault. RefusesRemoval number (text_of self.old) (records_of self.old) fault) }
         ensures text { OnErr result (text_of self.new ≡ text_of self.old) }
         ensures journal { OnErr result (records_of self.new ≡ records_of self.old) }
     {
         let records = self.journal.records();
-        let Remainder { text, from, others } = without(
-            alloc,
-            &self.text,
-            records,
-            number as usize,
-        )?;
+        let Removal {
+            text,
+            from,
+            new_records: others,
+        } = without_record(alloc, &self.text, records, number as usize)?;
         let changed = text.as_slice() != self.text.as_slice();
         self.journal.replace_from(from, others);
         self.text = text;

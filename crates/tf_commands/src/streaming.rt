@@ -2,18 +2,18 @@
 
 ghost use Rattle.std.specs.Prelude.{◌≡◌, ◌↔◌, true, false, OnOk, IfOk, IfErr, IsErrOf, IsErrAnd};
 ghost use Rattle.tf_stream.specs.Told.{has_failed};
-ghost use Rattle.tf_stream.specs.Streams.{from, into};
+ghost use Rattle.tf_stream.specs.Streams.{source_of, target_of};
 ghost use Rattle.tf_commands.specs.Session.{text_of, records_of};
 ghost use Rattle.tf_commands.specs.Streams.{is_write};
 ghost use Rattle.tf_commands.specs.declared.command.Command.TheVariants.{Fmt, Fix};
 ghost use Rattle.tf_lint.specs.Remaining.{IsRemaining};
-ghost use Rattle.tf_commands.specs.Streaming.{StepsThrough, StepsAtFault, FormatsThrough, Checks, ChecksAtFault};
+ghost use Rattle.tf_commands.specs.Streaming.{StepsStream, StepStreamFault, FormatsStream, ChecksStream, CheckStreamFault};
 
 use crate::command::{Command, Done};
 use crate::fault::RunFault;
-use crate::formatting::{formatted_text, has_own_layout};
+use crate::formatting::{format_without_session, is_formatted};
 use crate::session::Session;
-use crate::texts::{put_text, take_text};
+use crate::text_io::{put_text, take_text};
 use edit_list::Journal;
 use std::alloc::Global;
 use std::io::{Read, Write};
@@ -25,20 +25,20 @@ use tf_stream::Told;
 ///
 /// Answers the session after the command, and what it did. Nothing is written at any fault but
 /// `Write`.
-pub fn step_stream<R: Read, W: Write>(
+pub fn step_text_stream<R: Read, W: Write>(
     alloc: Global,
     command: Command,
     text: &mut Told<R>,
     out: &mut Told<W>,
 ) -> Result<(Session, Done), RunFault>
-    requires text_fresh { has_failed text.old ≡ false }
-    requires out_fresh { has_failed out.old ≡ false }
+    requires text_not_failed { has_failed text.old ≡ false }
+    requires out_not_failed { has_failed out.old ≡ false }
     ensures done { IfOk result
-        (λ made. StepsThrough command made.1 (text_of made.0) (records_of made.0)
-        (from R.remaining text.old text.new) (into W.contents out.old out.new)) }
+        (λ made. StepsStream command made.1 (text_of made.0) (records_of made.0)
+        (source_of R.remaining text.old text.new) (target_of W.contents out.old out.new)) }
     ensures fault { IfErr result
-        (λ fault. StepsAtFault command fault (from R.remaining text.old text.new)
-        (into W.contents out.old out.new)) }
+        (λ fault. StepStreamFault command fault (source_of R.remaining text.old text.new)
+        (target_of W.contents out.old out.new)) }
     ensures read { IsErrOf result RunFault.Read ↔ has_failed text.new ≡ true }
     ensures write { IsErrAnd result (λ fault. is_write fault ≡ true) ↔ has_failed out.new ≡ true }
 {
@@ -56,21 +56,21 @@ pub fn step_stream<R: Read, W: Write>(
 ///
 /// Answers the session after it, what it did, and what the rules find in the new text. Nothing is
 /// written at any fault but `Write`.
-pub fn fix_through<R: Read, W: Write>(
+pub fn fix_text_stream<R: Read, W: Write>(
     alloc: Global,
     rules: RuleSet,
     text: &mut Told<R>,
     out: &mut Told<W>,
 ) -> Result<(Session, Done, Remaining), RunFault>
-    requires text_fresh { has_failed text.old ≡ false }
-    requires out_fresh { has_failed out.old ≡ false }
+    requires text_not_failed { has_failed text.old ≡ false }
+    requires out_not_failed { has_failed out.old ≡ false }
     ensures done { IfOk result
-        (λ made. StepsThrough (Fix rules) made.1 (text_of made.0) (records_of made.0)
-        (from R.remaining text.old text.new) (into W.contents out.old out.new)) }
+        (λ made. StepsStream (Fix rules) made.1 (text_of made.0) (records_of made.0)
+        (source_of R.remaining text.old text.new) (target_of W.contents out.old out.new)) }
     ensures left { IfOk result (λ made. IsRemaining rules (text_of made.0) made.2) }
     ensures fault { IfErr result
-        (λ fault. StepsAtFault (Fix rules) fault (from R.remaining text.old text.new)
-        (into W.contents out.old out.new)) }
+        (λ fault. StepStreamFault (Fix rules) fault (source_of R.remaining text.old text.new)
+        (target_of W.contents out.old out.new)) }
     ensures read { IsErrOf result RunFault.Read ↔ has_failed text.new ≡ true }
     ensures write { IsErrAnd result (λ fault. is_write fault ≡ true) ↔ has_failed out.new ≡ true }
 {
@@ -83,27 +83,25 @@ pub fn fix_through<R: Read, W: Write>(
     }
 }
 
-/// The whole text of a reader, laid out, goes to the writer: what `step_stream` puts for a fmt,
-/// with no session and no edits made.
-///
-/// It is refused where that is, and at each fault the same was taken and put.
-pub fn format_stream<R: Read, W: Write>(
+/// Formats the text of a reader and writes it to `out`. Writes the same bytes as `step_text_stream` with
+/// `Command::Fmt`, and has the same errors, but makes neither a session nor edits.
+pub fn format_text_stream<R: Read, W: Write>(
     alloc: Global,
     text: &mut Told<R>,
     out: &mut Told<W>,
 ) -> Result<(), RunFault>
-    requires text_fresh { has_failed text.old ≡ false }
-    requires out_fresh { has_failed out.old ≡ false }
-    ensures done { OnOk result (FormatsThrough (from R.remaining text.old text.new)
-        (into W.contents out.old out.new)) }
+    requires text_not_failed { has_failed text.old ≡ false }
+    requires out_not_failed { has_failed out.old ≡ false }
+    ensures done { OnOk result (FormatsStream (source_of R.remaining text.old text.new)
+        (target_of W.contents out.old out.new)) }
     ensures fault { IfErr result (λ fault.
-        StepsAtFault Fmt fault (from R.remaining text.old text.new)
-        (into W.contents out.old out.new)) }
+        StepStreamFault Fmt fault (source_of R.remaining text.old text.new)
+        (target_of W.contents out.old out.new)) }
     ensures read { IsErrOf result RunFault.Read ↔ has_failed text.new ≡ true }
     ensures write { IsErrAnd result (λ fault. is_write fault ≡ true) ↔ has_failed out.new ≡ true }
 {
     let bytes = take_text(alloc, text)?;
-    let new = formatted_text(alloc, bytes.as_slice())?;
+    let new = format_without_session(alloc, bytes.as_slice())?;
     match put_text(new.as_slice(), out) {
         Ok(()) => Ok(()),
         Err(fault) => Err(fault),
@@ -116,12 +114,12 @@ pub fn format_stream<R: Read, W: Write>(
 /// has a layout of more than 16,777,216 bytes.
 pub fn check_stream<R: Read>(alloc: Global, text: &mut Told<R>) -> Result<bool, RunFault>
     requires { has_failed text.old ≡ false }
-    ensures answer { IfOk result (λ yes. Checks yes (from R.remaining text.old text.new)) }
+    ensures answer { IfOk result (λ yes. ChecksStream yes (source_of R.remaining text.old text.new)) }
     ensures fault { IfErr result
-        (λ fault. ChecksAtFault fault (from R.remaining text.old text.new)) }
+        (λ fault. CheckStreamFault fault (source_of R.remaining text.old text.new)) }
     ensures read { IsErrOf result RunFault.Read ↔ has_failed text.new ≡ true }
 {
     let bytes = take_text(alloc, text)?;
-    let yes = has_own_layout(alloc, bytes.as_slice())?;
+    let yes = is_formatted(alloc, bytes.as_slice())?;
     Ok(yes)
 }

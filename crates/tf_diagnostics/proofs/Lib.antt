@@ -1,14 +1,14 @@
 mod CommentLemmas
 mod FilterLemmas
-mod Levels
+mod TreeLayers
 mod LineLemmas
-mod MarkLemmas
-mod OneOrder
-mod OneRuleFinds
-mod OneText
-mod PartLemmas
-mod SilenceLemmas
-pub mod SoundLemmas
+mod AnnotationLemmas
+mod SortIsUnique
+mod RuleFilter
+mod FindingsAreUnique
+mod CommaLemmas
+mod UnsilencedLemmas
+pub mod ValidLemmas
 mod TextLemmas
 mod TotalOrder
 mod TreeLaws

@@ -6,14 +6,14 @@ use Rattle.std.specs.List.{concat}
 use Rattle.std.proofs.lemmas.Option.{slice_get_cases}
 use Rattle.std.proofs.lemmas.List.{drop_more}
 use Rattle.std.proofs.lemmas.List.Sums.{sum_by-append}
-use Rattle.hcl_token.specs.CutText.{kind_of, spelling_of}
+use Rattle.hcl_token.specs.TokenizedText.{kind_of, spelling_of}
 use Rattle.hcl_token.specs.declared.kind.Kind.{Kind}
-use Rattle.hcl_token.specs.Place.{line_of, pieces_before, is_lf, counted}
+use Rattle.hcl_token.specs.Place.{line_of, pieces_before, is_lf, counted_bytes}
 use Rattle.hcl_token.specs.Tokens.{Pair}
 use Rattle.tf_rule.specs.declared.rule.Rule.{Rule}
 use Rattle.tf_diagnostics.specs.Comments.{silences}
-use Rattle.tf_diagnostics.specs.Silencing.{silenced_from, is_near}
-use Rattle.tf_diagnostics.specs.Inner.Marks.{silences_at}
+use Rattle.tf_diagnostics.specs.Silencing.{silenced_from, covers_line}
+use Rattle.tf_diagnostics.specs.Inner.Annotations.{silences_at}
 
 abbrev lines_in : List (List ℕ) → ℕ
 lines_in pieces = count_by is_lf (concat pieces)
@@ -26,11 +26,11 @@ further x xs = more x [] xs (omega arith)
 
 before : (pairs : List Pair) (i : ℕ) → lines_in (pieces_before pairs i) ≤ lines_in (pieces_before pairs (suc i))
 before [] i = omega arith
-before (p ∷ ps) zero = further p.gap (counted p ∷ pieces_before ps 0)
+before (p ∷ ps) zero = further p.gap (counted_bytes p ∷ pieces_before ps 0)
 before (p ∷ ps) (suc i) =
     let here = pieces_before ps i in
     let next = pieces_before ps (suc i) in
-    more p.gap (counted p ∷ here) (counted p ∷ next) (more (counted p) here next (before ps i))
+    more p.gap (counted_bytes p ∷ here) (counted_bytes p ∷ next) (more (counted_bytes p) here next (before ps i))
 
 -- the line of a token is not before that of the token before it
 pub line_next : (pairs : List Pair) (i : ℕ) → line_of pairs i ≤ line_of pairs (i + 1)
@@ -39,7 +39,7 @@ line_next pairs i = rw (add-one) (omega (arith, before pairs i))
 pub silenced_step : (pairs : List Pair) (rule : Rule) (line i : ℕ) → i < length pairs
     → silenced_from pairs rule line i (drop i pairs) ≡ (silences_at pairs rule line i || silenced_from pairs rule line (i + 1) (drop (i + 1) pairs))
 silenced_step pairs rule line i within =
-    let test = λ (p : Pair). silences p.kind p.spelling rule && is_near line (line_of pairs i) in
+    let test = λ (p : Pair). silences p.kind p.spelling rule && covers_line line (line_of pairs i) in
     elim (slice_get_cases pairs i).1 [
       | inl (x, below, found, same) ↦
           let split : drop i pairs ≡ x ∷ drop (i + 1) pairs = rw (← same) (drop_more pairs i x below) in
@@ -55,12 +55,12 @@ IsQuiet pairs rule i = (kind : Kind) (spelling : List ℕ) → Some kind ≡ kin
 -- a token that is no silencing comment
 pub quiet : (pairs : List Pair) (rule : Rule) (line i : ℕ) → IsQuiet pairs rule i → silences_at pairs rule line i ≡ false
 quiet pairs rule line i none_said =
-    let test = λ (p : Pair). silences p.kind p.spelling rule && is_near line (line_of pairs i) in
+    let test = λ (p : Pair). silences p.kind p.spelling rule && covers_line line (line_of pairs i) in
     elim (slice_get_cases pairs i).1 [
       | inl (x, below, found, same) ↦
           let off : silences x.kind x.spelling rule ≡ false =
           none_said x.kind x.spelling (sym (ap (option_map (λ (p : Pair). p.kind)) found)) (sym (ap (option_map (λ (p : Pair). p.spelling)) found)) in
-          ap (λ o. unwrap_or (option_map test o) false) found ∙ ap (λ b. b && is_near line (line_of pairs i)) off
+          ap (λ o. unwrap_or (option_map test o) false) found ∙ ap (λ b. b && covers_line line (line_of pairs i)) off
       | inr (past, none) ↦ ap (λ o. unwrap_or (option_map test o) false) none
     ]
 

@@ -5,10 +5,10 @@ use Rattle.std.proofs.lemmas.List.{at_drop_more, drop_all}
 use Rattle.hcl_token.specs.Tokens.{Pair}
 use Rattle.tf_rule.specs.declared.rule_set.RuleSet.{RuleSet}
 use Rattle.tf_rule.specs.declared.finding.Finding.{Finding}
-use Rattle.tf_diagnostics.specs.Inner.Collects.{Collects, nothing, one}
-use Rattle.tf_rule.specs.Findings.{sound}
+use Rattle.tf_diagnostics.specs.Inner.Collects.{Collects, no_nodes, visit}
+use Rattle.tf_rule.specs.Findings.{valid_findings}
 use Rattle.tf_rules.specs.NodeFindings.{node_findings}
-use Rattle.tf_rules.specs.Nodes.{Node, parts}
+use Rattle.tf_rules.specs.Preorder.{Node, children}
 
 -- what holds where there is an answer, from what else holds there
 pub where_ok : {T E : Type 0} (r : Result T E) {P Q : Type 0} → (P → Q) → OnOk r P → OnOk r Q
@@ -18,18 +18,18 @@ where_ok (Err e) f h = tt
 module _ {rules : RuleSet} {pairs : List Pair} where
   -- one list of nodes behind another
   pub joined : {ms ns : List Node} {xs ys zs : List Finding} → Collects rules pairs ms xs ys → Collects rules pairs ns ys zs → Collects rules pairs (ms ++ ns) xs zs
-  joined nothing b = b
-  joined (one a c) b = one a (joined c b)
+  joined no_nodes b = b
+  joined (visit a c) b = visit a (joined c b)
 
   pub nowhere : {ns : List Node} {xs : List Finding} → ns ≡ [] → Collects rules pairs ns xs xs
-  nowhere {ns} {xs} e = subst (λ ms. Collects rules pairs ms xs xs) (sym e) nothing
+  nowhere {ns} {xs} e = subst (λ ms. Collects rules pairs ms xs xs) (sym e) no_nodes
 
   pub among : {ms ns : List Node} {xs ys : List Finding} → ms ≡ ns → Collects rules pairs ns xs ys → Collects rules pairs ms xs ys
   among {ms} {ns} {xs} {ys} e c = subst (λ ls. Collects rules pairs ls xs ys) (sym e) c
 
   -- a node with what stands in it
-  pub whole : (n : Node) {xs ys zs : List Finding} → ys ≡ xs ++ sound (length pairs) (node_findings rules pairs n) → Collects rules pairs (parts n) ys zs → Collects rules pairs (n ∷ []) xs zs
-  whole n {xs} {ys} {zs} e c = one (subst (λ l. Collects rules pairs (parts n) l zs) e c) nothing
+  pub whole : (n : Node) {xs ys zs : List Finding} → ys ≡ xs ++ valid_findings (length pairs) (node_findings rules pairs n) → Collects rules pairs (children n) ys zs → Collects rules pairs (n ∷ []) xs zs
+  whole n {xs} {ys} {zs} e c = visit (subst (λ l. Collects rules pairs (children n) l zs) e c) no_nodes
 
   -- one turn of a loop over xs, where F gives the nodes of what is left of them
   pub turn : {X : Type 0} (F : List X → List Node) (xs : List X) (i : ℕ) (x : X) (ns rest : List Node) {all : List Node} {begun old new : List Finding}

@@ -6,28 +6,28 @@ use Rattle.hcl_grammar.specs.declared.tree.Member.{Member}
 use Rattle.hcl_token.specs.Tokens.{Pair}
 use Rattle.tf_rule.specs.declared.finding.Finding.{Finding}
 use Rattle.tf_rule.specs.declared.rule_set.RuleSet.{RuleSet}
-use Rattle.tf_rule.specs.Findings.{sound}
+use Rattle.tf_rule.specs.Findings.{valid_findings}
 use Rattle.tf_rules.specs.NodeFindings.{node_findings}
-use Rattle.tf_rules.specs.Nodes.{Node, member, Stand}
+use Rattle.tf_rules.specs.Preorder.{Node, member, IsPreorder}
 use Rattle.tf_rules.specs.Rules.CommentSyntax.{comment_findings}
 use Rattle.tf_diagnostics.specs.Order.{report_order}
 use Rattle.tf_diagnostics.specs.Silencing.{is_silenced}
-use Rattle.tf_rules.specs.TopFindings.{top_findings}
+use Rattle.tf_rules.specs.TopLevelFindings.{top_level_findings}
 
 -- what is found at these nodes, at the blocks of a text and at its comments
-abbrev pub gathered : RuleSet → List Pair → List Member → List Node → List Finding
-gathered rules pairs members nodes =
+abbrev pub all_findings : RuleSet → List Pair → List Member → List Node → List Finding
+all_findings rules pairs members nodes =
     flat_map (node_findings rules pairs) nodes
-    ++ (top_findings rules pairs members ++ comment_findings rules pairs)
+    ++ (top_level_findings rules pairs members ++ comment_findings rules pairs)
 
 -- what is found at the nodes of a tree whose body has these members, and then at its blocks
-pub record AreAtNodesAndBlocks (rules : RuleSet) (pairs : List Pair) (members : List Member)
+pub record AreNodeAndBlockFindings (rules : RuleSet) (pairs : List Pair) (members : List Member)
     (found : List Finding) : Type 0 where
   -- all nodes that stand in the tree
   pub nodes : List Node
-  pub stand : Stand (map member members) nodes
-  pub are : found ≡ sound (length pairs)
-      (flat_map (node_findings rules pairs) nodes ++ top_findings rules pairs members)
+  pub preorder : IsPreorder (map member members) nodes
+  pub are : found ≡ valid_findings (length pairs)
+      (flat_map (node_findings rules pairs) nodes ++ top_level_findings rules pairs members)
 
 -- What the rules of the set find in a text whose body has these members, in the order of a report,
 -- without what comments silence.
@@ -35,17 +35,17 @@ pub record AreFindings (rules : RuleSet) (pairs : List Pair) (members : List Mem
     (found : List Finding) : Type 0 where
   -- all nodes that stand in the tree
   pub nodes : List Node
-  pub stand : Stand (map member members) nodes
+  pub preorder : IsPreorder (map member members) nodes
   -- all that is found, put in order; where the order leaves a choice, as it was found
   pub all : List Finding
-  pub same : IsPermutation (sound (length pairs) (gathered rules pairs members nodes)) all
+  pub same : IsPermutation (valid_findings (length pairs) (all_findings rules pairs members nodes)) all
   pub sorted : IsSorted report_order all
-  pub stable : IsStable report_order (sound (length pairs) (gathered rules pairs members nodes)) all
+  pub stable : IsStable report_order (valid_findings (length pairs) (all_findings rules pairs members nodes)) all
   -- what no comment silences
   pub kept : found ≡ filter (λ f. not (is_silenced pairs f)) all
 
 -- a text has one list of findings
-abbrev pub FindingsAreOne : Type 0
-FindingsAreOne =
+abbrev pub FindingsAreUnique : Type 0
+FindingsAreUnique =
     (rules : RuleSet) (pairs : List Pair) (members : List Member) (xs ys : List Finding)
     → AreFindings rules pairs members xs → AreFindings rules pairs members ys → xs ≡ ys

@@ -1,2 +1,2 @@
 pub mod Collects
-pub mod Marks
+pub mod Annotations

@@ -1,8 +1,8 @@
 pub mod Comments
 pub mod Findings
 pub mod Inner
-pub mod OneRule
+pub mod RuleFilter
 pub mod Order
-pub mod Origins
+pub mod FoundBy
 pub mod Silencing
 pub mod TreeFindings

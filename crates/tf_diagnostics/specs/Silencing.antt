@@ -7,15 +7,15 @@ use Rattle.tf_rule.specs.declared.rule.Rule.{Rule}
 use Rattle.tf_diagnostics.specs.Comments.{silences}
 
 -- the line itself, or the next
-abbrev pub is_near : ℕ → ℕ → Bool
-is_near line comment = line == comment || line == comment + 1
+abbrev pub covers_line : ℕ → ℕ → Bool
+covers_line line comment = line == comment || line == comment + 1
 
 -- a comment that silences the rule begins on this line, or on the line before; the first of the
 -- tokens looked at has number i
 abbrev pub silenced_from : List Pair → Rule → ℕ → ℕ → List Pair → Bool
 silenced_from pairs rule line i [] = false
 silenced_from pairs rule line i (p ∷ ps) =
-    (silences p.kind p.spelling rule && is_near line (line_of pairs i))
+    (silences p.kind p.spelling rule && covers_line line (line_of pairs i))
     || silenced_from pairs rule line (i + 1) ps
 
 -- whether a comment of the text silences what the rule finds on this line

@@ -4,72 +4,76 @@ ghost use Rattle.std.specs.Prelude.{◌≡◌, ◌∷◌, [], map, OnOk, IfOk};
 ghost use Rattle.hcl_grammar.specs.declared.tree.Content.{out-Content};
 ghost use Rattle.hcl_grammar.specs.declared.tree.Member.{out-Member};
 ghost use Rattle.tf_diagnostics.specs.Inner.Collects.{Collects};
-ghost use Rattle.tf_diagnostics.specs.TreeFindings.{AreAdded, AreTreeFindings};
-ghost use Rattle.tf_rules.specs.Nodes.{member, member_parts, content_parts, option_parts};
+ghost use Rattle.tf_diagnostics.specs.TreeFindings.{AreAddedFindings, AreTreeFindings};
+ghost use Rattle.tf_rules.specs.Preorder.{member, member_children, content_children, option_children};
 
-use crate::expressions::expr;
+use crate::expressions::walk_expr;
 use hcl_grammar::tree::{Attribute, Content, Member, Tree};
 use hcl_scan::Scanned;
 use plain_tree::{Boxed, Items};
 use std::alloc::{AllocError, Global};
 use tf_rule::{Finding, RuleSet};
-use tf_rules::{Finder, Role};
+use tf_rules::{LintContext, Role};
 
 #[cycle(bodies)]
-fn members(
-    finder: &Finder<'_, '_>,
+fn walk_members(
+    cx: &LintContext<'_, '_>,
     members: &Items<Member>,
     found: &mut Vec<Finding>,
 ) -> Result<(), AllocError>
     ensures { OnOk result
-        (Collects finder.now.rules finder.now.scanned.now.pairs
+        (Collects cx.now.rules cx.now.scanned.now.pairs
         (map member members.now) found.old.items found.new.items) }
 {
     for x in members.as_slice() {
-        member(finder, x, found)?;
+        walk_member(cx, x, found)?;
     }
     Ok(())
 }
 
 #[cycle(bodies)]
-fn member(finder: &Finder<'_, '_>, x: &Member, found: &mut Vec<Finding>) -> Result<(), AllocError>
+fn walk_member(
+    cx: &LintContext<'_, '_>,
+    x: &Member,
+    found: &mut Vec<Finding>,
+) -> Result<(), AllocError>
     ensures { OnOk result
-        (Collects finder.now.rules finder.now.scanned.now.pairs
-        (member_parts (out-Member x.now)) found.old.items found.new.items) }
+        (Collects cx.now.rules cx.now.scanned.now.pairs
+        (member_children (out-Member x.now)) found.old.items found.new.items) }
 {
     match x {
-        Member::Attribute(a) => expr(finder, Role::AttributeValue, a.value.get(), found),
-        Member::Block(b) => content(finder, &b.content, found),
+        Member::Attribute(a) => walk_expr(cx, Role::AttributeValue, a.value.get(), found),
+        Member::Block(b) => walk_content(cx, &b.content, found),
     }
 }
 
 #[cycle(bodies)]
-fn content(
-    finder: &Finder<'_, '_>,
+fn walk_content(
+    cx: &LintContext<'_, '_>,
     content: &Content,
     found: &mut Vec<Finding>,
 ) -> Result<(), AllocError>
     ensures { OnOk result
-        (Collects finder.now.rules finder.now.scanned.now.pairs
-        (content_parts (out-Content content.now)) found.old.items found.new.items) }
+        (Collects cx.now.rules cx.now.scanned.now.pairs
+        (content_children (out-Content content.now)) found.old.items found.new.items) }
 {
     match content {
-        Content::Lines(body) => members(finder, &body.get().members, found),
-        Content::Line(a) => attribute_if(finder, a, found),
+        Content::Body(body) => walk_members(cx, &body.get().members, found),
+        Content::OneLine(a) => walk_optional_attribute(cx, a, found),
     }
 }
 
-fn attribute_if(
-    finder: &Finder<'_, '_>,
+fn walk_optional_attribute(
+    cx: &LintContext<'_, '_>,
     a: &Option<Boxed<Attribute>>,
     found: &mut Vec<Finding>,
 ) -> Result<(), AllocError>
     ensures { OnOk result
-        (Collects finder.now.rules finder.now.scanned.now.pairs
-        (option_parts a.now) found.old.items found.new.items) }
+        (Collects cx.now.rules cx.now.scanned.now.pairs
+        (option_children a.now) found.old.items found.new.items) }
 {
     match a {
-        Some(a) => expr(finder, Role::AttributeValue, a.get().value.get(), found),
+        Some(a) => walk_expr(cx, Role::AttributeValue, a.get().value.get(), found),
         None => Ok(()),
     }
 }
@@ -88,9 +92,9 @@ pub fn tree_findings(
         (λ found. AreTreeFindings rules scanned.now.pairs
         (map member tree.now.body.members) found.items) }
 {
-    let finder = Finder { scanned, rules };
+    let cx = LintContext { scanned, rules };
     let mut found = Vec::new(alloc);
-    members(&finder, &tree.body.members, &mut found)?;
+    walk_members(&cx, &tree.body.members, &mut found)?;
     Ok(found)
 }
 
@@ -98,15 +102,15 @@ pub fn tree_findings(
 /// whole tree. `AllocError` where memory is refused.
 ///
 /// TFLint ruleset for the Terraform language.
-pub fn add_member_findings(
+pub fn add_node_findings(
     scanned: &Scanned<'_>,
     rules: RuleSet,
     x: &Member,
     found: &mut Vec<Finding>,
 ) -> Result<(), AllocError>
     ensures { OnOk result
-        (AreAdded rules scanned.now.pairs (member x.now ∷ []) found.old.items found.new.items) }
+        (AreAddedFindings rules scanned.now.pairs (member x.now ∷ []) found.old.items found.new.items) }
 {
-    let finder = Finder { scanned, rules };
-    member(&finder, x, found)
+    let cx = LintContext { scanned, rules };
+    walk_member(&cx, x, found)
 }

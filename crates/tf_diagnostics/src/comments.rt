@@ -4,75 +4,75 @@
 ghost use Rattle.std.specs.Prelude.{◌≡◌, ◌++◌, ◌||◌, ◌<◌, ◌≤◌, ◌+◌, ℕ, Some, length, slice_get, OnOk, IfOk};
 ghost use Rattle.hcl_token.specs.Tokens.{Pair};
 ghost use Rattle.tf_rule.specs.declared.rule.Rule.{Rule};
-ghost use Rattle.tf_rule.specs.Findings.{sound};
-ghost use Rattle.tf_rules.specs.Rules.CommentSyntax.{comment_findings, found_at};
+ghost use Rattle.tf_rule.specs.Findings.{valid_findings};
+ghost use Rattle.tf_rules.specs.Rules.CommentSyntax.{comment_findings, comment_finding_at};
 ghost use Rattle.tf_diagnostics.specs.Silencing.{is_silenced_on};
-ghost use Rattle.tf_diagnostics.specs.Inner.Marks.{Rise, silences_at, silences_among};
+ghost use Rattle.tf_diagnostics.specs.Inner.Annotations.{AreIncreasing, silences_at, silences_among};
 
-use crate::suppression::{is_comment, is_silencing};
+use crate::silencing::{is_comment, silences_any};
 use hcl_scan::Scanned;
 use std::alloc::{AllocError, Global};
 use tf_rule::{Finding, RuleSet};
-use tf_rules::at_comment;
+use tf_rules::check_comment;
 
 /// Adds what the rule on comments finds at token `i`, a comment, and its number to the others, if
 /// it silences anything.
-fn look_at_comment(
+fn collect_comment(
     scanned: &Scanned<'_>,
     rules: RuleSet,
     i: usize,
-    silencing: &mut Vec<usize>,
+    silencing_tokens: &mut Vec<usize>,
     found: &mut Vec<Finding>,
 ) -> Result<(), AllocError>
     requires within { i < length scanned.now.pairs }
-    requires order { Rise 0 silencing.old.items i }
+    requires order { AreIncreasing 0 silencing_tokens.old.items i }
     ensures found { (p : Pair) → slice_get scanned.now.pairs i ≡ Some p
         → OnOk result (found.new.items ≡ found.old.items
-        ++ sound (length scanned.now.pairs) (found_at rules i p)) }
-    ensures order { OnOk result (Rise 0 silencing.new.items (i + 1)) }
+        ++ valid_findings (length scanned.now.pairs) (comment_finding_at rules i p)) }
+    ensures order { OnOk result (AreIncreasing 0 silencing_tokens.new.items (i + 1)) }
     ensures silence { OnOk result
         ((rule : Rule) (line : ℕ)
-        → silences_among scanned.now.pairs rule line silencing.new.items
-        ≡ (silences_among scanned.now.pairs rule line silencing.old.items
+        → silences_among scanned.now.pairs rule line silencing_tokens.new.items
+        ≡ (silences_among scanned.now.pairs rule line silencing_tokens.old.items
         || silences_at scanned.now.pairs rule line i)) }
 {
-    at_comment(scanned, rules, i, found)?;
-    if !is_silencing(scanned.kind(i), scanned.spelling(i)) {
+    check_comment(scanned, rules, i, found)?;
+    if !silences_any(scanned.kind(i), scanned.spelling(i)) {
         return Ok(());
     }
-    silencing.push(i)?;
+    silencing_tokens.push(i)?;
     Ok(())
 }
 
-/// The same of any token; of most the kind alone tells that there is nothing to add.
-fn look_at_token(
+/// Does what `collect_comment` does if token `i` is a comment, and nothing otherwise.
+fn collect_token(
     scanned: &Scanned<'_>,
     rules: RuleSet,
     i: usize,
-    silencing: &mut Vec<usize>,
+    silencing_tokens: &mut Vec<usize>,
     found: &mut Vec<Finding>,
 ) -> Result<(), AllocError>
     requires within { i < length scanned.now.pairs }
-    requires order { Rise 0 silencing.old.items i }
+    requires order { AreIncreasing 0 silencing_tokens.old.items i }
     ensures found { (p : Pair) → slice_get scanned.now.pairs i ≡ Some p
         → OnOk result (found.new.items ≡ found.old.items
-        ++ sound (length scanned.now.pairs) (found_at rules i p)) }
-    ensures order { OnOk result (Rise 0 silencing.new.items (i + 1)) }
+        ++ valid_findings (length scanned.now.pairs) (comment_finding_at rules i p)) }
+    ensures order { OnOk result (AreIncreasing 0 silencing_tokens.new.items (i + 1)) }
     ensures silence { OnOk result
         ((rule : Rule) (line : ℕ)
-        → silences_among scanned.now.pairs rule line silencing.new.items
-        ≡ (silences_among scanned.now.pairs rule line silencing.old.items
+        → silences_among scanned.now.pairs rule line silencing_tokens.new.items
+        ≡ (silences_among scanned.now.pairs rule line silencing_tokens.old.items
         || silences_at scanned.now.pairs rule line i)) }
 {
     if !is_comment(scanned.kind(i)) {
         return Ok(());
     }
-    look_at_comment(scanned, rules, i, silencing, found)
+    collect_comment(scanned, rules, i, silencing_tokens, found)
 }
 
 /// Adds what the rule on comments finds, if it is in the set, and answers the numbers of the tokens
 /// that silence anything.
-pub fn look_at_comments(
+pub fn collect_comments(
     alloc: Global,
     scanned: &Scanned<'_>,
     rules: RuleSet,
@@ -80,16 +80,16 @@ pub fn look_at_comments(
 ) -> Result<Vec<usize>, AllocError>
     ensures found { OnOk result
         (found.new.items ≡ found.old.items
-        ++ sound (length scanned.now.pairs) (comment_findings rules scanned.now.pairs)) }
-    ensures order { IfOk result (λ silencing. Rise 0 silencing.items (length scanned.now.pairs)) }
+        ++ valid_findings (length scanned.now.pairs) (comment_findings rules scanned.now.pairs)) }
+    ensures order { IfOk result (λ silencing_tokens. AreIncreasing 0 silencing_tokens.items (length scanned.now.pairs)) }
     ensures silence { IfOk result
-        (λ silencing. (rule : Rule) (line : ℕ)
-        → silences_among scanned.now.pairs rule line silencing.items
+        (λ silencing_tokens. (rule : Rule) (line : ℕ)
+        → silences_among scanned.now.pairs rule line silencing_tokens.items
         ≡ is_silenced_on scanned.now.pairs rule line) }
 {
-    let mut silencing = Vec::new(alloc);
+    let mut silencing_tokens = Vec::new(alloc);
     for i in 0..scanned.len() {
-        look_at_token(scanned, rules, i, &mut silencing, found)?;
+        collect_token(scanned, rules, i, &mut silencing_tokens, found)?;
     }
-    Ok(silencing)
+    Ok(silencing_tokens)
 }

@@ -6,11 +6,11 @@ mod bodies;
 mod comments;
 mod expressions;
 pub mod laws;
-mod one;
 mod order;
-mod suppression;
+mod rule_filter;
+mod silencing;
 mod text;
 
-pub use bodies::add_member_findings;
-pub use one::is_of;
+pub use bodies::add_node_findings;
+pub use rule_filter::is_found_by;
 pub use text::{complete_findings, findings};

@@ -26,8 +26,8 @@ fn order(a: &Finding, b: &Finding) -> Ordering
 
 /// Puts findings in the order of a report: by the first token, at one token by rule, and of one
 /// rule the longer first.
-pub fn put_in_order(found: &mut Vec<Finding>) -> Result<(), AllocError>
-    ensures same { IsPermutation found.old.items found.new.items }
+pub fn sort_findings(found: &mut Vec<Finding>) -> Result<(), AllocError>
+    ensures permutation { IsPermutation found.old.items found.new.items }
     ensures sorted { OnOk result (IsSorted report_order found.new.items) }
     ensures stable { OnOk result (IsStable report_order found.old.items found.new.items) }
 {

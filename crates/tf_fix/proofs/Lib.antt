@@ -1,12 +1,12 @@
-mod ComeLemmas
+mod InsertionLemmas
 pub mod CommentLemmas
-pub mod FillLemmas
+pub mod NonemptyLemmas
 pub mod FoundLemmas
-pub mod NearLemmas
-pub mod OriginLemmas
+pub mod PrevTokenLemmas
+pub mod FoundByLemmas
 pub mod PairLemmas
 pub mod PartLemmas
 pub mod SettledLemmas
 pub mod StepLemmas
-pub mod TakeLemmas
-pub mod TurnLemmas
+pub mod SelectionLemmas
+pub mod ComparisonLemmas

@@ -6,40 +6,40 @@ use Rattle.std.specs.Option.{option_map}
 use Rattle.std.proofs.lemmas.Bool.{false≢true}
 use Rattle.std.proofs.lemmas.List.{append-nil}
 use Rattle.hcl_token.specs.declared.kind.Kind.{Kind}
-use Rattle.hcl_token.specs.CutText.{CutText}
+use Rattle.hcl_token.specs.TokenizedText.{TokenizedText}
 use Rattle.hcl_token.specs.Tokens.{Pair, whole_text}
 use Rattle.tf_rule.specs.declared.finding.Finding.{Finding}
 use Rattle.tf_rule.specs.declared.fix.Fix.{Fix}
-use Rattle.tf_rule.specs.declared.fix.Fix.TheVariants.{Slashes, Tokens}
+use Rattle.tf_rule.specs.declared.fix.Fix.TheVariants.{CommentMarker, Tokens}
 use Rattle.tf_rule.specs.declared.fix.Insertion.{Insertion}
 use Rattle.tf_rule.specs.declared.fix.Insertion.TheVariants.{Nothing}
-use Rattle.tf_rule.specs.declared.fix.Kept.{Kept}
+use Rattle.tf_rule.specs.declared.fix.KeptTokens.{KeptTokens}
 use Rattle.tf_rule.specs.declared.rule.Rule.{Rule}
-use Rattle.tf_fix.specs.ByPairs.{is_empty, gap_at, with_gap, kept_pairs, mended_pairs, mended_from, settled_pair, settled_pairs, mended_text}
-use Rattle.tf_rule.specs.Findings.{AreSound}
-use Rattle.tf_rule.specs.Fixes.{IsEnd, AreInOrder as AreKeptInOrder}
-use Rattle.tf_fix.specs.Inner.Filled.{IsMendable}
+use Rattle.tf_fix.specs.StepText.{is_empty, gap_at, with_gap, inserted_and_kept_pairs, fixed_pairs, fixed_pairs_from, settled_pair, settled_pairs, fix_step_text}
+use Rattle.tf_rule.specs.Findings.{AreValidFindings}
+use Rattle.tf_rule.specs.Fixes.{ChangesEnd, AreInOrder as AreKeptInOrder}
+use Rattle.tf_fix.specs.Inner.Nonempty.{HasValidFix}
 use Rattle.tf_rule.specs.declared.rule.Rule.TheVariants.{CommentSyntax}
-use Rattle.tf_fix.specs.Mending.{inserted, body, come, no_gap, kept_from, mended, finding_replacements, step_replacements, IsOf, AreOf}
-use Rattle.tf_rule.specs.Fixes.{is_slashes}
+use Rattle.tf_fix.specs.FindingReplacements.{inserted, pairs_parts, inserted_parts, empty_gap, replacements_from, fix_replacements, finding_replacements, step_replacements, IsOfRule, AreOfRule}
+use Rattle.tf_rule.specs.Fixes.{is_comment_fix}
 use Rattle.tf_rule.specs.Rules.{is_comment_rule}
-use Rattle.tf_fix.specs.Parts.{Part, parts_of, parts, written}
+use Rattle.tf_fix.specs.Parts.{Part, parts_of, parts, text_of_parts}
 use Rattle.tf_fix.specs.Parts.Part.{Gap, Token}
 use Rattle.tf_fix.specs.Replacements.{Replacement, replaced_from, replaced_text}
-use Rattle.tf_fix.specs.Settled.{Neighbour, meets, settled, space}
-use Rattle.tf_fix.specs.Taking.{taken}
+use Rattle.tf_fix.specs.SettledSpaces.{Prev, joins_prev, settled, space}
+use Rattle.tf_fix.specs.Selection.{selected}
 use Rattle.tf_fix.proofs.PartLemmas.{known, range_last, range_none, gap_front, token_front, parts_drop}
-use Rattle.tf_fix.proofs.TakeLemmas.{AreTaken, taken_are, taken_of, kept_le}
+use Rattle.tf_fix.proofs.SelectionLemmas.{AreTaken, selected_are, selected_of, kept_le}
 
-body_append : (ps qs : List Pair) → body (ps ++ qs) ≡ body ps ++ body qs
+body_append : (ps qs : List Pair) → pairs_parts (ps ++ qs) ≡ pairs_parts ps ++ pairs_parts qs
 body_append [] qs = refl
 body_append (p ∷ ps) qs = ap (λ t. Gap p.gap ∷ Token p.kind p.spelling ∷ t) (body_append ps qs)
 
-pub parts_append : (ps qs : List Pair) (last : List ℕ) → parts_of (ps ++ qs) last ≡ body ps ++ parts_of qs last
+pub parts_append : (ps qs : List Pair) (last : List ℕ) → parts_of (ps ++ qs) last ≡ pairs_parts ps ++ parts_of qs last
 parts_append [] qs last = refl
 parts_append (p ∷ ps) qs last = ap (λ t. Gap p.gap ∷ Token p.kind p.spelling ∷ t) (parts_append ps qs last)
 
-body_take : (k : ℕ) (ps : List Pair) (last : List ℕ) → k ≤ length ps → take (2 * k) (parts_of ps last) ≡ body (take k ps)
+body_take : (k : ℕ) (ps : List Pair) (last : List ℕ) → k ≤ length ps → take (2 * k) (parts_of ps last) ≡ pairs_parts (take k ps)
 body_take zero ps last le = refl
 body_take (suc k) [] last le = absurd (omega (arith, le))
 body_take (suc k) (p ∷ ps) last le =
@@ -47,13 +47,13 @@ body_take (suc k) (p ∷ ps) last le =
     ap (λ n. take n (parts_of (p ∷ ps) last)) two ∙ ap (λ t. Gap p.gap ∷ Token p.kind p.spelling ∷ t) (body_take k ps last (omega (arith, le)))
 
 -- three runs of pairs
-three : (ps qs ss : List Pair) (more : List Part) → body (ps ++ (qs ++ ss)) ++ more ≡ body ps ++ (body qs ++ (body ss ++ more))
+three : (ps qs ss : List Pair) (more : List Part) → pairs_parts (ps ++ (qs ++ ss)) ++ more ≡ pairs_parts ps ++ (pairs_parts qs ++ (pairs_parts ss ++ more))
 three ps qs ss more =
-    ap (λ t. t ++ more) (body_append ps (qs ++ ss) ∙ ap (λ t. body ps ++ t) (body_append qs ss))
-    ∙ append_assoc (body ps) (body qs ++ body ss) more ∙ ap (λ t. body ps ++ t) (append_assoc (body qs) (body ss) more)
+    ap (λ t. t ++ more) (body_append ps (qs ++ ss) ∙ ap (λ t. pairs_parts ps ++ t) (body_append qs ss))
+    ∙ append_assoc (pairs_parts ps) (pairs_parts qs ++ pairs_parts ss) more ∙ ap (λ t. pairs_parts ps ++ t) (append_assoc (pairs_parts qs) (pairs_parts ss) more)
 
 -- whole pairs
-whole_range : (pairs : List Pair) (last : List ℕ) (a b : ℕ) → a ≤ b → b ≤ length pairs → slice_range (parts_of pairs last) (2 * a) (2 * b) ≡ body (slice_range pairs a b)
+whole_range : (pairs : List Pair) (last : List ℕ) (a b : ℕ) → a ≤ b → b ≤ length pairs → slice_range (parts_of pairs last) (2 * a) (2 * b) ≡ pairs_parts (slice_range pairs a b)
 whole_range pairs last a b le within =
     let count : 2 * b - 2 * a ≡ 2 * (b - a) = omega (arith, le) in
     let left = length-drop a pairs in
@@ -61,16 +61,16 @@ whole_range pairs last a b le within =
     ∙ ap (λ n. take n (parts_of (drop a pairs) last)) count ∙ body_take (b - a) (drop a pairs) last (omega (arith, left, le, within))
 
 -- up to a token, with its gap
-open_range : (pairs : List Pair) (last : List ℕ) (a b : ℕ) → a ≤ b → b < length pairs → slice_range (parts_of pairs last) (2 * a) (2 * b + 1) ≡ body (slice_range pairs a b) ++ Gap (gap_at pairs b) ∷ []
+open_range : (pairs : List Pair) (last : List ℕ) (a b : ℕ) → a ≤ b → b < length pairs → slice_range (parts_of pairs last) (2 * a) (2 * b + 1) ≡ pairs_parts (slice_range pairs a b) ++ Gap (gap_at pairs b) ∷ []
 open_range pairs last a b le within =
     let (p, found, front) = known pairs b within in
     let gap : p.gap ≡ gap_at pairs b = ap (λ o. unwrap_or (option_map (λ (q : Pair). q.gap) o) []) (sym found) in
     range_last (parts_of pairs last) (2 * a) (2 * b) (Gap p.gap) _ (omega (arith, le)) (gap_front pairs last b p found)
     ∙ ap (λ t. t ++ Gap p.gap ∷ []) (whole_range pairs last a b le (omega (arith, within)))
-    ∙ ap (λ g. body (slice_range pairs a b) ++ Gap g ∷ []) gap
+    ∙ ap (λ g. pairs_parts (slice_range pairs a b) ++ Gap g ∷ []) gap
 
 -- from a token on, behind another gap
-inner_range : (pairs : List Pair) (last gap : List ℕ) (a b : ℕ) → a < b → b ≤ length pairs → Gap gap ∷ slice_range (parts_of pairs last) (2 * a + 1) (2 * b) ≡ body (with_gap gap (slice_range pairs a b))
+inner_range : (pairs : List Pair) (last gap : List ℕ) (a b : ℕ) → a < b → b ≤ length pairs → Gap gap ∷ slice_range (parts_of pairs last) (2 * a + 1) (2 * b) ≡ pairs_parts (with_gap gap (slice_range pairs a b))
 inner_range pairs last gap a b lt within =
     let (p, found, front) = known pairs a (omega (arith, lt, within)) in
     let k = b - a - 1 in
@@ -78,57 +78,57 @@ inner_range pairs last gap a b lt within =
     let pairs_count : b - a ≡ suc k = omega (arith, lt) in
     let next : 2 * a + 2 ≡ 2 * (a + 1) = omega arith in
     let left = length-drop (a + 1) pairs in
-    let rest : take (2 * k) (drop (2 * a + 2) (parts_of pairs last)) ≡ body (take k (drop (a + 1) pairs)) =
+    let rest : take (2 * k) (drop (2 * a + 2) (parts_of pairs last)) ≡ pairs_parts (take k (drop (a + 1) pairs)) =
     ap (λ n. take (2 * k) (drop n (parts_of pairs last))) next ∙ ap (λ t. take (2 * k) t) (parts_drop pairs last (a + 1) (omega (arith, lt, within)))
     ∙ body_take k (drop (a + 1) pairs) last (omega (arith, left, lt, within)) in
     let side : slice_range pairs a b ≡ p ∷ take k (drop (a + 1) pairs) = ap (λ n. take n (drop a pairs)) pairs_count ∙ ap (λ t. take (suc k) t) front in
     ap (λ n. Gap gap ∷ take n (drop (2 * a + 1) (parts_of pairs last))) parts_count
     ∙ ap (λ t. Gap gap ∷ take (suc (2 * k)) t) (token_front pairs last a p found)
     ∙ ap (λ t. Gap gap ∷ Token p.kind p.spelling ∷ t) rest
-    ∙ sym (ap (λ t. body (with_gap gap t)) side)
+    ∙ sym (ap (λ t. pairs_parts (with_gap gap t)) side)
 
 -- from a place on, what stands before the first that is kept stays
-from_place : (pairs : List Pair) (last : List ℕ) (a place skip : ℕ) (w : Insertion) (kept : List (Option Kept)) (past : ℕ) (rs : List Replacement)
-    → replaced_from a (parts_of pairs last) (kept_from pairs place skip w kept past ++ rs)
-    ≡ slice_range (parts_of pairs last) a place ++ replaced_from place (parts_of pairs last) (kept_from pairs place skip w kept past ++ rs)
+from_place : (pairs : List Pair) (last : List ℕ) (a place skip : ℕ) (w : Insertion) (kept : List (Option KeptTokens)) (past : ℕ) (rs : List Replacement)
+    → replaced_from a (parts_of pairs last) (replacements_from pairs place skip w kept past ++ rs)
+    ≡ slice_range (parts_of pairs last) a place ++ replaced_from place (parts_of pairs last) (replacements_from pairs place skip w kept past ++ rs)
 from_place pairs last a place skip w [] past rs =
     let xs = parts_of pairs last in
-    ap (λ t. slice_range xs a place ++ (t ++ (come skip (inserted pairs w) [] ++ replaced_from (2 * past) xs rs))) (sym (range_none xs place place (omega arith)))
+    ap (λ t. slice_range xs a place ++ (t ++ (inserted_parts skip (inserted pairs w) [] ++ replaced_from (2 * past) xs rs))) (sym (range_none xs place place (omega arith)))
 from_place pairs last a place skip w (None ∷ kept) past rs = from_place pairs last a place skip w kept past rs
 from_place pairs last a place skip w (Some k ∷ kept) past rs =
     let xs = parts_of pairs last in
-    ap (λ t. slice_range xs a place ++ (t ++ (come skip (inserted pairs w) no_gap ++ replaced_from (2 * k.from + 1) xs (kept_from pairs (2 * k.to) 0 k.behind kept past ++ rs))))
+    ap (λ t. slice_range xs a place ++ (t ++ (inserted_parts skip (inserted pairs w) empty_gap ++ replaced_from (2 * k.from + 1) xs (replacements_from pairs (2 * k.to) 0 k.after kept past ++ rs))))
     (sym (range_none xs place place (omega arith)))
 
 -- a range that is kept, and what stands behind it
-kept_one : (pairs : List Pair) (last gap : List ℕ) (past : ℕ) (k : Kept) (kept : List (Option Kept)) (rs : List Replacement) (behind : List Part) → k.from < k.to → k.to ≤ length pairs
-    → replaced_from (2 * k.to) (parts_of pairs last) (kept_from pairs (2 * k.to) 0 k.behind kept past ++ rs) ≡ behind
-    → Gap gap ∷ replaced_from (2 * k.from + 1) (parts_of pairs last) (kept_from pairs (2 * k.to) 0 k.behind kept past ++ rs) ≡ body (with_gap gap (slice_range pairs k.from k.to)) ++ behind
+kept_one : (pairs : List Pair) (last gap : List ℕ) (past : ℕ) (k : KeptTokens) (kept : List (Option KeptTokens)) (rs : List Replacement) (behind : List Part) → k.from < k.to → k.to ≤ length pairs
+    → replaced_from (2 * k.to) (parts_of pairs last) (replacements_from pairs (2 * k.to) 0 k.after kept past ++ rs) ≡ behind
+    → Gap gap ∷ replaced_from (2 * k.from + 1) (parts_of pairs last) (replacements_from pairs (2 * k.to) 0 k.after kept past ++ rs) ≡ pairs_parts (with_gap gap (slice_range pairs k.from k.to)) ++ behind
 kept_one pairs last gap past k kept rs behind some within rest =
     let xs = parts_of pairs last in
-    ap (λ t. Gap gap ∷ t) (from_place pairs last (2 * k.from + 1) (2 * k.to) 0 k.behind kept past rs)
-    ∙ ap (λ t. t ++ replaced_from (2 * k.to) xs (kept_from pairs (2 * k.to) 0 k.behind kept past ++ rs)) (inner_range pairs last gap k.from k.to some within)
-    ∙ ap (λ t. body (with_gap gap (slice_range pairs k.from k.to)) ++ t) rest
+    ap (λ t. Gap gap ∷ t) (from_place pairs last (2 * k.from + 1) (2 * k.to) 0 k.after kept past rs)
+    ∙ ap (λ t. t ++ replaced_from (2 * k.to) xs (replacements_from pairs (2 * k.to) 0 k.after kept past ++ rs)) (inner_range pairs last gap k.from k.to some within)
+    ∙ ap (λ t. pairs_parts (with_gap gap (slice_range pairs k.from k.to)) ++ t) rest
 
 -- what stands behind a range that is kept
-kept_body : (pairs : List Pair) (last : List ℕ) (first past at : ℕ) (w : Insertion) (kept : List (Option Kept)) (rs : List Replacement) → AreKeptInOrder first past at w kept → past ≤ length pairs
-    → replaced_from (2 * at) (parts_of pairs last) (kept_from pairs (2 * at) 0 w kept past ++ rs) ≡ body (kept_pairs pairs w kept) ++ replaced_from (2 * past) (parts_of pairs last) rs
+kept_body : (pairs : List Pair) (last : List ℕ) (first past at : ℕ) (w : Insertion) (kept : List (Option KeptTokens)) (rs : List Replacement) → AreKeptInOrder first past at w kept → past ≤ length pairs
+    → replaced_from (2 * at) (parts_of pairs last) (replacements_from pairs (2 * at) 0 w kept past ++ rs) ≡ pairs_parts (inserted_and_kept_pairs pairs w kept) ++ replaced_from (2 * past) (parts_of pairs last) rs
 kept_body pairs last first past at w [] rs o le =
     let xs = parts_of pairs last in
-    ap (λ t. t ++ ((body (inserted pairs w) ++ []) ++ replaced_from (2 * past) xs rs)) (range_none xs (2 * at) (2 * at) (omega arith))
-    ∙ ap (λ t. t ++ replaced_from (2 * past) xs rs) (append-nil (body (inserted pairs w)))
+    ap (λ t. t ++ ((pairs_parts (inserted pairs w) ++ []) ++ replaced_from (2 * past) xs rs)) (range_none xs (2 * at) (2 * at) (omega arith))
+    ∙ ap (λ t. t ++ replaced_from (2 * past) xs rs) (append-nil (pairs_parts (inserted pairs w)))
 kept_body pairs last first past at w (None ∷ kept) rs o le = kept_body pairs last first past at w kept rs o le
 kept_body pairs last first past at w (Some k ∷ kept) rs o le =
     let xs = parts_of pairs last in
     let ins = inserted pairs w in
     let more = replaced_from (2 * past) xs rs in
-    let behind = replaced_from (2 * k.from + 1) xs (kept_from pairs (2 * k.to) 0 k.behind kept past ++ rs) in
+    let behind = replaced_from (2 * k.from + 1) xs (replacements_from pairs (2 * k.to) 0 k.after kept past ++ rs) in
     let range = with_gap [] (slice_range pairs k.from k.to) in
-    let rest = kept_pairs pairs k.behind kept in
-    let end = kept_le first past k.to k.behind kept o.3 in
-    ap (λ t. t ++ ((body ins ++ no_gap) ++ behind)) (range_none xs (2 * at) (2 * at) (omega arith))
-    ∙ append_assoc (body ins) no_gap behind
-    ∙ ap (λ t. body ins ++ t) (kept_one pairs last [] past k kept rs _ o.2 (omega (arith, end, le)) (kept_body pairs last first past k.to k.behind kept rs o.3 le))
+    let rest = inserted_and_kept_pairs pairs k.after kept in
+    let end = kept_le first past k.to k.after kept o.3 in
+    ap (λ t. t ++ ((pairs_parts ins ++ empty_gap) ++ behind)) (range_none xs (2 * at) (2 * at) (omega arith))
+    ∙ append_assoc (pairs_parts ins) empty_gap behind
+    ∙ ap (λ t. pairs_parts ins ++ t) (kept_one pairs last [] past k kept rs _ o.2 (omega (arith, end, le)) (kept_body pairs last first past k.to k.after kept rs o.3 le))
     ∙ sym (three ins range rest more)
 
 -- the gap of the first token goes to the first that is written or kept
@@ -149,82 +149,82 @@ written_is : (pairs : List Pair) (w : Insertion) → Written pairs w
 written_is pairs Nothing = not_written refl
 written_is pairs w = is_written _ _ refl
 
-front_end : (pairs : List Pair) (gap : List ℕ) (first past : ℕ) (w : Insertion) (more : List Part) → Written pairs w → IsEnd first w first past
-    → Gap gap ∷ (come 1 (inserted pairs w) [] ++ more) ≡ body (with_gap gap (inserted pairs w)) ++ more
-front_end pairs gap first past w more (not_written is) end = let both = subst (λ (x : Insertion). IsEnd first x first past) is end in absurd (omega (arith, both.0))
-front_end pairs gap first past w more (is_written p ps is) end = rw is (ap (λ t. t ++ more) (ap (λ t. Gap gap ∷ Token p.kind p.spelling ∷ t) (append-nil (body ps))))
+front_end : (pairs : List Pair) (gap : List ℕ) (first past : ℕ) (w : Insertion) (more : List Part) → Written pairs w → ChangesEnd first w first past
+    → Gap gap ∷ (inserted_parts 1 (inserted pairs w) [] ++ more) ≡ pairs_parts (with_gap gap (inserted pairs w)) ++ more
+front_end pairs gap first past w more (not_written is) end = let both = subst (λ (x : Insertion). ChangesEnd first x first past) is end in absurd (omega (arith, both.0))
+front_end pairs gap first past w more (is_written p ps is) end = rw is (ap (λ t. t ++ more) (ap (λ t. Gap gap ∷ Token p.kind p.spelling ∷ t) (append-nil (pairs_parts ps))))
 
 front_kept : (pairs : List Pair) (gap : List ℕ) (a b : ℕ) (w : Insertion) (rest : List Pair) (behind more : List Part) → Written pairs w → a < b → b ≤ length pairs
-    → ((g : List ℕ) → Gap g ∷ behind ≡ body (with_gap g (slice_range pairs a b)) ++ (body rest ++ more))
-    → Gap gap ∷ (come 1 (inserted pairs w) no_gap ++ behind) ≡ body (with_gap gap (inserted pairs w ++ (with_gap [] (slice_range pairs a b) ++ rest))) ++ more
+    → ((g : List ℕ) → Gap g ∷ behind ≡ pairs_parts (with_gap g (slice_range pairs a b)) ++ (pairs_parts rest ++ more))
+    → Gap gap ∷ (inserted_parts 1 (inserted pairs w) empty_gap ++ behind) ≡ pairs_parts (with_gap gap (inserted pairs w ++ (with_gap [] (slice_range pairs a b) ++ rest))) ++ more
 front_kept pairs gap a b w rest behind more (not_written is) lt within here =
-    rw is (here gap ∙ sym (append_assoc (body (with_gap gap (slice_range pairs a b))) (body rest) more)
-    ∙ ap (λ t. t ++ more) (sym (body_append (with_gap gap (slice_range pairs a b)) rest) ∙ ap body (sym (gap_twice pairs gap a b rest lt within))))
+    rw is (here gap ∙ sym (append_assoc (pairs_parts (with_gap gap (slice_range pairs a b))) (pairs_parts rest) more)
+    ∙ ap (λ t. t ++ more) (sym (body_append (with_gap gap (slice_range pairs a b)) rest) ∙ ap pairs_parts (sym (gap_twice pairs gap a b rest lt within))))
 front_kept pairs gap a b w rest behind more (is_written p ps is) lt within here =
     let front : List Pair = record p { gap = gap } ∷ ps in
-    rw is (append_assoc (body front) no_gap behind ∙ ap (λ t. body front ++ t) (here []) ∙ sym (three front (with_gap [] (slice_range pairs a b)) rest more))
+    rw is (append_assoc (pairs_parts front) empty_gap behind ∙ ap (λ t. pairs_parts front ++ t) (here []) ∙ sym (three front (with_gap [] (slice_range pairs a b)) rest more))
 
-start_body : (pairs : List Pair) (last gap : List ℕ) (first past : ℕ) (w : Insertion) (kept : List (Option Kept)) (rs : List Replacement) → AreKeptInOrder first past first w kept → past ≤ length pairs
-    → Gap gap ∷ replaced_from (2 * first + 1) (parts_of pairs last) (kept_from pairs (2 * first + 1) 1 w kept past ++ rs)
-    ≡ body (with_gap gap (kept_pairs pairs w kept)) ++ replaced_from (2 * past) (parts_of pairs last) rs
+start_body : (pairs : List Pair) (last gap : List ℕ) (first past : ℕ) (w : Insertion) (kept : List (Option KeptTokens)) (rs : List Replacement) → AreKeptInOrder first past first w kept → past ≤ length pairs
+    → Gap gap ∷ replaced_from (2 * first + 1) (parts_of pairs last) (replacements_from pairs (2 * first + 1) 1 w kept past ++ rs)
+    ≡ pairs_parts (with_gap gap (inserted_and_kept_pairs pairs w kept)) ++ replaced_from (2 * past) (parts_of pairs last) rs
 start_body pairs last gap first past w [] rs o le =
     let xs = parts_of pairs last in
     let more = replaced_from (2 * past) xs rs in
-    ap (λ t. Gap gap ∷ (t ++ (come 1 (inserted pairs w) [] ++ more))) (range_none xs (2 * first + 1) (2 * first + 1) (omega arith))
+    ap (λ t. Gap gap ∷ (t ++ (inserted_parts 1 (inserted pairs w) [] ++ more))) (range_none xs (2 * first + 1) (2 * first + 1) (omega arith))
     ∙ front_end pairs gap first past w more (written_is pairs w) o.1
 start_body pairs last gap first past w (None ∷ kept) rs o le = start_body pairs last gap first past w kept rs o le
 start_body pairs last gap first past w (Some k ∷ kept) rs o le =
     let xs = parts_of pairs last in
     let more = replaced_from (2 * past) xs rs in
-    let end = kept_le first past k.to k.behind kept o.3 in
-    let behind = replaced_from (2 * k.from + 1) xs (kept_from pairs (2 * k.to) 0 k.behind kept past ++ rs) in
-    ap (λ t. Gap gap ∷ (t ++ (come 1 (inserted pairs w) no_gap ++ behind))) (range_none xs (2 * first + 1) (2 * first + 1) (omega arith))
-    ∙ front_kept pairs gap k.from k.to w (kept_pairs pairs k.behind kept) behind more (written_is pairs w) o.2 (omega (arith, end, le))
-    (λ g. kept_one pairs last g past k kept rs _ o.2 (omega (arith, end, le)) (kept_body pairs last first past k.to k.behind kept rs o.3 le))
+    let end = kept_le first past k.to k.after kept o.3 in
+    let behind = replaced_from (2 * k.from + 1) xs (replacements_from pairs (2 * k.to) 0 k.after kept past ++ rs) in
+    ap (λ t. Gap gap ∷ (t ++ (inserted_parts 1 (inserted pairs w) empty_gap ++ behind))) (range_none xs (2 * first + 1) (2 * first + 1) (omega arith))
+    ∙ front_kept pairs gap k.from k.to w (inserted_and_kept_pairs pairs k.after kept) behind more (written_is pairs w) o.2 (omega (arith, end, le))
+    (λ g. kept_one pairs last g past k kept rs _ o.2 (omega (arith, end, le)) (kept_body pairs last first past k.to k.after kept rs o.3 le))
 
 -- one finding: what comes before it, its tokens, and what is behind it
-one_mended : (pairs : List Pair) (last : List ℕ) (at first past : ℕ) (fix : Option Fix) (rs : List Replacement) → is_slashes fix ≡ false → at ≤ first → first < past → past ≤ length pairs → IsMendable first past fix
-    → replaced_from (2 * at) (parts_of pairs last) (mended pairs first past fix ++ rs)
-    ≡ body (slice_range pairs at first) ++ (body (mended_pairs pairs first past fix) ++ replaced_from (2 * past) (parts_of pairs last) rs)
-one_mended pairs last at first past (Some (Tokens w kept)) rs other le some within fits =
-    let before = body (slice_range pairs at first) in
+one_fixed : (pairs : List Pair) (last : List ℕ) (at first past : ℕ) (fix : Option Fix) (rs : List Replacement) → is_comment_fix fix ≡ false → at ≤ first → first < past → past ≤ length pairs → HasValidFix first past fix
+    → replaced_from (2 * at) (parts_of pairs last) (fix_replacements pairs first past fix ++ rs)
+    ≡ pairs_parts (slice_range pairs at first) ++ (pairs_parts (fixed_pairs pairs first past fix) ++ replaced_from (2 * past) (parts_of pairs last) rs)
+one_fixed pairs last at first past (Some (Tokens w kept)) rs other le some within fits =
+    let before = pairs_parts (slice_range pairs at first) in
     let gap = gap_at pairs first in
-    let more = replaced_from (2 * first + 1) (parts_of pairs last) (kept_from pairs (2 * first + 1) 1 w kept past ++ rs) in
+    let more = replaced_from (2 * first + 1) (parts_of pairs last) (replacements_from pairs (2 * first + 1) 1 w kept past ++ rs) in
     from_place pairs last (2 * at) (2 * first + 1) 1 w kept past rs
     ∙ ap (λ t. t ++ more) (open_range pairs last at first le (omega (arith, some, within)))
     ∙ append_assoc before (Gap gap ∷ []) more
     ∙ ap (λ t. before ++ t) (start_body pairs last gap first past w kept rs fits within)
-one_mended pairs last at first past (Some Slashes) rs other le some within fits = absurd (false≢true (sym other))
-one_mended pairs last at first past None rs other le some within fits = absurd fits
+one_fixed pairs last at first past (Some CommentMarker) rs other le some within fits = absurd (false≢true (sym other))
+one_fixed pairs last at first past None rs other le some within fits = absurd fits
 
-of_other : (rule : Rule) (pairs : List Pair) (f : Finding) → is_comment_rule rule ≡ false → IsOf rule pairs f → is_slashes f.fix ≡ false
+of_other : (rule : Rule) (pairs : List Pair) (f : Finding) → is_comment_rule rule ≡ false → IsOfRule rule pairs f → is_comment_fix f.fix ≡ false
 of_other CommentSyntax pairs f other of = absurd (false≢true (sym other))
 of_other rule pairs f other of = of
 
-all_mended : (rule : Rule) (pairs : List Pair) (last : List ℕ) (at : ℕ) (fs : List Finding) → is_comment_rule rule ≡ false → AreOf rule pairs fs → AreTaken at pairs fs
-    → replaced_from (2 * at) (parts_of pairs last) (flat_map (finding_replacements pairs) fs) ≡ parts_of (mended_from at pairs fs) last
-all_mended rule pairs last at [] other of are = parts_drop pairs last at are
-all_mended rule pairs last at (f ∷ fs) other of are =
-    let mid = mended_pairs pairs f.first f.past f.fix in
-    let more = mended_from f.past pairs fs in
-    one_mended pairs last at f.first f.past f.fix (flat_map (finding_replacements pairs) fs) (of_other rule pairs f other of.0) are.0 are.1.2 are.1.0 are.1.1
-    ∙ ap (λ t. body (slice_range pairs at f.first) ++ (body mid ++ t)) (all_mended rule pairs last f.past fs other of.1 are.2)
-    ∙ ap (λ t. body (slice_range pairs at f.first) ++ t) (sym (parts_append mid more last))
+all_fixed : (rule : Rule) (pairs : List Pair) (last : List ℕ) (at : ℕ) (fs : List Finding) → is_comment_rule rule ≡ false → AreOfRule rule pairs fs → AreTaken at pairs fs
+    → replaced_from (2 * at) (parts_of pairs last) (flat_map (finding_replacements pairs) fs) ≡ parts_of (fixed_pairs_from at pairs fs) last
+all_fixed rule pairs last at [] other of are = parts_drop pairs last at are
+all_fixed rule pairs last at (f ∷ fs) other of are =
+    let mid = fixed_pairs pairs f.first f.past f.fix in
+    let more = fixed_pairs_from f.past pairs fs in
+    one_fixed pairs last at f.first f.past f.fix (flat_map (finding_replacements pairs) fs) (of_other rule pairs f other of.0) are.0 are.1.2 are.1.0 are.1.1
+    ∙ ap (λ t. pairs_parts (slice_range pairs at f.first) ++ (pairs_parts mid ++ t)) (all_fixed rule pairs last f.past fs other of.1 are.2)
+    ∙ ap (λ t. pairs_parts (slice_range pairs at f.first) ++ t) (sym (parts_append mid more last))
     ∙ sym (parts_append (slice_range pairs at f.first) (mid ++ more) last)
 
 -- settling pair by pair
 abbrev given : Bool → Kind → List ℕ → Pair
 given met k s = if met then record { gap = space; kind = k; spelling = s } else record { gap = []; kind = k; spelling = s }
 
-settle_if : (met : Bool) (k : Kind) (s rest : List ℕ) (more : List Part) → written (settled (Some (k, s)) more) ≡ rest
-    → written (if met then Gap space ∷ Token k s ∷ settled (Some (k, s)) more else Token k s ∷ settled (Some (k, s)) more)
+settle_if : (met : Bool) (k : Kind) (s rest : List ℕ) (more : List Part) → text_of_parts (settled (Some (k, s)) more) ≡ rest
+    → text_of_parts (if met then Gap space ∷ Token k s ∷ settled (Some (k, s)) more else Token k s ∷ settled (Some (k, s)) more)
     ≡ (given met k s).gap ++ (s ++ rest)
 settle_if true k s rest more e = ap (λ t. space ++ (s ++ t)) e
 settle_if false k s rest more e = ap (λ t. s ++ t) e
 
-settle_last : (near : Neighbour) (last : List ℕ) → written (settled near (Gap last ∷ [])) ≡ last
-settle_last near [] = refl
-settle_last near (b ∷ last) = append-nil (b ∷ last)
+settle_last : (prev : Prev) (last : List ℕ) → text_of_parts (settled prev (Gap last ∷ [])) ≡ last
+settle_last prev [] = refl
+settle_last prev (b ∷ last) = append-nil (b ∷ last)
 
 abbrev spaced : Bool → Pair → Pair
 spaced here p = if here then record p { gap = space } else p
@@ -233,23 +233,23 @@ same_if : (here : Bool) (p : Pair) (rest : List ℕ) → (spaced here p).gap ++ 
 same_if true p rest = refl
 same_if false p rest = refl
 
-same_spelling : (near : Neighbour) (p : Pair) (rest : List ℕ) → (settled_pair near p).gap ++ (p.spelling ++ rest) ≡ (settled_pair near p).gap ++ ((settled_pair near p).spelling ++ rest)
-same_spelling near p rest = same_if (is_empty p.gap && meets near p.kind p.spelling) p rest
+same_spelling : (prev : Prev) (p : Pair) (rest : List ℕ) → (settled_pair prev p).gap ++ (p.spelling ++ rest) ≡ (settled_pair prev p).gap ++ ((settled_pair prev p).spelling ++ rest)
+same_spelling prev p rest = same_if (is_empty p.gap && joins_prev prev p.kind p.spelling) p rest
 
-settle_one : (near : Neighbour) (gap : List ℕ) (k : Kind) (s rest : List ℕ) (more : List Part) → written (settled (Some (k, s)) more) ≡ rest
-    → written (settled near (Gap gap ∷ Token k s ∷ more)) ≡ (settled_pair near (record { gap = gap; kind = k; spelling = s })).gap ++ (s ++ rest)
-settle_one near [] k s rest more e = settle_if (meets near k s) k s rest more e
-settle_one near (b ∷ gap) k s rest more e = ap (λ t. (b ∷ gap) ++ (s ++ t)) e
+settle_one : (prev : Prev) (gap : List ℕ) (k : Kind) (s rest : List ℕ) (more : List Part) → text_of_parts (settled (Some (k, s)) more) ≡ rest
+    → text_of_parts (settled prev (Gap gap ∷ Token k s ∷ more)) ≡ (settled_pair prev (record { gap = gap; kind = k; spelling = s })).gap ++ (s ++ rest)
+settle_one prev [] k s rest more e = settle_if (joins_prev prev k s) k s rest more e
+settle_one prev (b ∷ gap) k s rest more e = ap (λ t. (b ∷ gap) ++ (s ++ t)) e
 
-pub pairs_settled : (near : Neighbour) (ps : List Pair) (last : List ℕ) → written (settled near (parts_of ps last)) ≡ whole_text (settled_pairs near ps) last
-pairs_settled near [] last = settle_last near last
-pairs_settled near (p ∷ ps) last =
-    settle_one near p.gap p.kind p.spelling (whole_text (settled_pairs (Some (p.kind, p.spelling)) ps) last) (parts_of ps last) (pairs_settled (Some (p.kind, p.spelling)) ps last)
-    ∙ same_spelling near p _
+pub pairs_settled : (prev : Prev) (ps : List Pair) (last : List ℕ) → text_of_parts (settled prev (parts_of ps last)) ≡ whole_text (settled_pairs prev ps) last
+pairs_settled prev [] last = settle_last prev last
+pairs_settled prev (p ∷ ps) last =
+    settle_one prev p.gap p.kind p.spelling (whole_text (settled_pairs (Some (p.kind, p.spelling)) ps) last) (parts_of ps last) (pairs_settled (Some (p.kind, p.spelling)) ps last)
+    ∙ same_spelling prev p _
 
 -- the text of a step, by pairs
-pub by_pairs : (rule : Rule) (cut : CutText) (findings : List Finding) → is_comment_rule rule ≡ false → AreOf rule cut.pairs findings → AreSound (length cut.pairs) findings
-    → mended_text cut findings ≡ replaced_text (parts cut) (step_replacements cut.pairs findings)
+pub by_pairs : (rule : Rule) (cut : TokenizedText) (findings : List Finding) → is_comment_rule rule ≡ false → AreOfRule rule cut.pairs findings → AreValidFindings (length cut.pairs) findings
+    → fix_step_text cut findings ≡ replaced_text (parts cut) (step_replacements cut.pairs findings)
 by_pairs rule cut findings other of sound =
-    let all = all_mended rule cut.pairs cut.last 0 (taken findings) other (taken_of rule cut.pairs 0 findings of) (taken_are cut.pairs 0 findings (omega arith) sound) in
-    sym (ap (λ t. written (settled None t)) all ∙ pairs_settled None (mended_from 0 cut.pairs (taken findings)) cut.last)
+    let all = all_fixed rule cut.pairs cut.last 0 (selected findings) other (selected_of rule cut.pairs 0 findings of) (selected_are cut.pairs 0 findings (omega arith) sound) in
+    sym (ap (λ t. text_of_parts (settled None t)) all ∙ pairs_settled None (fixed_pairs_from 0 cut.pairs (selected findings)) cut.last)

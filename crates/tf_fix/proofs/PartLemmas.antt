@@ -6,11 +6,11 @@ use Rattle.std.proofs.lemmas.Option.{slice_get_cases}
 use Rattle.std.proofs.Math.Seq.{take-append_seam, drop-append_seam}
 use Rattle.hcl_token.specs.declared.kind.Kind.{Kind}
 use Rattle.hcl_token.specs.Tokens.{Pair, whole_text}
-use Rattle.tf_fix.specs.Parts.{Part, parts_of, written}
+use Rattle.tf_fix.specs.Parts.{Part, parts_of, text_of_parts}
 use Rattle.tf_fix.specs.Parts.Part.{Gap, Token}
-use Rattle.tf_fix.specs.Settled.{Neighbour, after, meets, glued}
-use Rattle.tf_fix.specs.Replacements.{Replacement, staying}
-use Rattle.tf_fix.specs.Inner.Views.{next_place}
+use Rattle.tf_fix.specs.SettledSpaces.{Prev, prev_after, joins_prev, is_glued}
+use Rattle.tf_fix.specs.Replacements.{Replacement, stays_until}
+use Rattle.tf_fix.specs.Inner.Views.{next_index}
 use Rattle.tf_fix.proofs.SettledLemmas.{written-append, after-append}
 
 -- ---- slices
@@ -93,21 +93,21 @@ token_front (q ∷ ps) last (suc i) p found =
 -- ---- what stands before a place, as text
 
 pub start_text : (pairs : List Pair) (last : List ℕ) (i : ℕ) (p : Pair) → slice_get pairs i ≡ Some p
-    → written (take (2 * i + 1) (parts_of pairs last)) ≡ whole_text (take i pairs) p.gap
+    → text_of_parts (take (2 * i + 1) (parts_of pairs last)) ≡ whole_text (take i pairs) p.gap
 start_text [] last i p found = absurd (cc found)
 start_text (q ∷ ps) last zero p found = let same : q ≡ p = cc found in ap (λ (x : Pair). x.gap ++ []) same ∙ append-nil p.gap
 start_text (q ∷ ps) last (suc i) p found =
     let three : 2 * suc i + 1 ≡ suc (suc (2 * i + 1)) = omega arith in
-    ap (λ k. written (take k (parts_of (q ∷ ps) last))) three ∙ ap (λ t. q.gap ++ (q.spelling ++ t)) (start_text ps last i p found)
+    ap (λ k. text_of_parts (take k (parts_of (q ∷ ps) last))) three ∙ ap (λ t. q.gap ++ (q.spelling ++ t)) (start_text ps last i p found)
 
 pub stop_text : (pairs : List Pair) (last : List ℕ) (i : ℕ) (p : Pair) → slice_get pairs i ≡ Some p
-    → written (take (2 * i + 2) (parts_of pairs last)) ≡ whole_text (take i pairs) (p.gap ++ p.spelling)
+    → text_of_parts (take (2 * i + 2) (parts_of pairs last)) ≡ whole_text (take i pairs) (p.gap ++ p.spelling)
 stop_text [] last i p found = absurd (cc found)
 stop_text (q ∷ ps) last zero p found =
     let same : q ≡ p = cc found in ap (λ (x : Pair). x.gap ++ (x.spelling ++ [])) same ∙ ap (λ t. p.gap ++ t) (append-nil p.spelling)
 stop_text (q ∷ ps) last (suc i) p found =
     let four : 2 * suc i + 2 ≡ suc (suc (2 * i + 2)) = omega arith in
-    ap (λ k. written (take k (parts_of (q ∷ ps) last))) four ∙ ap (λ t. q.gap ++ (q.spelling ++ t)) (stop_text ps last i p found)
+    ap (λ k. text_of_parts (take k (parts_of (q ∷ ps) last))) four ∙ ap (λ t. q.gap ++ (q.spelling ++ t)) (stop_text ps last i p found)
 
 range_seam : (a b c : List ℕ) (n m : ℕ) → n ≡ length a → m ≡ length a + length b → slice_range (a ++ (b ++ c)) n m ≡ b
 range_seam a b c n m front end =
@@ -116,72 +116,72 @@ range_seam a b c n m front end =
     ∙ ap (λ k. take k (b ++ c)) whole ∙ take-append_seam b c
 
 pub length_written : (xs : List Part) (from to : ℕ) → from ≤ to
-    → length (written (take to xs)) ≡ length (written (take from xs)) + length (written (slice_range xs from to))
+    → length (text_of_parts (take to xs)) ≡ length (text_of_parts (take from xs)) + length (text_of_parts (slice_range xs from to))
 length_written xs from to le =
-    ap (λ t. length (written t)) (take_range xs from to le) ∙ ap length (written-append (take from xs) (slice_range xs from to))
-    ∙ length-append (written (take from xs)) (written (slice_range xs from to))
+    ap (λ t. length (text_of_parts t)) (take_range xs from to le) ∙ ap length (written-append (take from xs) (slice_range xs from to))
+    ∙ length-append (text_of_parts (take from xs)) (text_of_parts (slice_range xs from to))
 
 pub text_range : (xs : List Part) (from to : ℕ) → from ≤ to
-    → slice_range (written xs) (length (written (take from xs))) (length (written (take to xs))) ≡ written (slice_range xs from to)
+    → slice_range (text_of_parts xs) (length (text_of_parts (take from xs))) (length (text_of_parts (take to xs))) ≡ text_of_parts (slice_range xs from to)
 text_range xs from to le =
     let a = take from xs in
     let b = slice_range xs from to in
     let c = drop to xs in
     let split : xs ≡ a ++ (b ++ c) = sym (take-append-drop from xs) ∙ ap (λ t. a ++ t) (drop_split xs from to le) in
-    let whole : written xs ≡ written a ++ (written b ++ written c) = ap written split ∙ written-append a (b ++ c) ∙ ap (λ t. written a ++ t) (written-append b c) in
-    ap (λ t. slice_range t (length (written a)) (length (written (take to xs)))) whole
-    ∙ range_seam (written a) (written b) (written c) _ _ refl (length_written xs from to le)
+    let whole : text_of_parts xs ≡ text_of_parts a ++ (text_of_parts b ++ text_of_parts c) = ap text_of_parts split ∙ written-append a (b ++ c) ∙ ap (λ t. text_of_parts a ++ t) (written-append b c) in
+    ap (λ t. slice_range t (length (text_of_parts a)) (length (text_of_parts (take to xs)))) whole
+    ∙ range_seam (text_of_parts a) (text_of_parts b) (text_of_parts c) _ _ refl (length_written xs from to le)
 
-pub text_within : (xs : List Part) (to : ℕ) → length (written (take to xs)) ≤ length (written xs)
+pub text_within : (xs : List Part) (to : ℕ) → length (text_of_parts (take to xs)) ≤ length (text_of_parts xs)
 text_within xs to =
-    let whole = ap (λ t. length (written t)) (sym (take-append-drop to xs)) ∙ ap length (written-append (take to xs) (drop to xs)) ∙ length-append (written (take to xs)) (written (drop to xs)) in
+    let whole = ap (λ t. length (text_of_parts t)) (sym (take-append-drop to xs)) ∙ ap length (written-append (take to xs) (drop to xs)) ∙ length-append (text_of_parts (take to xs)) (text_of_parts (drop to xs)) in
     omega (arith, whole)
 
 -- ---- the neighbour behind a slice
 
-pub after_token : (near : Neighbour) (xs : List Part) (kind : Kind) (spelling : List ℕ) → after near (xs ++ Token kind spelling ∷ []) ≡ Some (kind, spelling)
-after_token near xs kind spelling = after-append near xs (Token kind spelling ∷ [])
+pub after_token : (prev : Prev) (xs : List Part) (kind : Kind) (spelling : List ℕ) → prev_after prev (xs ++ Token kind spelling ∷ []) ≡ Some (kind, spelling)
+after_token prev xs kind spelling = after-append prev xs (Token kind spelling ∷ [])
 
-pub after_empty : (near : Neighbour) (xs : List Part) (gap : List ℕ) → gap ≡ [] → after near (xs ++ Gap gap ∷ []) ≡ after near xs
-after_empty near xs gap e = rw e (after-append near xs (Gap [] ∷ []))
+pub after_empty : (prev : Prev) (xs : List Part) (gap : List ℕ) → gap ≡ [] → prev_after prev (xs ++ Gap gap ∷ []) ≡ prev_after prev xs
+after_empty prev xs gap e = rw e (after-append prev xs (Gap [] ∷ []))
 
-blank_after : (near : Neighbour) (gap : List ℕ) → (gap ≡ [] → ⊥) → after near (Gap gap ∷ []) ≡ None
-blank_after near [] some = absurd (some refl)
-blank_after near (b ∷ gap) some = refl
+blank_after : (prev : Prev) (gap : List ℕ) → (gap ≡ [] → ⊥) → prev_after prev (Gap gap ∷ []) ≡ None
+blank_after prev [] some = absurd (some refl)
+blank_after prev (b ∷ gap) some = refl
 
-pub after_blank : (near : Neighbour) (xs : List Part) (gap : List ℕ) → (gap ≡ [] → ⊥) → after near (xs ++ Gap gap ∷ []) ≡ None
-after_blank near xs gap some = after-append near xs (Gap gap ∷ []) ∙ blank_after (after near xs) gap some
+pub after_blank : (prev : Prev) (xs : List Part) (gap : List ℕ) → (gap ≡ [] → ⊥) → prev_after prev (xs ++ Gap gap ∷ []) ≡ None
+after_blank prev xs gap some = after-append prev xs (Gap gap ∷ []) ∙ blank_after (prev_after prev xs) gap some
 
 -- ---- whether the neighbour joins with the front of a slice
 
-glued_none : (near : Neighbour) (k : ℕ) (gap : List ℕ) (rest : List Part) → k ≤ 1 → glued near (take k (Gap gap ∷ rest)) ≡ false
-glued_none near zero gap rest le = refl
-glued_none near (suc zero) [] rest le = refl
-glued_none near (suc zero) (b ∷ gap) rest le = refl
-glued_none near (suc (suc k)) gap rest le = absurd (omega (arith, le))
+glued_none : (prev : Prev) (k : ℕ) (gap : List ℕ) (rest : List Part) → k ≤ 1 → is_glued prev (take k (Gap gap ∷ rest)) ≡ false
+glued_none prev zero gap rest le = refl
+glued_none prev (suc zero) [] rest le = refl
+glued_none prev (suc zero) (b ∷ gap) rest le = refl
+glued_none prev (suc (suc k)) gap rest le = absurd (omega (arith, le))
 
-pub glued_gap : (near : Neighbour) (k : ℕ) (ps : List Pair) (last : List ℕ) → k ≤ 1 → glued near (take k (parts_of ps last)) ≡ false
-glued_gap near k [] last le = glued_none near k last [] le
-glued_gap near k (p ∷ ps) last le = glued_none near k p.gap _ le
+pub glued_gap : (prev : Prev) (k : ℕ) (ps : List Pair) (last : List ℕ) → k ≤ 1 → is_glued prev (take k (parts_of ps last)) ≡ false
+glued_gap prev k [] last le = glued_none prev k last [] le
+glued_gap prev k (p ∷ ps) last le = glued_none prev k p.gap _ le
 
-pub glued_empty : (near : Neighbour) (gap : List ℕ) (kind : Kind) (spelling : List ℕ) (k : ℕ) (rest : List Part) → 2 ≤ k → gap ≡ []
-    → glued near (take k (Gap gap ∷ Token kind spelling ∷ rest)) ≡ meets near kind spelling
-glued_empty near gap kind spelling zero rest le e = absurd (omega (arith, le))
-glued_empty near gap kind spelling (suc zero) rest le e = absurd (omega (arith, le))
-glued_empty near gap kind spelling (suc (suc k)) rest le e = rw e refl
+pub glued_empty : (prev : Prev) (gap : List ℕ) (kind : Kind) (spelling : List ℕ) (k : ℕ) (rest : List Part) → 2 ≤ k → gap ≡ []
+    → is_glued prev (take k (Gap gap ∷ Token kind spelling ∷ rest)) ≡ joins_prev prev kind spelling
+glued_empty prev gap kind spelling zero rest le e = absurd (omega (arith, le))
+glued_empty prev gap kind spelling (suc zero) rest le e = absurd (omega (arith, le))
+glued_empty prev gap kind spelling (suc (suc k)) rest le e = rw e refl
 
-pub glued_blank : (near : Neighbour) (gap : List ℕ) (k : ℕ) (rest : List Part) → (gap ≡ [] → ⊥) → glued near (take k (Gap gap ∷ rest)) ≡ false
-glued_blank near gap zero rest some = refl
-glued_blank near [] (suc k) rest some = absurd (some refl)
-glued_blank near (b ∷ gap) (suc k) rest some = refl
+pub glued_blank : (prev : Prev) (gap : List ℕ) (k : ℕ) (rest : List Part) → (gap ≡ [] → ⊥) → is_glued prev (take k (Gap gap ∷ rest)) ≡ false
+glued_blank prev gap zero rest some = refl
+glued_blank prev [] (suc k) rest some = absurd (some refl)
+glued_blank prev (b ∷ gap) (suc k) rest some = refl
 
-pub glued_token : (near : Neighbour) (kind : Kind) (spelling : List ℕ) (k : ℕ) (rest : List Part) → 1 ≤ k
-    → glued near (take k (Token kind spelling ∷ rest)) ≡ meets near kind spelling
-glued_token near kind spelling zero rest le = absurd (omega (arith, le))
-glued_token near kind spelling (suc k) rest le = refl
+pub glued_token : (prev : Prev) (kind : Kind) (spelling : List ℕ) (k : ℕ) (rest : List Part) → 1 ≤ k
+    → is_glued prev (take k (Token kind spelling ∷ rest)) ≡ joins_prev prev kind spelling
+glued_token prev kind spelling zero rest le = absurd (omega (arith, le))
+glued_token prev kind spelling (suc k) rest le = refl
 
 pub staying_is : (pairs : List Pair) (last : List ℕ) (at : ℕ) (rs : List Replacement)
-    → staying at (parts_of pairs last) rs ≡ slice_range (parts_of pairs last) at (next_place (2 * length pairs + 1) rs)
+    → stays_until at (parts_of pairs last) rs ≡ slice_range (parts_of pairs last) at (next_index (2 * length pairs + 1) rs)
 staying_is pairs last at [] =
     let all = parts_length pairs last in
     sym (take_all (2 * length pairs + 1 - at) (drop at (parts_of pairs last)) (omega (arith, all, length-drop at (parts_of pairs last))))

@@ -1,11 +1,11 @@
-pub mod ByPairs
+pub mod StepText
 pub mod Comments
 pub mod Inner
-pub mod Mended
-pub mod Mending
+pub mod StepEdits
+pub mod FindingReplacements
 pub mod OneStep
 pub mod Parts
-pub mod Reading
+pub mod ParsedTexts
 pub mod Replacements
-pub mod Settled
-pub mod Taking
+pub mod SettledSpaces
+pub mod Selection

@@ -1,16 +1,16 @@
 //! The edits that mend comments: `//` becomes `#`.
 
 ghost use Rattle.std.specs.Prelude.{◌≡◌, ◌<◌, length, map, filter, IfOk};
-ghost use Rattle.tf_diagnostics.specs.OneRule.{is_of};
+ghost use Rattle.tf_diagnostics.specs.RuleFilter.{is_found_by};
 ghost use Rattle.tf_fix.specs.Comments.{comment_edit};
-ghost use Rattle.tf_rule.specs.Findings.{AreSound};
-ghost use Rattle.tf_fix.specs.Taking.{taken};
+ghost use Rattle.tf_rule.specs.Findings.{AreValidFindings};
+ghost use Rattle.tf_fix.specs.Selection.{selected};
 
-use crate::taking::is_taken;
+use crate::selection::is_selected;
 use edit_list::Edit;
 use hcl_scan::Scanned;
 use std::alloc::{AllocError, Global};
-use tf_diagnostics::is_of;
+use tf_diagnostics::is_found_by;
 use tf_rule::{Finding, Rule};
 
 fn comment_edit(alloc: Global, scanned: &Scanned<'_>, one: Finding) -> Result<Edit, AllocError>
@@ -28,15 +28,15 @@ pub fn comment_edits(
     rule: Rule,
     findings: &[Finding],
 ) -> Result<Vec<Edit>, AllocError>
-    requires { AreSound (length scanned.now.pairs) (filter (is_of rule) findings.now) }
+    requires { AreValidFindings (length scanned.now.pairs) (filter (is_found_by rule) findings.now) }
     ensures { IfOk result
         (λ edits. edits.items
-        ≡ map (comment_edit scanned.now.pairs) (taken (filter (is_of rule) findings.now))) }
+        ≡ map (comment_edit scanned.now.pairs) (selected (filter (is_found_by rule) findings.now))) }
 {
     let mut edits = Vec::new(alloc);
     let mut past = 0;
     for one in findings {
-        if is_of(rule, one) && is_taken(one, past) {
+        if is_found_by(rule, one) && is_selected(one, past) {
             edits.push(comment_edit(alloc, scanned, *one)?)?;
             past = one.past();
         }

@@ -1,11 +1,11 @@
 //! A replacement in few bytes.
 
 ghost use Rattle.std.specs.Prelude.{◌≡◌, ◌++◌, ◌∷◌, [], ◌≤◌, ◌⊎◌, ◌^◌, ◌<◌, IfOk, IfErr, OnOk};
-ghost use Rattle.tf_fix.specs.Inner.Views.{place_of};
-ghost use Rattle.tf_fix.specs.Inner.Packed.{edge_at};
+ghost use Rattle.tf_fix.specs.Inner.Views.{boundary_index};
+ghost use Rattle.tf_fix.specs.Inner.Packed.{boundary_at};
 
-use crate::edge::Edge;
-use crate::replacing::Replacement;
+use crate::boundary::Boundary;
+use crate::splice::Replacement;
 use std::alloc::AllocError;
 use std::marker::Model;
 use tf_rule::Insertion;
@@ -13,86 +13,86 @@ use tf_rule::Insertion;
 /// A replacement as it stands in the list of all that one step makes, in 24 bytes: a place as how
 /// many gaps and tokens stand before it.
 #[derive(Drop)]
-pub struct Packed {
+pub struct PackedReplacement {
     from: u32,
     to: u32,
-    coming: Insertion,
+    insertion: Insertion,
 }
 
 // A step has one or more for each finding that it mends.
-const _: () = prove!(size_of::<Packed>() == 24);
+const _: () = prove!(size_of::<PackedReplacement>() == 24);
 
-impl Model for Packed {
-    ghost use Rattle.tf_fix.specs.declared.replacing.Replacement.{Replacement};
-    ghost use Rattle.tf_fix.specs.Inner.Packed.{edge_at};
+impl Model for PackedReplacement {
+    ghost use Rattle.tf_fix.specs.declared.splice.Replacement.{Replacement};
+    ghost use Rattle.tf_fix.specs.Inner.Packed.{boundary_at};
 
     ghost Value = { Replacement };
 
     ghost view = { λ p. record {
-      from = edge_at p.from;
-      to = edge_at p.to;
-      coming = p.coming;
+      from = boundary_at p.from;
+      to = boundary_at p.to;
+      insertion = p.insertion;
     } };
 }
 
 /// How many gaps and tokens stand before a place; `AllocError` past 32 bits, where no list of
 /// tokens has room for so many.
-fn place(edge: Edge) -> Result<u32, AllocError>
-    ensures ok { IfOk result (λ n. edge_at n ≡ edge) }
-    ensures err { IfErr result (λ _. 2 ^ 32 ≤ place_of edge) }
+fn pack_boundary(boundary: Boundary) -> Result<u32, AllocError>
+    ensures ok { IfOk result (λ n. boundary_at n ≡ boundary) }
+    ensures err { IfErr result (λ _. 2 ^ 32 ≤ boundary_index boundary) }
 {
     let half = (u32::MAX / 2) as usize;
-    match edge {
-        Edge::Gap(i) if i <= half => Ok(2 * (i as u32)),
-        Edge::Token(i) if i <= half => Ok(2 * (i as u32) + 1),
+    match boundary {
+        Boundary::Gap(i) if i <= half => Ok(2 * (i as u32)),
+        Boundary::Token(i) if i <= half => Ok(2 * (i as u32) + 1),
         _ => Err(AllocError),
     }
 }
 
-fn edge(place: u32) -> Edge
-    ensures { result ≡ edge_at place }
+fn unpack_boundary(place: u32) -> Boundary
+    ensures { result ≡ boundary_at place }
 {
     let i = (place / 2) as usize;
     if place % 2 == 0 {
-        Edge::Gap(i)
+        Boundary::Gap(i)
     } else {
-        Edge::Token(i)
+        Boundary::Token(i)
     }
 }
 
-impl Packed {
+impl PackedReplacement {
     /// The replacement in few bytes; `AllocError` where a place is past 32 bits.
-    pub fn new(one: Replacement) -> Result<Packed, AllocError>
+    pub fn new(one: Replacement) -> Result<PackedReplacement, AllocError>
         ensures ok { IfOk result (λ packed. packed ≡ one) }
         ensures err { IfErr result
-            (λ _. (2 ^ 32 ≤ place_of one.from) ⊎ (2 ^ 32 ≤ place_of one.to)) }
+            (λ _. (2 ^ 32 ≤ boundary_index one.from) ⊎ (2 ^ 32 ≤ boundary_index one.to)) }
     {
-        let from = place(one.from)?;
-        let to = place(one.to)?;
-        Ok(Packed {
+        let from = pack_boundary(one.from)?;
+        let to = pack_boundary(one.to)?;
+        Ok(PackedReplacement {
             from,
             to,
-            coming: one.coming,
+            insertion: one.insertion,
         })
     }
 
     /// The replacement.
-    pub fn get(&self) -> Replacement
+    pub fn unpack(&self) -> Replacement
         ensures { result ≡ self.now }
     {
         Replacement {
-            from: edge(self.from),
-            to: edge(self.to),
-            coming: self.coming,
+            from: unpack_boundary(self.from),
+            to: unpack_boundary(self.to),
+            insertion: self.insertion,
         }
     }
 }
 
 /// Adds a replacement behind others.
-pub fn push(all: &mut Vec<Packed>, one: Replacement) -> Result<(), AllocError>
+pub fn push_packed(all: &mut Vec<PackedReplacement>, one: Replacement) -> Result<(), AllocError>
     ensures { OnOk result (all.new.items ≡ all.old.items ++ one ∷ []) }
 {
-    let packed = Packed::new(one)?;
+    let packed = PackedReplacement::new(one)?;
     all.push(packed)?;
     Ok(())
 }

@@ -1,30 +1,30 @@
 //! The step of one rule.
 
 ghost use Rattle.std.specs.Prelude.{◌≡◌, ◌≤◌, ◌⊎◌, ℕ, true, length, IfOk, IfErr};
-ghost use Rattle.hcl_scan.specs.Cut.{MAX_TEXT};
-ghost use Rattle.tf_fix.specs.Reading.{Reads};
-ghost use Rattle.tf_rule.specs.Findings.{AreSound};
+ghost use Rattle.hcl_scan.specs.Tokenization.{MAX_TEXT};
+ghost use Rattle.tf_fix.specs.ParsedTexts.{IsParseOf};
+ghost use Rattle.tf_rule.specs.Findings.{AreValidFindings};
 ghost use Rattle.tf_rule.specs.RuleSets.{has_rule};
 ghost use Rattle.tf_fix.specs.declared.parsed.Parsed.{Parsed};
-ghost use Rattle.tf_fix.specs.OneStep.{IsFound, IsTooLong, IsFixStep};
+ghost use Rattle.tf_fix.specs.OneStep.{AreFindingsOf, IsTooLong, IsFixStep};
 ghost use Rattle.tf_fix.specs.declared.fault.LintFault.TheVariants.{TooLong, Memory};
 
 use crate::fault::LintFault;
-use crate::laws::taken_are_few;
-use crate::mending::mended_edits;
-use crate::taking::taken;
+use crate::laws::selected_are_within_limit;
+use crate::rule_edits::fix_step_edits;
+use crate::selection::selected_count;
 use edit_list::Edits;
 use hcl_grammar::tree::Tree;
 use hcl_scan::Scanned;
-use hcl_text_laws::laws::parsed_apart;
+use hcl_text_laws::laws::parsed_tokens_are_apart;
 use std::alloc::Global;
 use tf_diagnostics::findings;
-use tf_diagnostics::laws::{found_by_one, one_origin};
+use tf_diagnostics::laws::{findings_match_their_rule, findings_of_one_rule};
 use tf_rule::{Finding, Rule, RuleSet};
 
 /// The edits of one rule's step, and how many findings they mend.
 #[derive(Drop)]
-pub struct Mended {
+pub struct StepEdits {
     /// How many findings are mended.
     pub count: usize,
     /// What turns the text into the one behind the step.
@@ -44,7 +44,7 @@ pub fn fix_step(
     tree: &Tree,
     rule: Rule,
 ) -> Result<Edits, LintFault>
-    requires { Reads scanned.now.text (record { scanned = scanned.now; tree = tree.now }) }
+    requires { IsParseOf scanned.now.text (record { scanned = scanned.now; tree = tree.now }) }
     ensures step { IfOk result
         (λ edits. (count : ℕ)
         × IsFixStep rule (record { scanned = scanned.now; tree = tree.now }) count edits) }
@@ -54,35 +54,35 @@ pub fn fix_step(
 {
     let only = RuleSet::only(rule);
     let found = findings(alloc, scanned, tree, only)?;
-    match found_step(alloc, scanned, only, &found, rule) {
-        Ok(Mended { count: _, edits }) => Ok(edits),
+    match fix_step_of_findings(alloc, scanned, only, &found, rule) {
+        Ok(StepEdits { count: _, edits }) => Ok(edits),
         Err(fault) => Err(fault),
     }
 }
 
 /// The edits of one rule's fix of a text in which the rules of a set that has the rule found this,
 /// and how many findings they fix.
-pub fn found_step(
+pub fn fix_step_of_findings(
     alloc: Global,
     scanned: &Scanned<'_>,
     rules: RuleSet,
     found: &[Finding],
     rule: Rule,
-) -> Result<Mended, LintFault>
-    requires found { (p : Parsed) × IsFound rules p scanned.now found.now }
-    requires sound { AreSound (length scanned.now.pairs) found.now }
-    requires chosen { has_rule rules rule ≡ true }
-    ensures step { (p : Parsed) → IsFound rules p scanned.now found.now
+) -> Result<StepEdits, LintFault>
+    requires found { (p : Parsed) × AreFindingsOf rules p scanned.now found.now }
+    requires valid { AreValidFindings (length scanned.now.pairs) found.now }
+    requires rule_in_set { has_rule rules rule ≡ true }
+    ensures step { (p : Parsed) → AreFindingsOf rules p scanned.now found.now
         → IfOk result (λ mended. IsFixStep rule p mended.count mended.edits) }
     ensures few { IfOk result (λ mended. mended.count ≤ MAX_TEXT) }
-    ensures fault { (p : Parsed) → IsFound rules p scanned.now found.now
+    ensures fault { (p : Parsed) → AreFindingsOf rules p scanned.now found.now
         → IfErr result (λ fault. (fault ≡ Memory) ⊎ ((fault ≡ TooLong) × IsTooLong rule p)) }
 {
-    found_by_one();
-    one_origin();
-    parsed_apart();
-    taken_are_few();
-    let count = taken(found, rule);
-    let edits = mended_edits(alloc, scanned, rule, found)?;
-    Ok(Mended { count, edits })
+    findings_of_one_rule();
+    findings_match_their_rule();
+    parsed_tokens_are_apart();
+    selected_are_within_limit();
+    let count = selected_count(found, rule);
+    let edits = fix_step_edits(alloc, scanned, rule, found)?;
+    Ok(StepEdits { count, edits })
 }

@@ -10,23 +10,23 @@ use Rattle.hcl_grammar.specs.declared.bounds.TheConstants.{MAX_NESTING}
 use Rattle.hcl_scan.specs.Follows.{tokens_of}
 use Rattle.hcl_token.specs.Tokens.{Pair}
 use Rattle.tf_rules.specs.NodeFindings.{node_findings}
-use Rattle.tf_rules.specs.Nodes.{Node, member, Stand, nothing, one}
+use Rattle.tf_rules.specs.Preorder.{Node, member, IsPreorder, no_nodes, visit}
 use Rattle.tf_diagnostics.specs.TreeFindings.{AreTreeFindings}
-use Rattle.tf_lint.specs.Inner.Seeing.{AreOf}
+use Rattle.tf_lint.specs.Inner.BodyFindings.{AreBodyFindings}
 use Rattle.tf_lint.proofs.MemberAnswers.{member_answers}
-use Rattle.tf_lint.specs.Seen.{IsSeen, AreSeen}
-use Rattle.tf_lint.specs.declared.body.Gathered.{Gathered}
-use Rattle.tf_lint.specs.declared.member.SeenMember.{SeenMember}
+use Rattle.tf_lint.specs.LintedMembers.{IsLintedMember, AreLintedMembers}
+use Rattle.tf_lint.specs.declared.body.BodyFindings.{BodyFindings}
+use Rattle.tf_lint.specs.declared.member.LintedMember.{LintedMember}
 use Rattle.tf_rule.specs.declared.finding.Finding.{Finding}
-use Rattle.tf_rule.specs.Findings.{is_sound, sound}
+use Rattle.tf_rule.specs.Findings.{is_valid, valid_findings}
 use Rattle.tf_rule.specs.declared.rule_set.RuleSet.{RuleSet}
-use Rattle.tf_rules.specs.TopFindings.{member_findings, top_findings}
+use Rattle.tf_rules.specs.TopLevelFindings.{top_level_member_findings, top_level_findings}
 
 -- what stands in some nodes and in others behind them
-stand-append : {ns ms xs ys : List Node} → Stand ns xs → Stand ms ys → Stand (ns ++ ms) (xs ++ ys)
-stand-append nothing b = b
-stand-append {ms = ms} {ys = ys} (one {n = n} {ns = ns} {inside = inside} {others = others} a c) b =
-    subst (λ l. Stand (n ∷ (ns ++ ms)) (n ∷ l)) (sym (append_assoc inside others ys)) (one a (stand-append c b))
+preorder-append : {ns ms xs ys : List Node} → IsPreorder ns xs → IsPreorder ms ys → IsPreorder (ns ++ ms) (xs ++ ys)
+preorder-append no_nodes b = b
+preorder-append {ms = ms} {ys = ys} (visit {n = n} {ns = ns} {inside = inside} {others = others} a c) b =
+    subst (λ l. IsPreorder (n ∷ (ns ++ ms)) (n ∷ l)) (sym (append_assoc inside others ys)) (visit a (preorder-append c b))
 
 -- what three clauses say of a value, where there is one
 pub all_ok : {T E A B C P : Type 0} (r : Result T E) → (A → B → C → P) → OnOk r A → OnOk r B → OnOk r C → OnOk r P
@@ -37,9 +37,9 @@ some_same : {X : Type 0} (x y : X) → Some x ≡ Some y → x ≡ y
 some_same x y e = cc
 
 one_more_block : (rules : RuleSet) (pairs : List Pair) (ms : List Member) (m : Member)
-    → top_findings rules pairs ms ++ member_findings rules pairs m ≡ top_findings rules pairs (ms ++ m ∷ [])
-one_more_block rules pairs ms m = ap (λ l. top_findings rules pairs ms ++ l) (sym (append-nil (member_findings rules pairs m)))
-    ∙ sym (flat_map-append (member_findings rules pairs) ms (m ∷ []))
+    → top_level_findings rules pairs ms ++ top_level_member_findings rules pairs m ≡ top_level_findings rules pairs (ms ++ m ∷ [])
+one_more_block rules pairs ms m = ap (λ l. top_level_findings rules pairs ms ++ l) (sym (append-nil (top_level_member_findings rules pairs m)))
+    ∙ sym (flat_map-append (top_level_member_findings rules pairs) ms (m ∷ []))
 
 module _ {rules : RuleSet} {pairs : List Pair} where
   both_trees : {ns ms : List Node} {xs ys : List Finding} → AreTreeFindings rules pairs ns xs → AreTreeFindings rules pairs ms ys → AreTreeFindings rules pairs (ns ++ ms) (xs ++ ys)
@@ -47,51 +47,51 @@ module _ {rules : RuleSet} {pairs : List Pair} where
       let f = node_findings rules pairs in
       record {
         nodes = a.nodes ++ b.nodes;
-        stand = stand-append a.stand b.stand;
-        are = ap (λ l. l ++ ys) a.are ∙ (ap (λ l. sound (length pairs) (flat_map f a.nodes) ++ l) b.are
-            ∙ (sym (filter-append (is_sound (length pairs)) (flat_map f a.nodes) (flat_map f b.nodes))
-            ∙ ap (sound (length pairs)) (sym (flat_map-append f a.nodes b.nodes))));
+        preorder = preorder-append a.preorder b.preorder;
+        are = ap (λ l. l ++ ys) a.are ∙ (ap (λ l. valid_findings (length pairs) (flat_map f a.nodes) ++ l) b.are
+            ∙ (sym (filter-append (is_valid (length pairs)) (flat_map f a.nodes) (flat_map f b.nodes))
+            ∙ ap (valid_findings (length pairs)) (sym (flat_map-append f a.nodes b.nodes))));
       }
 
   -- one more member that is seen
-  each_more : (xs : List SeenMember) (x : SeenMember) → AreSeen rules pairs xs → IsSeen rules pairs x → AreSeen rules pairs (xs ++ x ∷ [])
-  each_more [] x seen is zero y e = subst (IsSeen rules pairs) (some_same x y e) is
+  each_more : (xs : List LintedMember) (x : LintedMember) → AreLintedMembers rules pairs xs → IsLintedMember rules pairs x → AreLintedMembers rules pairs (xs ++ x ∷ [])
+  each_more [] x seen is zero y e = subst (IsLintedMember rules pairs) (some_same x y e) is
   each_more [] x seen is (suc i) y e = absurd (cc)
   each_more (z ∷ xs) x seen is zero y e = seen zero y e
   each_more (z ∷ xs) x seen is (suc i) y e = each_more xs x (λ i. seen (suc i)) is i y e
 
-  pub none_seen : (g : Gathered) → g.members.items ≡ [] → g.nodes.items ≡ [] → g.blocks.items ≡ [] → AreOf rules pairs [] g
-  none_seen g ms ns bs = record {
+  pub none_linted : (g : BodyFindings) → g.members.items ≡ [] → g.nodes.items ≡ [] → g.blocks.items ≡ [] → AreBodyFindings rules pairs [] g
+  none_linted g ms ns bs = record {
     each = rw ms (λ i x e. absurd (cc));
-    at_nodes = rw ns (record { nodes = []; stand = nothing; are = refl });
+    at_nodes = rw ns (record { nodes = []; preorder = no_nodes; are = refl });
     at_blocks = bs;
   }
 
-  one_more : {ms : List Member} {x : SeenMember} (g h : Gathered) → AreOf rules pairs ms g → (is : IsSeen rules pairs x) → AreSeen rules pairs h.members.items
-      → h.nodes.items ≡ g.nodes.items ++ x.nodes.items → h.blocks.items ≡ g.blocks.items ++ x.blocks.items → AreOf rules pairs (ms ++ is.member ∷ []) h
+  one_more : {ms : List Member} {x : LintedMember} (g h : BodyFindings) → AreBodyFindings rules pairs ms g → (is : IsLintedMember rules pairs x) → AreLintedMembers rules pairs h.members.items
+      → h.nodes.items ≡ g.nodes.items ++ x.nodes.items → h.blocks.items ≡ g.blocks.items ++ x.blocks.items → AreBodyFindings rules pairs (ms ++ is.member ∷ []) h
   one_more {ms} {x} g h seen is each nodes blocks = record {
     each = each;
     at_nodes = rw (map-append member ms (is.member ∷ []), nodes) (both_trees seen.at_nodes is.at_nodes);
     at_blocks = blocks
-        ∙ (ap (λ l. l ++ x.blocks.items) seen.at_blocks ∙ (ap (λ l. sound (length pairs) (top_findings rules pairs ms) ++ l) is.at_block
-        ∙ (sym (filter-append (is_sound (length pairs)) (top_findings rules pairs ms) (member_findings rules pairs is.member))
-        ∙ ap (sound (length pairs)) (one_more_block rules pairs ms is.member))));
+        ∙ (ap (λ l. l ++ x.blocks.items) seen.at_blocks ∙ (ap (λ l. valid_findings (length pairs) (top_level_findings rules pairs ms) ++ l) is.at_block
+        ∙ (sym (filter-append (is_valid (length pairs)) (top_level_findings rules pairs ms) (top_level_member_findings rules pairs is.member))
+        ∙ ap (valid_findings (length pairs)) (one_more_block rules pairs ms is.member))));
   }
 
   -- one more member, which is kept
-  pub one_more_kept : {ms : List Member} {x : SeenMember} (g h : Gathered) → AreOf rules pairs ms g → (is : IsSeen rules pairs x) → h.members.items ≡ g.members.items ++ x ∷ []
-      → h.nodes.items ≡ g.nodes.items ++ x.nodes.items → h.blocks.items ≡ g.blocks.items ++ x.blocks.items → AreOf rules pairs (ms ++ is.member ∷ []) h
+  pub one_more_kept : {ms : List Member} {x : LintedMember} (g h : BodyFindings) → AreBodyFindings rules pairs ms g → (is : IsLintedMember rules pairs x) → h.members.items ≡ g.members.items ++ x ∷ []
+      → h.nodes.items ≡ g.nodes.items ++ x.nodes.items → h.blocks.items ≡ g.blocks.items ++ x.blocks.items → AreBodyFindings rules pairs (ms ++ is.member ∷ []) h
   one_more_kept {x = x} g h seen is members nodes blocks =
       one_more g h seen is (rw members (each_more g.members.items x seen.each is)) nodes blocks
 
   -- and one which is given up
-  pub one_more_taken : {ms : List Member} {x : SeenMember} (g h : Gathered) → AreOf rules pairs ms g → (is : IsSeen rules pairs x) → h.members.items ≡ g.members.items
-      → h.nodes.items ≡ g.nodes.items ++ x.nodes.items → h.blocks.items ≡ g.blocks.items ++ x.blocks.items → AreOf rules pairs (ms ++ is.member ∷ []) h
+  pub one_more_taken : {ms : List Member} {x : LintedMember} (g h : BodyFindings) → AreBodyFindings rules pairs ms g → (is : IsLintedMember rules pairs x) → h.members.items ≡ g.members.items
+      → h.nodes.items ≡ g.nodes.items ++ x.nodes.items → h.blocks.items ≡ g.blocks.items ++ x.blocks.items → AreBodyFindings rules pairs (ms ++ is.member ∷ []) h
   one_more_taken g h seen is members nodes blocks = one_more g h seen is (rw members seen.each) nodes blocks
 
 -- the member that comes next, as the parser answers it
-pub read_as : {rules : RuleSet} {pairs : List Pair} {from past : ℕ} {x : SeenMember} → (next : (x.from ≡ from) × (x.past ≡ past) × IsSeen rules pairs x)
+pub read_as : {rules : RuleSet} {pairs : List Pair} {from past : ℕ} {x : LintedMember} → (next : (x.from ≡ from) × (x.past ≡ past) × IsLintedMember rules pairs x)
     → member_of (tokens_of pairs) MAX_NESTING (deeper_members (tokens_of pairs) MAX_NESTING) from ≡ Ok (Some next.2.member, past)
 read_as {pairs} {past} next =
     subst (λ n. member_of (tokens_of pairs) MAX_NESTING (deeper_members (tokens_of pairs) MAX_NESTING) n ≡ Ok (Some next.2.member, past)) next.0
-    (member_answers (tokens_of pairs) next.2.stands ∙ ap (λ n. Ok (Some next.2.member, n)) next.1)
+    (member_answers (tokens_of pairs) next.2.is_member ∙ ap (λ n. Ok (Some next.2.member, n)) next.1)

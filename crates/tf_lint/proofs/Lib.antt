@@ -3,9 +3,9 @@ mod TokenLemmas
 mod BodyLemmas
 mod FileLemmas
 mod LineLists
-mod Telling
+mod CachedPlace
 pub mod OneFixLemmas
 pub mod RunLemmas
-pub mod SearchLemmas
+pub mod LintLemmas
 pub mod StepLemmas
-pub mod Unread
+pub mod DoesNotParse

@@ -1,36 +1,36 @@
 -- A text has one tree and one list of findings, so each step of a fix has one text, and the fix makes one.
 use Rattle.std.proofs.Common.{◌≡◌, ◌∙◌, ◌≤◌, ◌<◌, ◌⊎◌, ℕ, List, [], ◌∷◌, length, Bool, true, false, MatchBool, Result, Ok, Err, refl, sym, ap, subst, inl, inr, arith}
-use Rattle.hcl_token.specs.CutText.{CutText}
-use Rattle.hcl_scan.specs.Cut.{MAX_TEXT}
+use Rattle.hcl_token.specs.TokenizedText.{TokenizedText}
+use Rattle.hcl_scan.specs.Tokenization.{MAX_TEXT}
 use Rattle.hcl_grammar.specs.declared.tree.Tree.{Tree}
 use Rattle.hcl_text_laws.specs.Parses.{OneParse}
 use Rattle.edit_list.specs.Pieces.{EditList}
-use Rattle.edit_squash.specs.Grouping.{SquashAsOne}
+use Rattle.edit_squash.specs.SquashLists.{SquashAllIsUnique}
 use Rattle.tf_rule.specs.declared.finding.Finding.{Finding}
 use Rattle.tf_rule.specs.declared.rule.Rule.{Rule}
 use Rattle.tf_rule.specs.declared.rule_set.RuleSet.{RuleSet}
 use Rattle.tf_rule.specs.RuleSets.{has_rule}
-use Rattle.tf_diagnostics.specs.Findings.{FindingsAreOne}
+use Rattle.tf_diagnostics.specs.Findings.{FindingsAreUnique}
 use Rattle.tf_lint.specs.declared.fault.FixFault.{FixFault}
 use Rattle.tf_lint.specs.declared.fault.FixFault.TheVariants.{Scan, Parse, FixBroken, TooLong, Memory}
 use Rattle.tf_fix.specs.declared.parsed.Parsed.{Parsed}
-use Rattle.tf_rule.specs.OneRule.{only}
-use Rattle.tf_fix.specs.Reading.{Reads}
-use Rattle.tf_fix.specs.OneStep.{fixed_text}
-use Rattle.tf_lint.specs.Steps.{AreLeft, Steps, step_before, StepBreaks, FoundThen, StepThen, RunSteps, fix_order, IsOneList, Made, Fixes, Breaks, OneFix}
-use Rattle.tf_lint.proofs.Unread.{OneCut, parses_of, same_cut}
+use Rattle.tf_rule.specs.SingleRule.{only}
+use Rattle.tf_fix.specs.ParsedTexts.{IsParseOf}
+use Rattle.tf_fix.specs.OneStep.{step_text_of}
+use Rattle.tf_lint.specs.Steps.{IsRemainingCount, Steps, prepend_step, StepBreaks, FoundThen, StepThen, RunSteps, fix_order, IsSquashOfAll, Rewrite, Fixes, Breaks, FixIsUnique}
+use Rattle.tf_lint.proofs.DoesNotParse.{OneCut, parses_of, same_cut}
 
 -- what is made, by its parts
-one_made : (a b : Made) → a.text ≡ b.text → a.edits ≡ b.edits → a.fixed ≡ b.fixed → a.left ≡ b.left → a ≡ b
+one_made : (a b : Rewrite) → a.text ≡ b.text → a.edits ≡ b.edits → a.fixed ≡ b.fixed → a.left ≡ b.left → a ≡ b
 one_made a b texts edits fixed left =
-    ap (λ (x : List ℕ). let r : Made = record { text = x; edits = a.edits; fixed = a.fixed; left = a.left } in r) texts
-    ∙ ap (λ (x : EditList). let r : Made = record { text = b.text; edits = x; fixed = a.fixed; left = a.left } in r) edits
-    ∙ ap (λ (x : ℕ). let r : Made = record { text = b.text; edits = b.edits; fixed = x; left = a.left } in r) fixed
-    ∙ ap (λ (x : ℕ). let r : Made = record { text = b.text; edits = b.edits; fixed = b.fixed; left = x } in r) left
+    ap (λ (x : List ℕ). let r : Rewrite = record { text = x; edits = a.edits; fixed = a.fixed; left = a.left } in r) texts
+    ∙ ap (λ (x : EditList). let r : Rewrite = record { text = b.text; edits = x; fixed = a.fixed; left = a.left } in r) edits
+    ∙ ap (λ (x : ℕ). let r : Rewrite = record { text = b.text; edits = b.edits; fixed = x; left = a.left } in r) fixed
+    ∙ ap (λ (x : ℕ). let r : Rewrite = record { text = b.text; edits = b.edits; fixed = b.fixed; left = x } in r) left
 
 -- the two ways in which a step can't be done
 broken_how : (rule : Rule) (p : Parsed) (found : List Finding) (f : FixFault) → StepBreaks rule p found f
-    → ((f ≡ TooLong) × (MAX_TEXT < length (fixed_text p found))) ⊎ ((f ≡ FixBroken rule) × (length (fixed_text p found) ≤ MAX_TEXT))
+    → ((f ≡ TooLong) × (MAX_TEXT < length (step_text_of p found))) ⊎ ((f ≡ FixBroken rule) × (length (step_text_of p found) ≤ MAX_TEXT))
 broken_how rule p found (Scan fault) w = absurd w
 broken_how rule p found (Parse fault) w = absurd w
 broken_how rule p found (FixBroken broken) w = inr (ap (λ (r : Rule). FixBroken r) w.0, w.1)
@@ -44,17 +44,17 @@ same_break rule p found f g v w =
       | inr a ↦ elim (broken_how rule p found g w) [ inl b ↦ absurd (omega (arith, a.1, b.1)) | inr b ↦ a.0 ∙ sym b.0 ]
     ]
 
-not_broken : (rule : Rule) (p next : Parsed) (found : List Finding) (f : FixFault) → length (fixed_text p found) ≤ MAX_TEXT → Reads (fixed_text p found) next → StepBreaks rule p found f → ⊥
+not_broken : (rule : Rule) (p next : Parsed) (found : List Finding) (f : FixFault) → length (step_text_of p found) ≤ MAX_TEXT → IsParseOf (step_text_of p found) next → StepBreaks rule p found f → ⊥
 not_broken rule p next found (Scan fault) short reads w = w
 not_broken rule p next found (Parse fault) short reads w = w
-not_broken rule p next found (FixBroken broken) short reads w = w.2 next.tree (parses_of (fixed_text p found) next reads)
+not_broken rule p next found (FixBroken broken) short reads w = w.2 next.tree (parses_of (step_text_of p found) next reads)
 not_broken rule p next found TooLong short reads w = omega (arith, short, w)
 not_broken rule p next found Memory short reads w = w
 
-module _ (one_cut : OneCut) (one_parse : OneParse) (one_found : FindingsAreOne) (one_squash : (first : EditList) (others : List EditList) → SquashAsOne first others) where
-  same_read : (text : List ℕ) (a b : Parsed) → Reads text a → Reads text b → a ≡ b
+module _ (one_cut : OneCut) (one_parse : OneParse) (one_found : FindingsAreUnique) (one_squash : (first : EditList) (others : List EditList) → SquashAllIsUnique first others) where
+  same_read : (text : List ℕ) (a b : Parsed) → IsParseOf text a → IsParseOf text b → a ≡ b
   same_read text a b p q =
-      ap (λ (x : CutText). let r : Parsed = record { scanned = x; tree = a.tree } in r) (same_cut one_cut text a b p q)
+      ap (λ (x : TokenizedText). let r : Parsed = record { scanned = x; tree = a.tree } in r) (same_cut one_cut text a b p q)
       ∙ ap (λ (x : Tree). let r : Parsed = record { scanned = b.scanned; tree = x } in r) (one_parse text a.tree b.tree (parses_of text a p) (parses_of text b q))
 
   abbrev HaveOne : (Parsed → Result Steps FixFault → Type 0) → Type 0
@@ -64,24 +64,24 @@ module _ (one_cut : OneCut) (one_parse : OneParse) (one_found : FindingsAreOne) 
       → (s : Steps) (f : FixFault) → FoundThen rule p found Others (Ok s) → FoundThen rule p found Others (Err f) → ⊥
   done_or_broken rule p found Others ih s f v (inl w) = not_broken rule p v.1 found f v.0 v.3 w
   done_or_broken rule p found Others ih s f v (inr w) =
-      let same = same_read (fixed_text p found) w.1 v.1 w.2 v.3 in
+      let same = same_read (step_text_of p found) w.1 v.1 w.2 v.3 in
       let e : Ok v.2 ≡ Err f = ih v.1 (Ok v.2) (Err f) v.4 (subst (λ (c : Parsed). Others c (Err f)) same w.3) in
       cc
 
   same_behind : (rule : Rule) (p : Parsed) (found : List Finding) (Others : Parsed → Result Steps FixFault → Type 0) → HaveOne Others
       → (a b : Result Steps FixFault) → FoundThen rule p found Others a → FoundThen rule p found Others b → a ≡ b
   same_behind rule p found Others ih (Ok s) (Ok t) v w =
-      let same = same_read (fixed_text p found) w.1 v.1 w.3 v.3 in
+      let same = same_read (step_text_of p found) w.1 v.1 w.3 v.3 in
       let e : ◌≡◌ {A = Result Steps FixFault} (Ok v.2) (Ok w.2) = ih v.1 (Ok v.2) (Ok w.2) v.4 (subst (λ (c : Parsed). Others c (Ok w.2)) same w.4) in
       let more : v.2 ≡ w.2 = cc in
-      ap (λ (x : Steps). Ok x) (v.5 ∙ ap (step_before rule p found) more ∙ sym w.5)
+      ap (λ (x : Steps). Ok x) (v.5 ∙ ap (prepend_step rule p found) more ∙ sym w.5)
   same_behind rule p found Others ih (Ok s) (Err f) v w = absurd (done_or_broken rule p found Others ih s f v w)
   same_behind rule p found Others ih (Err f) (Ok t) v w = absurd (done_or_broken rule p found Others ih t f w v)
   same_behind rule p found Others ih (Err f) (Err g) (inl v) (inl w) = ap (λ (x : FixFault). Err x) (same_break rule p found f g v w)
   same_behind rule p found Others ih (Err f) (Err g) (inl v) (inr w) = absurd (not_broken rule p w.1 found f w.0 w.2 v)
   same_behind rule p found Others ih (Err f) (Err g) (inr v) (inl w) = absurd (not_broken rule p v.1 found g v.0 v.2 w)
   same_behind rule p found Others ih (Err f) (Err g) (inr v) (inr w) =
-      let same = same_read (fixed_text p found) w.1 v.1 w.2 v.2 in
+      let same = same_read (step_text_of p found) w.1 v.1 w.2 v.2 in
       ih v.1 (Err f) (Err g) v.3 (subst (λ (c : Parsed). Others c (Err g)) same w.3)
 
   same_then : (rule : Rule) (p : Parsed) (Others : Parsed → Result Steps FixFault → Type 0) → HaveOne Others
@@ -99,28 +99,28 @@ module _ (one_cut : OneCut) (one_parse : OneParse) (one_found : FindingsAreOne) 
   same_steps rules [] p a b v w = v ∙ sym w
   same_steps rules (rule ∷ others) p a b v w = choose (has_rule rules rule) rule p (RunSteps rules others) (same_steps rules others) a b v w
 
-  same_runs : (rules : RuleSet) (text : List ℕ) (c d : Parsed) (a b : Result Steps FixFault) → Reads text c → Reads text d → RunSteps rules fix_order c a → RunSteps rules fix_order d b → a ≡ b
+  same_runs : (rules : RuleSet) (text : List ℕ) (c d : Parsed) (a b : Result Steps FixFault) → IsParseOf text c → IsParseOf text d → RunSteps rules fix_order c a → RunSteps rules fix_order d b → a ≡ b
   same_runs rules text c d a b p q runs other =
       let same = same_read text d c q p in
       same_steps rules fix_order c a b runs (subst (λ (x : Parsed). RunSteps rules fix_order x b) same other)
 
-  one_list : (len : ℕ) (lists : List EditList) (e f : EditList) → IsOneList len lists e → IsOneList len lists f → e ≡ f
+  one_list : (len : ℕ) (lists : List EditList) (e f : EditList) → IsSquashOfAll len lists e → IsSquashOfAll len lists f → e ≡ f
   one_list len [] e f p q = p ∙ sym q
   one_list len (first ∷ more) e f p q = (one_squash first more).one e f p q
 
-  same_left : (rules : RuleSet) (p : Parsed) (m n : ℕ) → AreLeft rules p m → AreLeft rules p n → m ≡ n
+  same_left : (rules : RuleSet) (p : Parsed) (m n : ℕ) → IsRemainingCount rules p m → IsRemainingCount rules p n → m ≡ n
   same_left rules p m n v w = v.2 ∙ ap (λ (fs : List Finding). length fs) (one_found rules p.scanned.pairs p.tree.body.members v.0 w.0 v.1 w.1) ∙ sym w.2
 
-  same_made : (rules : RuleSet) (text : List ℕ) (a b : Made) → Fixes rules text a → Fixes rules text b → a ≡ b
-  same_made rules text a b p q =
+  unchanged_rewrite : (rules : RuleSet) (text : List ℕ) (a b : Rewrite) → Fixes rules text a → Fixes rules text b → a ≡ b
+  unchanged_rewrite rules text a b p q =
       let e : ◌≡◌ {A = Result Steps FixFault} (Ok p.steps) (Ok q.steps) = same_runs rules text p.parsed q.parsed (Ok p.steps) (Ok q.steps) p.reads q.reads p.runs q.runs in
       let steps : p.steps ≡ q.steps = cc in
       let texts : a.text ≡ b.text = p.text_is ∙ ap (λ (s : Steps). s.text) steps ∙ sym q.text_is in
-      let lists : IsOneList (length text) p.steps.lists b.edits = subst (λ (s : Steps). IsOneList (length text) s.lists b.edits) (sym steps) q.edits_are in
+      let lists : IsSquashOfAll (length text) p.steps.lists b.edits = subst (λ (s : Steps). IsSquashOfAll (length text) s.lists b.edits) (sym steps) q.edits_are in
       let edits : a.edits ≡ b.edits = one_list (length text) p.steps.lists a.edits b.edits p.edits_are lists in
       let fixed : a.fixed ≡ b.fixed = p.fixed_is ∙ ap (λ (s : Steps). s.fixed) steps ∙ sym q.fixed_is in
-      let read = same_read a.text q.new_parsed p.new_parsed (subst (λ (t : List ℕ). Reads t q.new_parsed) (sym texts) q.new_reads) p.new_reads in
-      let left : a.left ≡ b.left = same_left rules p.new_parsed a.left b.left p.left_is (subst (λ (c : Parsed). AreLeft rules c b.left) read q.left_is) in
+      let read = same_read a.text q.new_parsed p.new_parsed (subst (λ (t : List ℕ). IsParseOf t q.new_parsed) (sym texts) q.new_reads) p.new_reads in
+      let left : a.left ≡ b.left = same_left rules p.new_parsed a.left b.left p.left_is (subst (λ (c : Parsed). IsRemainingCount rules c b.left) read q.left_is) in
       one_made a b texts edits fixed left
 
   same_fault : (rules : RuleSet) (text : List ℕ) (f g : FixFault) → Breaks rules text f → Breaks rules text g → f ≡ g
@@ -128,10 +128,10 @@ module _ (one_cut : OneCut) (one_parse : OneParse) (one_found : FindingsAreOne) 
       let e : ◌≡◌ {A = Result Steps FixFault} (Err f) (Err g) = same_runs rules text v.0 w.0 (Err f) (Err g) v.1 w.1 v.2 w.2 in
       cc
 
-  made_or_broken : (rules : RuleSet) (text : List ℕ) (made : Made) (f : FixFault) → Fixes rules text made → Breaks rules text f → ⊥
+  made_or_broken : (rules : RuleSet) (text : List ℕ) (made : Rewrite) (f : FixFault) → Fixes rules text made → Breaks rules text f → ⊥
   made_or_broken rules text made f p w =
       let e : Ok p.steps ≡ Err f = same_runs rules text p.parsed w.0 (Ok p.steps) (Err f) p.reads w.1 p.runs w.2 in
       cc
 
-  pub one_fix : (rules : RuleSet) (text : List ℕ) → OneFix rules text
-  one_fix rules text = record { made = same_made rules text; broken = same_fault rules text; not_both = made_or_broken rules text }
+  pub one_fix : (rules : RuleSet) (text : List ℕ) → FixIsUnique rules text
+  one_fix rules text = record { made = unchanged_rewrite rules text; broken = same_fault rules text; exclusive = made_or_broken rules text }

@@ -4,25 +4,25 @@ use Rattle.std.proofs.lemmas.List.{take_all}
 use Rattle.std.proofs.lemmas.Slice.Eq.{bytes_eq-Decides}
 use Rattle.std.specs.Prelude.{IfOk, IfErr}
 use Rattle.std.specs.Result.{IsErr, IsErrAnd}
-use Rattle.edit_list.specs.Pieces.{EditList, Turns}
+use Rattle.edit_list.specs.Pieces.{EditList, Transforms}
 use Rattle.edit_squash.specs.Squash.{IsSquash}
 use Rattle.tf_rule.specs.declared.finding.Finding.{Finding}
 use Rattle.tf_rule.specs.declared.rule.Rule.{Rule}
 use Rattle.tf_rule.specs.declared.rule_set.RuleSet.{RuleSet}
 use Rattle.tf_rule.specs.RuleSets.{has_rule}
-use Rattle.tf_rule.specs.Rules.{all_rules, is_fixed}
+use Rattle.tf_rule.specs.Rules.{all_rules, has_fix}
 use Rattle.tf_lint.specs.declared.fault.FixFault.{FixFault}
 use Rattle.tf_lint.specs.declared.fault.FixFault.TheVariants.{FixBroken, Memory}
 use Rattle.tf_fix.specs.declared.parsed.Parsed.{Parsed}
 use Rattle.tf_lint.specs.declared.step.NewText.{NewText}
 use Rattle.tf_lint.specs.declared.step.Step.{Step}
-use Rattle.tf_lint.specs.declared.steps.Passed.{Passed}
-use Rattle.tf_lint.specs.declared.steps.Passed.TheVariants.{Same, Changed}
-use Rattle.tf_fix.specs.Reading.{Reads}
-use Rattle.tf_lint.specs.Reading.{IsUnread, IsText, NotRead}
-use Rattle.tf_fix.specs.OneStep.{Finds, fixed_text}
-use Rattle.tf_lint.specs.Steps.{differ, Steps, FoundThen, StepThen, RunSteps, Made, Fixes, Refuses}
-use Rattle.tf_lint.specs.Inner.Passing.{has_step, RunFixed, IsChange, IsStep, Passes, FixesFrom, RefusesFrom}
+use Rattle.tf_lint.specs.declared.steps.FirstChange.{FirstChange}
+use Rattle.tf_lint.specs.declared.steps.FirstChange.TheVariants.{NoChange, Changed}
+use Rattle.tf_fix.specs.ParsedTexts.{IsParseOf}
+use Rattle.tf_lint.specs.ParseFaults.{DoesNotParse, IsUtf8WithinLimit, IsReadFault}
+use Rattle.tf_fix.specs.OneStep.{RulesFind, step_text_of}
+use Rattle.tf_lint.specs.Steps.{texts_differ, Steps, FoundThen, StepThen, RunSteps, Rewrite, Fixes, Refuses}
+use Rattle.tf_lint.specs.Inner.FirstChange.{has_step, RunFixable, IsChange, IsStep, IsFirstChange, FixesFrom, RefusesFrom}
 
 pub split_first : {X : Type 0} (xs : List X) (d : X) → 1 ≤ length xs → xs ≡ slice_index_or xs 0 d ∷ take (length xs - 1) (drop 1 xs)
 split_first [] d some = absurd (omega (arith, some))
@@ -47,12 +47,12 @@ residual (Err e) f P told p = subst P (sym told.1) p
 
 -- ---- one rule more in front
 
-same_text : (t u : List ℕ) → t ≡ u → differ t u ≡ false
+same_text : (t u : List ℕ) → t ≡ u → texts_differ t u ≡ false
 same_text t u e = rw ((bytes_eq-Decides t u).1 e) refl
 
-pub skipped_pass : (rules : RuleSet) (rule : Rule) (order : List Rule) (p : Parsed) (count : ℕ) (passed : Passed) → has_step rules rule ≡ false
-    → Passes rules order p count passed → Passes rules (rule ∷ order) p count passed
-skipped_pass rules rule order p count (Same fixed) not_in (n, number, runs) = (n, number, rw not_in runs)
+pub skipped_pass : (rules : RuleSet) (rule : Rule) (order : List Rule) (p : Parsed) (count : ℕ) (passed : FirstChange) → has_step rules rule ≡ false
+    → IsFirstChange rules order p count passed → IsFirstChange rules (rule ∷ order) p count passed
+skipped_pass rules rule order p count (NoChange fixed) not_in (n, number, runs) = (n, number, rw not_in runs)
 skipped_pass rules rule order p count (Changed fixed change by rest) not_in (n, number, few, shorter, turns, on, off, gone) = (
   n,
   number,
@@ -64,41 +64,41 @@ skipped_pass rules rule order p count (Changed fixed change by rest) not_in (n, 
   λ unread. rw not_in (gone unread),
 )
 
-pub stayed_pass : (rules : RuleSet) (rule : Rule) (order : List Rule) (p : Parsed) (count : ℕ) (passed : Passed) (step : Step) → has_step rules rule ≡ true → Reads p.scanned.text p
-    → IsStep rule p step → step.change ≡ None → Passes rules order p (count + step.count) passed → Passes rules (rule ∷ order) p count passed
-stayed_pass rules rule order p count (Same fixed) step chosen reads s none (n, number, runs) =
-    let stays : fixed_text p s.found ≡ p.scanned.text = subst (IsChange rule p s.found) none s.change in
-    let same = same_text p.scanned.text (fixed_text p s.found) (sym stays) in
+pub stayed_pass : (rules : RuleSet) (rule : Rule) (order : List Rule) (p : Parsed) (count : ℕ) (passed : FirstChange) (step : Step) → has_step rules rule ≡ true → IsParseOf p.scanned.text p
+    → IsStep rule p step → step.change ≡ None → IsFirstChange rules order p (count + step.count) passed → IsFirstChange rules (rule ∷ order) p count passed
+stayed_pass rules rule order p count (NoChange fixed) step chosen reads s none (n, number, runs) =
+    let stays : step_text_of p s.found ≡ p.scanned.text = subst (IsChange rule p s.found) none s.change in
+    let same = same_text p.scanned.text (step_text_of p s.found) (sym stays) in
     let taken = s.count in (
       step.count + n,
       omega (arith, number),
-      rw chosen (s.found, s.finds, (s.short, p, record { text = p.scanned.text; lists = []; fixed = n }, subst (λ (t : List ℕ). Reads t p) (sym stays) reads, runs, rw (same, taken) refl)),
+      rw chosen (s.found, s.findings_are, (s.short, p, record { text = p.scanned.text; lists = []; fixed = n }, subst (λ (t : List ℕ). IsParseOf t p) (sym stays) reads, runs, rw (same, taken) refl)),
     )
 stayed_pass rules rule order p count (Changed fixed change by rest) step chosen reads s none (n, number, few, shorter, turns, on, off, gone) =
-    let stays : fixed_text p s.found ≡ p.scanned.text = subst (IsChange rule p s.found) none s.change in
-    let same = same_text p.scanned.text (fixed_text p s.found) (sym stays) in
+    let stays : step_text_of p s.found ≡ p.scanned.text = subst (IsChange rule p s.found) none s.change in
+    let same = same_text p.scanned.text (step_text_of p s.found) (sym stays) in
     let taken = s.count in
-    let again : Reads (fixed_text p s.found) p = subst (λ (t : List ℕ). Reads t p) (sym stays) reads in (
+    let again : IsParseOf (step_text_of p s.found) p = subst (λ (t : List ℕ). IsParseOf t p) (sym stays) reads in (
       step.count + n,
       omega (arith, number),
       few,
       omega (arith, shorter),
       turns,
-      λ next more read runs. rw chosen (s.found, s.finds, (s.short, p, _, again, on next more read runs, rw (same, taken) (ap (λ k. record { text = more.text; lists = change.edits ∷ more.lists; fixed = k }) (omega arith)))),
-      λ next fault read runs. rw chosen (s.found, s.finds, inr (s.short, p, again, off next fault read runs)),
-      λ unread. rw chosen (s.found, s.finds, inr (s.short, p, again, gone unread)),
+      λ next more read runs. rw chosen (s.found, s.findings_are, (s.short, p, _, again, on next more read runs, rw (same, taken) (ap (λ k. record { text = more.text; lists = change.edits ∷ more.lists; fixed = k }) (omega arith)))),
+      λ next fault read runs. rw chosen (s.found, s.findings_are, inr (s.short, p, again, off next fault read runs)),
+      λ unread. rw chosen (s.found, s.findings_are, inr (s.short, p, again, gone unread)),
     )
 
 -- what steps from here on make, by what those behind the change make
 abbrev pub GoesOn : RuleSet → List Rule → List Rule → Rule → Parsed → ℕ → NewText → Type 0
 GoesOn rules order rest by p n change =
-    ((next : Parsed) (more : Steps) → Reads change.text.items next → RunFixed rules rest next (Ok more)
-    → RunFixed rules order p (Ok (record { text = more.text; lists = change.edits ∷ more.lists; fixed = n + more.fixed })))
-    × ((next : Parsed) (fault : FixFault) → Reads change.text.items next → RunFixed rules rest next (Err fault) → RunFixed rules order p (Err fault))
-    × (IsUnread change.text.items → RunFixed rules order p (Err (FixBroken by)))
+    ((next : Parsed) (more : Steps) → IsParseOf change.text.items next → RunFixable rules rest next (Ok more)
+    → RunFixable rules order p (Ok (record { text = more.text; lists = change.edits ∷ more.lists; fixed = n + more.fixed })))
+    × ((next : Parsed) (fault : FixFault) → IsParseOf change.text.items next → RunFixable rules rest next (Err fault) → RunFixable rules order p (Err fault))
+    × (DoesNotParse change.text.items → RunFixable rules order p (Err (FixBroken by)))
 
-pub changed_turns : (rule : Rule) (p : Parsed) (step : Step) (change : NewText) → IsStep rule p step → step.change ≡ Some change → Turns change.edits p.scanned.text change.text.items
-changed_turns rule p step change s some = let c : IsChange rule p s.found (Some change) = subst (IsChange rule p s.found) some s.change in c.3
+pub changed_transforms : (rule : Rule) (p : Parsed) (step : Step) (change : NewText) → IsStep rule p step → step.change ≡ Some change → Transforms change.edits p.scanned.text change.text.items
+changed_transforms rule p step change s some = let c : IsChange rule p s.found (Some change) = subst (IsChange rule p s.found) some s.change in c.3
 
 pub changed_pass : (rules : RuleSet) (rule : Rule) (order : List Rule) (p : Parsed) (step : Step) (change : NewText) → has_step rules rule ≡ true → IsStep rule p step → step.change ≡ Some change
     → GoesOn rules (rule ∷ order) order rule p step.count change
@@ -107,14 +107,14 @@ changed_pass rules rule order p step change chosen s some =
     let taken = s.count in
     let differs = c.0 in
     let listed = c.2 in (
-      λ next more reads runs. rw chosen (s.found, s.finds, (s.short, next, more, subst (λ (t : List ℕ). Reads t next) c.1 reads, runs, rw (differs, taken, listed) refl)),
-      λ next fault reads runs. rw chosen (s.found, s.finds, inr (s.short, next, subst (λ (t : List ℕ). Reads t next) c.1 reads, runs)),
-      λ unread. rw chosen (s.found, s.finds, inl (refl, s.short, subst IsUnread c.1 unread)),
+      λ next more reads runs. rw chosen (s.found, s.findings_are, (s.short, next, more, subst (λ (t : List ℕ). IsParseOf t next) c.1 reads, runs, rw (differs, taken, listed) refl)),
+      λ next fault reads runs. rw chosen (s.found, s.findings_are, inr (s.short, next, subst (λ (t : List ℕ). IsParseOf t next) c.1 reads, runs)),
+      λ unread. rw chosen (s.found, s.findings_are, inl (refl, s.short, subst DoesNotParse c.1 unread)),
     )
 
 -- ---- from what was passed on
 
-pub no_more : (rules : RuleSet) (order : List Rule) (text : List ℕ) (p : Parsed) (done : EditList) (count fixed : ℕ) (found : List Finding) → Reads text p → Finds rules p found → Passes rules order p count (Same fixed)
+pub no_more : (rules : RuleSet) (order : List Rule) (text : List ℕ) (p : Parsed) (done : EditList) (count fixed : ℕ) (found : List Finding) → IsParseOf text p → RulesFind rules p found → IsFirstChange rules order p count (NoChange fixed)
     → FixesFrom rules order text done count (record { text = text; edits = done; fixed = fixed; left = length found })
 no_more rules order text p done count fixed found reads finds (n, number, runs) = record {
   parsed = p;
@@ -129,8 +129,8 @@ no_more rules order text p done count fixed found reads finds (n, number, runs) 
   left_is = (found, finds, refl);
 }
 
-pub and_more : (rules : RuleSet) (order : List Rule) (text : List ℕ) (p : Parsed) (done both : EditList) (count fixed : ℕ) (change : NewText) (by : Rule) (rest : Bor (List Rule)) (made : Made)
-    → Reads text p → Passes rules order p count (Changed fixed change by rest) → IsSquash done change.edits both
+pub and_more : (rules : RuleSet) (order : List Rule) (text : List ℕ) (p : Parsed) (done both : EditList) (count fixed : ℕ) (change : NewText) (by : Rule) (rest : Bor (List Rule)) (made : Rewrite)
+    → IsParseOf text p → IsFirstChange rules order p count (Changed fixed change by rest) → IsSquash done change.edits both
     → FixesFrom rules rest.now change.text.items both fixed made → FixesFrom rules order text done count made
 and_more rules order text p done both count fixed change by rest made reads (n, number, few, shorter, turns, on, off, gone) joins f =
     let more = f.fixed_is in
@@ -148,7 +148,7 @@ and_more rules order text p done both count fixed change by rest made reads (n, 
     }
 
 pub and_refuses : (rules : RuleSet) (order : List Rule) (text : List ℕ) (p : Parsed) (count fixed : ℕ) (change : NewText) (made_by by : Rule) (rest : Bor (List Rule)) (fault : FixFault)
-    → Reads text p → Passes rules order p count (Changed fixed change by rest)
+    → IsParseOf text p → IsFirstChange rules order p count (Changed fixed change by rest)
     → RefusesFrom rules rest.now change.text.items by fault → RefusesFrom rules order text made_by fault
 and_refuses rules order text p count fixed change made_by by rest fault reads to (inl memory) = inl memory
 and_refuses rules order text p count fixed change made_by by rest fault reads (n, number, few, shorter, turns, on, off, gone) (inr (inl unread)) =
@@ -167,20 +167,20 @@ go_on rule p found A B go (Err fault) (inr (short, next, reads, others)) = inr (
 
 -- b whether a fix has a step for the rule, d whether the set has the rule
 at_rule : (rules : RuleSet) (rule : Rule) (order : List Rule) (p : Parsed) (answer : Result Steps FixFault) (b d : Bool) → has_rule rules rule ≡ d
-    → ((c : Parsed) (r : Result Steps FixFault) → RunFixed rules order c r → RunSteps rules (filter is_fixed order) c r)
-    → MatchBool (b && d) (StepThen rule p (RunFixed rules order) answer) (RunFixed rules order p answer)
-    → RunSteps rules (cond b (rule ∷ filter is_fixed order) (filter is_fixed order)) p answer
+    → ((c : Parsed) (r : Result Steps FixFault) → RunFixable rules order c r → RunSteps rules (filter has_fix order) c r)
+    → MatchBool (b && d) (StepThen rule p (RunFixable rules order) answer) (RunFixable rules order p answer)
+    → RunSteps rules (cond b (rule ∷ filter has_fix order) (filter has_fix order)) p answer
 at_rule rules rule order p answer true true has go h =
-    rw has (h.0, h.1, go_on rule p h.0 (RunFixed rules order) (RunSteps rules (filter is_fixed order)) go answer h.2)
+    rw has (h.0, h.1, go_on rule p h.0 (RunFixable rules order) (RunSteps rules (filter has_fix order)) go answer h.2)
 at_rule rules rule order p answer true false has go h = rw has (go p answer h)
 at_rule rules rule order p answer false d has go h = go p answer h
 
 -- the steps that a list of rules has are those of its rules that are fixed
-run_is : (rules : RuleSet) (order : List Rule) (p : Parsed) (answer : Result Steps FixFault) → RunFixed rules order p answer → RunSteps rules (filter is_fixed order) p answer
+run_is : (rules : RuleSet) (order : List Rule) (p : Parsed) (answer : Result Steps FixFault) → RunFixable rules order p answer → RunSteps rules (filter has_fix order) p answer
 run_is rules [] p answer h = h
-run_is rules (rule ∷ order) p answer h = at_rule rules rule order p answer (is_fixed rule) (has_rule rules rule) refl (run_is rules order) h
+run_is rules (rule ∷ order) p answer h = at_rule rules rule order p answer (has_fix rule) (has_rule rules rule) refl (run_is rules order) h
 
-pub none_changed : (rules : RuleSet) (text : List ℕ) (p : Parsed) (fixed : ℕ) (found : List Finding) → Reads text p → Finds rules p found → Passes rules all_rules p 0 (Same fixed)
+pub none_changed : (rules : RuleSet) (text : List ℕ) (p : Parsed) (fixed : ℕ) (found : List Finding) → IsParseOf text p → RulesFind rules p found → IsFirstChange rules all_rules p 0 (NoChange fixed)
     → Fixes rules text (record { text = text; edits = record { old_len = length text; entries = [] }; fixed = fixed; left = length found })
 none_changed rules text p fixed found reads finds (n, number, runs) =
     let steps : Steps = record { text = p.scanned.text; lists = []; fixed = n } in
@@ -197,8 +197,8 @@ none_changed rules text p fixed found reads finds (n, number, runs) =
       left_is = (found, finds, refl);
     }
 
-pub all_fixed : (rules : RuleSet) (text : List ℕ) (p : Parsed) (fixed : ℕ) (change : NewText) (by : Rule) (rest : Bor (List Rule)) (made : Made)
-    → Reads text p → Passes rules all_rules p 0 (Changed fixed change by rest) → FixesFrom rules rest.now change.text.items change.edits fixed made → Fixes rules text made
+pub all_fixed : (rules : RuleSet) (text : List ℕ) (p : Parsed) (fixed : ℕ) (change : NewText) (by : Rule) (rest : Bor (List Rule)) (made : Rewrite)
+    → IsParseOf text p → IsFirstChange rules all_rules p 0 (Changed fixed change by rest) → FixesFrom rules rest.now change.text.items change.edits fixed made → Fixes rules text made
 all_fixed rules text p fixed change by rest made reads (n, number, few, shorter, turns, on, off, gone) f =
     let more = f.fixed_is in
     let steps : Steps = record { text = f.steps.text; lists = change.edits ∷ f.steps.lists; fixed = n + f.steps.fixed } in
@@ -216,15 +216,15 @@ all_fixed rules text p fixed change by rest made reads (n, number, few, shorter,
     }
 
 -- a text that is read was looked into
-memory_at : (text : List ℕ) (p : Parsed) (fault : FixFault) → Reads text p → fault ≡ Memory → NotRead text fault
-memory_at text p fault reads is = rw is (subst IsText reads.0 (reads.1.short, reads.1.utf8))
+memory_at : (text : List ℕ) (p : Parsed) (fault : FixFault) → IsParseOf text p → fault ≡ Memory → IsReadFault text fault
+memory_at text p fault reads is = rw is (subst IsUtf8WithinLimit reads.0 (reads.1.short, reads.1.utf8))
 
-pub first_refuses : (rules : RuleSet) (text : List ℕ) (p : Parsed) (fault : FixFault) → Reads text p → (fault ≡ Memory) ⊎ RunFixed rules all_rules p (Err fault) → Refuses rules text fault
+pub first_refuses : (rules : RuleSet) (text : List ℕ) (p : Parsed) (fault : FixFault) → IsParseOf text p → (fault ≡ Memory) ⊎ RunFixable rules all_rules p (Err fault) → Refuses rules text fault
 first_refuses rules text p fault reads (inl is) = inl (memory_at text p fault reads is)
 first_refuses rules text p fault reads (inr runs) = inr (p, reads, run_is rules all_rules p (Err fault) runs)
 
 pub all_refuses : (rules : RuleSet) (text : List ℕ) (p : Parsed) (fixed : ℕ) (change : NewText) (by : Rule) (rest : Bor (List Rule)) (fault : FixFault)
-    → Reads text p → Passes rules all_rules p 0 (Changed fixed change by rest) → RefusesFrom rules rest.now change.text.items by fault → Refuses rules text fault
+    → IsParseOf text p → IsFirstChange rules all_rules p 0 (Changed fixed change by rest) → RefusesFrom rules rest.now change.text.items by fault → Refuses rules text fault
 all_refuses rules text p fixed change by rest fault reads to (inl is) = inl (memory_at text p fault reads is)
 all_refuses rules text p fixed change by rest fault reads (n, number, few, shorter, turns, on, off, gone) (inr (inl unread)) = inr (p, reads, run_is rules all_rules p (Err fault) (rw unread.0 (gone unread.1)))
 all_refuses rules text p fixed change by rest fault reads (n, number, few, shorter, turns, on, off, gone) (inr (inr (next, read, runs))) = inr (p, reads, run_is rules all_rules p (Err fault) (off next fault read runs))

@@ -2,7 +2,7 @@
 use Rattle.std.proofs.Common.{◌≡◌, ℕ, zero, suc, ◌+◌, List, [], ◌∷◌, take, drop, slice_get, refl, sym, ap, ◌∙◌, arith}
 use Rattle.hcl_grammar.specs.Tokens.{Token}
 use Rattle.hcl_scan.specs.Follows.{tokens_of}
-use Rattle.hcl_token.specs.CutText.{stretch_of, without_first_gap}
+use Rattle.hcl_token.specs.TokenizedText.{pairs_in_range, without_first_gap}
 use Rattle.hcl_token.specs.Tokens.{Pair}
 use Rattle.tf_reuse.proofs.Window.{get_drop}
 
@@ -26,10 +26,10 @@ pub same_more : (xs ys : List Token) (a b k : ℕ) → take k (drop a xs) ≡ ta
 same_more xs ys a b k e h = let one : k + 1 ≡ suc k = omega arith in rw one (front_more (drop a xs) (drop b ys) k e (get_drop a k xs ∙ (h ∙ sym (get_drop b k ys))))
 
 -- the tokens of so many pairs, from a place on
-front_of : (n : ℕ) (ps : List Pair) → take n (tokens_of ps) ≡ tokens_of (take n ps)
-front_of zero ps = refl
-front_of (suc n) [] = refl
-front_of (suc n) (p ∷ ps) = ap (λ ts. token_of p ∷ ts) (front_of n ps)
+line_prefix : (n : ℕ) (ps : List Pair) → take n (tokens_of ps) ≡ tokens_of (take n ps)
+line_prefix zero ps = refl
+line_prefix (suc n) [] = refl
+line_prefix (suc n) (p ∷ ps) = ap (λ ts. token_of p ∷ ts) (line_prefix n ps)
 
 rest_of : (n : ℕ) (ps : List Pair) → drop n (tokens_of ps) ≡ tokens_of (drop n ps)
 rest_of zero ps = refl
@@ -40,9 +40,9 @@ gapless : (ps : List Pair) → tokens_of (without_first_gap ps) ≡ tokens_of ps
 gapless [] = refl
 gapless (p ∷ ps) = refl
 
-tokens_in : (ps : List Pair) (from n : ℕ) → take n (drop from (tokens_of ps)) ≡ tokens_of (stretch_of ps from n)
-tokens_in ps from n = ap (take n) (rest_of from ps) ∙ front_of n (drop from ps) ∙ sym (gapless (take n (drop from ps)))
+tokens_in : (ps : List Pair) (from n : ℕ) → take n (drop from (tokens_of ps)) ≡ tokens_of (pairs_in_range ps from n)
+tokens_in ps from n = ap (take n) (rest_of from ps) ∙ line_prefix n (drop from ps) ∙ sym (gapless (take n (drop from ps)))
 
 -- where the pairs are the same but for the first gap, the tokens are
-pub stretch_tokens : (ps qs : List Pair) (from to n : ℕ) → stretch_of ps from n ≡ stretch_of qs to n → take n (drop from (tokens_of ps)) ≡ take n (drop to (tokens_of qs))
+pub stretch_tokens : (ps qs : List Pair) (from to n : ℕ) → pairs_in_range ps from n ≡ pairs_in_range qs to n → take n (drop from (tokens_of ps)) ≡ take n (drop to (tokens_of qs))
 stretch_tokens ps qs from to n same = tokens_in ps from n ∙ ap tokens_of same ∙ sym (tokens_in qs to n)

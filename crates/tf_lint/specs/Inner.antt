@@ -1,7 +1,7 @@
 -- For proofs: the parts of a line, what is found so far beside the pure parser, one step of a fix,
 -- and what is known from some steps on.
-pub mod Leading
+pub mod LeadsTo
 pub mod LineParts
-pub mod Passing
-pub mod Seeing
-pub mod Turning
+pub mod FirstChange
+pub mod BodyFindings
+pub mod FixState

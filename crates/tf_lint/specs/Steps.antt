@@ -2,41 +2,41 @@
 -- one before left.
 use Rattle.std.specs.Prelude.{◌≡◌, ◌≤◌, ◌<◌, ◌+◌, ◌⊎◌, ℕ, Bool, List, [], ◌∷◌, length, Result, Ok, Err, filter, not, if◌then◌else◌, MatchBool}
 use Rattle.std.specs.Str.{bytes_eq}
-use Rattle.hcl_scan.specs.Cut.{MAX_TEXT}
+use Rattle.hcl_scan.specs.Tokenization.{MAX_TEXT}
 use Rattle.edit_list.specs.Pieces.{EditList, as_list}
-use Rattle.edit_squash.specs.Grouping.{SquashAll}
+use Rattle.edit_squash.specs.SquashLists.{SquashAll}
 use Rattle.tf_rule.specs.declared.finding.Finding.{Finding}
 use Rattle.tf_rule.specs.declared.rule.Rule.{Rule}
 use Rattle.tf_rule.specs.declared.rule_set.RuleSet.{RuleSet}
 use Rattle.tf_rule.specs.RuleSets.{has_rule}
-use Rattle.tf_rule.specs.Rules.{all_rules, is_fixed}
+use Rattle.tf_rule.specs.Rules.{all_rules, has_fix}
 use Rattle.tf_lint.specs.Issues.{AreReports}
 use Rattle.tf_lint.specs.Reports.{Report}
 use Rattle.tf_lint.specs.declared.fault.FixFault.{FixFault}
 use Rattle.tf_lint.specs.declared.fault.FixFault.TheVariants.{Scan, Parse, FixBroken, TooLong, Memory}
 use Rattle.tf_fix.specs.declared.parsed.Parsed.{Parsed}
-use Rattle.tf_rule.specs.OneRule.{only}
-use Rattle.tf_fix.specs.OneStep.{Finds, fixed_text, fix_edits, fix_count}
-use Rattle.tf_fix.specs.Reading.{Reads}
-use Rattle.tf_lint.specs.Reading.{IsUnread, NotRead}
+use Rattle.tf_rule.specs.SingleRule.{only}
+use Rattle.tf_fix.specs.OneStep.{RulesFind, step_text_of, step_edits_of, step_count_of}
+use Rattle.tf_fix.specs.ParsedTexts.{IsParseOf}
+use Rattle.tf_lint.specs.ParseFaults.{DoesNotParse, IsReadFault}
 
 -- so many findings of the set has the text
-abbrev pub AreLeft : RuleSet → Parsed → ℕ → Type 0
-AreLeft rules p count = (found : List Finding) × Finds rules p found × (count ≡ length found)
+abbrev pub IsRemainingCount : RuleSet → Parsed → ℕ → Type 0
+IsRemainingCount rules p count = (found : List Finding) × RulesFind rules p found × (count ≡ length found)
 
 -- the text parses, and this is what the rules of the set report of it
 abbrev pub IsReport : RuleSet → List ℕ → List Report → Type 0
 IsReport rules text told =
-    (p : Parsed) × Reads text p × AreReports rules p.scanned.pairs p.tree.body.members told
+    (p : Parsed) × IsParseOf text p × AreReports rules p.scanned.pairs p.tree.body.members told
 
 -- ---- several steps
 
-abbrev pub differ : List ℕ → List ℕ → Bool
-differ t u = not (bytes_eq t u)
+abbrev pub texts_differ : List ℕ → List ℕ → Bool
+texts_differ t u = not (bytes_eq t u)
 
 -- the rules that fix, in the order of their steps, which is that of the table
 abbrev pub fix_order : List Rule
-fix_order = filter is_fixed all_rules
+fix_order = filter has_fix all_rules
 
 -- what steps lead to: the text, the edits of each step that changed it, and how many findings were
 -- mended
@@ -49,12 +49,12 @@ abbrev pub no_steps : List ℕ → Steps
 no_steps text = record { text = text; lists = []; fixed = 0 }
 
 -- the step of a rule that found this, and then others
-abbrev pub step_before : Rule → Parsed → List Finding → Steps → Steps
-step_before rule p found more = record {
+abbrev pub prepend_step : Rule → Parsed → List Finding → Steps → Steps
+prepend_step rule p found more = record {
   text = more.text;
-  lists = if differ p.scanned.text (fixed_text p found) then fix_edits rule p found ∷ more.lists
+  lists = if texts_differ p.scanned.text (step_text_of p found) then step_edits_of rule p found ∷ more.lists
       else more.lists;
-  fixed = fix_count found + more.fixed;
+  fixed = step_count_of found + more.fixed;
 }
 
 -- The step of a rule that found this can't be done: its text is over the limit, or does not parse.
@@ -62,33 +62,33 @@ abbrev pub StepBreaks : Rule → Parsed → List Finding → FixFault → Type 0
 StepBreaks rule p found (Scan fault) = ⊥
 StepBreaks rule p found (Parse fault) = ⊥
 StepBreaks rule p found (FixBroken broken) =
-    (broken ≡ rule) × (length (fixed_text p found) ≤ MAX_TEXT) × IsUnread (fixed_text p found)
-StepBreaks rule p found TooLong = MAX_TEXT < length (fixed_text p found)
+    (broken ≡ rule) × (length (step_text_of p found) ≤ MAX_TEXT) × DoesNotParse (step_text_of p found)
+StepBreaks rule p found TooLong = MAX_TEXT < length (step_text_of p found)
 StepBreaks rule p found Memory = ⊥
 
 -- the step of the rule, over what it alone finds, can't be done
 abbrev pub CannotStep : Rule → Parsed → FixFault → Type 0
 CannotStep rule p fault =
-    (found : List Finding) × Finds (only rule) p found × StepBreaks rule p found fault
+    (found : List Finding) × RulesFind (only rule) p found × StepBreaks rule p found fault
 
 -- the step of a rule that found this, and then the others over its text; the first that can't be
 -- done ends all
 abbrev pub FoundThen : Rule → Parsed → List Finding → (Parsed → Result Steps FixFault → Type 0)
     → Result Steps FixFault → Type 0
 FoundThen rule p found Others (Ok steps) =
-    (length (fixed_text p found) ≤ MAX_TEXT) × (next : Parsed) × (more : Steps)
-    × Reads (fixed_text p found) next
-    × Others next (Ok more) × (steps ≡ step_before rule p found more)
+    (length (step_text_of p found) ≤ MAX_TEXT) × (next : Parsed) × (more : Steps)
+    × IsParseOf (step_text_of p found) next
+    × Others next (Ok more) × (steps ≡ prepend_step rule p found more)
 FoundThen rule p found Others (Err fault) =
     StepBreaks rule p found fault
-    ⊎ ((length (fixed_text p found) ≤ MAX_TEXT) × (next : Parsed) × Reads (fixed_text p found) next
+    ⊎ ((length (step_text_of p found) ≤ MAX_TEXT) × (next : Parsed) × IsParseOf (step_text_of p found) next
     × Others next (Err fault))
 
 -- the step of the rule, over what it alone finds, and then the others
 abbrev pub StepThen : Rule → Parsed → (Parsed → Result Steps FixFault → Type 0)
     → Result Steps FixFault → Type 0
 StepThen rule p Others answer =
-    (found : List Finding) × Finds (only rule) p found × FoundThen rule p found Others answer
+    (found : List Finding) × RulesFind (only rule) p found × FoundThen rule p found Others answer
 
 -- the steps of these rules, as far as they are in the set
 abbrev pub RunSteps : RuleSet → List Rule → Parsed → Result Steps FixFault → Type 0
@@ -101,41 +101,41 @@ RunSteps rules (rule ∷ others) p answer =
 
 -- One list in the place of those of all steps, squashed from the first on, each into the result so
 -- far: none changes nothing, and a single one stays as it is.
-abbrev pub IsOneList : ℕ → List EditList → EditList → Type 0
-IsOneList len [] edits = edits ≡ as_list len []
-IsOneList len (first ∷ more) edits = SquashAll first more edits
+abbrev pub IsSquashOfAll : ℕ → List EditList → EditList → Type 0
+IsSquashOfAll len [] edits = edits ≡ as_list len []
+IsSquashOfAll len (first ∷ more) edits = SquashAll first more edits
 
 -- a new text, the edits that lead to it, how many findings were mended, and how many findings of
 -- the chosen rules the new text has
-pub record Made : Type 0 where
+pub record Rewrite : Type 0 where
   pub text : List ℕ
   pub edits : EditList
   pub fixed : ℕ
   pub left : ℕ
 
 -- what a fix by these rules makes of a text that parses
-pub record Fixes (rules : RuleSet) (text : List ℕ) (made : Made) : Type 0 where
+pub record Fixes (rules : RuleSet) (text : List ℕ) (made : Rewrite) : Type 0 where
   pub parsed : Parsed
-  pub reads : Reads text parsed
+  pub reads : IsParseOf text parsed
   pub steps : Steps
   pub runs : RunSteps rules fix_order parsed (Ok steps)
   pub text_is : made.text ≡ steps.text
-  pub edits_are : IsOneList (length text) steps.lists made.edits
+  pub edits_are : IsSquashOfAll (length text) steps.lists made.edits
   pub fixed_is : made.fixed ≡ steps.fixed
   pub new_parsed : Parsed
-  pub new_reads : Reads made.text new_parsed
-  pub left_is : AreLeft rules new_parsed made.left
+  pub new_reads : IsParseOf made.text new_parsed
+  pub left_is : IsRemainingCount rules new_parsed made.left
 
 -- a step of the fix can't be done
 abbrev pub Breaks : RuleSet → List ℕ → FixFault → Type 0
-Breaks rules text fault = (p : Parsed) × Reads text p × RunSteps rules fix_order p (Err fault)
+Breaks rules text fault = (p : Parsed) × IsParseOf text p × RunSteps rules fix_order p (Err fault)
 
 -- why a fix by these rules refuses a text: it is not read, or a step can't be done
 abbrev pub Refuses : RuleSet → List ℕ → FixFault → Type 0
-Refuses rules text fault = NotRead text fault ⊎ Breaks rules text fault
+Refuses rules text fault = IsReadFault text fault ⊎ Breaks rules text fault
 
 -- a fix makes one text of a text, or can't be done for one reason
-pub record OneFix (rules : RuleSet) (text : List ℕ) : Type 0 where
-  pub made : (a b : Made) → Fixes rules text a → Fixes rules text b → a ≡ b
+pub record FixIsUnique (rules : RuleSet) (text : List ℕ) : Type 0 where
+  pub made : (a b : Rewrite) → Fixes rules text a → Fixes rules text b → a ≡ b
   pub broken : (f g : FixFault) → Breaks rules text f → Breaks rules text g → f ≡ g
-  pub not_both : (a : Made) (f : FixFault) → Fixes rules text a → Breaks rules text f → ⊥
+  pub exclusive : (a : Rewrite) (f : FixFault) → Fixes rules text a → Breaks rules text f → ⊥

@@ -9,11 +9,11 @@ ghost use Rattle.hcl_grammar.specs.declared.tree.Member.{Member};
 ghost use Rattle.hcl_grammar.specs.declared.bounds.TheConstants.{MAX_NESTING};
 ghost use Rattle.hcl_scan.specs.Follows.{tokens_of};
 ghost use Rattle.hcl_token.specs.Tokens.{Pair};
-ghost use Rattle.tf_lint.specs.Inner.Seeing.{AreOf, AreRead};
-ghost use Rattle.tf_lint.specs.Seen.{IsSeen, AreSeen};
+ghost use Rattle.tf_lint.specs.Inner.BodyFindings.{AreBodyFindings, IsBodyRead};
+ghost use Rattle.tf_lint.specs.LintedMembers.{IsLintedMember, AreLintedMembers};
 ghost use Rattle.tf_rule.specs.declared.rule_set.RuleSet.{RuleSet};
 
-use crate::member::{SeenMember, next_member};
+use crate::member::{LintedMember, next_member};
 use hcl_grammar::fault::TokenFault;
 use hcl_scan::Scanned;
 use hcl_tree::Reader;
@@ -22,9 +22,9 @@ use tf_rule::{Finding, RuleSet};
 
 /// What was read of a body.
 #[derive(Drop)]
-pub struct Gathered {
+pub struct BodyFindings {
     /// Its members, each with what was found in it, as far as they are kept.
-    pub members: Vec<SeenMember>,
+    pub members: Vec<LintedMember>,
     /// What was found at the nodes that stand in its members.
     pub nodes: Vec<Finding>,
     /// What was found at those of them that are blocks.
@@ -32,7 +32,7 @@ pub struct Gathered {
 }
 
 /// Adds findings behind others; where there are no others, without a copy.
-pub fn add_all(found: &mut Vec<Finding>, more: Vec<Finding>) -> Result<(), AllocError>
+pub fn append_findings(found: &mut Vec<Finding>, more: Vec<Finding>) -> Result<(), AllocError>
     ensures { OnOk result (found.new.items ≡ found.old.items ++ more.items) }
 {
     if found.is_empty() {
@@ -43,7 +43,7 @@ pub fn add_all(found: &mut Vec<Finding>, more: Vec<Finding>) -> Result<(), Alloc
 }
 
 /// Adds a member and what was found in it, and keeps the member.
-fn keep_member(body: &mut Gathered, x: SeenMember) -> Result<(), AllocError>
+fn keep_member(body: &mut BodyFindings, x: LintedMember) -> Result<(), AllocError>
     ensures members { OnOk result (body.new.members.items ≡ body.old.members.items ++ x ∷ []) }
     ensures nodes { OnOk result
         (body.new.nodes.items ≡ body.old.nodes.items ++ x.nodes.items) }
@@ -57,74 +57,87 @@ fn keep_member(body: &mut Gathered, x: SeenMember) -> Result<(), AllocError>
 }
 
 /// Adds what was found in a member, which is given up.
-fn take_member(body: &mut Gathered, x: SeenMember) -> Result<(), AllocError>
+fn merge_member(body: &mut BodyFindings, x: LintedMember) -> Result<(), AllocError>
     ensures members { OnOk result (body.new.members.items ≡ body.old.members.items) }
     ensures nodes { OnOk result
         (body.new.nodes.items ≡ body.old.nodes.items ++ x.nodes.items) }
     ensures blocks { OnOk result
         (body.new.blocks.items ≡ body.old.blocks.items ++ x.blocks.items) }
 {
-    add_all(&mut body.nodes, x.nodes)?;
-    add_all(&mut body.blocks, x.blocks)
+    append_findings(&mut body.nodes, x.nodes)?;
+    append_findings(&mut body.blocks, x.blocks)
 }
 
 /// In a member that is kept no more is found than this.
-const FEW: usize = 4096;
+const MAX_KEPT_FINDINGS: usize = 4096;
 
 /// Whether a member is worth keeping. Where very much is found in one, a fix changes it in nearly
 /// each step, so that it is read again; and a second list of that would be most of the memory.
-fn is_light(x: &SeenMember) -> bool {
-    x.nodes.len() <= FEW && x.blocks.len() <= FEW
+fn is_worth_keeping(x: &LintedMember) -> bool {
+    x.nodes.len() <= MAX_KEPT_FINDINGS && x.blocks.len() <= MAX_KEPT_FINDINGS
 }
 
 /// Adds a member that may be kept.
-fn add_member(body: &mut Gathered, x: SeenMember, keep: bool) -> Result<(), AllocError>
+fn add_member(
+    body: &mut BodyFindings,
+    x: LintedMember,
+    keep_members: bool,
+) -> Result<(), AllocError>
     ensures { (rules : RuleSet) (pairs : List Pair) (ms : List Member)
-        → AreOf rules pairs ms body.old → (is : IsSeen rules pairs x)
-        → OnOk result (AreOf rules pairs (ms ++ is.member ∷ []) body.new) }
+        → AreBodyFindings rules pairs ms body.old → (is : IsLintedMember rules pairs x)
+        → OnOk result (AreBodyFindings rules pairs (ms ++ is.member ∷ []) body.new) }
 {
-    if keep && is_light(&x) {
+    if keep_members && is_worth_keeping(&x) {
         keep_member(body, x)
     } else {
-        take_member(body, x)
+        merge_member(body, x)
     }
 }
 
 /// The members of a body with what the rules find in them. Of another text that was read with the
 /// same rules its members are taken as they are, as long as their tokens stand in this one.
 ///
-/// Without `keep` each member is given up as soon as it was looked at.
-pub fn body(
+/// Without `retain_one` each member is given up as soon as it was looked at.
+pub fn lint_body(
     alloc: Global,
     scanned: &Scanned<'_>,
     rules: RuleSet,
     old: &Scanned<'_>,
-    seen: &[SeenMember],
-    keep: bool,
+    old_members: &[LintedMember],
+    keep_members: bool,
     at: &mut usize,
-) -> Result<Gathered, TokenFault>
-    requires { AreSeen rules old.now.pairs seen.now }
-    ensures seen { IfOk result
-        (λ found. AreRead rules scanned.now.pairs
+) -> Result<BodyFindings, TokenFault>
+    requires { AreLintedMembers rules old.now.pairs old_members.now }
+    ensures members_linted { IfOk result
+        (λ found. IsBodyRead rules scanned.now.pairs
         (spec.members (tokens_of scanned.now.pairs) MAX_NESTING at.old) at.new found) }
     ensures fault { IfErr result
         (λ e. e ≢ fault.Memory
         → spec.members (tokens_of scanned.now.pairs) MAX_NESTING at.old ≡ Err e) }
 {
     let reader = Reader::new(alloc, scanned);
-    let mut found = Gathered {
+    let mut found = BodyFindings {
         members: Vec::new(alloc),
         nodes: Vec::new(alloc),
         blocks: Vec::new(alloc),
     };
     for _turn in 0..scanned.len() {
-        if reader.line(at) {
+        if reader.eat_newline(at) {
             continue;
         }
-        let Some(x) = next_member(alloc, scanned, rules, old, seen, found.members.len(), at)? else {
+        let Some(x) = next_member(
+            alloc,
+            scanned,
+            rules,
+            old,
+            old_members,
+            found.members.len(),
+            at,
+        )?
+        else {
             return Ok(found);
         };
-        add_member(&mut found, x, keep)?;
+        add_member(&mut found, x, keep_members)?;
     }
     Ok(found)
 }

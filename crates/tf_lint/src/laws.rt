@@ -4,25 +4,25 @@
 ghost use Rattle.std.specs.Prelude.{◌≡◌, ℕ, List, [], ◌∷◌};
 ghost use Rattle.tf_rule.specs.declared.rule.Rule.TheVariants.{CommentSyntax, DeprecatedIndex, DeprecatedInterpolation, EmptyListEquality, DeprecatedLookup};
 ghost use Rattle.tf_rule.specs.declared.rule_set.RuleSet.{RuleSet};
-ghost use Rattle.tf_lint.specs.Steps.{OneFix, fix_order};
+ghost use Rattle.tf_lint.specs.Steps.{FixIsUnique, fix_order};
 
-use edit_squash::laws::squash_all_is_one;
-use hcl_scan::laws::one_cut;
+use edit_squash::laws::squash_all_is_unique;
+use hcl_scan::laws::one_tokenization;
 use hcl_text_laws::laws::one_parse;
-use tf_diagnostics::laws::findings_are_one;
+use tf_diagnostics::laws::findings_are_unique;
 
 /// A fix makes one text of a text, or can't be done for one reason.
-pub fn one_fix()
-    ensures { (rules : RuleSet) (text : List ℕ) → OneFix rules text }
+pub fn fix_is_unique()
+    ensures { (rules : RuleSet) (text : List ℕ) → FixIsUnique rules text }
 {
-    one_cut();
+    one_tokenization();
     one_parse();
-    findings_are_one();
-    squash_all_is_one();
+    findings_are_unique();
+    squash_all_is_unique();
 }
 
 /// The steps of a fix are those of these rules, in this order.
-pub fn steps_in_order()
+pub fn fix_order_is_rule_order()
     ensures { fix_order
         ≡ CommentSyntax ∷ DeprecatedIndex ∷ DeprecatedInterpolation ∷ EmptyListEquality
         ∷ DeprecatedLookup ∷ [] }

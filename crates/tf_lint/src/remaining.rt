@@ -3,13 +3,13 @@
 ghost use Rattle.std.specs.Prelude.{◌≡◌, ◌<◌, List, IfOk, IfErr, string_bytes};
 ghost use Rattle.tf_fix.specs.declared.fault.LintFault.TheVariants.{Memory};
 ghost use Rattle.tf_lint.specs.Issues.{reports};
-ghost use Rattle.tf_lint.specs.Remaining.{number_left, IsRemaining};
+ghost use Rattle.tf_lint.specs.Remaining.{remaining_count, IsRemaining};
 ghost use Rattle.tf_lint.specs.Reports.{Report, lines_of};
 ghost use Rattle.tf_lint.specs.Steps.{IsReport};
 ghost use Rattle.tf_rule.specs.declared.rule_set.RuleSet.{RuleSet};
 
 use crate::issue::Issue;
-use crate::listing::{issues_of, lines_of_findings};
+use crate::issue_list::{issues_of, lines_of_findings};
 use hcl_scan::{Scanned, TokenList};
 use std::alloc::{AllocError, Global};
 use tf_fix::LintFault;
@@ -27,7 +27,7 @@ pub struct Remaining {
 impl Remaining {
     /// How many issues are left.
     pub fn len(&self) -> usize
-        ensures { result ≡ number_left self.now }
+        ensures { result ≡ remaining_count self.now }
     {
         self.found.len()
     }
@@ -39,9 +39,9 @@ impl Remaining {
         ensures lines { (rules : RuleSet) → IsRemaining rules text.now self
             → IfOk result (λ lines. (told : List Report) × IsReport rules text.now told
             × (string_bytes lines ≡ lines_of name.now told)) }
-        ensures asked { IfErr result (λ _. 0 < number_left self) }
+        ensures allocates { IfErr result (λ _. 0 < remaining_count self) }
     {
-        let scanned = Scanned::over(text, self.tokens);
+        let scanned = Scanned::attach(text, self.tokens);
         lines_of_findings(alloc, name, &scanned, &self.found)
     }
 
@@ -52,9 +52,9 @@ impl Remaining {
         ensures issues { (rules : RuleSet) → IsRemaining rules text.now self
             → IfOk result (λ issues. IsReport rules text.now (reports issues.items)) }
         ensures fault { IfErr result (λ fault. fault ≡ Memory) }
-        ensures asked { IfErr result (λ _. 0 < number_left self) }
+        ensures allocates { IfErr result (λ _. 0 < remaining_count self) }
     {
-        let scanned = Scanned::over(text, self.tokens);
+        let scanned = Scanned::attach(text, self.tokens);
         issues_of(alloc, &scanned, &self.found)
     }
 }

@@ -1,22 +1,22 @@
 //! The step of one rule.
 
 ghost use Rattle.std.specs.Prelude.{◌≡◌, ◌≤◌, ◌⊎◌, ℕ, true, List, IfOk, IfErr};
-ghost use Rattle.hcl_scan.specs.Cut.{MAX_TEXT};
-ghost use Rattle.edit_list.specs.Pieces.{Turns};
+ghost use Rattle.hcl_scan.specs.Tokenization.{MAX_TEXT};
+ghost use Rattle.edit_list.specs.Pieces.{Transforms};
 ghost use Rattle.tf_rule.specs.RuleSets.{has_rule};
-ghost use Rattle.tf_lint.specs.Searching.{IsOf};
+ghost use Rattle.tf_lint.specs.LintedText.{IsLintOf};
 ghost use Rattle.tf_fix.specs.declared.parsed.Parsed.{Parsed};
 ghost use Rattle.tf_fix.specs.OneStep.{IsFixStep};
 ghost use Rattle.tf_lint.specs.Steps.{CannotStep};
-ghost use Rattle.tf_lint.specs.Inner.Passing.{IsStep};
+ghost use Rattle.tf_lint.specs.Inner.FirstChange.{IsStep};
 ghost use Rattle.tf_lint.specs.declared.fault.FixFault.{FixFault};
 
 use crate::fault::FixFault;
-use crate::searched::Searched;
+use crate::linted_text::LintedText;
 use edit_list::laws::apply_is_exact;
 use edit_list::{Change as _, Edits};
 use std::alloc::Global;
-use tf_fix::{Mended, found_step};
+use tf_fix::{StepEdits, fix_step_of_findings};
 use tf_rule::Rule;
 
 /// A new text, and the edits that lead to it.
@@ -36,34 +36,34 @@ pub struct Step {
 }
 
 /// The edits of the step of a rule over a text that was searched with a set that has it.
-fn mended_step(alloc: Global, searched: &Searched<'_>, rule: Rule) -> Result<Mended, FixFault>
-    requires searched { (p : Parsed) × IsOf p searched.now }
-    requires chosen { has_rule searched.now.rules rule ≡ true }
-    ensures step { (p : Parsed) → IsOf p searched.now
+fn step_edits(alloc: Global, linted: &LintedText<'_>, rule: Rule) -> Result<StepEdits, FixFault>
+    requires linted { (p : Parsed) × IsLintOf p linted.now }
+    requires rule_in_set { has_rule linted.now.rules rule ≡ true }
+    ensures step { (p : Parsed) → IsLintOf p linted.now
         → IfOk result (λ mended. IsFixStep rule p mended.count mended.edits) }
-    ensures few { IfOk result (λ mended. mended.count ≤ MAX_TEXT) }
-    ensures fault { (p : Parsed) → IsOf p searched.now
+    ensures count_within_limit { IfOk result (λ mended. mended.count ≤ MAX_TEXT) }
+    ensures fault { (p : Parsed) → IsLintOf p linted.now
         → IfErr result (λ fault. (fault ≡ FixFault.Memory)
         ⊎ ((fault ≡ FixFault.TooLong) × CannotStep rule p fault)) }
 {
-    let found = searched.found.as_slice();
-    match found_step(alloc, &searched.scanned, searched.rules, found, rule) {
+    let found = linted.found.as_slice();
+    match fix_step_of_findings(alloc, &linted.scanned, linted.rules, found, rule) {
         Ok(mended) => Ok(mended),
         Err(fault) => Err(FixFault::from(fault)),
     }
 }
 
 /// The step of a rule over a text that was searched with a set that has it.
-pub fn one_step(alloc: Global, searched: &Searched<'_>, rule: Rule) -> Result<Step, FixFault>
-    requires searched { (p : Parsed) × IsOf p searched.now }
-    requires chosen { has_rule searched.now.rules rule ≡ true }
-    ensures step { (p : Parsed) → IsOf p searched.now → IfOk result (λ step. IsStep rule p step) }
-    ensures fault { (p : Parsed) → IsOf p searched.now
+pub fn apply_step(alloc: Global, linted: &LintedText<'_>, rule: Rule) -> Result<Step, FixFault>
+    requires linted { (p : Parsed) × IsLintOf p linted.now }
+    requires rule_in_set { has_rule linted.now.rules rule ≡ true }
+    ensures step { (p : Parsed) → IsLintOf p linted.now → IfOk result (λ step. IsStep rule p step) }
+    ensures fault { (p : Parsed) → IsLintOf p linted.now
         → IfErr result (λ fault. (fault ≡ FixFault.Memory) ⊎ CannotStep rule p fault) }
 {
-    let Mended { count, edits } = mended_step(alloc, searched, rule)?;
-    let text = turned(alloc, searched.scanned.text(), &edits)?;
-    if text.as_slice() == searched.scanned.text() {
+    let StepEdits { count, edits } = step_edits(alloc, linted, rule)?;
+    let text = apply_step_edits(alloc, linted.scanned.text(), &edits)?;
+    if text.as_slice() == linted.scanned.text() {
         return Ok(Step {
             count,
             change: None,
@@ -76,9 +76,9 @@ pub fn one_step(alloc: Global, searched: &Searched<'_>, rule: Rule) -> Result<St
 }
 
 /// What the edits make of a text in which they stand.
-fn turned(alloc: Global, text: &[u8], edits: &Edits) -> Result<Vec<u8>, FixFault>
-    requires { (new : List ℕ) × Turns edits.now text.now new }
-    ensures made { (new : List ℕ) → Turns edits.now text.now new
+fn apply_step_edits(alloc: Global, text: &[u8], edits: &Edits) -> Result<Vec<u8>, FixFault>
+    requires { (new : List ℕ) × Transforms edits.now text.now new }
+    ensures made { (new : List ℕ) → Transforms edits.now text.now new
         → IfOk result (λ made. made.items ≡ new) }
     ensures fault { IfErr result (λ fault. fault ≡ FixFault.Memory) }
 {

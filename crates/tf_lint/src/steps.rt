@@ -2,36 +2,36 @@
 
 ghost use Rattle.std.specs.Prelude.{◌≡◌, ◌≤◌, ◌⊎◌, ◌+◌, ◌*◌, ℕ, List, Err, IfOk, IfErr, IfSome};
 ghost use Rattle.std.specs.Option.{is_some};
-ghost use Rattle.edit_list.specs.Pieces.{EditList, Turns};
-ghost use Rattle.edit_squash.specs.Squash.{CanFollow, IsSquash};
-ghost use Rattle.tf_lint.specs.Fixed.{made_of, text_after, text_behind, FixesTo};
-ghost use Rattle.hcl_scan.specs.Cut.{MAX_TEXT};
-ghost use Rattle.tf_lint.specs.Searching.{IsBefore, IsOf};
-ghost use Rattle.tf_lint.specs.Inner.Turning.{IsTurned};
-ghost use Rattle.tf_lint.specs.Inner.Leading.{Leads, IsOutcome, IsKept};
+ghost use Rattle.edit_list.specs.Pieces.{EditList, Transforms};
+ghost use Rattle.edit_squash.specs.Squash.{AreComposable, IsSquash};
+ghost use Rattle.tf_lint.specs.FixResult.{rewrite_of, changed_text, fixed_text_or, FixesTo};
+ghost use Rattle.hcl_scan.specs.Tokenization.{MAX_TEXT};
+ghost use Rattle.tf_lint.specs.LintedText.{IsPreviousOf, IsLintOf};
+ghost use Rattle.tf_lint.specs.Inner.FixState.{IsFixState};
+ghost use Rattle.tf_lint.specs.Inner.LeadsTo.{LeadsTo, IsFixOutcome, KeepsEdits};
 ghost use Rattle.tf_lint.specs.Remaining.{IsRemaining};
 ghost use Rattle.tf_lint.specs.Steps.{Fixes, Refuses};
-ghost use Rattle.tf_lint.specs.Inner.Passing.{has_step, RunFixed, room, Passes, FixesFrom, RefusesFrom, made_by};
+ghost use Rattle.tf_lint.specs.Inner.FirstChange.{has_step, RunFixable, max_fixes, IsFirstChange, FixesFrom, RefusesFrom, rewrite_by};
 ghost use Rattle.tf_lint.specs.declared.fault.FixFault.{FixFault};
 ghost use Rattle.tf_fix.specs.declared.parsed.Parsed.{Parsed};
 
 use crate::fault::FixFault;
+use crate::linted_text::{LintedText, PreviousText};
+use crate::relint::{into_previous, lint_text, relint_step, replaced_ranges};
 use crate::remaining::Remaining;
-use crate::searched::{Before, Searched};
-use crate::searching::{before_next, replaced_by, search_made, search_text};
-use crate::step::{NewText, Step, one_step};
+use crate::step::{NewText, Step, apply_step};
 use edit_list::Edits;
-use edit_list::laws::turned_texts_have_the_lengths;
-use edit_squash::laws::{edits_are_a_list, followers_squash};
+use edit_list::laws::transformed_lengths_match;
+use edit_squash::laws::{composable_lists_squash, edits_are_valid};
 use edit_squash::{Unmet, squash};
-use hcl_rescan::Replaced;
+use hcl_rescan::ReplacedRange;
 use hcl_scan::Token;
 use std::alloc::Global;
 use tf_rule::{Finding, Rule, RuleSet};
 
 /// What a fix made of a text.
 #[derive(Drop)]
-pub struct Fixed {
+pub struct FixResult {
     /// None where no rule changes the text.
     pub change: Option<NewText>,
     /// How many findings were mended.
@@ -53,9 +53,9 @@ pub struct FixedText {
 
 /// What the rules up to the first that changes the text did.
 #[derive(Drop)]
-enum Passed<'o> {
+enum FirstChange<'o> {
     /// None changes the text.
-    Same {
+    NoChange {
         fixed: usize,
     },
     /// This rule is the first that does, and those of the rest come behind it.
@@ -68,39 +68,43 @@ enum Passed<'o> {
 }
 
 /// The edits so far with those of one more step. Where none are kept, none are made.
-fn gather(alloc: Global, done: Option<Edits>, more: &Edits) -> Result<Option<Edits>, FixFault>
+fn compose(
+    alloc: Global,
+    edits_so_far: Option<Edits>,
+    more: &Edits,
+) -> Result<Option<Edits>, FixFault>
     requires { (edits : EditList) × (old : List ℕ) × (between : List ℕ) × (new : List ℕ)
-        × Leads done edits old between × Turns more.now between new }
-    ensures both { (edits : EditList) (old between new : List ℕ) → Leads done edits old between
-        → Turns more.now between new
-        → IfOk result (λ both. (all : EditList) × IsSquash edits more.now all
-        × Leads both all old new) }
-    ensures kept { IfOk result (λ both. is_some both ≡ is_some done) }
+        × LeadsTo edits_so_far edits old between × Transforms more.now between new }
+    ensures composed { (edits : EditList) (old between new : List ℕ) → LeadsTo edits_so_far edits old between
+        → Transforms more.now between new
+        → IfOk result (λ composed. (all : EditList) × IsSquash edits more.now all
+        × LeadsTo composed all old new) }
+    ensures kept { IfOk result (λ composed. is_some composed ≡ is_some edits_so_far) }
     ensures fault { IfErr result (λ fault. fault ≡ FixFault.Memory) }
 {
-    edits_are_a_list(more);
-    match done {
+    edits_are_valid(more);
+    match edits_so_far {
         None => {
-            followers_squash();
+            composable_lists_squash();
             Ok(None)
         }
-        Some(done) => {
-            let both = squashed(alloc, &done, more)?;
-            edits_are_a_list(&both);
-            Ok(Some(both))
+        Some(edits_so_far) => {
+            let composed = squash_two(alloc, &edits_so_far, more)?;
+            edits_are_valid(&composed);
+            Ok(Some(composed))
         }
     }
 }
 
 /// One list in the place of two, the second of which goes on from the first.
-fn squashed(alloc: Global, done: &Edits, more: &Edits) -> Result<Edits, FixFault>
-    requires { CanFollow done.now more.now }
-    ensures both { IfOk result (λ both. IsSquash done.now more.now both) }
+fn squash_two(alloc: Global, edits_so_far: &Edits, more: &Edits) -> Result<Edits, FixFault>
+    requires { AreComposable edits_so_far.now more.now }
+    ensures composed { IfOk result (λ composed. IsSquash edits_so_far.now more.now composed) }
     ensures fault { IfErr result (λ fault. fault ≡ FixFault.Memory) }
 {
-    turned_texts_have_the_lengths();
-    match squash(alloc, done, more) {
-        Ok(both) => Ok(both),
+    transformed_lengths_match();
+    match squash(alloc, edits_so_far, more) {
+        Ok(composed) => Ok(composed),
         Err(unmet) => {
             prove!(matches!(unmet, Unmet::Memory));
             Err(FixFault::Memory)
@@ -112,36 +116,36 @@ fn squashed(alloc: Global, done: &Edits, more: &Edits) -> Result<Edits, FixFault
 fn has_step(rules: RuleSet, rule: Rule) -> bool
     ensures { result ≡ has_step rules rule }
 {
-    rule.is_fixed() && rules.has(rule)
+    rule.has_fix() && rules.has(rule)
 }
 
 /// The first of the rules that changes the text, where so many findings were mended before.
-fn first_change<'o>(
+fn find_first_change<'o>(
     alloc: Global,
-    searched: &Searched<'_>,
+    linted: &LintedText<'_>,
     order: &'o [Rule],
     count: usize,
-) -> Result<Passed<'o>, FixFault>
-    requires searched { (p : Parsed) × IsOf p searched.now }
-    requires few { count + room order.now ≤ MAX_TEXT * 16 }
-    ensures passes { (p : Parsed) → IsOf p searched.now
-        → IfOk result (λ passed. Passes searched.now.rules order.now p count passed) }
-    ensures fault { (p : Parsed) → IsOf p searched.now
+) -> Result<FirstChange<'o>, FixFault>
+    requires linted { (p : Parsed) × IsLintOf p linted.now }
+    requires count_within_limit { count + max_fixes order.now ≤ MAX_TEXT * 16 }
+    ensures found_change { (p : Parsed) → IsLintOf p linted.now
+        → IfOk result (λ found_change. IsFirstChange linted.now.rules order.now p count found_change) }
+    ensures fault { (p : Parsed) → IsLintOf p linted.now
         → IfErr result (λ fault. (fault ≡ FixFault.Memory)
-        ⊎ RunFixed searched.now.rules order.now p (Err fault)) }
+        ⊎ RunFixable linted.now.rules order.now p (Err fault)) }
 {
     if let [rule, rest @ ..] = order {
-        if !has_step(searched.rules, *rule) {
-            return first_change(alloc, searched, rest, count);
+        if !has_step(linted.rules, *rule) {
+            return find_first_change(alloc, linted, rest, count);
         }
         let Step {
             count: taken,
             change,
-        } = one_step(alloc, searched, *rule)?;
+        } = apply_step(alloc, linted, *rule)?;
         let fixed = count + taken;
         match change {
-            None => first_change(alloc, searched, rest, fixed),
-            Some(change) => Ok(Passed::Changed {
+            None => find_first_change(alloc, linted, rest, fixed),
+            Some(change) => Ok(FirstChange::Changed {
                 fixed,
                 change,
                 by: *rule,
@@ -149,58 +153,58 @@ fn first_change<'o>(
             }),
         }
     } else {
-        Ok(Passed::Same { fixed: count })
+        Ok(FirstChange::NoChange { fixed: count })
     }
 }
 
 /// A text that a step made, and what the rules up to the first that changes it did.
 #[derive(Drop)]
-struct Turned<'o> {
+struct FixState<'o> {
     text: Vec<u8>,
-    before: Before,
+    previous: PreviousText,
     /// What was found in it.
     found: Vec<Finding>,
     /// The memory of the tokens of the text before.
-    spare: Vec<Token>,
-    passed: Passed<'o>,
+    token_buffer: Vec<Token>,
+    found_change: FirstChange<'o>,
 }
 
-/// The first of the rules that changes a text which the step of one made of one that was searched,
-/// by replacing these pieces of it. Its tokens come into a list that has room.
-fn turn<'o>(
+/// Lints `text`, which the step of rule `by` made from `old_text`, and finds the first of the rules
+/// `order` that changes it. The new tokens are stored in `spare`.
+fn next_state<'o>(
     alloc: Global,
     old_text: &[u8],
-    before: Before,
-    spare: Vec<Token>,
+    previous: PreviousText,
+    token_buffer: Vec<Token>,
     text: Vec<u8>,
-    replaced: Vec<Replaced>,
+    replaced: Vec<ReplacedRange>,
     order: &'o [Rule],
     by: Rule,
     count: usize,
-) -> Result<Turned<'o>, FixFault>
-    requires searched { (p : Parsed) × (p.scanned.text ≡ old_text.now) × IsBefore p before }
-    requires few { count + room order.now ≤ MAX_TEXT * 16 }
-    ensures turned { IfOk result (λ turned. (p : Parsed) × IsTurned order.now count p turned) }
-    ensures text { IfOk result (λ turned. turned.text ≡ text) }
-    ensures rules { IfOk result (λ turned. turned.before.rules ≡ before.rules) }
-    ensures fault { IfErr result (λ fault. RefusesFrom before.rules order.now text.items by fault) }
+) -> Result<FixState<'o>, FixFault>
+    requires linted { (p : Parsed) × (p.scanned.text ≡ old_text.now) × IsPreviousOf p previous }
+    requires count_within_limit { count + max_fixes order.now ≤ MAX_TEXT * 16 }
+    ensures advanced { IfOk result (λ state. (p : Parsed) × IsFixState order.now count p state) }
+    ensures text { IfOk result (λ state. state.text ≡ text) }
+    ensures rules { IfOk result (λ state. state.before.rules ≡ previous.rules) }
+    ensures fault { IfErr result (λ fault. RefusesFrom previous.rules order.now text.items by fault) }
 {
-    let made = search_made(alloc, &text, old_text, before, spare, replaced, by)?;
-    let spare = made.room;
-    let passed = first_change(alloc, &made.searched, order, count)?;
-    let (before, found) = before_next(made.searched);
-    Ok(Turned {
+    let made = relint_step(alloc, &text, old_text, previous, token_buffer, replaced, by)?;
+    let token_buffer = made.token_buffer;
+    let found_change = find_first_change(alloc, &made.linted, order, count)?;
+    let (previous, found) = into_previous(made.linted);
+    Ok(FixState {
         text,
-        before,
+        previous,
         found,
-        spare,
-        passed,
+        token_buffer,
+        found_change,
     })
 }
 
 /// What all steps did to a text that the first of them changed.
 #[derive(Drop)]
-struct Ended {
+struct EditedText {
     text: Vec<u8>,
     /// The edits that lead to it, where they are kept.
     edits: Option<Edits>,
@@ -208,43 +212,46 @@ struct Ended {
     left: Remaining,
 }
 
-/// The other steps, behind one that was made, with the edits so far, where they are kept. The text
-/// before the last step is not held: the tokens of the next one come into the memory of its
-/// tokens, and the rest, what was found first of all, goes before the next step takes more.
-fn run(alloc: Global, turned: Turned<'_>, edits: Option<Edits>) -> Result<Ended, FixFault>
-    requires turned { (order : List Rule) × (count : ℕ) × (p : Parsed)
-        × IsTurned order count p turned }
-    requires leads { (all : EditList) × (old : List ℕ) × Leads edits all old turned.text.items }
+/// Runs the remaining steps, composing their edits with `edits` if these are kept. After each step
+/// the text before it and its findings are freed, and its token buffer is reused.
+fn run_steps(
+    alloc: Global,
+    state: FixState<'_>,
+    edits: Option<Edits>,
+) -> Result<EditedText, FixFault>
+    requires advanced { (order : List Rule) × (count : ℕ) × (p : Parsed)
+        × IsFixState order count p state }
+    requires leads_to { (all : EditList) × (old : List ℕ) × LeadsTo edits all old state.text.items }
     ensures made { (order : List Rule) (count : ℕ) (p : Parsed) (all : EditList) (old : List ℕ)
-        → IsTurned order count p turned.entry → Leads edits all old turned.entry.text.items
-        → IfOk result (λ ended. (more : EditList) × Leads ended.edits more old ended.text.items
-        × FixesFrom turned.entry.before.rules order turned.entry.text.items all count
-        (made_by more ended)) }
+        → IsFixState order count p state.entry → LeadsTo edits all old state.entry.text.items
+        → IfOk result (λ ended. (more : EditList) × LeadsTo ended.edits more old ended.text.items
+        × FixesFrom state.entry.before.rules order state.entry.text.items all count
+        (rewrite_by more ended)) }
     ensures kept { IfOk result (λ ended. is_some ended.edits ≡ is_some edits) }
     ensures left { IfOk result
-        (λ ended. IsRemaining turned.entry.before.rules ended.text.items ended.left) }
+        (λ ended. IsRemaining state.entry.before.rules ended.text.items ended.left) }
     ensures fault { (order : List Rule) (count : ℕ) (p : Parsed) (by : Rule)
-        → IsTurned order count p turned.entry
-        → IfErr result (RefusesFrom turned.entry.before.rules order turned.entry.text.items by) }
+        → IsFixState order count p state.entry
+        → IfErr result (RefusesFrom state.entry.before.rules order state.entry.text.items by) }
 {
-    let Turned {
+    let FixState {
         text,
-        before,
+        previous,
         found,
-        spare,
-        passed,
-    } = turned;
-    match passed {
-        Passed::Same { fixed } => Ok(Ended {
+        token_buffer,
+        found_change,
+    } = state;
+    match found_change {
+        FirstChange::NoChange { fixed } => Ok(EditedText {
             text,
             edits,
             fixed,
             left: Remaining {
-                tokens: before.tokens,
+                tokens: previous.tokens,
                 found,
             },
         }),
-        Passed::Changed {
+        FirstChange::Changed {
             fixed,
             change,
             by,
@@ -255,50 +262,65 @@ fn run(alloc: Global, turned: Turned<'_>, edits: Option<Edits>) -> Result<Ended,
                 text: new,
                 edits: more,
             } = change;
-            let both = gather(alloc, edits, &more)?;
-            let replaced = replaced_by(alloc, &more)?;
+            let composed = compose(alloc, edits, &more)?;
+            let replaced = replaced_ranges(alloc, &more)?;
             drop(more);
-            let next = turn(alloc, &text, before, spare, new, replaced, rest, by, fixed)?;
+            let next = next_state(
+                alloc,
+                &text,
+                previous,
+                token_buffer,
+                new,
+                replaced,
+                rest,
+                by,
+                fixed,
+            )?;
             drop(text);
-            run(alloc, next, both)
+            run_steps(alloc, next, composed)
         }
     }
 }
 
 /// What the steps of all rules did to a text.
 #[derive(Drop)]
-enum Outcome {
+enum FixOutcome {
     /// No rule changes it.
     Unchanged { fixed: usize, left: Remaining },
-    New(Ended),
+    Edited(EditedText),
 }
 
 /// The edits of the first step, if those of a fix are kept.
-fn begun(edits: Edits, keep: bool) -> Option<Edits>
+fn first_edits(edits: Edits, keep_edits: bool) -> Option<Edits>
     ensures edits { IfSome result (λ kept. kept ≡ edits) }
-    ensures kept { is_some result ≡ keep }
+    ensures kept { is_some result ≡ keep_edits }
 {
-    if keep { Some(edits) } else { None }
+    if keep_edits { Some(edits) } else { None }
 }
 
 /// The steps of all rules of the set over a text.
-fn all_steps(alloc: Global, text: &[u8], rules: RuleSet, keep: bool) -> Result<Outcome, FixFault>
-    ensures outcome { IfOk result (IsOutcome rules text.now) }
-    ensures kept { IfOk result (IsKept keep) }
+fn run_all_steps(
+    alloc: Global,
+    text: &[u8],
+    rules: RuleSet,
+    keep_edits: bool,
+) -> Result<FixOutcome, FixFault>
+    ensures outcome { IfOk result (IsFixOutcome rules text.now) }
+    ensures kept { IfOk result (KeepsEdits keep_edits) }
     ensures fault { IfErr result (λ fault. Refuses rules text.now fault) }
 {
-    let searched = search_text(alloc, text, rules, true)?;
-    let passed = first_change(alloc, &searched, &Rule::ALL, 0)?;
-    let (before, found) = before_next(searched);
-    match passed {
-        Passed::Same { fixed } => Ok(Outcome::Unchanged {
+    let linted = lint_text(alloc, text, rules, true)?;
+    let found_change = find_first_change(alloc, &linted, &Rule::ALL, 0)?;
+    let (previous, found) = into_previous(linted);
+    match found_change {
+        FirstChange::NoChange { fixed } => Ok(FixOutcome::Unchanged {
             fixed,
             left: Remaining {
-                tokens: before.tokens,
+                tokens: previous.tokens,
                 found,
             },
         }),
-        Passed::Changed {
+        FirstChange::Changed {
             fixed,
             change,
             by,
@@ -306,13 +328,23 @@ fn all_steps(alloc: Global, text: &[u8], rules: RuleSet, keep: bool) -> Result<O
         } => {
             drop(found);
             let NewText { text: new, edits } = change;
-            let replaced = replaced_by(alloc, &edits)?;
-            edits_are_a_list(&edits);
-            let edits = begun(edits, keep);
-            let spare = Vec::new(alloc);
-            let first = turn(alloc, text, before, spare, new, replaced, rest, by, fixed)?;
-            let ended = run(alloc, first, edits)?;
-            Ok(Outcome::New(ended))
+            let replaced = replaced_ranges(alloc, &edits)?;
+            edits_are_valid(&edits);
+            let edits = first_edits(edits, keep_edits);
+            let token_buffer = Vec::new(alloc);
+            let first = next_state(
+                alloc,
+                text,
+                previous,
+                token_buffer,
+                new,
+                replaced,
+                rest,
+                by,
+                fixed,
+            )?;
+            let ended = run_steps(alloc, first, edits)?;
+            Ok(FixOutcome::Edited(ended))
         }
     }
 }
@@ -322,28 +354,28 @@ fn all_steps(alloc: Global, text: &[u8], rules: RuleSet, keep: bool) -> Result<O
 ///
 /// A text is read once for each rule that changes it, and once more. `FixBroken` where what a rule
 /// makes does not parse; `TooLong` where it would have more than 16,777,216 bytes.
-pub fn fix_text(alloc: Global, text: &[u8], rules: RuleSet) -> Result<Fixed, FixFault>
-    ensures made { IfOk result (λ fixed. Fixes rules text.now (made_of text.now fixed)) }
-    ensures turns { IfOk result
-        (λ fixed. IfSome fixed.change (λ change. Turns change.edits text.now change.text.items)) }
+pub fn fix_text(alloc: Global, text: &[u8], rules: RuleSet) -> Result<FixResult, FixFault>
+    ensures made { IfOk result (λ fixed. Fixes rules text.now (rewrite_of text.now fixed)) }
+    ensures transforms { IfOk result
+        (λ fixed. IfSome fixed.change (λ change. Transforms change.edits text.now change.text.items)) }
     ensures left { IfOk result
-        (λ fixed. IsRemaining rules (text_after text.now fixed.change) fixed.left) }
+        (λ fixed. IsRemaining rules (changed_text text.now fixed.change) fixed.left) }
     ensures fault { IfErr result (λ fault. Refuses rules text.now fault) }
 {
-    match all_steps(alloc, text, rules, true)? {
-        Outcome::Unchanged { fixed, left } => Ok(Fixed {
+    match run_all_steps(alloc, text, rules, true)? {
+        FixOutcome::Unchanged { fixed, left } => Ok(FixResult {
             change: None,
             fixed,
             left,
         }),
-        Outcome::New(
-            Ended {
+        FixOutcome::Edited(
+            EditedText {
                 text,
                 edits,
                 fixed,
                 left,
             },
-        ) => Ok(Fixed {
+        ) => Ok(FixResult {
             change: Some(NewText {
                 text,
                 edits: edits.unwrap(),
@@ -354,21 +386,21 @@ pub fn fix_text(alloc: Global, text: &[u8], rules: RuleSet) -> Result<Fixed, Fix
     }
 }
 
-/// The same where nobody asks by which edits: none are kept, so that it takes less memory. It is
-/// refused where `fix_text` is.
-pub fn fixed_text(alloc: Global, text: &[u8], rules: RuleSet) -> Result<FixedText, FixFault>
+/// Fixes a text like [`fix_text`], but does not keep the edits, and so needs less memory. It fails
+/// in the same cases.
+pub fn fix_without_edits(alloc: Global, text: &[u8], rules: RuleSet) -> Result<FixedText, FixFault>
     ensures made { IfOk result (FixesTo rules text.now) }
     ensures left { IfOk result
-        (λ fixed. IsRemaining rules (text_behind text.now fixed.text) fixed.left) }
+        (λ fixed. IsRemaining rules (fixed_text_or text.now fixed.text) fixed.left) }
     ensures fault { IfErr result (λ fault. Refuses rules text.now fault) }
 {
-    match all_steps(alloc, text, rules, false)? {
-        Outcome::Unchanged { fixed, left } => Ok(FixedText {
+    match run_all_steps(alloc, text, rules, false)? {
+        FixOutcome::Unchanged { fixed, left } => Ok(FixedText {
             text: None,
             fixed,
             left,
         }),
-        Outcome::New(ended) => Ok(FixedText {
+        FixOutcome::Edited(ended) => Ok(FixedText {
             text: Some(ended.text),
             fixed: ended.fixed,
             left: ended.left,

@@ -2,7 +2,7 @@
 
 ghost use Rattle.std.specs.Prelude.{◌≡◌, ◌≢◌, ◌<◌, ◌≤◌, ◌+◌, true, false, length, take, drop, slice_get};
 ghost use Rattle.hcl_scan.specs.Follows.{tokens_of};
-ghost use Rattle.tf_reuse.specs.Keeping.{SameTokens};
+ghost use Rattle.tf_reuse.specs.MembersKeep.{SameTokens};
 
 use hcl_expr::same_kind;
 use hcl_scan::Scanned;
@@ -39,7 +39,7 @@ fn same_stretch(old: &Scanned<'_>, new: &Scanned<'_>, from: usize, to: usize, co
         → take count (drop from (tokens_of old.now.pairs))
         ≡ take count (drop to (tokens_of new.now.pairs)) }
 {
-    old.same_stretch(from, new, to, count)
+    old.has_same_tokens(from, new, to, count)
 }
 
 /// Whether so many tokens are the same, one by one, whatever gaps stand between them.

@@ -3,4 +3,4 @@
 
 mod outcome;
 
-pub use outcome::{Met, Outcome};
+pub use outcome::{FileOutcome, RunOutcome};

@@ -1,6 +1,6 @@
 //! Decides whether a new journal that was found alone may replace the journal.
 
-use crate::journals::read;
+use crate::journaled_file::read;
 use std::alloc::Global;
 use std::rt::Files;
 use tf_session::{Command, Fault, RunFault};

@@ -1,10 +1,10 @@
 //! Makes the system calls that save a file with its journal, in the order of `tf_saving`.
 
 use crate::adoption::can_adopt;
+use crate::file_part::{session_part, write_fault, write_part};
+use crate::file_paths::{FilePaths, is_not_found};
 use crate::new_file::{copy_attributes, create_new, find_own_new};
-use crate::parts::{put_part, session_part, unwritten};
-use crate::places::{Places, tells_absence};
-use crate::saving::NewBytes;
+use crate::save_files::NewContents;
 use crate::snapshot::Snapshot;
 use std::alloc::Global;
 use std::fs::{self, OpenFile, OpenOptions};
@@ -56,12 +56,12 @@ pub struct PartFile<'a, F: Drop> {
 pub fn replace<R: Files>(
     rt: &R,
     alloc: Global,
-    places: &Places<'_>,
-    bytes: NewBytes<'_>,
+    paths: &FilePaths<'_>,
+    bytes: NewContents<'_>,
     read: Option<Snapshot>,
 ) -> Result<bool, RunFault> {
-    let mut text = text_file::<R::File>(places, bytes.text, read, NewFile::NotCreated);
-    let mut journal = journal_file::<R::File>(places, bytes.journal, NewFile::NotCreated);
+    let mut text = text_file::<R::File>(paths, bytes.text, read, NewFile::NotCreated);
+    let mut journal = journal_file::<R::File>(paths, bytes.journal, NewFile::NotCreated);
     let end = end_of(rt, alloc, &mut text, &mut journal, Step::SAVE);
     outcome(end, &text, &journal)
 }
@@ -71,25 +71,25 @@ pub fn replace<R: Files>(
 /// # Errors
 /// `Read` where it is not known what was interrupted; `Write` of the journal where a new one can't
 /// be removed or renamed; `Memory`.
-pub fn recover<R: Files>(rt: &R, alloc: Global, places: &Places<'_>) -> Result<(), RunFault> {
-    let mut text = text_file::<R::File>(places, &[], None, NewFile::Left);
-    let mut journal = journal_file::<R::File>(places, &[], NewFile::Left);
+pub fn recover<R: Files>(rt: &R, alloc: Global, paths: &FilePaths<'_>) -> Result<(), RunFault> {
+    let mut text = text_file::<R::File>(paths, &[], None, NewFile::Left);
+    let mut journal = journal_file::<R::File>(paths, &[], NewFile::Left);
     let end = end_of(rt, alloc, &mut text, &mut journal, Step::RECOVER);
     outcome(end, &text, &journal)?;
     Ok(())
 }
 
 fn text_file<'a, F: Drop>(
-    places: &'a Places<'_>,
+    paths: &'a FilePaths<'_>,
     bytes: &'a [u8],
     read: Option<Snapshot>,
     new_file: NewFile<F>,
 ) -> PartFile<'a, F> {
     PartFile {
-        given: places.text,
-        own: places.real_text.as_str(),
-        new: places.new_text.as_str(),
-        text: places.text,
+        given: paths.text,
+        own: paths.real_text.as_str(),
+        new: paths.new_text.as_str(),
+        text: paths.text,
         new_file,
         bytes,
         sent: 0,
@@ -99,15 +99,15 @@ fn text_file<'a, F: Drop>(
 }
 
 fn journal_file<'a, F: Drop>(
-    places: &'a Places<'_>,
+    paths: &'a FilePaths<'_>,
     bytes: &'a [u8],
     new_file: NewFile<F>,
 ) -> PartFile<'a, F> {
     PartFile {
-        given: places.journal.as_str(),
-        own: places.journal.as_str(),
-        new: places.new_journal.as_str(),
-        text: places.text,
+        given: paths.journal.as_str(),
+        own: paths.journal.as_str(),
+        new: paths.new_journal.as_str(),
+        text: paths.text,
         new_file,
         bytes,
         sent: 0,
@@ -146,9 +146,9 @@ fn outcome<F: Drop>(
         End::InPlace => Ok(false),
         End::Unknown if journal.is_out_of_memory => Err(RunFault::Memory),
         End::Unknown => Err(RunFault::Read),
-        End::Error(Part::Text) => Err(unwritten(session_part(Part::Text), text.sent)),
+        End::Error(Part::Text) => Err(write_fault(session_part(Part::Text), text.sent)),
         End::Error(Part::Journal) | End::Late => {
-            Err(unwritten(session_part(Part::Journal), journal.sent))
+            Err(write_fault(session_part(Part::Journal), journal.sent))
         }
     }
 }
@@ -193,7 +193,7 @@ fn make<R: Files>(rt: &R, alloc: Global, file: &mut PartFile<'_, R::File>, call:
 fn reply_to<T: Drop>(answer: io::Result<T>) -> Reply {
     match answer {
         Ok(_) => Reply::Done,
-        Err(error) if tells_absence(&error) => Reply::NotFound,
+        Err(error) if is_not_found(&error) => Reply::NotFound,
         Err(_) => Reply::Failed,
     }
 }
@@ -213,7 +213,7 @@ fn write<F: Write + Drop>(part: Part, file: &mut PartFile<'_, F>) -> Reply {
     let NewFile::Created(created) = &mut file.new_file else {
         return Reply::Failed;
     };
-    match put_part(session_part(part), file.bytes, created) {
+    match write_part(session_part(part), file.bytes, created) {
         Ok(()) => {
             file.sent = file.bytes.len();
             Reply::Done

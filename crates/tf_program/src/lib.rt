@@ -3,15 +3,15 @@
 
 mod adoption;
 mod calls;
+mod file_part;
+mod file_paths;
 mod files;
-mod journals;
-mod listing;
+mod journaled_file;
 mod new_file;
-mod overwriting;
-mod parts;
-mod places;
-mod saving;
+mod overwrite_files;
+mod record_list;
+mod run;
+mod save_files;
 mod snapshot;
-mod worker;
 
-pub use worker::work;
+pub use run::work;

@@ -1,7 +1,7 @@
 //! The new file that is to replace an old one.
 
 use crate::calls::{NewFile, PartFile};
-use crate::places::tells_absence;
+use crate::file_paths::is_not_found;
 use std::fs::{self, Metadata, OpenFile, OpenOptions};
 use std::io::{self, ErrorKind};
 use std::os::unix::fs::{MetadataExt, OpenOptionsExt, PermissionsExt, lchown};
@@ -17,7 +17,7 @@ pub fn create_new<R: Files>(rt: &R, file: &mut PartFile<'_, R::File>) -> Reply {
     match fs::symlink_metadata(rt, file.own) {
         Ok(old) if old.is_file() && old.nlink() == 1 => {}
         Ok(_) => return Reply::CannotReplace,
-        Err(error) if tells_absence(&error) => {}
+        Err(error) if is_not_found(&error) => {}
         Err(_) => return Reply::Failed,
     }
     let mut options = OpenOptions::new();
@@ -72,7 +72,7 @@ fn is_ruled_out(error: &io::Error) -> bool {
 /// text's file.
 pub fn copy_attributes<R: Files>(rt: &R, file: &PartFile<'_, R::File>) -> Reply {
     let old = match fs::symlink_metadata(rt, file.own) {
-        Err(error) if tells_absence(&error) => fs::metadata(rt, file.text),
+        Err(error) if is_not_found(&error) => fs::metadata(rt, file.text),
         found => found,
     };
     match (old, &file.new_file) {
@@ -119,7 +119,7 @@ fn find_created<R: Files>(rt: &R, created: &R::File, name: &str) -> Reply {
                 Reply::NotFound
             }
         }
-        (Ok(_), Err(error)) if tells_absence(&error) => Reply::NotFound,
+        (Ok(_), Err(error)) if is_not_found(&error) => Reply::NotFound,
         _ => Reply::Failed,
     }
 }

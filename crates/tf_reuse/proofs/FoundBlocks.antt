@@ -7,59 +7,59 @@ use Rattle.hcl_grammar.specs.declared.tree.Attribute.{Attribute}
 use Rattle.hcl_grammar.specs.declared.tree.Block.{Block, roll-Block}
 use Rattle.hcl_grammar.specs.declared.tree.Content.{Content, out-Content}
 use Rattle.hcl_grammar.specs.declared.tree.Expr.{Expr}
-use Rattle.hcl_grammar.specs.declared.tree.Form.{Form, out-Form}
+use Rattle.hcl_grammar.specs.declared.tree.ExprKind.{ExprKind, out-ExprKind}
 use Rattle.hcl_grammar.specs.declared.tree.Label.{Label}
 use Rattle.hcl_grammar.specs.declared.tree.Member.{Member}
 use Rattle.hcl_grammar.specs.declared.tree.Part.{Part}
-use Rattle.hcl_grammar.specs.declared.tree.Shape.{Shape, out-Shape}
+use Rattle.hcl_grammar.specs.declared.tree.Primary.{Primary, out-Primary}
 use Rattle.hcl_grammar.specs.declared.tree.Term.{Term}
 use Rattle.hcl_grammar.specs.Nodes as node
 use Rattle.hcl_grammar_laws.proofs.Opens as opens
 use Rattle.hcl_scan.specs.Follows.{tokens_of}
 use Rattle.hcl_token.specs.Tokens.{Pair}
-use Rattle.tf_reuse.specs.Keeping.{SameTokens}
-use Rattle.tf_reuse.specs.Moving.{moved, moved_finding}
-use Rattle.tf_reuse.proofs.Moved as moves_as
-use Rattle.tf_reuse.proofs.Moved.{MovedNumber, MovedExpr, MovedForm, MovedTerm, MovedShape, MovedParts, MovedLabels, MovedOnLine, MovedMember, MovedContent, MovedMembers}
-use Rattle.tf_reuse.proofs.MovedSpans.{moved_token, spelling_moved}
-use Rattle.tf_reuse.proofs.Moves.{Moves, either, append, finding_moves, no_fix}
-use Rattle.tf_reuse.proofs.Moves as moves
+use Rattle.tf_reuse.specs.MembersKeep.{SameTokens}
+use Rattle.tf_reuse.specs.Renumbering.{renumber, renumber_finding}
+use Rattle.tf_reuse.proofs.RenumberedNodes as moves_as
+use Rattle.tf_reuse.proofs.RenumberedNodes.{MovedNumber, MovedExpr, MovedForm, MovedTerm, MovedShape, MovedParts, MovedLabels, MovedOnLine, MovedMember, MovedContent, MovedMembers}
+use Rattle.tf_reuse.proofs.RenumberedTrivia.{moved_token, spelling_moved}
+use Rattle.tf_reuse.proofs.Renumbering.{Moves, either, append, finding_moves, no_fix}
+use Rattle.tf_reuse.proofs.Renumbering as moves
 use Rattle.tf_reuse.proofs.Window.{Here, Same}
 use Rattle.tf_rule.specs.declared.finding.Message.{Message}
-use Rattle.tf_rule.specs.declared.finding.Named.{Named}
-use Rattle.tf_rule.specs.declared.finding.Named.TheVariants.{Local}
+use Rattle.tf_rule.specs.declared.finding.NameKind.{NameKind}
+use Rattle.tf_rule.specs.declared.finding.NameKind.TheVariants.{Local}
 use Rattle.tf_rule.specs.declared.rule.Rule.{Rule}
 use Rattle.tf_rule.specs.declared.rule.Rule.TheVariants.{NamingConvention, TypedVariables, DocumentedVariables, DocumentedOutputs}
 use Rattle.tf_rule.specs.declared.rule_set.RuleSet.{RuleSet}
-use Rattle.tf_rule.specs.Findings.{sound}
+use Rattle.tf_rule.specs.Findings.{valid_findings}
 use Rattle.tf_rule.specs.RuleSets.{has_rule}
-use Rattle.tf_rules.specs.Attributes.{attributes, attributes_in, member_attributes, is_none_of, is_empty_text_shape, is_empty_text_form, is_empty_text, has_attribute}
-use Rattle.tf_rules.specs.Layers.{FormLayer, ShapeLayer}
-use Rattle.tf_rules.specs.Rules.Missing.{is_undocumented, missing, untyped_findings, undocumented_findings, missing_findings}
-use Rattle.tf_rules.specs.Rules.Naming.{naming_finding, declaration, label_findings, declared_findings, local_findings, naming_findings}
+use Rattle.tf_rules.specs.Attributes.{attributes, layer_attributes, member_attributes, has_no_parts, is_empty_string_primary, is_empty_string_kind, is_empty_string, has_attribute}
+use Rattle.tf_rules.specs.TreeLayers.{ExprKindLayer, PrimaryLayer}
+use Rattle.tf_rules.specs.Rules.Missing.{is_undocumented, missing_finding, untyped_findings, undocumented_findings, missing_findings}
+use Rattle.tf_rules.specs.Rules.Naming.{naming_finding, declared_name, label_findings, declared_findings, local_findings, naming_findings}
 use Rattle.tf_rules.specs.SnakeCase.{is_snake_case}
-use Rattle.tf_rules.specs.TopFindings.{block_findings, member_findings}
-use Rattle.tf_rules.specs.Words.{word, name_at}
+use Rattle.tf_rules.specs.TopLevelFindings.{top_level_block_findings, top_level_member_findings}
+use Rattle.tf_rules.specs.Spelling.{token_text, name_text}
 
-abbrev message : Option Named → Option ℕ → Message
-message named name = record { named = named; name = name }
+abbrev message : Option NameKind → Option ℕ → Message
+message named name = record { kind = named; name = name }
 
 -- ---- `""`
 
-same_shape : (x x' : Shape) (s s' : ShapeLayer) → out-Shape x ≡ s → out-Shape x' ≡ s' → is_empty_text_shape s' ≡ is_empty_text_shape s
-    → is_empty_text_shape (out-Shape x') ≡ is_empty_text_shape (out-Shape x)
-same_shape x x' s s' p q e = ap is_empty_text_shape q ∙ e ∙ sym (ap is_empty_text_shape p)
+same_shape : (x x' : Primary) (s s' : PrimaryLayer) → out-Primary x ≡ s → out-Primary x' ≡ s' → is_empty_string_primary s' ≡ is_empty_string_primary s
+    → is_empty_string_primary (out-Primary x') ≡ is_empty_string_primary (out-Primary x)
+same_shape x x' s s' p q e = ap is_empty_string_primary q ∙ e ∙ sym (ap is_empty_string_primary p)
 
-same_form : (x x' : Form) (s s' : FormLayer) → out-Form x ≡ s → out-Form x' ≡ s' → is_empty_text_form s' ≡ is_empty_text_form s
-    → is_empty_text_form (out-Form x') ≡ is_empty_text_form (out-Form x)
-same_form x x' s s' p q e = ap is_empty_text_form q ∙ e ∙ sym (ap is_empty_text_form p)
+same_form : (x x' : ExprKind) (s s' : ExprKindLayer) → out-ExprKind x ≡ s → out-ExprKind x' ≡ s' → is_empty_string_kind s' ≡ is_empty_string_kind s
+    → is_empty_string_kind (out-ExprKind x') ≡ is_empty_string_kind (out-ExprKind x)
+same_form x x' s s' p q e = ap is_empty_string_kind q ∙ e ∙ sym (ap is_empty_string_kind p)
 
 module _ (R T : ℕ → ℕ → Type 0) where
-  empty_parts : {ps ps' : List Part} → MovedParts R T ps ps' → is_none_of ps' ≡ is_none_of ps
+  empty_parts : {ps ps' : List Part} → MovedParts R T ps ps' → has_no_parts ps' ≡ has_no_parts ps
   empty_parts moves_as.no_parts = refl
   empty_parts (moves_as.parts x xs) = refl
 
-  empty_shape : {x x' : Shape} → MovedShape R T x x' → is_empty_text_shape (out-Shape x') ≡ is_empty_text_shape (out-Shape x)
+  empty_shape : {x x' : Primary} → MovedShape R T x x' → is_empty_string_primary (out-Primary x') ≡ is_empty_string_primary (out-Primary x)
   unfolding node.call node.for_tuple node.for_object node.template
   empty_shape moves_as.number = refl
   empty_shape moves_as.identifier = refl
@@ -72,18 +72,18 @@ module _ (R T : ℕ → ℕ → Type 0) where
   empty_shape (moves_as.heredoc t) = same_shape _ _ _ _ (opens.open_heredoc _) (opens.open_heredoc _) refl
   empty_shape (moves_as.parens e) = same_shape _ _ _ _ (opens.open_parens _) (opens.open_parens _) refl
 
-  empty_term : {t t' : Term} → MovedTerm R T t t' → is_empty_text_shape (out-Shape t'.shape) ≡ is_empty_text_shape (out-Shape t.shape)
+  empty_term : {t t' : Term} → MovedTerm R T t t' → is_empty_string_primary (out-Primary t'.kind) ≡ is_empty_string_primary (out-Primary t.kind)
   unfolding node.term
   empty_term (moves_as.moved_term p q l x) = empty_shape x
 
-  empty_form : {x x' : Form} → MovedForm R T x x' → is_empty_text_form (out-Form x') ≡ is_empty_text_form (out-Form x)
+  empty_form : {x x' : ExprKind} → MovedForm R T x x' → is_empty_string_kind (out-ExprKind x') ≡ is_empty_string_kind (out-ExprKind x)
   empty_form (moves_as.conditional c a b) = same_form _ _ _ _ (opens.open_conditional _ _ _) (opens.open_conditional _ _ _) refl
   empty_form (moves_as.chain h ls) = same_form _ _ _ _ (opens.open_chain _ _) (opens.open_chain _ _) refl
   empty_form (moves_as.prefixed op e) = same_form _ _ _ _ (opens.open_prefixed _ _) (opens.open_prefixed _ _) refl
   empty_form (moves_as.tailed t xs) = same_form _ _ _ _ (opens.open_tailed _ _) (opens.open_tailed _ _) refl
   empty_form (moves_as.plain t) = same_form _ _ _ _ (opens.open_plain _) (opens.open_plain _) (empty_term t)
 
-  empty_expr : {e e' : Expr} → MovedExpr R T e e' → is_empty_text e' ≡ is_empty_text e
+  empty_expr : {e e' : Expr} → MovedExpr R T e e' → is_empty_string e' ≡ is_empty_string e
   unfolding node.expr
   empty_expr (moves_as.moved_expr p q l x) = empty_form x
 
@@ -99,14 +99,14 @@ module _ (old new : List Pair) {from to count : ℕ} (w : SameTokens (tokens_of 
   behind : {n n' : ℕ} → Same w n n' → Here w (n + 1) (n' + 1)
   behind h = record { before = h.before + 1; within = omega (arith, h.within); in_old = omega (arith, h.in_old); in_new = omega (arith, h.in_new) }
 
-  pub word_moves : {n n' : ℕ} → Same w n n' → word new n' ≡ word old n
+  pub word_moves : {n n' : ℕ} → Same w n n' → token_text new n' ≡ token_text old n
   word_moves h = ap (λ (o : Option (List ℕ)). unwrap_or o []) (spelling_moved old new w h)
 
-  name_moves : {o o' : Option ℕ} → MovedNumber (Here w) (Same w) o o' → name_at new o' ≡ name_at old o
+  name_moves : {o o' : Option ℕ} → MovedNumber (Here w) (Same w) o o' → name_text new o' ≡ name_text old o
   name_moves moves_as.no_number = refl
   name_moves (moves_as.one_number h) = word_moves h
 
-  pub number_moves : {o o' : Option ℕ} → MovedNumber (Here w) (Same w) o o' → o' ≡ option_map (moved from to) o
+  pub number_moves : {o o' : Option ℕ} → MovedNumber (Here w) (Same w) o o' → o' ≡ option_map (renumber from to) o
   number_moves moves_as.no_number = refl
   number_moves (moves_as.one_number h) = ap Some (moved_token old new w h)
 
@@ -114,7 +114,7 @@ module _ (old new : List Pair) {from to count : ℕ} (w : SameTokens (tokens_of 
 
   data SameAttributes : List Attribute → List Attribute → Type 0 where
     none : SameAttributes [] []
-    more : {a a' : Attribute} {xs xs' : List Attribute} → Same w a.name a'.name → is_empty_text a'.value ≡ is_empty_text a.value → SameAttributes xs xs'
+    more : {a a' : Attribute} {xs xs' : List Attribute} → Same w a.name a'.name → is_empty_string a'.value ≡ is_empty_string a.value → SameAttributes xs xs'
         → SameAttributes (a ∷ xs) (a' ∷ xs')
 
   attribute_moves : {i i' j j' : ℕ} {e e' : Expr} → Here w i i' → Here w j j' → i < j → MovedExpr (Here w) (Same w) e e' → {xs xs' : List Attribute} → SameAttributes xs xs'
@@ -123,7 +123,7 @@ module _ (old new : List Pair) {from to count : ℕ} (w : SameTokens (tokens_of 
   attribute_moves h g l x more_ones = more (first_same h g l) (empty_expr (Here w) (Same w) x) more_ones
 
   rolled : ℕ → ℕ → List Label → Content → Block
-  rolled i j ls x = roll-Block (record { first = i; past = j; word = i; labels = ls; content = x })
+  rolled i j ls x = roll-Block (record { first = i; past = j; block_type = i; labels = ls; content = x })
 
   members_attributes : {ms ms' : List Member} → MovedMembers (Here w) (Same w) ms ms' → SameAttributes (flat_map member_attributes ms) (flat_map member_attributes ms')
   unfolding node.block rolled
@@ -133,7 +133,7 @@ module _ (old new : List Pair) {from to count : ℕ} (w : SameTokens (tokens_of 
   members_attributes (moves_as.members (moves_as.block {i} {i'} {j} {j'} {ls} {ls'} {x} {x'} h g l n c) r) =
       rw (opens.open_block (rolled i j ls x), opens.open_block (rolled i' j' ls' x')) (members_attributes r)
 
-  content_attributes : {x x' : Content} → MovedContent (Here w) (Same w) x x' → SameAttributes (attributes_in (out-Content x)) (attributes_in (out-Content x'))
+  content_attributes : {x x' : Content} → MovedContent (Here w) (Same w) x x' → SameAttributes (layer_attributes (out-Content x)) (layer_attributes (out-Content x'))
   unfolding node.body
   content_attributes (moves_as.body {i} {i'} {j} {j'} {ms} {ms'} h g ns) = rw (opens.open_lines (node.body i j ms), opens.open_lines (node.body i' j' ms')) (members_attributes ns)
   content_attributes (moves_as.on_line moves_as.nothing) = rw (opens.open_line None) none
@@ -161,17 +161,17 @@ module _ (old new : List Pair) {from to count : ℕ} (w : SameTokens (tokens_of 
 
   -- ---- names
 
-  naming_moves : (named : Named) {o o' : Option ℕ} {i i' j j' : ℕ} → MovedNumber (Here w) (Same w) o o' → Here w i i' → Here w j j'
+  naming_moves : (named : NameKind) {o o' : Option ℕ} {i i' j j' : ℕ} → MovedNumber (Here w) (Same w) o o' → Here w i i' → Here w j j'
       → Moves old new from to (naming_finding old named o i j) (naming_finding new named o' i' j')
   naming_moves named {o} {o'} n h g =
       either (ap is_snake_case (name_moves n)) moves.none
       (finding_moves old new w NamingConvention h g (ap (λ (m : Option ℕ). message (Some named) m) (number_moves n)) no_fix)
 
-  label_moves : (named : Named) {o o' : Option Label} → SameLabel o o' → Moves old new from to (label_findings old named o) (label_findings new named o')
+  label_moves : (named : NameKind) {o o' : Option Label} → SameLabel o o' → Moves old new from to (label_findings old named o) (label_findings new named o')
   label_moves named no_label = moves.none
   label_moves named (one_label n h g) = naming_moves named n h g
 
-  declared_moves : (b b' : Block) → MovedLabels (Here w) (Same w) b.labels b'.labels → (o : Option (Named × ℕ))
+  declared_moves : (b b' : Block) → MovedLabels (Here w) (Same w) b.labels b'.labels → (o : Option (NameKind × ℕ))
       → Moves old new from to (declared_findings old b o) (declared_findings new b' o)
   declared_moves b b' ls None = moves.none
   declared_moves b b' ls (Some (named, k)) = label_moves named (label_at ls k)
@@ -184,34 +184,34 @@ module _ (old new : List Pair) {from to count : ℕ} (w : SameTokens (tokens_of 
 
   -- what the rules on blocks ask of a block
   record SameBlock (b b' : Block) : Type 0 where
-    pub name : Same w b.word b'.word
+    pub name : Same w b.block_type b'.block_type
     pub labelled : MovedLabels (Here w) (Same w) b.labels b'.labels
     pub inside : SameAttributes (attributes b) (attributes b')
 
   names_move : (b b' : Block) → SameBlock b b' → Moves old new from to (naming_findings old b) (naming_findings new b')
   names_move b b' s =
       let e = word_moves s.name in
-      let declared = declared_moves b b' s.labelled (declaration (word old b.word)) in
-      append (subst (λ (k : List ℕ). Moves old new from to (declared_findings old b (declaration (word old b.word))) (declared_findings new b' (declaration k))) (sym e) declared)
+      let declared = declared_moves b b' s.labelled (declared_name (token_text old b.block_type)) in
+      append (subst (λ (k : List ℕ). Moves old new from to (declared_findings old b (declared_name (token_text old b.block_type))) (declared_findings new b' (declared_name k))) (sym e) declared)
       (either (ap (λ k. bytes_eq k (codes "locals")) e) (locals_moves s.inside) moves.none)
 
   missing_moves : (rule : Rule) (b b' : Block) → SameBlock b b' → {o o' : Option ℕ} → MovedNumber (Here w) (Same w) o o'
-      → Moves old new from to (missing rule b o) (missing rule b' o')
+      → Moves old new from to (missing_finding rule b o) (missing_finding rule b' o')
   missing_moves rule b b' s n = finding_moves old new w rule (at s.name) (behind s.name) (ap (λ (m : Option ℕ). message None m) (number_moves n)) no_fix
 
   untyped_moves : (rules : RuleSet) (b b' : Block) → SameBlock b b' → (l l' : Label) → MovedNumber (Here w) (Same w) l.name l'.name
       → Moves old new from to (untyped_findings rules old b l) (untyped_findings rules new b' l')
   untyped_moves rules b b' s l l' n =
-      let e : (has_rule rules TypedVariables && (bytes_eq (word new b'.word) (codes "variable") && not (has_attribute new (codes "type") false (attributes b'))))
-      ≡ (has_rule rules TypedVariables && (bytes_eq (word old b.word) (codes "variable") && not (has_attribute old (codes "type") false (attributes b)))) =
+      let e : (has_rule rules TypedVariables && (bytes_eq (token_text new b'.block_type) (codes "variable") && not (has_attribute new (codes "type") false (attributes b'))))
+      ≡ (has_rule rules TypedVariables && (bytes_eq (token_text old b.block_type) (codes "variable") && not (has_attribute old (codes "type") false (attributes b)))) =
       ap₂ (λ a b. has_rule rules TypedVariables && (bytes_eq a (codes "variable") && not b)) (word_moves s.name) (has_moves (codes "type") false s.inside) in
       either e (missing_moves TypedVariables b b' s n) moves.none
 
   undocumented_finds : (rules : RuleSet) (rule : Rule) (kind : List ℕ) (b b' : Block) → SameBlock b b' → (l l' : Label) → MovedNumber (Here w) (Same w) l.name l'.name
       → Moves old new from to (undocumented_findings rules old rule kind b l) (undocumented_findings rules new rule kind b' l')
   undocumented_finds rules rule kind b b' s l l' n =
-      let e : (has_rule rules rule && (bytes_eq (word new b'.word) kind && is_undocumented new (attributes b')))
-      ≡ (has_rule rules rule && (bytes_eq (word old b.word) kind && is_undocumented old (attributes b))) =
+      let e : (has_rule rules rule && (bytes_eq (token_text new b'.block_type) kind && is_undocumented new (attributes b')))
+      ≡ (has_rule rules rule && (bytes_eq (token_text old b.block_type) kind && is_undocumented old (attributes b))) =
       ap₂ (λ a b. has_rule rules rule && (bytes_eq a kind && b)) (word_moves s.name) (undocumented_moves s.inside) in
       either e (missing_moves rule b b' s n) moves.none
 
@@ -222,12 +222,12 @@ module _ (old new : List Pair) {from to count : ℕ} (w : SameTokens (tokens_of 
       append (untyped_moves rules b b' s l l' n)
       (append (undocumented_finds rules DocumentedVariables (codes "variable") b b' s l l' n) (undocumented_finds rules DocumentedOutputs (codes "output") b b' s l l' n))
 
-  block_moves : (rules : RuleSet) (b b' : Block) → SameBlock b b' → Moves old new from to (block_findings rules old b) (block_findings rules new b')
+  block_moves : (rules : RuleSet) (b b' : Block) → SameBlock b b' → Moves old new from to (top_level_block_findings rules old b) (top_level_block_findings rules new b')
   block_moves rules b b' s =
       let on = has_rule rules NamingConvention in
       append (either {b = on} {b' = on} refl (names_move b b' s) moves.none) (missing_ones rules b b' s (label_at s.labelled 0))
 
-  top_moved : (rules : RuleSet) {x y : Member} → MovedMember (Here w) (Same w) x y → Moves old new from to (member_findings rules old x) (member_findings rules new y)
+  top_moved : (rules : RuleSet) {x y : Member} → MovedMember (Here w) (Same w) x y → Moves old new from to (top_level_member_findings rules old x) (top_level_member_findings rules new y)
   unfolding node.block rolled
   top_moved rules (moves_as.attribute {i} {i'} {j} {j'} {e} {e'} h g l x) = rw (opens.open_attribute (node.attribute i j e), opens.open_attribute (node.attribute i' j' e')) moves.none
   top_moved rules (moves_as.block {i} {i'} {j} {j'} {ls} {ls'} {x} {x'} h g l n c) =
@@ -236,5 +236,5 @@ module _ (old new : List Pair) {from to count : ℕ} (w : SameTokens (tokens_of 
       rw (opens.open_block b, opens.open_block b') (block_moves rules b b' (record { name = first_same h g l; labelled = n; inside = content_attributes c }))
 
   pub top_moves : (rules : RuleSet) {x y : Member} → MovedMember (Here w) (Same w) x y
-      → sound (length new) (member_findings rules new y) ≡ map (moved_finding from to) (sound (length old) (member_findings rules old x))
+      → valid_findings (length new) (top_level_member_findings rules new y) ≡ map (renumber_finding from to) (valid_findings (length old) (top_level_member_findings rules old x))
   top_moves rules m = (top_moved rules m).is

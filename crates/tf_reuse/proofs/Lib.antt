@@ -1,12 +1,12 @@
 pub mod Window
-pub mod Moved
+pub mod RenumberedNodes
 mod MoveLines
 mod MoveExpressions
 mod MoveBodies
-mod MovedSpans
-mod Moves
-mod MovedFindings
+mod RenumberedTrivia
+mod Renumbering
+mod RenumberedFindings
 mod FoundNodes
 mod FoundBlocks
 mod FoundMember
-mod Keep
+mod MembersKeep

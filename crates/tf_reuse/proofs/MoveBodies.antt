@@ -8,19 +8,19 @@ use Rattle.hcl_grammar.specs.declared.tree.Expr.{Expr}
 use Rattle.hcl_grammar.specs.declared.tree.Label.{Label}
 use Rattle.hcl_grammar.specs.declared.tree.Member.{Member}
 use Rattle.hcl_grammar.specs.declared.tree.Member.TheVariants as member
-use Rattle.hcl_grammar.specs.Bodies.{IsLabels, no_labels, word_label, text_label, empty_label, IsOnLine, nothing, one, IsMembers, no_members, blank, attribute, block, line_block}
+use Rattle.hcl_grammar.specs.Bodies.{IsLabels, no_labels, word_label, text_label, empty_label, IsOneLineBody, nothing, one, IsMembers, no_members, blank, attribute, block, line_block}
 use Rattle.hcl_grammar.specs.Grammar.{IsExpr}
-use Rattle.hcl_grammar.specs.Lines.{At, IsLine, line_end, comment, IsEol, eol_line, eol_end, eol_comment}
+use Rattle.hcl_grammar.specs.Lookahead.{NextIs, IsNewline, line_end, comment, IsEol, eol_line, eol_end, eol_comment}
 use Rattle.hcl_grammar.specs.Nodes as node
-use Rattle.hcl_grammar.specs.Tokens.{Token, start, next, after, first_of}
+use Rattle.hcl_grammar.specs.Tokens.{Token, next_index, next_kind, after_next, first_token_in}
 use Rattle.hcl_grammar_laws.proofs.Spans.{span_line, span_eol, span_expr, span_labels, span_on_line, span_members}
-use Rattle.tf_reuse.specs.Keeping.{SameTokens}
+use Rattle.tf_reuse.specs.MembersKeep.{SameTokens}
 use Rattle.tf_reuse.specs.OneMember.{IsOneMember}
 use Rattle.tf_reuse.specs.OneMember as alone
 use Rattle.tf_reuse.proofs.MoveExpressions.{move_expr}
 use Rattle.tf_reuse.proofs.MoveLines.{move_line}
-use Rattle.tf_reuse.proofs.Moved.{MovedExpr, MovedLabels, MovedOnLine, MovedMember, MovedMembers}
-use Rattle.tf_reuse.proofs.Moved as moved
+use Rattle.tf_reuse.proofs.RenumberedNodes.{MovedExpr, MovedLabels, MovedOnLine, MovedMember, MovedMembers}
+use Rattle.tf_reuse.proofs.RenumberedNodes as moved
 use Rattle.tf_reuse.proofs.Window.{Here, Same, Comes, starts, starts_here, afters, nexts, some_next, comes_end, comes_within, earlier, firsts}
 
 -- one member in front of others
@@ -30,30 +30,30 @@ in_front (alone.block p ls br nl bs cl el) r = block p ls br nl bs cl el r
 in_front (alone.line_block p ls br x cl el) r = line_block p ls br x cl el r
 
 module _ {old new : List Token} {from to count : ℕ} (w : SameTokens old new from to count) where
-  begins : (i : ℕ) → start old false i < after old false i
-  unfolding after
+  begins : (i : ℕ) → next_index old false i < after_next old false i
+  unfolding after_next
   begins i = omega arith
 
-  goes : (i : ℕ) → i < after old false i
-  unfolding after start
+  goes : (i : ℕ) → i < after_next old false i
+  unfolding after_next next_index
   goes i = omega arith
 
   -- what comes next is one of the tokens, if what comes behind it is
-  back : (i : ℕ) → Comes w false (after old false i) → Comes w false i
-  back i c = earlier w false i (after old false i) (omega (arith, goes i)) c
+  back : (i : ℕ) → Comes w false (after_next old false i) → Comes w false i
+  back i c = earlier w false i (after_next old false i) (omega (arith, goes i)) c
 
-  at : (t : Kind) {i i' : ℕ} → Here w i i' → Comes w false i → At old false t i → At new false t i'
+  at : (t : Kind) {i i' : ℕ} → Here w i i' → Comes w false i → NextIs old false t i → NextIs new false t i'
   at t h c p = nexts w false h c ∙ p
 
   -- ---- ends of lines
 
-  eol_comes : {i j : ℕ} → IsEol old i j → j ≤ from + count → next old false j ≢ None → Comes w false i
+  eol_comes : {i j : ℕ} → IsEol old i j → j ≤ from + count → next_kind old false j ≢ None → Comes w false i
   eol_comes (eol_line (line_end {i} q)) l n = comes_within w false i l
-  eol_comes (eol_line (comment {i} p q)) l n = back i (comes_within w false (after old false i) l)
+  eol_comes (eol_line (comment {i} p q)) l n = back i (comes_within w false (after_next old false i) l)
   eol_comes (eol_end e) l n = absurd (n e)
   eol_comes (eol_comment p e) l n = absurd (n e)
 
-  pub move_eol : {i i' j : ℕ} → IsEol old i j → Here w i i' → j ≤ from + count → next old false j ≢ None → (j' : ℕ) × Here w j j' × IsEol new i' j'
+  pub move_eol : {i i' j : ℕ} → IsEol old i j → Here w i i' → j ≤ from + count → next_kind old false j ≢ None → (j' : ℕ) × Here w j j' × IsEol new i' j'
   move_eol (eol_line q) h l n = let (j', hj, q') = move_line w q h l in (j', hj, eol_line q')
   move_eol (eol_end e) h l n = absurd (n e)
   move_eol (eol_comment p e) h l n = absurd (n e)
@@ -64,56 +64,56 @@ module _ {old new : List Token} {from to count : ℕ} (w : SameTokens old new fr
       → (ls' : List Label) × (j' : ℕ) × Here w j j' × IsLabels new ls' i' j' × MovedLabels (Here w) (Same w) ls ls'
   move_labels {i'} no_labels h c = ([], i', h, no_labels, moved.no_labels)
   move_labels {i'} (word_label {i} {j} p r) h c =
-      let c0 = back i (earlier w false (after old false i) j (span_labels r).forth c) in
+      let c0 = back i (earlier w false (after_next old false i) j (span_labels r).forth c) in
       let h1 = afters w false h c0 in
       let (ls', j', hj, r', x) = move_labels r h1 c in (
-        node.label (start new false i') (after new false i') (Some (start new false i')) ∷ ls',
+        node.label (next_index new false i') (after_next new false i') (Some (next_index new false i')) ∷ ls',
         j',
         hj,
         word_label {ls = ls'} {j = j'} (at k.Identifier h c0 p) r',
         moved.labels {ls' = ls'} (starts_here w false h c0) h1 (begins i) (moved.one_number (starts w false h c0)) x,
       )
   move_labels {i'} (text_label {i} {j} p q s r) h c =
-      let i1 = after old false i in
-      let i2 = after old false i1 in
-      let c2 = back i2 (earlier w false (after old false i2) j (span_labels r).forth c) in
+      let i1 = after_next old false i in
+      let i2 = after_next old false i1 in
+      let c2 = back i2 (earlier w false (after_next old false i2) j (span_labels r).forth c) in
       let c1 = back i1 c2 in
       let c0 = back i c1 in
       let h1 = afters w false h c0 in
       let h2 = afters w false h1 c1 in
       let h3 = afters w false h2 c2 in
       let (ls', j', hj, r', x) = move_labels r h3 c in (
-        node.label (start new false i') (after new false (after new false (after new false i'))) (Some (start new false (after new false i'))) ∷ ls',
+        node.label (next_index new false i') (after_next new false (after_next new false (after_next new false i'))) (Some (next_index new false (after_next new false i'))) ∷ ls',
         j',
         hj,
         text_label {ls = ls'} {j = j'} (at k.QuoteOpen h c0 p) (at k.QuoteLit h1 c1 q) (at k.QuoteClose h2 c2 s) r',
         moved.labels {ls' = ls'} (starts_here w false h c0) h3 (omega (arith, begins i, goes i1, goes i2)) (moved.one_number (starts w false h1 c1)) x,
       )
   move_labels {i'} (empty_label {i} {j} p q r) h c =
-      let i1 = after old false i in
-      let c1 = back i1 (earlier w false (after old false i1) j (span_labels r).forth c) in
+      let i1 = after_next old false i in
+      let c1 = back i1 (earlier w false (after_next old false i1) j (span_labels r).forth c) in
       let c0 = back i c1 in
       let h1 = afters w false h c0 in
       let h2 = afters w false h1 c1 in
       let (ls', j', hj, r', x) = move_labels r h2 c in (
-        node.label (start new false i') (after new false (after new false i')) None ∷ ls',
+        node.label (next_index new false i') (after_next new false (after_next new false i')) None ∷ ls',
         j',
         hj,
         empty_label {ls = ls'} {j = j'} (at k.QuoteOpen h c0 p) (at k.QuoteClose h1 c1 q) r',
         moved.labels {ls' = ls'} (starts_here w false h c0) h2 (omega (arith, begins i, goes i1)) moved.no_number x,
       )
 
-  pub move_on_line : {d : ℕ} {o : Option Attribute} {i i' j : ℕ} → IsOnLine old d o i j → Here w i i' → Comes w false j
-      → (o' : Option Attribute) × (j' : ℕ) × Here w j j' × IsOnLine new d o' i' j' × MovedOnLine (Here w) (Same w) o o'
+  pub move_on_line : {d : ℕ} {o : Option Attribute} {i i' j : ℕ} → IsOneLineBody old d o i j → Here w i i' → Comes w false j
+      → (o' : Option Attribute) × (j' : ℕ) × Here w j j' × IsOneLineBody new d o' i' j' × MovedOnLine (Here w) (Same w) o o'
   move_on_line {i'} nothing h c = (None, i', h, nothing, moved.nothing)
   move_on_line {i'} (one {i} {j} p q x) h c =
-      let i1 = after old false i in
+      let i1 = after_next old false i in
       let on = (span_expr x).forth in
-      let c1 = back i1 (earlier w false (after old false i1) j on c) in
+      let c1 = back i1 (earlier w false (after_next old false i1) j on c) in
       let c0 = back i c1 in
       let h1 = afters w false h c0 in
       let (e', j', hj, x', m) = move_expr w x (afters w false h1 c1) c in (
-        Some (node.attribute (start new false i') j' e'),
+        Some (node.attribute (next_index new false i') j' e'),
         j',
         hj,
         one {e = e'} {j = j'} (at k.Identifier h c0 p) (at k.Equal h1 c1 q) x',
@@ -128,18 +128,18 @@ module _ {old new : List Token} {from to count : ℕ} (w : SameTokens old new fr
   abbrev MovesMembers : ℕ → List Member → ℕ → ℕ → Type 0
   MovesMembers d ms i' j = (ns : List Member) × (j' : ℕ) × Here w j j' × IsMembers new d ns i' j' × MovedMembers (Here w) (Same w) ms ns
 
-  move_attribute : {d : ℕ} {e : Expr} {i i' j n : ℕ} → At old false k.Identifier i → At old false k.Equal (after old false i) → IsExpr old d false e (after old false (after old false i)) j → IsEol old j n
-      → Here w i i' → n ≤ from + count → next old false n ≢ None → MovesMember d (member.Attribute (node.attribute (start old false i) n e)) i' n
+  move_attribute : {d : ℕ} {e : Expr} {i i' j n : ℕ} → NextIs old false k.Identifier i → NextIs old false k.Equal (after_next old false i) → IsExpr old d false e (after_next old false (after_next old false i)) j → IsEol old j n
+      → Here w i i' → n ≤ from + count → next_kind old false n ≢ None → MovesMember d (member.Attribute (node.attribute (next_index old false i) n e)) i' n
   move_attribute {i} {i'} {j} p q x el h l some =
-      let i1 = after old false i in
+      let i1 = after_next old false i in
       let cj = eol_comes el l some in
       let on = (span_expr x).forth in
-      let c1 = back i1 (earlier w false (after old false i1) j on cj) in
+      let c1 = back i1 (earlier w false (after_next old false i1) j on cj) in
       let c0 = back i c1 in
       let h1 = afters w false h c0 in
       let (e', j', hj, x', m) = move_expr w x (afters w false h1 c1) cj in
       let (n', hn, el') = move_eol el hj l some in (
-        member.Attribute (node.attribute (start new false i') n' e'),
+        member.Attribute (node.attribute (next_index new false i') n' e'),
         n',
         hn,
         alone.attribute {e = e'} {j = j'} {n = n'} (at k.Identifier h c0 p) (at k.Equal h1 c1 q) x' el',
@@ -147,13 +147,13 @@ module _ {old new : List Token} {from to count : ℕ} (w : SameTokens old new fr
       )
 
   -- a block whose body, as it stands in the braces, is moved
-  move_block : {d : ℕ} {ls : List Label} {bs : List Member} {i i' j n o q : ℕ} → At old false k.Identifier i → IsLabels old ls (after old false i) j → At old false k.OpenBrace j
-      → IsLine old (after old false j) n → n ≤ o → (Comes w false o → (n' : ℕ) → Here w n n' → MovesMembers d bs n' o) → At old false k.CloseBrace o → IsEol old (after old false o) q
-      → Here w i i' → q ≤ from + count → next old false q ≢ None
-      → MovesMember (suc d) (node.block (start old false i) q ls (content.Lines (node.body (first_of old false n o) o bs))) i' q
+  move_block : {d : ℕ} {ls : List Label} {bs : List Member} {i i' j n o q : ℕ} → NextIs old false k.Identifier i → IsLabels old ls (after_next old false i) j → NextIs old false k.OpenBrace j
+      → IsNewline old (after_next old false j) n → n ≤ o → (Comes w false o → (n' : ℕ) → Here w n n' → MovesMembers d bs n' o) → NextIs old false k.CloseBrace o → IsEol old (after_next old false o) q
+      → Here w i i' → q ≤ from + count → next_kind old false q ≢ None
+      → MovesMember (suc d) (node.block (next_index old false i) q ls (content.Body (node.body (first_token_in old false n o) o bs))) i' q
   move_block {i} {i'} {j} {n} {o} p ls br nl on inner cl el h l some =
-      let i1 = after old false i in
-      let j1 = after old false j in
+      let i1 = after_next old false i in
+      let j1 = after_next old false j in
       let co = back o (eol_comes el l some) in
       let cn = earlier w false n o on co in
       let line = (span_line nl).forth in
@@ -162,34 +162,34 @@ module _ {old new : List Token} {from to count : ℕ} (w : SameTokens old new fr
       let (ls', j', hj, labels', lm) = move_labels ls (afters w false h c0) cj in
       let (n', hn, nl') = move_line w nl (afters w false hj cj) (comes_end w false n cn) in
       let (bs', o', ho, bs'', bm) = inner co n' hn in
-      let (q', hq, el') = move_eol {i' = after new false o'} el (afters w false {i' = o'} ho co) l some in (
-        node.block (start new false i') q' ls' (content.Lines (node.body (first_of new false n' o') o' bs')),
+      let (q', hq, el') = move_eol {i' = after_next new false o'} el (afters w false {i' = o'} ho co) l some in (
+        node.block (next_index new false i') q' ls' (content.Body (node.body (first_token_in new false n' o') o' bs')),
         q',
         hq,
         alone.block {ls = ls'} {bs = bs'} {j = j'} {n = n'} {o = o'} {q = q'} (at k.Identifier h c0 p) labels' (at k.OpenBrace hj cj br) nl' bs'' (at k.CloseBrace {i' = o'} ho co cl) el',
-        moved.block {j' = q'} {ls' = ls'} {x' = content.Lines (node.body (first_of new false n' o') o' bs')} (starts_here w false h c0) hq
+        moved.block {j' = q'} {ls' = ls'} {x' = content.Body (node.body (first_token_in new false n' o') o' bs')} (starts_here w false h c0) hq
             (omega (arith, begins i, (span_labels ls).forth, goes j, line, on, goes o, (span_eol el).forth)) lm
-            (moved.body {i' = first_of new false n' o'} {j' = o'} {ms' = bs'} (firsts w false {i' = n'} {j' = o'} hn ho on co) ho bm),
+            (moved.body {i' = first_token_in new false n' o'} {j' = o'} {ms' = bs'} (firsts w false {i' = n'} {j' = o'} hn ho on co) ho bm),
       )
 
-  move_line_block : {d : ℕ} {ls : List Label} {a : Option Attribute} {i i' j o q : ℕ} → At old false k.Identifier i → IsLabels old ls (after old false i) j → At old false k.OpenBrace j
-      → IsOnLine old d a (after old false j) o → At old false k.CloseBrace o → IsEol old (after old false o) q
-      → Here w i i' → q ≤ from + count → next old false q ≢ None → MovesMember (suc d) (node.block (start old false i) q ls (content.Line a)) i' q
+  move_line_block : {d : ℕ} {ls : List Label} {a : Option Attribute} {i i' j o q : ℕ} → NextIs old false k.Identifier i → IsLabels old ls (after_next old false i) j → NextIs old false k.OpenBrace j
+      → IsOneLineBody old d a (after_next old false j) o → NextIs old false k.CloseBrace o → IsEol old (after_next old false o) q
+      → Here w i i' → q ≤ from + count → next_kind old false q ≢ None → MovesMember (suc d) (node.block (next_index old false i) q ls (content.OneLine a)) i' q
   move_line_block {i} {i'} {j} {o} p ls br x cl el h l some =
-      let i1 = after old false i in
-      let j1 = after old false j in
+      let i1 = after_next old false i in
+      let j1 = after_next old false j in
       let co = back o (eol_comes el l some) in
       let on = (span_on_line x).forth in
       let cj = back j (earlier w false j1 o on co) in
       let c0 = back i (earlier w false i1 j (span_labels ls).forth cj) in
       let (ls', j', hj, labels', lm) = move_labels ls (afters w false h c0) cj in
       let (a', o', ho, x', am) = move_on_line x (afters w false hj cj) co in
-      let (q', hq, el') = move_eol {i' = after new false o'} el (afters w false {i' = o'} ho co) l some in (
-        node.block (start new false i') q' ls' (content.Line a'),
+      let (q', hq, el') = move_eol {i' = after_next new false o'} el (afters w false {i' = o'} ho co) l some in (
+        node.block (next_index new false i') q' ls' (content.OneLine a'),
         q',
         hq,
         alone.line_block {ls = ls'} {a = a'} {j = j'} {o = o'} {q = q'} (at k.Identifier h c0 p) labels' (at k.OpenBrace hj cj br) x' (at k.CloseBrace {i' = o'} ho co cl) el',
-        moved.block {j' = q'} {ls' = ls'} {x' = content.Line a'} (starts_here w false h c0) hq (omega (arith, begins i, (span_labels ls).forth, goes j, on, goes o, (span_eol el).forth)) lm (moved.on_line {o' = a'} am),
+        moved.block {j' = q'} {ls' = ls'} {x' = content.OneLine a'} (starts_here w false h c0) hq (omega (arith, begins i, (span_labels ls).forth, goes j, on, goes o, (span_eol el).forth)) lm (moved.on_line {o' = a'} am),
       )
 
   -- a member that is moved, and those behind it
@@ -212,7 +212,7 @@ module _ {old new : List Token} {from to count : ℕ} (w : SameTokens old new fr
       let cq = earlier w false q l (span_members r).forth c in
       then (move_line_block p ls br x cl el h (comes_end w false q cq) (some_next w false q cq)) (λ n' hn. move_members r hn c)
 
-  pub move_member : {d : ℕ} {x : Member} {i i' j : ℕ} → IsOneMember old d x i j → Here w i i' → j ≤ from + count → next old false j ≢ None
+  pub move_member : {d : ℕ} {x : Member} {i i' j : ℕ} → IsOneMember old d x i j → Here w i i' → j ≤ from + count → next_kind old false j ≢ None
       → (y : Member) × (j' : ℕ) × Here w j j' × IsOneMember new d y i' j' × MovedMember (Here w) (Same w) x y
   move_member (alone.attribute p q x el) h l some = move_attribute p q x el h l some
   move_member (alone.block p ls br nl bs cl el) h l some = move_block p ls br nl (span_members bs).forth (λ co n' hn. move_members bs hn co) cl el h l some

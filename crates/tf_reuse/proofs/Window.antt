@@ -4,9 +4,9 @@ use Rattle.std.proofs.lemmas.Bool.Decides.{eqb_tells}
 use Rattle.std.proofs.lemmas.List.{drop-take}
 use Rattle.std.specs.List.{prefix_len}
 use Rattle.std.specs.Option.{option_map}
-use Rattle.hcl_grammar.specs.Tokens.{Token, is_dropped, start, token, next, after, first_of}
+use Rattle.hcl_grammar.specs.Tokens.{Token, is_skipped, next_index, next_token, next_kind, after_next, first_token_in}
 use Rattle.hcl_grammar_laws.proofs.Neat.{kept_at}
-use Rattle.tf_reuse.specs.Keeping.{SameTokens}
+use Rattle.tf_reuse.specs.MembersKeep.{SameTokens}
 
 -- lists with the same n elements in front: an answer of prefix_len below n is that of both
 front : (p : Token → Bool) (n : ℕ) (xs ys : List Token) → take n xs ≡ take n ys → prefix_len p xs < n → prefix_len p ys ≡ prefix_len p xs
@@ -87,7 +87,7 @@ module _ {old new : List Token} {from to count : ℕ} (w : SameTokens old new fr
 
   -- what comes next in the old list is one of these tokens
   abbrev pub Comes : Bool → ℕ → Type 0
-  Comes m i = start old m i < from + count
+  Comes m i = next_index old m i < from + count
 
   -- each of the tokens is the same
   pub each_same : (k : ℕ) → k < count → slice_get new (to + k) ≡ slice_get old (from + k)
@@ -102,10 +102,10 @@ module _ {old new : List Token} {from to count : ℕ} (w : SameTokens old new fr
   run_same : (p : Token → Bool) (k : ℕ) → k ≤ count → from + k + prefix_len p (drop (from + k) old) < from + count → prefix_len p (drop (to + k) new) ≡ prefix_len p (drop (from + k) old)
   run_same p k l h = front p (count - k) (drop (from + k) old) (drop (to + k) new) (rest_same k (count - k) (omega (arith, l))) (omega (arith, l, h))
 
-  pub starts : (m : Bool) {i i' : ℕ} → Here i i' → Comes m i → Same (start old m i) (start new m i')
-  unfolding start
+  pub starts : (m : Bool) {i i' : ℕ} → Here i i' → Comes m i → Same (next_index old m i) (next_index new m i')
+  unfolding next_index
   starts m {i} {i'} h c =
-      let p : Token → Bool = λ (t : Token). is_dropped m t.0 in
+      let p : Token → Bool = λ (t : Token). is_skipped m t.0 in
       let c' : from + h.before + prefix_len p (drop (from + h.before) old) < from + count = subst (λ (x : ℕ). x + prefix_len p (drop x old) < from + count) h.in_old c in
       let run = run_same p h.before h.within c' in
       record {
@@ -118,59 +118,59 @@ module _ {old new : List Token} {from to count : ℕ} (w : SameTokens old new fr
   pub same_here : {i j : ℕ} → Same i j → Here i j
   same_here s = record { before = s.before; within = omega (arith, s.within); in_old = s.in_old; in_new = s.in_new }
 
-  pub starts_here : (m : Bool) {i i' : ℕ} → Here i i' → Comes m i → Here (start old m i) (start new m i')
+  pub starts_here : (m : Bool) {i i' : ℕ} → Here i i' → Comes m i → Here (next_index old m i) (next_index new m i')
   starts_here m h c = same_here (starts m h c)
 
-  pub afters : (m : Bool) {i i' : ℕ} → Here i i' → Comes m i → Here (after old m i) (after new m i')
-  unfolding after
+  pub afters : (m : Bool) {i i' : ℕ} → Here i i' → Comes m i → Here (after_next old m i) (after_next new m i')
+  unfolding after_next
   afters m h c =
       let s = starts m h c in
       record { before = suc s.before; within = omega (arith, s.within); in_old = omega (arith, s.in_old); in_new = omega (arith, s.in_new) }
 
-  pub tokens : (m : Bool) {i i' : ℕ} → Here i i' → Comes m i → token new m i' ≡ token old m i
-  unfolding token
+  pub tokens : (m : Bool) {i i' : ℕ} → Here i i' → Comes m i → next_token new m i' ≡ next_token old m i
+  unfolding next_token
   tokens m {i} {i'} h c =
       let s = starts m h c in
       ap (slice_get new) s.in_new ∙ each_same s.before s.within ∙ ap (slice_get old) (sym s.in_old)
 
-  pub nexts : (m : Bool) {i i' : ℕ} → Here i i' → Comes m i → next new m i' ≡ next old m i
-  unfolding next
+  pub nexts : (m : Bool) {i i' : ℕ} → Here i i' → Comes m i → next_kind new m i' ≡ next_kind old m i
+  unfolding next_kind
   nexts m h c = ap (option_map (λ (t : Token). t.0)) (tokens m h c)
 
-  pub some_next : (m : Bool) (i : ℕ) → Comes m i → next old m i ≢ None
-  unfolding next token
-  some_next m i c = go (slice_get old (start old m i)) (found old (start old m i) (omega (arith, c, w.in_old)))
+  pub some_next : (m : Bool) (i : ℕ) → Comes m i → next_kind old m i ≢ None
+  unfolding next_kind next_token
+  some_next m i c = go (slice_get old (next_index old m i)) (found old (next_index old m i) (omega (arith, c, w.in_old)))
     where
       go : (o : Option Token) → o ≢ None → option_map (λ (t : Token). t.0) o ≢ None
       go None h e = h refl
       go (Some t) h e = let clash : Some t.0 ≡ None = e in absurd (cc)
 
   pub comes_end : (m : Bool) (j : ℕ) → Comes m j → j ≤ from + count
-  unfolding start
+  unfolding next_index
   comes_end m j c = omega (arith, c)
 
-  pub comes_within : (m : Bool) (i : ℕ) → after old m i ≤ from + count → Comes m i
-  unfolding after
+  pub comes_within : (m : Bool) (i : ℕ) → after_next old m i ≤ from + count → Comes m i
+  unfolding after_next
   comes_within m i l = omega (arith, l)
 
-  pub before : (m n : Bool) (i j : ℕ) → after old n i ≤ j → Comes m j → Comes n i
+  pub before : (m n : Bool) (i j : ℕ) → after_next old n i ≤ j → Comes m j → Comes n i
   before m n i j l c = comes_within n i (omega (arith, l, comes_end m j c))
 
   pub earlier : (m : Bool) (i j : ℕ) → i ≤ j → Comes m j → Comes m i
-  unfolding start
-  earlier m i j l c = omega (arith, later (λ (t : Token). is_dropped m t.0) i j old l, c)
+  unfolding next_index
+  earlier m i j l c = omega (arith, later (λ (t : Token). is_skipped m t.0) i j old l, c)
 
   -- a token that is not dropped stands at n
-  pub earlier_than : (m : Bool) (i n : ℕ) (t : Token) → i ≤ n → slice_get old n ≡ Some t → is_dropped m t.0 ≡ false → n < from + count → Comes m i
-  unfolding start
-  earlier_than m i n t l e d b = let p : Token → Bool = λ (t : Token). is_dropped m t.0 in omega (arith, later p i n old l, kept_at p old n t e d, b)
+  pub earlier_than : (m : Bool) (i n : ℕ) (t : Token) → i ≤ n → slice_get old n ≡ Some t → is_skipped m t.0 ≡ false → n < from + count → Comes m i
+  unfolding next_index
+  earlier_than m i n t l e d b = let p : Token → Bool = λ (t : Token). is_skipped m t.0 in omega (arith, later p i n old l, kept_at p old n t e d, b)
 
   pub one_place : {i j l : ℕ} → Here i j → Here i l → j ≡ l
   one_place a b = omega (arith, a.in_old, a.in_new, b.in_old, b.in_new)
 
-  pub firsts : (m : Bool) {i i' j j' : ℕ} → Here i i' → Here j j' → i ≤ j → Comes m j → Here (first_of old m i j) (first_of new m i' j')
-  unfolding first_of
+  pub firsts : (m : Bool) {i i' j j' : ℕ} → Here i i' → Here j j' → i ≤ j → Comes m j → Here (first_token_in old m i j) (first_token_in new m i' j')
+  unfolding first_token_in
   firsts m {i} {i'} {j} {j'} h g l c =
       let to_new : i ≡ j → i' ≡ j' = λ e. omega (arith, e, h.in_old, h.in_new, g.in_old, g.in_new) in
       let to_old : i' ≡ j' → i ≡ j = λ e. omega (arith, e, h.in_old, h.in_new, g.in_old, g.in_new) in
-      chosen Here i j (start old m i) i' j' (start new m i') to_new to_old h (starts_here m h (earlier m i j l c))
+      chosen Here i j (next_index old m i) i' j' (next_index new m i') to_new to_old h (starts_here m h (earlier m i j l c))

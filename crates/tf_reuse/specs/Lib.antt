@@ -1,3 +1,3 @@
-pub mod Keeping
-pub mod Moving
+pub mod MembersKeep
+pub mod Renumbering
 pub mod OneMember

@@ -7,33 +7,33 @@ use Rattle.hcl_grammar.specs.declared.tree.Expr.{Expr}
 use Rattle.hcl_grammar.specs.declared.tree.Label.{Label}
 use Rattle.hcl_grammar.specs.declared.tree.Member.{Member}
 use Rattle.hcl_grammar.specs.declared.tree.Member.TheVariants as member
-use Rattle.hcl_grammar.specs.Bodies.{IsLabels, IsOnLine, IsMembers}
+use Rattle.hcl_grammar.specs.Bodies.{IsLabels, IsOneLineBody, IsMembers}
 use Rattle.hcl_grammar.specs.Grammar.{IsExpr}
-use Rattle.hcl_grammar.specs.Lines.{At, IsLine, IsEol}
+use Rattle.hcl_grammar.specs.Lookahead.{NextIs, IsNewline, IsEol}
 use Rattle.hcl_grammar.specs.Nodes as node
-use Rattle.hcl_grammar.specs.Tokens.{Token, start, after, first_of}
+use Rattle.hcl_grammar.specs.Tokens.{Token, next_index, after_next, first_token_in}
 
 -- What the grammar says of the first member of a body (`IsMembers`), with nothing of those behind
 -- it: an attribute or a block from its name on up to the end of its last line.
 pub data IsOneMember (ts : List Token) : ℕ → Member → ℕ → ℕ → Type 0 where
-  attribute : {d : ℕ} {e : Expr} {i j n : ℕ} → At ts false k.Identifier i
-      → At ts false k.Equal (after ts false i)
-      → IsExpr ts d false e (after ts false (after ts false i)) j → IsEol ts j n
-      → IsOneMember ts d (member.Attribute (node.attribute (start ts false i) n e)) i n
-  block : {d : ℕ} {ls : List Label} {bs : List Member} {i j n o q : ℕ} → At ts false k.Identifier i
-      → IsLabels ts ls (after ts false i) j → At ts false k.OpenBrace j
-      → IsLine ts (after ts false j) n → IsMembers ts d bs n o → At ts false k.CloseBrace o
-      → IsEol ts (after ts false o) q
+  attribute : {d : ℕ} {e : Expr} {i j n : ℕ} → NextIs ts false k.Identifier i
+      → NextIs ts false k.Equal (after_next ts false i)
+      → IsExpr ts d false e (after_next ts false (after_next ts false i)) j → IsEol ts j n
+      → IsOneMember ts d (member.Attribute (node.attribute (next_index ts false i) n e)) i n
+  block : {d : ℕ} {ls : List Label} {bs : List Member} {i j n o q : ℕ} → NextIs ts false k.Identifier i
+      → IsLabels ts ls (after_next ts false i) j → NextIs ts false k.OpenBrace j
+      → IsNewline ts (after_next ts false j) n → IsMembers ts d bs n o → NextIs ts false k.CloseBrace o
+      → IsEol ts (after_next ts false o) q
       → IsOneMember ts (suc d)
-      (node.block (start ts false i) q ls
-      (content.Lines (node.body (first_of ts false n o) o bs))) i q
+      (node.block (next_index ts false i) q ls
+      (content.Body (node.body (first_token_in ts false n o) o bs))) i q
   line_block : {d : ℕ} {ls : List Label} {a : Option Attribute} {i j o q : ℕ}
-      → At ts false k.Identifier i → IsLabels ts ls (after ts false i) j → At ts false k.OpenBrace j
-      → IsOnLine ts d a (after ts false j) o → At ts false k.CloseBrace o
-      → IsEol ts (after ts false o) q
-      → IsOneMember ts (suc d) (node.block (start ts false i) q ls (content.Line a)) i q
+      → NextIs ts false k.Identifier i → IsLabels ts ls (after_next ts false i) j → NextIs ts false k.OpenBrace j
+      → IsOneLineBody ts d a (after_next ts false j) o → NextIs ts false k.CloseBrace o
+      → IsEol ts (after_next ts false o) q
+      → IsOneMember ts (suc d) (node.block (next_index ts false i) q ls (content.OneLine a)) i q
 
 -- A member with the members of a body behind it begins a body.
-abbrev pub StandsInFront : Type 0
-StandsInFront = (ts : List Token) (d : ℕ) (x : Member) (ms : List Member) (i n l : ℕ)
+abbrev pub PrependedMemberExtendsBody : Type 0
+PrependedMemberExtendsBody = (ts : List Token) (d : ℕ) (x : Member) (ms : List Member) (i n l : ℕ)
     → IsOneMember ts d x i n → IsMembers ts d ms n l → IsMembers ts d (x ∷ ms) i l

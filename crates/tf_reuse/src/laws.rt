@@ -1,16 +1,16 @@
 //! Laws of what is kept: functions that do nothing, for callers whose proofs want what their
 //! clauses say.
 
-ghost use Rattle.tf_reuse.specs.Keeping.{MembersKeep};
-ghost use Rattle.tf_reuse.specs.OneMember.{StandsInFront};
+ghost use Rattle.tf_reuse.specs.MembersKeep.{UnchangedMembersKeepFindings};
+ghost use Rattle.tf_reuse.specs.OneMember.{PrependedMemberExtendsBody};
 
 /// A member whose tokens stand elsewhere too stands there, and what the rules find in it is the
 /// same, its numbers moved.
-pub fn members_keep()
-    ensures { MembersKeep }
+pub fn unchanged_members_keep_findings()
+    ensures { UnchangedMembersKeepFindings }
 {}
 
 /// A member by itself, in front of the members of a body, begins a body.
-pub fn a_member_stands_in_front()
-    ensures { StandsInFront }
+pub fn prepended_member_extends_body()
+    ensures { PrependedMemberExtendsBody }
 {}

@@ -3,6 +3,6 @@
 #![tactic(auto)]
 
 pub mod laws;
-mod moving;
+mod renumber;
 
-pub use moving::moved_findings;
+pub use renumber::renumber_findings;

@@ -3,18 +3,18 @@
 ghost use Rattle.std.specs.Prelude.{◌≡◌, ◌++◌, ℕ, true, false, IfOk, IfErr, OnOk, OnErr};
 ghost use Rattle.std.specs.Prelude.{filter, List, ◌∷◌, []};
 ghost use Rattle.tf_rule.specs.declared.finding.Finding.{Finding};
-ghost use Rattle.tf_rule.specs.Findings.{is_fitting, is_fixable, is_sound, IsSound};
-ghost use Rattle.tf_rule.specs.Room.{has_room};
+ghost use Rattle.tf_rule.specs.Findings.{is_fix_valid, is_fixable, is_valid, IsValidFinding};
+ghost use Rattle.tf_rule.specs.Representable.{is_representable};
 
 use crate::fix::Fix;
+use crate::packed::{PackedFix, name_to_u32, to_u32};
 use crate::rule::Rule;
-use crate::stored::{Mend, narrow, narrow_name};
 use std::alloc::AllocError;
 use std::marker::Model;
 
 /// What a name stands for.
 #[derive(Clone, Copy, Debug)]
-pub enum Named {
+pub enum NameKind {
     Resource,
     Data,
     Variable,
@@ -27,14 +27,14 @@ pub enum Named {
 /// token.
 #[derive(Clone, Copy, Debug)]
 pub struct Message {
-    pub named: Option<Named>,
+    pub kind: Option<NameKind>,
     pub name: Option<usize>,
 }
 
 impl Message {
     /// The words of the rule alone.
     pub const PLAIN: Message = Message {
-        named: None,
+        kind: None,
         name: None,
     };
 }
@@ -45,54 +45,54 @@ impl Message {
 #[derive(Clone, Copy)]
 pub struct Finding {
     rule: Rule,
-    named: Option<Named>,
+    kind: Option<NameKind>,
     has_name: bool,
     first: u32,
     past: u32,
     /// 0 where there is none.
     name: u32,
-    mend: Mend,
+    packed_fix: PackedFix,
 }
 
 impl Model for Finding {
-    ghost use Rattle.tf_rule.specs.Found.{Found};
+    ghost use Rattle.tf_rule.specs.FindingModel.{FindingModel};
 
-    ghost Value = { Found };
+    ghost Value = { FindingModel };
 
     ghost use Rattle.std.specs.Prelude.{refl};
-    ghost use Rattle.tf_rule.specs.Inner.Stored.{fix_at, name_at, IsName, IsTidy};
-    ghost use Rattle.tf_rule.specs.Inner.StoredBack.{mend_of, is_name, number_of};
-    ghost use Rattle.tf_rule.specs.Inner.StoredBack.{mend_back, name_back, is_name_back};
+    ghost use Rattle.tf_rule.specs.Inner.Unpacking.{unpack_fix, unpack_name, IsCanonicalName, IsCanonical};
+    ghost use Rattle.tf_rule.specs.Inner.Packing.{pack_fix, is_named, pack_name};
+    ghost use Rattle.tf_rule.specs.Inner.Packing.{fix_round_trip, name_round_trip, has_name_round_trip};
 
     ghost view = { λ f. record {
       rule = f.rule;
       first = f.first;
       past = f.past;
-      message = record { named = f.named; name = name_at f.has_name f.name };
-      fix = fix_at f.first f.mend;
+      message = record { kind = f.kind; name = unpack_name f.has_name f.name };
+      fix = unpack_fix f.first f.packed_fix;
     } };
 
-    ghost invariant = { λ f. IsName f.has_name f.name × IsTidy f.mend };
+    ghost invariant = { λ f. IsCanonicalName f.has_name f.name × IsCanonical f.packed_fix };
 
     ghost inverse = { λ v. record {
       rule = v.rule;
-      named = v.message.named;
+      kind = v.message.kind;
       first = v.first;
       past = v.past;
-      has_name = is_name v.message.name;
-      name = number_of v.message.name;
-      mend = mend_of v.fix;
+      has_name = is_named v.message.name;
+      name = pack_name v.message.name;
+      packed_fix = pack_fix v.fix;
     } };
 
     ghost inverse_ok = { λ f h. rw (
-      is_name_back f.has_name f.name,
-      name_back f.has_name f.name h.0,
-      mend_back f.first f.mend h.1,
+      has_name_round_trip f.has_name f.name,
+      name_round_trip f.has_name f.name h.0,
+      fix_round_trip f.first f.packed_fix h.1,
     ) refl };
 }
 
-fn is_fitting(first: usize, past: usize, fix: &Option<Fix>) -> bool
-    ensures { result ≡ is_fitting first past fix.now }
+fn is_fix_valid(first: usize, past: usize, fix: &Option<Fix>) -> bool
+    ensures { result ≡ is_fix_valid first past fix.now }
 {
     match fix {
         None => true,
@@ -101,8 +101,12 @@ fn is_fitting(first: usize, past: usize, fix: &Option<Fix>) -> bool
 }
 
 impl Finding {
-    /// What a rule has found. `AllocError` where a number has no room: one past 32 bits, where no
-    /// list of tokens has room for so many, or that of an index which is not the first token.
+    /// Creates a finding.
+    ///
+    /// # Errors
+    ///
+    /// Returns `AllocError` if a token number does not fit in 32 bits, or if an `Insertion::Index`
+    /// is not the finding's first token.
     #[inline]
     pub fn new(
         rule: Rule,
@@ -118,20 +122,20 @@ impl Finding {
           message = message;
           fix = fix;
         }) }
-        ensures err { IfErr result (λ _. has_room first past message fix ≡ false) }
+        ensures err { IfErr result (λ _. is_representable first past message fix ≡ false) }
     {
-        let name = narrow_name(message.name)?;
-        let mend = Mend::of(fix, first)?;
-        let first = narrow(first)?;
-        let past = narrow(past)?;
+        let name = name_to_u32(message.name)?;
+        let packed_fix = PackedFix::of(fix, first)?;
+        let first = to_u32(first)?;
+        let past = to_u32(past)?;
         Ok(Finding {
             rule,
-            named: message.named,
+            kind: message.kind,
             has_name: message.name.is_some(),
             first,
             past,
             name,
-            mend,
+            packed_fix,
         })
     }
 
@@ -169,7 +173,7 @@ impl Finding {
             None
         };
         Message {
-            named: self.named,
+            kind: self.kind,
             name,
         }
     }
@@ -178,7 +182,7 @@ impl Finding {
     pub fn fix(&self) -> Option<Fix>
         ensures { result ≡ self.now.fix }
     {
-        self.mend.fix(self.first as usize)
+        self.packed_fix.fix(self.first as usize)
     }
 
     /// Whether a fix can mend it.
@@ -186,17 +190,17 @@ impl Finding {
     pub fn is_fixable(&self) -> bool
         ensures { result ≡ is_fixable self.now.fix }
     {
-        self.mend.is_fix()
+        self.packed_fix.is_fix()
     }
 
     /// Whether its tokens are tokens of a text that has `count`, and what its fix keeps stands in
     /// order in them.
-    pub fn is_sound(&self, count: usize) -> bool
-        ensures { result ≡ is_sound count self.now }
+    pub fn is_valid(&self, count: usize) -> bool
+        ensures { result ≡ is_valid count self.now }
     {
         self.first() < self.past()
             && self.past() <= count
-            && is_fitting(self.first(), self.past(), &self.fix())
+            && is_fix_valid(self.first(), self.past(), &self.fix())
     }
 }
 
@@ -208,17 +212,17 @@ pub fn add_finding(
     finding: Finding,
 ) -> Result<(), AllocError>
     ensures added { OnOk result
-        (found.new.items ≡ found.old.items ++ filter (is_sound count) (finding ∷ [])) }
+        (found.new.items ≡ found.old.items ++ filter (is_valid count) (finding ∷ [])) }
     ensures kept { OnErr result (found.new.items ≡ found.old.items) }
 {
-    if finding.is_sound(count) {
+    if finding.is_valid(count) {
         found.push(finding)?;
     }
     Ok(())
 }
 
 /// The test of a finding says the same as facts on its numbers.
-pub fn sound_is_sound()
-    ensures { (count : ℕ) (finding : Finding) → is_sound count finding ≡ true
-        → IsSound count finding }
+pub fn is_valid_is_exact()
+    ensures { (count : ℕ) (finding : Finding) → is_valid count finding ≡ true
+        → IsValidFinding count finding }
 {}

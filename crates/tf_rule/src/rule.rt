@@ -1,7 +1,7 @@
 //! The rules.
 
 ghost use Rattle.std.specs.Prelude.{◌≡◌, ◌↔◌, ◌<◌, Some};
-ghost use Rattle.tf_rule.specs.Rules.{row_of, index_of, name_of, severity_of, is_fixed, label_of};
+ghost use Rattle.tf_rule.specs.Rules.{info_of, index_of, name_of, severity_of, has_fix, label_of};
 
 /// A rule. The order of the variants is the order of the rules in reports.
 ///
@@ -49,43 +49,43 @@ impl Severity {
 
 /// What is the same in each finding of a rule.
 #[derive(Clone, Copy)]
-pub struct Row {
+pub struct RuleInfo {
     /// The name in reports and on the command line, as `terraform_comment_syntax`.
     pub name: &'static str,
     /// How much an issue of the rule weighs.
     pub severity: Severity,
     /// Whether a fix has a step for it.
-    pub fixed: bool,
+    pub has_fix: bool,
     /// What its message says before the name.
     pub before: &'static str,
     /// What its message says behind the name.
-    pub behind: &'static str,
+    pub after: &'static str,
     /// What it asks for, as the help of `lint` says it.
-    pub about: &'static str,
+    pub description: &'static str,
 }
 
-const fn make_row(
+const fn rule_info(
     name: &'static str,
     severity: Severity,
-    fixed: bool,
+    has_fix: bool,
     before: &'static str,
-    behind: &'static str,
-    about: &'static str,
-) -> Row
+    after: &'static str,
+    description: &'static str,
+) -> RuleInfo
     ensures name { result.name.now ≡ name.now }
     ensures severity { result.severity ≡ severity }
-    ensures fixed { result.fixed ≡ fixed }
+    ensures has_fix { result.has_fix ≡ has_fix }
     ensures before { result.before.now ≡ before.now }
-    ensures behind { result.behind.now ≡ behind.now }
-    ensures about { result.about.now ≡ about.now }
+    ensures after { result.after.now ≡ after.now }
+    ensures description { result.description.now ≡ description.now }
 {
-    Row {
+    RuleInfo {
         name,
         severity,
-        fixed,
+        has_fix,
         before,
-        behind,
-        about,
+        after,
+        description,
     }
 }
 
@@ -115,15 +115,15 @@ impl Rule {
     }
 
     /// What is the same in each of its findings.
-    pub fn row(self) -> Row
-        ensures name { result.name.now ≡ (row_of self).name }
-        ensures severity { result.severity ≡ (row_of self).severity }
-        ensures fixed { result.fixed ≡ (row_of self).fixed }
-        ensures before { result.before.now ≡ (row_of self).before }
-        ensures behind { result.behind.now ≡ (row_of self).behind }
+    pub fn info(self) -> RuleInfo
+        ensures name { result.name.now ≡ (info_of self).name }
+        ensures severity { result.severity ≡ (info_of self).severity }
+        ensures has_fix { result.has_fix ≡ (info_of self).has_fix }
+        ensures before { result.before.now ≡ (info_of self).before }
+        ensures after { result.after.now ≡ (info_of self).after }
     {
         match self {
-            Rule::CommentSyntax => make_row(
+            Rule::CommentSyntax => rule_info(
                 "terraform_comment_syntax",
                 Severity::Warning,
                 true,
@@ -131,7 +131,7 @@ impl Rule {
                 "",
                 "a line comment begins with #, not //",
             ),
-            Rule::DeprecatedIndex => make_row(
+            Rule::DeprecatedIndex => rule_info(
                 "terraform_deprecated_index",
                 Severity::Warning,
                 true,
@@ -139,7 +139,7 @@ impl Rule {
                 "",
                 "an index stands in brackets: a[0], not a.0",
             ),
-            Rule::DeprecatedInterpolation => make_row(
+            Rule::DeprecatedInterpolation => rule_info(
                 "terraform_deprecated_interpolation",
                 Severity::Warning,
                 true,
@@ -147,7 +147,7 @@ impl Rule {
                 "",
                 "an expression stands by itself: var.a, not \"${var.a}\"",
             ),
-            Rule::EmptyListEquality => make_row(
+            Rule::EmptyListEquality => rule_info(
                 "terraform_empty_list_equality",
                 Severity::Warning,
                 true,
@@ -155,7 +155,7 @@ impl Rule {
                 "",
                 "a list is asked for its length, not compared with []",
             ),
-            Rule::DeprecatedLookup => make_row(
+            Rule::DeprecatedLookup => rule_info(
                 "terraform_deprecated_lookup",
                 Severity::Warning,
                 true,
@@ -163,7 +163,7 @@ impl Rule {
                 "",
                 "lookup has three arguments; with two it is a[b]",
             ),
-            Rule::NamingConvention => make_row(
+            Rule::NamingConvention => rule_info(
                 "terraform_naming_convention",
                 Severity::Notice,
                 false,
@@ -171,7 +171,7 @@ impl Rule {
                 "\" is not snake_case",
                 "names of blocks and locals are in snake_case",
             ),
-            Rule::TypedVariables => make_row(
+            Rule::TypedVariables => rule_info(
                 "terraform_typed_variables",
                 Severity::Warning,
                 false,
@@ -179,7 +179,7 @@ impl Rule {
                 "\" has no type",
                 "a variable has a type",
             ),
-            Rule::DocumentedVariables => make_row(
+            Rule::DocumentedVariables => rule_info(
                 "terraform_documented_variables",
                 Severity::Notice,
                 false,
@@ -187,7 +187,7 @@ impl Rule {
                 "\" has no description",
                 "a variable has a description",
             ),
-            Rule::DocumentedOutputs => make_row(
+            Rule::DocumentedOutputs => rule_info(
                 "terraform_documented_outputs",
                 Severity::Notice,
                 false,
@@ -202,7 +202,7 @@ impl Rule {
     pub fn name(self) -> &'static str
         ensures { result.now ≡ name_of self }
     {
-        self.row().name
+        self.info().name
     }
 
     /// The rule of a name; none where no rule has that name.
@@ -222,13 +222,13 @@ impl Rule {
     pub fn severity(self) -> Severity
         ensures { result ≡ severity_of self }
     {
-        self.row().severity
+        self.info().severity
     }
 
     /// Whether a fix has a step for the rule.
-    pub fn is_fixed(self) -> bool
-        ensures { result ≡ is_fixed self }
+    pub fn has_fix(self) -> bool
+        ensures { result ≡ has_fix self }
     {
-        self.row().fixed
+        self.info().has_fix
     }
 }

@@ -5,14 +5,14 @@ ghost use Rattle.std.specs.Str.{bytes_eq};
 ghost use Rattle.tf_rule.specs.declared.rule.Rule.{Rule};
 ghost use Rattle.tf_rule.specs.RuleSets.{has_rule};
 ghost use Rattle.tf_rule.specs.Rules.{name_of};
-ghost use Rattle.tf_rule.specs.OneRule.{only};
+ghost use Rattle.tf_rule.specs.SingleRule.{only};
 
 use crate::rule::Rule;
 
 /// A set of rules. It takes no memory.
 #[derive(Clone, Copy, Debug, PartialEq, Eq)]
 pub struct RuleSet {
-    on: [bool; Rule::COUNT],
+    enabled: [bool; Rule::COUNT],
 }
 
 impl RuleSet {
@@ -21,7 +21,7 @@ impl RuleSet {
         ensures { (rule : Rule) → has_rule result rule ≡ true }
     {
         RuleSet {
-            on: [true; Rule::COUNT],
+            enabled: [true; Rule::COUNT],
         }
     }
 
@@ -30,7 +30,7 @@ impl RuleSet {
         ensures { (rule : Rule) → has_rule result rule ≡ false }
     {
         RuleSet {
-            on: [false; Rule::COUNT],
+            enabled: [false; Rule::COUNT],
         }
     }
 
@@ -40,15 +40,15 @@ impl RuleSet {
     {
         let mut on = [false; Rule::COUNT];
         on[rule.index()] = true;
-        RuleSet { on }
+        RuleSet { enabled: on }
     }
 
     /// The rule of this name, or no rule.
-    pub fn named(name: &[u8]) -> RuleSet
+    pub fn from_name(name: &[u8]) -> RuleSet
         ensures { (rule : Rule) → has_rule result rule ≡ bytes_eq name.now (name_of rule) }
     {
         RuleSet {
-            on: Rule::ALL.map(
+            enabled: Rule::ALL.map(
                 |rule: Rule| -> bool
                     ensures { result ≡ bytes_eq name.entry.now (name_of rule) }
                 { name == rule.name().as_bytes() },
@@ -62,7 +62,7 @@ impl RuleSet {
             → has_rule result rule ≡ (has_rule self rule || has_rule other rule) }
     {
         RuleSet {
-            on: Rule::ALL.map(
+            enabled: Rule::ALL.map(
                 |rule: Rule| -> bool
                     ensures { result ≡ (has_rule self rule || has_rule other rule) }
                 { self.has(rule) || other.has(rule) },
@@ -77,7 +77,7 @@ impl RuleSet {
             → has_rule result other ≡ has_rule self other }
     {
         let mut set = self;
-        set.on[rule.index()] = true;
+        set.enabled[rule.index()] = true;
         set
     }
 
@@ -88,7 +88,7 @@ impl RuleSet {
             → has_rule result other ≡ has_rule self other }
     {
         let mut set = self;
-        set.on[rule.index()] = false;
+        set.enabled[rule.index()] = false;
         set
     }
 
@@ -96,6 +96,6 @@ impl RuleSet {
     pub fn has(self, rule: Rule) -> bool
         ensures { result ≡ has_rule self rule }
     {
-        self.on[rule.index()]
+        self.enabled[rule.index()]
     }
 }

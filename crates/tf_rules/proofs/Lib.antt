@@ -1,3 +1,3 @@
-mod SpanLemmas
-pub mod Origin
-pub mod Origins
+mod TriviaLemmas
+pub mod FoundBy
+pub mod AllFoundBy

@@ -1,11 +1,11 @@
 pub mod Arguments
 pub mod Attributes
-pub mod Layers
+pub mod TreeLayers
 pub mod NodeFindings
-pub mod Nodes
-pub mod Origin
+pub mod Preorder
+pub mod FoundBy
 pub mod Rules
 pub mod SnakeCase
-pub mod Spans
-pub mod TopFindings
-pub mod Words
+pub mod Trivia
+pub mod TopLevelFindings
+pub mod Spelling

@@ -2,68 +2,84 @@
 
 ghost use Rattle.std.specs.Prelude.{◌≡◌};
 ghost use Rattle.std.specs.List.{flat_map};
-ghost use Rattle.tf_rules.specs.Attributes.{is_empty_text, is_attribute, has_attribute, member_attributes, attribute_at, attributes};
+ghost use Rattle.tf_rules.specs.Attributes.{is_empty_string, is_attribute, has_attribute, member_attributes, optional_attribute, attributes};
 
-use crate::words::{is_word, word};
-use hcl_grammar::tree::{Attribute, Block, Content, Expr, Form, Member, Shape};
+use crate::spelling::{is_spelled, token_text};
+use hcl_grammar::tree::{Attribute, Block, Content, Expr, ExprKind, Member, Primary};
 use hcl_scan::Scanned;
 use plain_tree::Boxed;
 
-fn is_empty_text(e: &Expr) -> bool
-    ensures { result ≡ is_empty_text e.now }
+fn is_empty_string(e: &Expr) -> bool
+    ensures { result ≡ is_empty_string e.now }
 {
-    match &e.form {
-        Form::Plain(t) => match &t.shape {
-            Shape::Quoted(q) => q.get().parts.is_empty(),
+    match &e.kind {
+        ExprKind::Term(t) => match &t.kind {
+            Primary::Quoted(q) => q.get().parts.is_empty(),
             _ => false,
         },
         _ => false,
     }
 }
 
-fn is_attribute(scanned: &Scanned<'_>, name: &[u8], empty: bool, a: &Attribute) -> bool
-    ensures { result ≡ is_attribute scanned.now.pairs name.now empty a.now }
+fn is_attribute(scanned: &Scanned<'_>, name: &[u8], must_be_empty: bool, a: &Attribute) -> bool
+    ensures { result ≡ is_attribute scanned.now.pairs name.now must_be_empty a.now }
 {
-    is_word(word(scanned, a.name), name) && (!empty || is_empty_text(a.value.get()))
+    is_spelled(token_text(scanned, a.name), name)
+        && (!must_be_empty || is_empty_string(a.value.get()))
 }
 
-fn member_has(scanned: &Scanned<'_>, name: &[u8], empty: bool, m: &Member) -> bool
-    ensures { result ≡ has_attribute scanned.now.pairs name.now empty (member_attributes m.now) }
+fn member_has_attribute(scanned: &Scanned<'_>, name: &[u8], must_be_empty: bool, m: &Member) -> bool
+    ensures { result ≡ has_attribute scanned.now.pairs name.now must_be_empty (member_attributes m.now) }
 {
     match m {
-        Member::Attribute(a) => is_attribute(scanned, name, empty, a),
+        Member::Attribute(a) => is_attribute(scanned, name, must_be_empty, a),
         Member::Block(_) => false,
     }
 }
 
-fn members_have(scanned: &Scanned<'_>, name: &[u8], empty: bool, members: &[Member]) -> bool
-    ensures { result ≡ has_attribute scanned.now.pairs name.now empty
+fn members_have_attribute(
+    scanned: &Scanned<'_>,
+    name: &[u8],
+    must_be_empty: bool,
+    members: &[Member],
+) -> bool
+    ensures { result ≡ has_attribute scanned.now.pairs name.now must_be_empty
         (flat_map member_attributes members.now) }
 {
     for m in members {
-        if member_has(scanned, name, empty, m) {
+        if member_has_attribute(scanned, name, must_be_empty, m) {
             return true;
         }
     }
     false
 }
 
-fn option_has(scanned: &Scanned<'_>, name: &[u8], empty: bool, a: &Option<Boxed<Attribute>>) -> bool
-    ensures { result ≡ has_attribute scanned.now.pairs name.now empty (attribute_at a.now) }
+fn optional_has_attribute(
+    scanned: &Scanned<'_>,
+    name: &[u8],
+    must_be_empty: bool,
+    a: &Option<Boxed<Attribute>>,
+) -> bool
+    ensures { result ≡ has_attribute scanned.now.pairs name.now must_be_empty (optional_attribute a.now) }
 {
     match a {
-        Some(a) => is_attribute(scanned, name, empty, a.get()),
+        Some(a) => is_attribute(scanned, name, must_be_empty, a.get()),
         None => false,
     }
 }
 
 /// Whether a block has an attribute of this name, and, where that is asked for, with the value
 /// `""`.
-pub fn has_attribute(scanned: &Scanned<'_>, name: &[u8], empty: bool, b: &Block) -> bool
-    ensures { result ≡ has_attribute scanned.now.pairs name.now empty (attributes b.now) }
+pub fn has_attribute(scanned: &Scanned<'_>, name: &[u8], must_be_empty: bool, b: &Block) -> bool
+    ensures { result ≡ has_attribute scanned.now.pairs name.now must_be_empty (attributes b.now) }
 {
     match &b.content {
-        Content::Lines(body) => members_have(scanned, name, empty, body.get().members.as_slice()),
-        Content::Line(a) => option_has(scanned, name, empty, a),
+        Content::Body(body) => members_have_attribute(
+            scanned,
+            name,
+            must_be_empty,
+            body.get().members.as_slice(),
+        ),
+        Content::OneLine(a) => optional_has_attribute(scanned, name, must_be_empty, a),
     }
 }

@@ -3,17 +3,17 @@
 #![tactic(auto)]
 
 mod attributes;
-mod finder;
+mod context;
 mod node;
 mod role;
 mod rules;
 mod snake_case;
-mod spans;
-mod top;
-mod words;
+mod spelling;
+mod top_level;
+mod trivia;
 
-pub use finder::Finder;
-pub use node::{at_expr, at_tail, at_term};
+pub use context::LintContext;
+pub use node::{check_expr, check_tail, check_term};
 pub use role::Role;
-pub use rules::comment_syntax::at_comment;
-pub use top::{add_member_findings, add_top_findings};
+pub use rules::comment_syntax::check_comment;
+pub use top_level::{add_top_level_findings, add_top_level_member_findings};

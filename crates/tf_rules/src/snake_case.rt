@@ -1,7 +1,7 @@
 //! Names in snake_case.
 
 ghost use Rattle.std.specs.Prelude.{◌≡◌, false};
-ghost use Rattle.tf_rules.specs.SnakeCase.{is_lower, is_lower_or_digit, goes_on, snake_behind, is_snake_case};
+ghost use Rattle.tf_rules.specs.SnakeCase.{is_lower, is_lower_or_digit, is_valid_next, is_valid_rest, is_snake_case};
 
 fn is_lower(c: u8) -> bool
     ensures { result ≡ is_lower c }
@@ -15,23 +15,23 @@ fn is_lower_or_digit(c: u8) -> bool
     is_lower(c) || (c >= b'0' && c <= b'9')
 }
 
-fn goes_on(bar: bool, c: u8) -> bool
-    ensures { result ≡ goes_on bar c }
+fn is_valid_next(after_underscore: bool, c: u8) -> bool
+    ensures { result ≡ is_valid_next after_underscore c }
 {
-    is_lower_or_digit(c) || (c == b'_' && !bar)
+    is_lower_or_digit(c) || (c == b'_' && !after_underscore)
 }
 
-fn is_rest(rest: &[u8]) -> bool
-    ensures { result ≡ snake_behind false rest.now }
+fn is_valid_rest(rest: &[u8]) -> bool
+    ensures { result ≡ is_valid_rest false rest.now }
 {
-    let mut bar = false;
+    let mut after_underscore = false;
     for c in rest {
-        if !goes_on(bar, *c) {
+        if !is_valid_next(after_underscore, *c) {
             return false;
         }
-        bar = *c == b'_';
+        after_underscore = *c == b'_';
     }
-    !bar
+    !after_underscore
 }
 
 /// Whether a name is a lower-case letter, then lower-case letters and digits, with single `_`
@@ -40,7 +40,7 @@ pub fn is_snake_case(name: &[u8]) -> bool
     ensures { result ≡ is_snake_case name.now }
 {
     match name.split_first() {
-        Some((c, rest)) => is_lower(*c) && is_rest(rest),
+        Some((c, rest)) => is_lower(*c) && is_valid_rest(rest),
         None => false,
     }
 }

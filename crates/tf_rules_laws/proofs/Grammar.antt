@@ -8,23 +8,23 @@ use Rattle.hcl_grammar.specs.declared.tree.Elem.{Elem}
 use Rattle.hcl_grammar.specs.declared.tree.Expr.{Expr}
 use Rattle.hcl_grammar.specs.declared.tree.ForObject.{out-ForObject}
 use Rattle.hcl_grammar.specs.declared.tree.ForTuple.{out-ForTuple}
-use Rattle.hcl_grammar.specs.declared.tree.Form.{out-Form}
-use Rattle.hcl_grammar.specs.declared.tree.Form.TheOpen.{Form-F, Shape-F, Tail-F, Part-F}
+use Rattle.hcl_grammar.specs.declared.tree.ExprKind.{out-ExprKind}
+use Rattle.hcl_grammar.specs.declared.tree.ExprKind.TheOpen.{ExprKind-F, Primary-F, Tail-F, Part-F}
 use Rattle.hcl_grammar.specs.declared.tree.IfDirective.{out-IfDirective}
-use Rattle.hcl_grammar.specs.declared.tree.Link.{Link}
+use Rattle.hcl_grammar.specs.declared.tree.Operation.{Operation}
 use Rattle.hcl_grammar.specs.declared.tree.Member.{Member, out-Member}
 use Rattle.hcl_grammar.specs.declared.tree.Part.{Part, out-Part}
-use Rattle.hcl_grammar.specs.declared.tree.Shape.{out-Shape}
+use Rattle.hcl_grammar.specs.declared.tree.Primary.{out-Primary}
 use Rattle.hcl_grammar.specs.declared.tree.Tail.{Tail, out-Tail}
 use Rattle.hcl_grammar.specs.declared.tree.Template.{Template}
 use Rattle.hcl_grammar.specs.declared.tree.Term.{Term}
-use Rattle.hcl_grammar_laws.specs.EachNode as g
+use Rattle.hcl_grammar_laws.specs.NodeSpans as g
 use Rattle.tf_rules.specs.declared.role.Role.{Role}
 use Rattle.tf_rules.specs.declared.role.Role.TheVariants.{Element, Argument, Elsewhere}
-use Rattle.tf_rules.specs.Layers.{FormLayer, ShapeLayer, TailLayer, PartLayer, ContentLayer, MemberLayer}
-use Rattle.tf_rules.specs.Nodes as nodes
-use Rattle.tf_rules.specs.Nodes.{Node, Stand, expr, term, tail, part, member, parts, tails_from, splat_behind, form_parts, elem_parts, filter_parts, shape_parts, tail_parts, else_parts, part_parts, option_parts, content_parts, member_parts}
-use Rattle.tf_rules_laws.specs.Both.{IsSame, same_expr, same_term, same_if, same_for, same_attribute, same_block, IsAmong, here, behind, EachIsOfTheGrammar}
+use Rattle.tf_rules.specs.TreeLayers.{ExprKindLayer, PrimaryLayer, TailLayer, PartLayer, ContentLayer, MemberLayer}
+use Rattle.tf_rules.specs.Preorder as nodes
+use Rattle.tf_rules.specs.Preorder.{Node, IsPreorder, expr, term, tail, part, member, children, nodes_of_tails, splat_after, expr_kind_children, elem_children, filter_children, primary_children, tail_children, else_children, part_children, option_children, content_children, member_children}
+use Rattle.tf_rules_laws.specs.NodeLists.{IsSameNode, same_expr, same_term, same_if, same_for, same_attribute, same_block, IsAmong, here, there, EveryVisitedNodeIsInGrammar}
 
 -- each of these has the property
 abbrev pub Each : {X : Type 0} → (X → Type 0) → List X → Type 0
@@ -54,29 +54,29 @@ pub data Seen (S : g.Node → Type 0) (T : Tail → Type 0) : Node → Type 0 wh
 -- What is known of a node is known of what stands in it, and of the tails of an expression.
 pub record Closed (S : g.Node → Type 0) (T : Tail → Type 0) : Type 0 where
   pub inside : (n : g.Node) → S n → Each S (g.nodes n)
-  pub tails : (e : Expr) (t : Term) (xs : List Tail) → out-Form e.form ≡ Form-F.Tailed t xs → S (g.expr e) → Each T xs
+  pub tails : (e : Expr) (t : Term) (xs : List Tail) → out-ExprKind e.kind ≡ ExprKind-F.Postfix t xs → S (g.expr e) → Each T xs
 
 module _ (S : g.Node → Type 0) (T : Tail → Type 0) (closed : Closed S T) where
   exprs : (p : Role) (es : List Expr) → Each S (map g.expr es) → Each (Seen S T) (map (expr p) es)
   exprs p [] a = tt
   exprs p (e ∷ es) a = (an_expr a.0, exprs p es a.1)
 
-  links : (ls : List Link) → Each S (map (λ (l : Link). g.expr l.operand) ls) → Each (Seen S T) (map (λ (l : Link). expr Elsewhere l.operand) ls)
+  links : (ls : List Operation) → Each S (map (λ (l : Operation). g.expr l.operand) ls) → Each (Seen S T) (map (λ (l : Operation). expr Elsewhere l.operand) ls)
   links [] a = tt
   links (l ∷ ls) a = (an_expr a.0, links ls a.1)
 
-  tails : (splat : Bool) (xs : List Tail) → Each T xs → Each S (flat_map (λ (x : Tail). g.tail_nodes (out-Tail x)) xs) → Each (Seen S T) (tails_from splat xs)
+  tails : (splat : Bool) (xs : List Tail) → Each T xs → Each S (flat_map (λ (x : Tail). g.tail_nodes (out-Tail x)) xs) → Each (Seen S T) (nodes_of_tails splat xs)
   tails splat [] t a = tt
   tails splat (x ∷ xs) t a =
       let first = g.tail_nodes (out-Tail x) in
       let more = flat_map (λ (x : Tail). g.tail_nodes (out-Tail x)) xs in
-      (a_tail t.0 (first_each S first more a), tails (splat_behind splat (out-Tail x)) xs t.1 (last_each S first more a))
+      (a_tail t.0 (first_each S first more a), tails (splat_after splat (out-Tail x)) xs t.1 (last_each S first more a))
 
-  elems : (xs : List Elem) → Each S (flat_map g.elem_nodes xs) → Each (Seen S T) (flat_map elem_parts xs)
+  elems : (xs : List Elem) → Each S (flat_map g.elem_nodes xs) → Each (Seen S T) (flat_map elem_children xs)
   elems [] a = tt
   elems (x ∷ xs) a = (an_expr a.0, (an_expr a.1.0, elems xs a.1.1))
 
-  filtered : (o : Option Expr) → Each S (g.filter_nodes o) → Each (Seen S T) (filter_parts o)
+  filtered : (o : Option Expr) → Each S (g.filter_nodes o) → Each (Seen S T) (filter_children o)
   filtered None a = tt
   filtered (Some e) a = (an_expr a.0, tt)
 
@@ -94,73 +94,73 @@ module _ (S : g.Node → Type 0) (T : Tail → Type 0) (closed : Closed S T) whe
   members [] a = tt
   members (m ∷ ms) a = (a_member a.0, members ms a.1)
 
-  in_form : (p : Role) (e : Expr) (l : FormLayer) → out-Form e.form ≡ l → S (g.expr e) → Each S (g.form_nodes l) → Each (Seen S T) (form_parts p l)
-  in_form p e (Form-F.Conditional c met unmet) h s a = (an_expr a.0, (an_expr a.1.0, (an_expr a.1.1.0, tt)))
-  in_form p e (Form-F.Chain head ls) h s a = (an_expr a.0, links ls a.1)
-  in_form p e (Form-F.Prefixed op x) h s a = (an_expr a.0, tt)
-  in_form p e (Form-F.Tailed t xs) h s a = (a_term a.0, tails false xs (closed.tails e t xs h s) a.1)
-  in_form p e (Form-F.Plain t) h s a = (a_term a.0, tt)
+  in_form : (p : Role) (e : Expr) (l : ExprKindLayer) → out-ExprKind e.kind ≡ l → S (g.expr e) → Each S (g.expr_kind_nodes l) → Each (Seen S T) (expr_kind_children p l)
+  in_form p e (ExprKind-F.Conditional c met unmet) h s a = (an_expr a.0, (an_expr a.1.0, (an_expr a.1.1.0, tt)))
+  in_form p e (ExprKind-F.Binary head ls) h s a = (an_expr a.0, links ls a.1)
+  in_form p e (ExprKind-F.Unary op x) h s a = (an_expr a.0, tt)
+  in_form p e (ExprKind-F.Postfix t xs) h s a = (a_term a.0, tails false xs (closed.tails e t xs h s) a.1)
+  in_form p e (ExprKind-F.Term t) h s a = (a_term a.0, tt)
 
-  in_shape : (l : ShapeLayer) → Each S (g.shape_nodes l) → Each (Seen S T) (shape_parts l)
-  in_shape Shape-F.Number a = tt
-  in_shape Shape-F.Identifier a = tt
-  in_shape (Shape-F.Call c) a = exprs Argument (out-Call c).arguments a
-  in_shape (Shape-F.Tuple es) a = exprs Element es a
-  in_shape (Shape-F.Object xs) a = elems xs a
-  in_shape (Shape-F.ForTuple f) a =
+  in_shape : (l : PrimaryLayer) → Each S (g.primary_nodes l) → Each (Seen S T) (primary_children l)
+  in_shape Primary-F.Number a = tt
+  in_shape Primary-F.Identifier a = tt
+  in_shape (Primary-F.Call c) a = exprs Argument (out-Call c).arguments a
+  in_shape (Primary-F.Tuple es) a = exprs Element es a
+  in_shape (Primary-F.Object xs) a = elems xs a
+  in_shape (Primary-F.ForTuple f) a =
       let source = closed.inside (g.intro (out-ForTuple f).intro) a.0 in
       (an_expr source.0, (an_expr a.1.0, filtered (out-ForTuple f).filter a.1.1))
-  in_shape (Shape-F.ForObject f) a =
+  in_shape (Primary-F.ForObject f) a =
       let source = closed.inside (g.intro (out-ForObject f).intro) a.0 in
       (an_expr source.0, (an_expr a.1.0, (an_expr a.1.1.0, filtered (out-ForObject f).filter a.1.1.1)))
-  in_shape (Shape-F.Quoted t) a = in_template t a.0
-  in_shape (Shape-F.Heredoc t) a = in_template t a.0
-  in_shape (Shape-F.Parens e) a = (an_expr a.0, tt)
+  in_shape (Primary-F.Quoted t) a = in_template t a.0
+  in_shape (Primary-F.Heredoc t) a = in_template t a.0
+  in_shape (Primary-F.Parens e) a = (an_expr a.0, tt)
 
-  in_tail : (l : TailLayer) → Each S (g.tail_nodes l) → Each (Seen S T) (tail_parts l)
+  in_tail : (l : TailLayer) → Each S (g.tail_nodes l) → Each (Seen S T) (tail_children l)
   in_tail (Tail-F.Name n) a = tt
-  in_tail (Tail-F.Legacy n) a = tt
+  in_tail (Tail-F.LegacyIndex n) a = tt
   in_tail Tail-F.AttributeSplat a = tt
   in_tail Tail-F.FullSplat a = tt
   in_tail (Tail-F.Index e) a = (an_expr a.0, tt)
 
-  in_else : (o : Option Template) → Each S (g.else_nodes o) → Each (Seen S T) (else_parts o)
+  in_else : (o : Option Template) → Each S (g.else_nodes o) → Each (Seen S T) (else_children o)
   in_else None a = tt
   in_else (Some t) a = in_template t a.0
 
-  in_part : (l : PartLayer) → Each S (g.part_nodes l) → Each (Seen S T) (part_parts l)
+  in_part : (l : PartLayer) → Each S (g.part_nodes l) → Each (Seen S T) (part_children l)
   in_part (Part-F.Literal n) a = tt
   in_part (Part-F.Interp e) a = (an_expr a.0, tt)
   in_part (Part-F.If d) a =
       let b = closed.inside (g.if_directive d) a.0 in
-      (an_expr b.0, both_each (Seen S T) (map part (out-IfDirective d).met.parts) (else_parts (out-IfDirective d).unmet) (in_template (out-IfDirective d).met b.1.0) (in_else (out-IfDirective d).unmet b.1.1))
+      (an_expr b.0, both_each (Seen S T) (map part (out-IfDirective d).then_branch.parts) (else_children (out-IfDirective d).else_branch) (in_template (out-IfDirective d).then_branch b.1.0) (in_else (out-IfDirective d).else_branch b.1.1))
   in_part (Part-F.For d) a =
       let b = closed.inside (g.for_directive d) a.0 in
       let source = closed.inside (g.intro d.intro) b.0 in
       (an_expr source.0, in_template d.body b.1.0)
 
-  in_content : (l : ContentLayer) → Each S (g.content_nodes l) → Each (Seen S T) (content_parts l)
-  in_content (Content-F.Lines b) a = members b.members (closed.inside (g.body b) a.0)
-  in_content (Content-F.Line None) a = tt
-  in_content (Content-F.Line (Some x)) a = let b = closed.inside (g.on_line x) a.0 in (an_expr b.0, tt)
+  in_content : (l : ContentLayer) → Each S (g.content_nodes l) → Each (Seen S T) (content_children l)
+  in_content (Content-F.Body b) a = members b.members (closed.inside (g.body b) a.0)
+  in_content (Content-F.OneLine None) a = tt
+  in_content (Content-F.OneLine (Some x)) a = let b = closed.inside (g.one_line_attribute x) a.0 in (an_expr b.0, tt)
 
-  in_member : (l : MemberLayer) → S (g.member_node l) → Each (Seen S T) (member_parts l)
+  in_member : (l : MemberLayer) → S (g.member_node l) → Each (Seen S T) (member_children l)
   in_member (Member-F.Attribute x) s = let b = closed.inside (g.attribute x) s in (an_expr b.0, tt)
   in_member (Member-F.Block b) s =
       in_content (out-Content b.content) (last_each S (map g.label b.labels) (g.content_nodes (out-Content b.content)) (closed.inside (g.block b) s))
 
-  within : (n : Node) → Seen S T n → Each (Seen S T) (parts n)
-  within (expr p e) (an_expr s) = in_form p e (out-Form e.form) refl s (closed.inside (g.expr e) s)
-  within (term p t) (a_term s) = in_shape (out-Shape t.shape) (closed.inside (g.term t) s)
+  within : (n : Node) → Seen S T n → Each (Seen S T) (children n)
+  within (expr p e) (an_expr s) = in_form p e (out-ExprKind e.kind) refl s (closed.inside (g.expr e) s)
+  within (term p t) (a_term s) = in_shape (out-Primary t.kind) (closed.inside (g.term t) s)
   within (tail splat x) (a_tail t a) = in_tail (out-Tail x) a
   within (part x) (a_part a) = in_part (out-Part x) a
   within (member m) (a_member s) = in_member (out-Member m) s
 
-  pub all_seen : {rs ns : List Node} → Stand rs ns → Each (Seen S T) rs → Each (Seen S T) ns
-  all_seen nodes.nothing a = tt
-  all_seen (nodes.one {n} {inside} {others} s r) a = (a.0, both_each (Seen S T) inside others (all_seen s (within n a.0)) (all_seen r a.1))
+  pub all_visited : {rs ns : List Node} → IsPreorder rs ns → Each (Seen S T) rs → Each (Seen S T) ns
+  all_visited nodes.no_nodes a = tt
+  all_visited (nodes.visit {n} {inside} {others} s r) a = (a.0, both_each (Seen S T) inside others (all_visited s (within n a.0)) (all_visited r a.1))
 
-  same : (x : g.Node) (n : Node) → IsSame x n → Seen S T n → S x
+  same : (x : g.Node) (n : Node) → IsSameNode x n → Seen S T n → S x
   same x n same_expr (an_expr s) = s
   same x n same_term (a_term s) = s
   same x n (same_if {d} e) (a_part a) = let b : Each S (g.part_nodes (Part-F.If d)) = subst (λ (l : PartLayer). Each S (g.part_nodes l)) e a in b.0
@@ -168,37 +168,37 @@ module _ (S : g.Node → Type 0) (T : Tail → Type 0) (closed : Closed S T) whe
   same x n (same_attribute {a = y} e) (a_member s) = let b : S (g.member_node (Member-F.Attribute y)) = subst (λ (l : MemberLayer). S (g.member_node l)) e s in b
   same x n (same_block {b = y} e) (a_member s) = let b : S (g.member_node (Member-F.Block y)) = subst (λ (l : MemberLayer). S (g.member_node l)) e s in b
 
-  pub one_seen : (x : g.Node) (ns : List Node) → IsAmong x ns → Each (Seen S T) ns → S x
-  one_seen x [] i a = elim i [ ]
-  one_seen x (m ∷ ms) (here s) a = same x m s a.0
-  one_seen x (m ∷ ms) (behind s) a = one_seen x ms s a.1
+  pub one_visited : (x : g.Node) (ns : List Node) → IsAmong x ns → Each (Seen S T) ns → S x
+  one_visited x [] i a = elim i [ ]
+  one_visited x (m ∷ ms) (here s) a = same x m s a.0
+  one_visited x (m ∷ ms) (there s) a = one_visited x ms s a.1
 
 -- ---- what stands in a node of the grammar
 
 mutual
-  joined : {x p q : g.Node} → g.StandsIn x p → g.StandsIn p q → g.StandsIn x q
+  joined : {x p q : g.Node} → g.IsWithin x p → g.IsWithin p q → g.IsWithin x q
   joined s g.itself = s
   joined s (g.within a) = g.within (joined_among s a)
 
-  joined_among : {x p : g.Node} {ps : List g.Node} → g.StandsIn x p → g.StandsAmong p ps → g.StandsAmong x ps
-  joined_among s (g.here t) = g.here (joined s t)
-  joined_among s (g.behind t) = g.behind (joined_among s t)
+  joined_among : {x p : g.Node} {ps : List g.Node} → g.IsWithin x p → g.IsWithinOneOf p ps → g.IsWithinOneOf x ps
+  joined_among s (g.in_first t) = g.in_first (joined s t)
+  joined_among s (g.in_rest t) = g.in_rest (joined_among s t)
 
 -- each of some nodes stands where all of them do
-listed : (root : g.Node) (xs : List g.Node) → ((x : g.Node) → g.StandsAmong x xs → g.StandsIn x root) → Each (λ x. g.StandsIn x root) xs
+listed : (root : g.Node) (xs : List g.Node) → ((x : g.Node) → g.IsWithinOneOf x xs → g.IsWithin x root) → Each (λ x. g.IsWithin x root) xs
 listed root [] h = tt
-listed root (x ∷ xs) h = (h x (g.here g.itself), listed root xs (λ y s. h y (g.behind s)))
+listed root (x ∷ xs) h = (h x (g.in_first g.itself), listed root xs (λ y s. h y (g.in_rest s)))
 
-pub inside_stands : (root n : g.Node) → g.StandsIn n root → Each (λ x. g.StandsIn x root) (g.nodes n)
-inside_stands root n s = listed root (g.nodes n) (λ x t. joined (g.within t) s)
+pub inside_in_preorder : (root n : g.Node) → g.IsWithin n root → Each (λ x. g.IsWithin x root) (g.nodes n)
+inside_in_preorder root n s = listed root (g.nodes n) (λ x t. joined (g.within t) s)
 
 no_more : (xs : List Tail) → Each (λ (x : Tail). Unit {0}) xs
 no_more [] = tt
 no_more (x ∷ xs) = (tt, no_more xs)
 
-pub each_is_of_the_grammar : EachIsOfTheGrammar
+pub each_is_of_the_grammar : EveryVisitedNodeIsInGrammar
 each_is_of_the_grammar b ns s n a =
-    let S : g.Node → Type 0 = λ x. g.StandsIn x (g.body b) in
+    let S : g.Node → Type 0 = λ x. g.IsWithin x (g.body b) in
     let T : Tail → Type 0 = λ x. Unit {0} in
-    let closed : Closed S T = record { inside = inside_stands (g.body b); tails = λ e t xs h k. no_more xs } in
-    one_seen S T closed n ns a (all_seen S T closed s (members S T closed b.members (inside_stands (g.body b) (g.body b) g.itself)))
+    let closed : Closed S T = record { inside = inside_in_preorder (g.body b); tails = λ e t xs h k. no_more xs } in
+    one_visited S T closed n ns a (all_visited S T closed s (members S T closed b.members (inside_in_preorder (g.body b) (g.body b) g.itself)))

@@ -1,7 +1,7 @@
 -- Among the nodes that stand in some nodes are these and the parts of each.
 use Rattle.std.proofs.Common.{List, [], ◌∷◌, ◌++◌}
-use Rattle.tf_rules.specs.Nodes as nodes
-use Rattle.tf_rules.specs.Nodes.{Node, Stand, parts}
+use Rattle.tf_rules.specs.Preorder as nodes
+use Rattle.tf_rules.specs.Preorder.{Node, IsPreorder, children}
 
 -- a node is one of some nodes
 pub data In (n : Node) : List Node → Type 0 where
@@ -39,14 +39,14 @@ pub last_all : (ns xs ys : List Node) → AllIn ns (xs ++ ys) → AllIn ns ys
 last_all ns [] ys a = a
 last_all ns (x ∷ xs) ys a = last_all ns xs ys a.1
 
-pub roots_in : {rs ns : List Node} → Stand rs ns → AllIn ns rs
-roots_in nodes.nothing = tt
-roots_in (nodes.one {ns = rs} {inside} {others} a b) = (here, all (λ n i. behind (past inside others i)) rs (roots_in b))
+pub roots_in : {rs ns : List Node} → IsPreorder rs ns → AllIn ns rs
+roots_in nodes.no_nodes = tt
+roots_in (nodes.visit {ns = rs} {inside} {others} a b) = (here, all (λ n i. behind (past inside others i)) rs (roots_in b))
 
-pub parts_in : {rs ns : List Node} → Stand rs ns → (m : Node) → In m ns → AllIn ns (parts m)
-parts_in nodes.nothing m i = elim i [ ]
-parts_in (nodes.one {inside} {others} a b) m here = all (λ n i. behind (before inside others i)) (parts m) (roots_in a)
-parts_in (nodes.one {inside} {others} a b) m (behind i) =
+pub parts_in : {rs ns : List Node} → IsPreorder rs ns → (m : Node) → In m ns → AllIn ns (children m)
+parts_in nodes.no_nodes m i = elim i [ ]
+parts_in (nodes.visit {inside} {others} a b) m here = all (λ n i. behind (before inside others i)) (children m) (roots_in a)
+parts_in (nodes.visit {inside} {others} a b) m (behind i) =
     either inside others i
-    (λ j. all (λ n k. behind (before inside others k)) (parts m) (parts_in a m j))
-    (λ j. all (λ n k. behind (past inside others k)) (parts m) (parts_in b m j))
+    (λ j. all (λ n k. behind (before inside others k)) (children m) (parts_in a m j))
+    (λ j. all (λ n k. behind (past inside others k)) (children m) (parts_in b m j))

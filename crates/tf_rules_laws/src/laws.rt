@@ -1,35 +1,34 @@
 //! What holds of what the rules find. Each law is the contract of a function that does nothing.
 
-ghost use Rattle.tf_rules_laws.specs.Both.{EachIsGoneThrough, EachIsOfTheGrammar};
-ghost use Rattle.tf_rules_laws.specs.Own.{NoneForgotten, TreeTold};
-ghost use Rattle.tf_rules_laws.specs.Dropped.{NoneDropped};
+ghost use Rattle.tf_rules_laws.specs.NodeLists.{EveryNodeIsVisited, EveryVisitedNodeIsInGrammar};
+ghost use Rattle.tf_rules_laws.specs.Payload.{ChildrenAreComplete, PreorderDeterminesTree};
+ghost use Rattle.tf_rules_laws.specs.NothingDropped.{NoFindingIsDropped};
 
-/// What stands directly in a node, together with what it has of its own, tells the node: none of
-/// its parts is forgotten.
-pub fn none_forgotten()
-    ensures { NoneForgotten }
+/// A node is determined by its own data and its children: the list of children leaves none out.
+pub fn children_are_complete()
+    ensures { ChildrenAreComplete }
 {}
 
 /// The nodes that stand in a tree tell the tree, each by what it has of its own and by how many
 /// parts it has: nothing of a tree is left out of the list of them.
-pub fn tree_told()
-    ensures { TreeTold }
+pub fn preorder_determines_tree()
+    ensures { PreorderDeterminesTree }
 {}
 
 /// What stands in a body for the grammar stands there for the rules: they go through each node.
-pub fn each_is_gone_through()
-    ensures { EachIsGoneThrough }
+pub fn every_node_is_visited()
+    ensures { EveryNodeIsVisited }
 {}
 
-/// And the other way round: what stands in a body for the rules stands there for the grammar.
-pub fn each_is_of_the_grammar()
-    ensures { EachIsOfTheGrammar }
+/// Every node of a body that the rules visit is a node of the grammar's list.
+pub fn every_visited_node_is_in_grammar()
+    ensures { EveryVisitedNodeIsInGrammar }
 {}
 
 /// Over a text that parses, what the rules find is all that they name: the test of a finding's
 /// numbers drops none.
-pub fn none_dropped()
-    ensures { NoneDropped }
+pub fn no_finding_is_dropped()
+    ensures { NoFindingIsDropped }
 {
-    hcl_grammar_laws::laws::each_node_over_its_tokens();
+    hcl_grammar_laws::laws::nodes_span_their_tokens();
 }

@@ -1,3 +1,3 @@
-pub mod Takes
+pub mod RevertRestores
 pub mod Refusing
-pub mod TakesSurely
+pub mod RevertSucceeds

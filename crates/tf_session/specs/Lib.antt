@@ -1,2 +1,2 @@
 pub mod Journals
-pub mod TakingBack
+pub mod RevertRestores

@@ -5,17 +5,18 @@
 //! failed.
 #![tactic(auto)]
 
+mod journaled_streams;
 pub mod laws;
-mod loading;
-mod saving;
-mod streaming;
+mod loader;
+mod saver;
 
 pub use edit_record::RecordFault;
-pub use loading::{MAX_JOURNAL, load};
-pub use saving::{journal_text, save};
-pub use streaming::{fix_stream, fmt_stream, revert_stream};
+pub use journaled_streams::{fix_stream, fmt_stream, revert_stream};
+pub use loader::{MAX_JOURNAL, load};
+pub use saver::{journal_text, save};
 pub use tf_commands::{
     Command, Done, Fault, Issue, Journal, ParseFault, Part, Refused, Remaining, Reply, Rule,
-    RuleSet, RunFault, ScanFault, Session, Told, check_stream, fix_through, fixed_text,
-    format_stream, lint_stream, put_issues, put_journal, put_text, run, step_stream, take_text,
+    RuleSet, RunFault, ScanFault, Session, Told, check_stream, fix_text_stream,
+    fix_without_session, format_text_stream, lint_stream, put_journal, put_text, run,
+    step_text_stream, take_text, write_issues,
 };

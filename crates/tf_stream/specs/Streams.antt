@@ -3,8 +3,8 @@
 -- are known.
 use Rattle.std.specs.Prelude.{◌≡◌, ◌≤◌, ◌<◌, ◌+◌, ℕ, List, length, take, Option}
 use Rattle.std.specs.Io.KnownBytes.{Consumes, Appends, Keeps, IsAtEnd}
-use Rattle.tf_stream.specs.declared.fault.TakeFault.{TakeFault}
-use Rattle.tf_stream.specs.declared.fault.TakeFault.TheVariants.{Read, Endless, Memory}
+use Rattle.tf_stream.specs.declared.fault.ReadFault.{ReadFault}
+use Rattle.tf_stream.specs.declared.fault.ReadFault.TheVariants.{Read, Endless, Memory}
 use Rattle.tf_stream.specs.declared.told.Told.{Told}
 use Rattle.tf_stream.specs.Told.{inner_of}
 
@@ -19,39 +19,39 @@ pub record Target : Type 0 where
   pub after : Option (List ℕ)
 
 -- this reader as a source, by what readers of its type have left
-abbrev pub from : {R : Type 0} → (R → Option (List ℕ)) → Told R → Told R → Source
-from remaining old new =
+abbrev pub source_of : {R : Type 0} → (R → Option (List ℕ)) → Told R → Told R → Source
+source_of remaining old new =
     record { before = remaining (inner_of old); after = remaining (inner_of new) }
 
 -- this writer as a target, by what writers of its type hold
-abbrev pub into : {W : Type 0} → (W → Option (List ℕ)) → Told W → Told W → Target
-into contents old new = record { before = contents (inner_of old); after = contents (inner_of new) }
+abbrev pub target_of : {W : Type 0} → (W → Option (List ℕ)) → Told W → Told W → Target
+target_of contents old new = record { before = contents (inner_of old); after = contents (inner_of new) }
 
 -- these bytes were taken from the front of the source
-abbrev pub Takes : Source → List ℕ → Type 0
-Takes source bytes = Consumes source.before source.after bytes
+abbrev pub ReadsBytes : Source → List ℕ → Type 0
+ReadsBytes source bytes = Consumes source.before source.after bytes
 
 -- these bytes are all that the source had, and within the limit
-abbrev pub TakesAll : ℕ → Source → List ℕ → Type 0
-TakesAll limit source bytes = Takes source bytes × IsAtEnd source.after × (length bytes ≤ limit)
+abbrev pub ReadsAll : ℕ → Source → List ℕ → Type 0
+ReadsAll limit source bytes = ReadsBytes source bytes × IsAtEnd source.after × (length bytes ≤ limit)
 
 -- What was taken at each fault. A read fails before more than the limit is taken. Endless comes
 -- past the limit alone, after just one byte more. Memory is wanted only for what was read, and only
 -- within the limit.
-abbrev pub TakenAtFault : ℕ → TakeFault → Source → Type 0
-TakenAtFault limit Read source = (bytes : List ℕ) × Takes source bytes × (length bytes ≤ limit)
-TakenAtFault limit Endless source =
-    (bytes : List ℕ) × Takes source bytes × (length bytes ≡ limit + 1)
-TakenAtFault limit Memory source =
-    (bytes : List ℕ) × Takes source bytes × (0 < length bytes) × (length bytes ≤ limit)
+abbrev pub ReadAtFault : ℕ → ReadFault → Source → Type 0
+ReadAtFault limit Read source = (bytes : List ℕ) × ReadsBytes source bytes × (length bytes ≤ limit)
+ReadAtFault limit Endless source =
+    (bytes : List ℕ) × ReadsBytes source bytes × (length bytes ≡ limit + 1)
+ReadAtFault limit Memory source =
+    (bytes : List ℕ) × ReadsBytes source bytes × (0 < length bytes) × (length bytes ≤ limit)
 
 -- these bytes went to the target, behind what it held
-abbrev pub Puts : Target → List ℕ → Type 0
-Puts target bytes = Appends target.before target.after bytes
+abbrev pub WritesBytes : Target → List ℕ → Type 0
+WritesBytes target bytes = Appends target.before target.after bytes
 
 -- so many of these bytes went to the target, from the front
-abbrev pub PutsFront : ℕ → Target → List ℕ → Type 0
-PutsFront sent target bytes = (sent ≤ length bytes) × Puts target (take sent bytes)
+abbrev pub WritesPrefix : ℕ → Target → List ℕ → Type 0
+WritesPrefix sent target bytes = (sent ≤ length bytes) × WritesBytes target (take sent bytes)
 
 -- nothing went to the target
 abbrev pub Untouched : Target → Type 0

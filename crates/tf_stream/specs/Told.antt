@@ -11,11 +11,11 @@ abbrev pub has_failed : {T : Type 0} → Told T → Bool
 has_failed t = t.failed
 
 -- a call that failed is kept, and one that did not changes nothing
-abbrev pub Tells : {X : Type 0} {E : Type 0} → Bool → Bool → Result X E → Type 0
-Tells old new r = MatchResult r (λ _. new ≡ old) (λ _. new ≡ true)
+abbrev pub RecordsFailure : {X : Type 0} {E : Type 0} → Bool → Bool → Result X E → Type 0
+RecordsFailure old new r = MatchResult r (λ _. new ≡ old) (λ _. new ≡ true)
 
 -- the same, and a write that took none of some bytes is kept too
-abbrev pub TellsWrite : {E : Type 0} → Bool → Bool → Result ℕ E → List ℕ → Type 0
-TellsWrite old new r buf =
+abbrev pub RecordsWriteFailure : {E : Type 0} → Bool → Bool → Result ℕ E → List ℕ → Type 0
+RecordsWriteFailure old new r buf =
     MatchResult r (λ n. (0 < n → new ≡ old) × (length buf ≡ 0 → new ≡ old)
     × (n ≡ 0 → 0 < length buf → new ≡ true)) (λ _. new ≡ true)

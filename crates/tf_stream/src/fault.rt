@@ -4,7 +4,7 @@ use thiserror::Error;
 
 /// Why the bytes of a reader were not taken.
 #[derive(Clone, Copy, Debug, PartialEq, Eq, Error)]
-pub enum TakeFault {
+pub enum ReadFault {
     /// A read failed, whatever its error.
     #[error("cannot read")]
     Read,
@@ -19,6 +19,6 @@ pub enum TakeFault {
 /// A write or a flush failed, or a write took nothing, after `sent` bytes went out.
 #[derive(Clone, Copy, Debug, PartialEq, Eq, Error)]
 #[error("cannot write, {sent} bytes sent")]
-pub struct PutFault {
+pub struct WriteFault {
     pub sent: usize,
 }

@@ -2,11 +2,11 @@
 #![tactic(auto)]
 
 mod fault;
-mod putting;
-mod taking;
+mod reading;
 mod told;
+mod writing;
 
-pub use fault::{PutFault, TakeFault};
-pub use putting::put;
-pub use taking::take_up_to;
+pub use fault::{ReadFault, WriteFault};
+pub use reading::read_to_limit;
 pub use told::Told;
+pub use writing::write_and_flush;

@@ -3,7 +3,7 @@
 ghost use Rattle.std.specs.Prelude.{◌≡◌, false};
 ghost use Rattle.std.specs.Io.{ReadsAtMost, WritesAtMost};
 ghost use Rattle.std.specs.Io.KnownBytes.{Keeps, ReadConsumes, WriteAppends};
-ghost use Rattle.tf_stream.specs.Told.{inner_of, has_failed, Tells, TellsWrite};
+ghost use Rattle.tf_stream.specs.Told.{inner_of, has_failed, RecordsFailure, RecordsWriteFailure};
 
 use std::io;
 use std::io::{Read, Write};
@@ -20,7 +20,7 @@ impl<T> Told<T> {
     /// Over this reader or writer no call has failed yet.
     pub fn new(inner: T) -> Told<T>
         ensures inner { inner_of result ≡ inner }
-        ensures fresh { has_failed result ≡ false }
+        ensures not_failed { has_failed result ≡ false }
     {
         Told {
             inner,
@@ -51,10 +51,10 @@ impl<R: Read> Read for Told<R> {
         ensures bound { ReadsAtMost result buf.new }
         ensures bytes { ReadConsumes (R.remaining (inner_of self.old))
             (R.remaining (inner_of self.new)) result buf.new }
-        ensures told { Tells (has_failed self.old) (has_failed self.new) result }
+        ensures failed { RecordsFailure (has_failed self.old) (has_failed self.new) result }
     {
         let answer = self.inner.read(buf);
-        tell(&mut self.failed, answer)
+        record_failure(&mut self.failed, answer)
     }
 }
 
@@ -65,28 +65,28 @@ impl<W: Write> Write for Told<W> {
         ensures bound { WritesAtMost result buf.now }
         ensures bytes { WriteAppends (W.contents (inner_of self.old))
             (W.contents (inner_of self.new)) result buf.now }
-        ensures told { TellsWrite (has_failed self.old) (has_failed self.new) result buf.now }
+        ensures failed { RecordsWriteFailure (has_failed self.old) (has_failed self.new) result buf.now }
     {
         let answer = self.inner.write(buf);
         if matches!(answer, Ok(0)) && !buf.is_empty() {
             self.failed = true;
         }
-        tell(&mut self.failed, answer)
+        record_failure(&mut self.failed, answer)
     }
 
     fn flush(&mut self) -> io::Result<()>
         ensures bytes { Keeps (W.contents (inner_of self.old)) (W.contents (inner_of self.new)) }
-        ensures told { Tells (has_failed self.old) (has_failed self.new) result }
+        ensures failed { RecordsFailure (has_failed self.old) (has_failed self.new) result }
     {
         let answer = self.inner.flush();
-        tell(&mut self.failed, answer)
+        record_failure(&mut self.failed, answer)
     }
 }
 
 /// The answer of an inner call; that it failed is kept.
-fn tell<X>(failed: &mut bool, answer: io::Result<X>) -> io::Result<X>
+fn record_failure<X>(failed: &mut bool, answer: io::Result<X>) -> io::Result<X>
     ensures same { result ≡ answer }
-    ensures told { Tells failed.old failed.new result }
+    ensures failed { RecordsFailure failed.old failed.new result }
 {
     if answer.is_err() {
         *failed = true;

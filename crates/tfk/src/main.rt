@@ -7,11 +7,11 @@ use std::{env, io};
 use tf_program::work;
 
 fn main(rt: HostRuntime) -> ExitCode {
-    match words_of(&rt) {
-        Ok(words) => ExitCode::from(work(
+    match args_of(&rt) {
+        Ok(args) => ExitCode::from(work(
             &rt,
             rt.alloc(),
-            words.as_slice(),
+            args.as_slice(),
             &mut rt.stdin(),
             &mut rt.stdout(),
             &mut rt.stderr(),
@@ -29,12 +29,12 @@ fn main(rt: HostRuntime) -> ExitCode {
 }
 
 /// The words of the command line behind the program's name.
-fn words_of(rt: &HostRuntime) -> io::Result<Vec<String>> {
-    let mut given = env::args(rt)?;
-    let _program = given.next();
-    let mut words = Vec::new(rt.alloc());
-    for word in given {
-        words.push(word)?;
+fn args_of(rt: &HostRuntime) -> io::Result<Vec<String>> {
+    let mut all_args = env::args(rt)?;
+    let _program = all_args.next();
+    let mut args = Vec::new(rt.alloc());
+    for arg in all_args {
+        args.push(arg)?;
     }
-    Ok(words)
+    Ok(args)
 }

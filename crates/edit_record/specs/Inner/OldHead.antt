@@ -1,6 +1,6 @@
 -- The front of an old record in the code.
 use Rattle.edit_record.specs.Inner.Reading.{OldHead}
-use Rattle.edit_record.specs.declared.reading.OldHead.{OldHead as Head}
+use Rattle.edit_record.specs.declared.decoder.OldHead.{OldHead as Head}
 
 abbrev pub head_view : Head → OldHead
 head_view h = record { word = h.word; first = h.first; others = h.others }

@@ -4,9 +4,9 @@ use Rattle.std.specs.Prelude.{ℕ, zero, suc, ◌+◌, ◌-◌, ◌*◌, List, [
 use Rattle.edit_list.specs.declared.edit.BadEdits.{BadEdits}
 use Rattle.edit_list.specs.declared.record.Word.{Word}
 use Rattle.edit_list.specs.declared.record.Word.TheVariants.{Fmt, Fix}
-use Rattle.edit_list.specs.Pieces.{Entry, EditList}
-use Rattle.edit_list.specs.Made.{made}
-use Rattle.edit_list.specs.Journal.{Entered}
+use Rattle.edit_list.specs.Pieces.{EditEntry, EditList}
+use Rattle.edit_list.specs.Validity.{make_edits}
+use Rattle.edit_list.specs.Journal.{JournalEntry}
 use Rattle.edit_record.specs.Text.{OldRecord, space, newline}
 
 infixl 10 ◌>>=◌
@@ -15,10 +15,10 @@ abbrev pub ◌>>=◌ : {A B : Type 0} → Option A → (A → Option B) → Opti
 None >>= f = None
 
 -- what stands behind these bytes, where they are the front
-abbrev pub behind : List ℕ → List ℕ → Option (List ℕ)
-behind [] t = Some t
-behind (c ∷ p) [] = None
-behind (c ∷ p) (b ∷ t) = if c == b then behind p t else None
+abbrev pub strip : List ℕ → List ℕ → Option (List ℕ)
+strip [] t = Some t
+strip (c ∷ p) [] = None
+strip (c ∷ p) (b ∷ t) = if c == b then strip p t else None
 
 abbrev pub is_digit : ℕ → Bool
 is_digit c = nat_le 48 c && nat_le c 57
@@ -38,8 +38,8 @@ number_on least limit stop some value (c ∷ t) =
     else number_on least limit stop true (with_digit value c) t))
     else (if (some && (nat_le least value && (c == stop))) then Some (value, t) else None)
 
-abbrev pub most : ℕ
-most = 33554432
+abbrev pub max_number : ℕ
+max_number = 33554432
 
 unfoldable pub number_at : ℕ → ℕ → ℕ → List ℕ → Option (ℕ × List ℕ)
 number_at least limit stop t = number_on least limit stop false 0 t
@@ -48,37 +48,37 @@ number_at least limit stop t = number_on least limit stop false 0 t
 unfoldable pub bytes_at : ℕ → List ℕ → Option (List ℕ × List ℕ)
 bytes_at n t = if nat_lt (length t) n then None else Some (take n t, drop n t)
 
-unfoldable pub edit_at : List ℕ → Option (Entry × List ℕ)
+unfoldable pub edit_at : List ℕ → Option (EditEntry × List ℕ)
 edit_at t = do
-  at ← number_at 0 most space t
-  r ← number_at 0 most space at.1
-  w ← number_at 0 most newline r.1
+  at ← number_at 0 max_number space t
+  r ← number_at 0 max_number space at.1
+  w ← number_at 0 max_number newline r.1
   removed ← bytes_at r.0 w.1
   added ← bytes_at w.0 removed.1
-  rest ← behind (newline ∷ []) added.1
+  rest ← strip (newline ∷ []) added.1
   Some (record { at = at.0; removed = removed.0; added = added.0 }, rest)
 
 -- so many of them, one after another
-abbrev pub many_at : {X : Type 0} → (List ℕ → Option (X × List ℕ)) → ℕ → List ℕ
+abbrev pub repeat_at : {X : Type 0} → (List ℕ → Option (X × List ℕ)) → ℕ → List ℕ
     → Option (List X × List ℕ)
-many_at p zero t = Some ([], t)
-many_at p (suc n) t =
-    p t >>= λ first. many_at p n first.1 >>= λ others. Some (first.0 ∷ others.0, others.1)
+repeat_at p zero t = Some ([], t)
+repeat_at p (suc n) t =
+    p t >>= λ first. repeat_at p n first.1 >>= λ others. Some (first.0 ∷ others.0, others.1)
 
-unfoldable pub edits_at : ℕ → List ℕ → Option (List Entry × List ℕ)
-edits_at n t = many_at edit_at n t
+unfoldable pub edits_at : ℕ → List ℕ → Option (List EditEntry × List ℕ)
+edits_at n t = repeat_at edit_at n t
 
 -- a list that can be made
-abbrev pub if_made : Result EditList BadEdits → List ℕ → Option (EditList × List ℕ)
-if_made (Ok e) t = Some (e, t)
-if_made (Err d) t = None
+abbrev pub if_valid : Result EditList BadEdits → List ℕ → Option (EditList × List ℕ)
+if_valid (Ok e) t = Some (e, t)
+if_valid (Err d) t = None
 
-unfoldable pub list_at : List ℕ → Option (EditList × List ℕ)
-list_at t = do
-  old_len ← number_at 0 most space t
-  count ← number_at 0 most newline old_len.1
+unfoldable pub edit_list_at : List ℕ → Option (EditList × List ℕ)
+edit_list_at t = do
+  old_len ← number_at 0 max_number space t
+  count ← number_at 0 max_number newline old_len.1
   edits ← edits_at count.0 count.1
-  if_made (made old_len.0 edits.0) edits.1
+  if_valid (make_edits old_len.0 edits.0) edits.1
 
 -- what stands behind the one word, or behind the other
 abbrev pub word_of : Option (List ℕ) → Option (List ℕ) → Option (Word × List ℕ)
@@ -88,25 +88,25 @@ word_of None None = None
 
 unfoldable pub word_at : List ℕ → Option (Word × List ℕ)
 word_at t = do
-  word ← word_of (behind (codes "fmt") t) (behind (codes "fix") t)
-  rest ← behind (space ∷ []) word.1
+  word ← word_of (strip (codes "fmt") t) (strip (codes "fix") t)
+  rest ← strip (space ∷ []) word.1
   Some (word.0, rest)
 
-unfoldable pub record_at : List ℕ → Option (Entered × List ℕ)
+unfoldable pub record_at : List ℕ → Option (JournalEntry × List ℕ)
 record_at t = do
-  a ← behind (codes "tfrec 2 ") t
+  a ← strip (codes "tfrec 2 ") t
   word ← word_at a
-  edits ← list_at word.1
-  rest ← behind (codes "end\n") edits.1
+  edits ← edit_list_at word.1
+  rest ← strip (codes "end\n") edits.1
   Some (record { word = word.0; edits = edits.0 }, rest)
 
 unfoldable pub step_at : List ℕ → Option (EditList × List ℕ)
 step_at t = do
-  a ← behind (codes "step ") t
-  list_at a
+  a ← strip (codes "step ") t
+  edit_list_at a
 
 unfoldable pub steps_at : ℕ → List ℕ → Option (List EditList × List ℕ)
-steps_at n t = many_at step_at n t
+steps_at n t = repeat_at step_at n t
 
 -- the word of an old record, its first step, and how many others there are
 pub record OldHead : Type 0 where
@@ -116,7 +116,7 @@ pub record OldHead : Type 0 where
 
 unfoldable pub old_head_at : List ℕ → Option (OldHead × List ℕ)
 old_head_at t = do
-  a ← behind (codes "tfrec 1 ") t
+  a ← strip (codes "tfrec 1 ") t
   word ← word_at a
   count ← number_at 1 64 newline word.1
   first ← step_at count.1
@@ -126,5 +126,5 @@ unfoldable pub old_record_at : List ℕ → Option (OldRecord × List ℕ)
 old_record_at t = do
   head ← old_head_at t
   others ← steps_at head.0.others head.1
-  rest ← behind (codes "end\n") others.1
+  rest ← strip (codes "end\n") others.1
   Some (record { word = head.0.word; first = head.0.first; others = others.0 }, rest)

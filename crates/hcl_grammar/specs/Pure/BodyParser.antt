@@ -11,54 +11,54 @@ use Rattle.hcl_grammar.specs.declared.tree.Member.{Member}
 use Rattle.hcl_grammar.specs.declared.tree.Member.TheVariants as member
 use Rattle.hcl_grammar.specs.declared.tree.Tree.{Tree}
 use Rattle.hcl_grammar.specs.Nodes as node
-use Rattle.hcl_grammar.specs.Pure.Parser.{line, inner_line, expr, some}
-use Rattle.hcl_grammar.specs.Pure.Reading.{Step, ◌>>=◌, ◌>>◌, pure, here, ahead, refuse, peek, eat, expect, skip, enter}
-use Rattle.hcl_grammar.specs.Tokens.{Token, first_of}
+use Rattle.hcl_grammar.specs.Pure.Parser.{eat_newline, eat_inner_newline, expr, as_some}
+use Rattle.hcl_grammar.specs.Pure.Reading.{Step, ◌>>=◌, ◌>>◌, pure, position, peek_index, syntax_fault, peek_kind, eat, expect, bump_known, enter}
+use Rattle.hcl_grammar.specs.Tokens.{Token, first_token_in}
 
 module _ (ts : List Token) where
   -- nothing comes next
-  abbrev pub ended : Option Kind → Step (Unit {0})
-  ended None = pure tt
-  ended (Some t) = refuse ts false
+  abbrev pub expect_end : Option Kind → Step (Unit {0})
+  expect_end None = pure tt
+  expect_end (Some t) = syntax_fault ts false
 
   -- Eol
   unfoldable pub eol : Step (Unit {0})
   eol = do
-    is_line ← line ts
+    is_line ← eat_newline ts
     if is_line then pure tt else (do
       is_comment ← eat ts false k.LineComment
-      t ← peek ts false
-      ended t)
+      t ← peek_kind ts false
+      expect_end t)
 
   -- after the opening quote
   unfoldable pub quoted_label : ℕ → Step Label
   quoted_label first = do
-    name ← ahead ts false
+    name ← peek_index ts false
     is_text ← eat ts false k.QuoteLit
     expect ts false k.QuoteClose
-    end ← here
+    end ← position
     pure (node.label first end (if is_text then Some name else None))
 
   -- by the kind of the token that comes next
   abbrev pub label_by : ℕ → Option Kind → Step (Option Label)
   label_by first (Some k.Identifier) = do
-    skip ts false
-    end ← here
+    bump_known ts false
+    end ← position
     pure (Some (node.label first end (Some first)))
-  label_by first (Some k.QuoteOpen) = skip ts false >> some (quoted_label first)
+  label_by first (Some k.QuoteOpen) = bump_known ts false >> as_some (quoted_label first)
   label_by first (Some _) = pure None
   label_by first None = pure None
 
   -- a label, if one comes next
   unfoldable pub label_of : Step (Option Label)
   label_of = do
-    first ← ahead ts false
-    t ← peek ts false
+    first ← peek_index ts false
+    t ← peek_kind ts false
     label_by first t
 
-  abbrev pub one_less : ℕ → ℕ
-  one_less zero = zero
-  one_less (suc depth) = depth
+  abbrev pub saturating_pred : ℕ → ℕ
+  saturating_pred zero = zero
+  saturating_pred (suc depth) = depth
 
 module _ (ts : List Token) where
   abbrev pub labels_step : (List Label → Step (List Label)) → List Label → Option Label
@@ -79,60 +79,60 @@ module _ (ts : List Token) where
     attribute_by first = do
       value ← expr ts depth false Whole
       eol ts
-      end ← here
+      end ← position
       pure (member.Attribute (node.attribute first end value))
 
     -- the body of a block, behind the line of its brace
     unfoldable pub nested_body : Step Content
     nested_body = do
-      from ← here
+      from ← position
       members ← inner
-      to ← here
-      pure (content.Lines (node.body (first_of ts false from to) to members))
+      to ← position
+      pure (content.Body (node.body (first_token_in ts false from to) to members))
 
   -- (Identifier "=" Expr)?, its expressions at this depth
-  unfoldable pub on_line : ℕ → Step Content
-  on_line depth = do
-    first ← ahead ts false
+  unfoldable pub one_line_body : ℕ → Step Content
+  one_line_body depth = do
+    first ← peek_index ts false
     is_name ← eat ts false k.Identifier
     if is_name then (do
       expect ts false k.Equal
       value ← expr ts depth false Whole
-      end ← here
-      pure (content.Line (Some (node.attribute first end value)))) else pure (content.Line None)
+      end ← position
+      pure (content.OneLine (Some (node.attribute first end value)))) else pure (content.OneLine None)
 
   module _ (depth : ℕ) (inner : Step (List Member)) where
     -- after `{`
     unfoldable pub block_content : Step Content
     block_content = do
-      is_line ← inner_line ts
-      if is_line then nested_body depth inner else on_line (one_less ts depth)
+      is_line ← eat_inner_newline ts
+      if is_line then nested_body depth inner else one_line_body (saturating_pred ts depth)
 
     -- after the word
     unfoldable pub block_by : ℕ → Step Member
     block_by first = do
       labels ← labels_from (length ts) []
-      opening ← ahead ts false
+      opening ← peek_index ts false
       expect ts false k.OpenBrace
       enter depth opening
       x ← block_content
       expect ts false k.CloseBrace
       eol ts
-      end ← here
+      end ← position
       pure (node.block first end labels x)
 
     -- after the name
-    unfoldable pub named_member : ℕ → Step Member
-    named_member first = do
+    unfoldable pub attribute_or_block : ℕ → Step Member
+    attribute_or_block first = do
       is_attribute ← eat ts false k.Equal
       if is_attribute then attribute_by depth inner first else block_by first
 
     -- a member, if one comes next
     unfoldable pub member_of : Step (Option Member)
     member_of = do
-      first ← ahead ts false
+      first ← peek_index ts false
       is_name ← eat ts false k.Identifier
-      if is_name then some (named_member first) else pure None
+      if is_name then as_some (attribute_or_block first) else pure None
 
     abbrev pub members_step : (List Member → Step (List Member)) → List Member → Option Member
         → Step (List Member)
@@ -143,7 +143,7 @@ module _ (ts : List Token) where
     unfoldable pub members_from : ℕ → List Member → Step (List Member)
     members_from zero found = pure found
     members_from (suc n) found = do
-      is_line ← line ts
+      is_line ← eat_newline ts
       if is_line then members_from n found else (do
         m ← member_of
         members_step (members_from n) found m)
@@ -161,10 +161,10 @@ module _ (ts : List Token) where
   unfoldable pub file : ℕ → Step Tree
   file depth = do
     is_mark ← eat ts false k.Mark
-    from ← here
+    from ← position
     ms ← members depth
-    to ← here
+    to ← position
     is_comment ← eat ts false k.LineComment
-    t ← peek ts false
-    ended ts t
-    pure (node.tree (length ts) (node.body (first_of ts false from to) to ms))
+    t ← peek_kind ts false
+    expect_end ts t
+    pure (node.tree (length ts) (node.body (first_token_in ts false from to) to ms))

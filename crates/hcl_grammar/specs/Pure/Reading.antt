@@ -3,7 +3,7 @@ use Rattle.std.specs.Prelude.{◌≡◌, ◌≢◌, ℕ, zero, suc, Bool, if◌t
 use Rattle.hcl_token.specs.declared.kind.Kind.{Kind}
 use Rattle.hcl_grammar.specs.declared.fault.TokenFault.{TokenFault}
 use Rattle.hcl_grammar.specs.declared.fault.TokenFault.TheVariants.{Syntax, TooDeep, Memory}
-use Rattle.hcl_grammar.specs.Tokens.{Token, start, token, next, after, is_kind, is_word}
+use Rattle.hcl_grammar.specs.Tokens.{Token, next_index, next_token, next_kind, after_next, is_kind, is_word}
 
 -- what is read and the place behind it, or why nothing is
 abbrev pub Outcome : Type 0 → Type 0
@@ -14,13 +14,13 @@ abbrev pub Step : Type 0 → Type 0
 Step A = ℕ → Outcome A
 
 -- the next step begins behind what was read; where nothing was, there is none
-abbrev pub go_on : {A B : Type 0} → Outcome A → (A → Step B) → Outcome B
-go_on (Ok read) next = next read.0 read.1
-go_on (Err fault) next = Err fault
+abbrev pub and_then : {A B : Type 0} → Outcome A → (A → Step B) → Outcome B
+and_then (Ok read) next_kind = next_kind read.0 read.1
+and_then (Err fault) next_kind = Err fault
 
 infixl 10 ◌>>=◌
 abbrev pub ◌>>=◌ : {A B : Type 0} → Step A → (A → Step B) → Step B
-first >>= next = λ from. go_on (first from) next
+first >>= next_kind = λ from. and_then (first from) next_kind
 
 infixl 10 ◌>>◌
 abbrev pub ◌>>◌ : {A B : Type 0} → Step A → Step B → Step B
@@ -31,62 +31,62 @@ abbrev pub pure : {A : Type 0} → A → Step A
 pure value = λ from. Ok (value, from)
 
 -- where the step begins
-abbrev pub here : Step ℕ
-here = λ from. Ok (from, from)
+abbrev pub position : Step ℕ
+position = λ from. Ok (from, from)
 
 module _ (ts : List Token) where
   -- the number of the next token
-  abbrev pub ahead : Bool → Step ℕ
-  ahead inside = λ i. Ok (start ts inside i, i)
+  abbrev pub peek_index : Bool → Step ℕ
+  peek_index skip_newlines = λ i. Ok (next_index ts skip_newlines i, i)
 
   -- the next token fits nothing
-  abbrev pub refuse : {A : Type 0} → Bool → Step A
-  refuse inside = λ i. Err (Syntax (start ts inside i))
+  abbrev pub syntax_fault : {A : Type 0} → Bool → Step A
+  syntax_fault skip_newlines = λ i. Err (Syntax (next_index ts skip_newlines i))
 
   -- the kind of the next token, which is not taken
-  abbrev pub peek : Bool → Step (Option Kind)
-  peek inside = λ i. Ok (next ts inside i, i)
+  abbrev pub peek_kind : Bool → Step (Option Kind)
+  peek_kind skip_newlines = λ i. Ok (next_kind ts skip_newlines i, i)
 
   -- whether a token of this kind comes next
-  unfoldable pub sees : Bool → Kind → ℕ → Bool
-  sees inside kind i = is_kind (next ts inside i) kind
+  unfoldable pub next_is : Bool → Kind → ℕ → Bool
+  next_is skip_newlines kind i = is_kind (next_kind ts skip_newlines i) kind
 
   -- the place behind a token of this kind, if one comes next
-  unfoldable pub past : Bool → Kind → ℕ → ℕ
-  past inside kind i = if sees inside kind i then after ts inside i else i
+  unfoldable pub after_if_next : Bool → Kind → ℕ → ℕ
+  after_if_next skip_newlines kind i = if next_is skip_newlines kind i then after_next ts skip_newlines i else i
 
   -- takes a token of this kind, if one comes next
   abbrev pub eat : Bool → Kind → Step Bool
-  eat inside kind = λ i. Ok (sees inside kind i, past inside kind i)
+  eat skip_newlines kind = λ i. Ok (next_is skip_newlines kind i, after_if_next skip_newlines kind i)
 
   -- takes a token of this kind, which must come next
   unfoldable pub expect : Bool → Kind → Step (Unit {0})
-  expect inside kind =
-      λ i. if sees inside kind i then Ok (tt, after ts inside i) else refuse inside i
+  expect skip_newlines kind =
+      λ i. if next_is skip_newlines kind i then Ok (tt, after_next ts skip_newlines i) else syntax_fault skip_newlines i
 
-  abbrev pub taken : Bool → ℕ → Option Kind → Outcome Kind
-  taken inside i None = refuse inside i
-  taken inside i (Some t) = Ok (t, after ts inside i)
+  abbrev pub bump_kind : Bool → ℕ → Option Kind → Outcome Kind
+  bump_kind skip_newlines i None = syntax_fault skip_newlines i
+  bump_kind skip_newlines i (Some t) = Ok (t, after_next ts skip_newlines i)
 
   -- takes the next token
   unfoldable pub bump : Bool → Step Kind
-  bump inside = λ i. taken inside i (next ts inside i)
+  bump skip_newlines = λ i. bump_kind skip_newlines i (next_kind ts skip_newlines i)
 
   -- takes the next token, which was looked at
-  abbrev pub skip : Bool → Step (Unit {0})
-  skip inside = λ i. Ok (tt, after ts inside i)
+  abbrev pub bump_known : Bool → Step (Unit {0})
+  bump_known skip_newlines = λ i. Ok (tt, after_next ts skip_newlines i)
 
   -- whether this word comes next
-  unfoldable pub reads : Bool → List ℕ → ℕ → Bool
-  reads inside w i = is_word w (token ts inside i)
+  unfoldable pub next_is_word : Bool → List ℕ → ℕ → Bool
+  next_is_word skip_newlines w i = is_word w (next_token ts skip_newlines i)
 
   -- the same, as a step
-  abbrev pub look : Bool → List ℕ → Step Bool
-  look inside w = λ i. Ok (reads inside w i, i)
+  abbrev pub peek_is_word : Bool → List ℕ → Step Bool
+  peek_is_word skip_newlines w = λ i. Ok (next_is_word skip_newlines w i, i)
 
   -- takes this word, which must come next
-  unfoldable pub word : Bool → List ℕ → Step (Unit {0})
-  word inside w = λ i. if reads inside w i then Ok (tt, after ts inside i) else refuse inside i
+  unfoldable pub expect_word : Bool → List ℕ → Step (Unit {0})
+  expect_word skip_newlines w = λ i. if next_is_word skip_newlines w i then Ok (tt, after_next ts skip_newlines i) else syntax_fault skip_newlines i
 
 -- opens a construct at this token, if one more may nest
 abbrev pub enter : ℕ → ℕ → Step (Unit {0})
@@ -105,6 +105,6 @@ Reads outcome (Ok a) new = outcome ≡ Ok (a, new)
 Reads outcome (Err e) new = e ≢ Memory → outcome ≡ Err e
 
 -- what a step answers that takes no memory: the parser's outcome, whatever it is
-abbrev pub Gives : {A : Type 0} → Outcome A → Result A TokenFault → ℕ → Type 0
-Gives outcome (Ok a) new = outcome ≡ Ok (a, new)
-Gives outcome (Err e) new = outcome ≡ Err e
+abbrev pub ReadsExactly : {A : Type 0} → Outcome A → Result A TokenFault → ℕ → Type 0
+ReadsExactly outcome (Ok a) new = outcome ≡ Ok (a, new)
+ReadsExactly outcome (Err e) new = outcome ≡ Err e

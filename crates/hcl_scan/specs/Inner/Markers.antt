@@ -5,5 +5,5 @@ use Rattle.hcl_scan.specs.Modes.Mode.{Heredoc}
 use Rattle.hcl_scan.specs.Lexeme.{IsIdentifier}
 
 abbrev pub HasMarker : Mode → Type 0
-HasMarker (Heredoc name fresh) = IsIdentifier name
+HasMarker (Heredoc name at_line_start) = IsIdentifier name
 HasMarker _ = ⊤

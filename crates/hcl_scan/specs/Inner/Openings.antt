@@ -11,7 +11,7 @@ mode_view InExpression = Expression
 mode_view InSequence = Sequence
 mode_view InBraces = Braces
 mode_view InQuoted = Quoted
-mode_view (InHeredoc name fresh) = Heredoc name.now fresh
+mode_view (InHeredoc name at_line_start) = Heredoc name.now at_line_start
 
 -- innermost first
 abbrev pub modes_of : List Opening → List Mode
@@ -21,14 +21,14 @@ abbrev pub places_of : List Opening → List ℕ
 places_of openings = map (λ (o : Opening). o.at) (reverse openings)
 
 -- the heredoc goes on where a line begins, or does not
-abbrev pub with_line : Bool → Mode → Mode
-with_line fresh (Heredoc name before) = Heredoc name fresh
-with_line fresh mode = mode
+abbrev pub with_line_start : Bool → Mode → Mode
+with_line_start at_line_start (Heredoc name before) = Heredoc name at_line_start
+with_line_start at_line_start mode = mode
 
-abbrev pub with_line_in : Bool → List Mode → List Mode
-with_line_in fresh [] = []
-with_line_in fresh (mode ∷ modes) = with_line fresh mode ∷ modes
+abbrev pub with_line_start_in : Bool → List Mode → List Mode
+with_line_start_in at_line_start [] = []
+with_line_start_in at_line_start (mode ∷ modes) = with_line_start at_line_start mode ∷ modes
 
 -- neither LF nor CR
-abbrev pub is_in_line : ℕ → Bool
-is_in_line b = not (b == 10 || b == 13)
+abbrev pub is_not_line_break : ℕ → Bool
+is_not_line_break b = not (b == 10 || b == 13)

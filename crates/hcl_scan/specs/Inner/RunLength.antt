@@ -5,14 +5,14 @@ use Rattle.hcl_scan.specs.Runs.{UnitLength}
 
 -- where the first `skip` bytes belong to a unit already
 abbrev pub run_from : UnitLength → Bool → ℕ → List ℕ → ℕ
-run_from unit fresh skip [] = 0
-run_from unit fresh (suc skip) (b ∷ t) = suc (run_from unit (b == 10) skip t)
-run_from unit fresh zero (b ∷ t) =
-    if unit fresh (b ∷ t) == 0 then 0 else suc (run_from unit (b == 10) (unit fresh (b ∷ t) - 1) t)
+run_from unit at_line_start skip [] = 0
+run_from unit at_line_start (suc skip) (b ∷ t) = suc (run_from unit (b == 10) skip t)
+run_from unit at_line_start zero (b ∷ t) =
+    if unit at_line_start (b ∷ t) == 0 then 0 else suc (run_from unit (b == 10) (unit at_line_start (b ∷ t) - 1) t)
 
 abbrev pub run_length : UnitLength → Bool → List ℕ → ℕ
-run_length unit fresh t = run_from unit fresh 0 t
+run_length unit at_line_start t = run_from unit at_line_start 0 t
 
 -- a byte that is a unit of quoted text whatever stands behind it
-abbrev pub is_plain_quoted : ℕ → Bool
-is_plain_quoted b = not (b == 34 || b == 36 || b == 37 || b == 92 || b == 10 || b == 13)
+abbrev pub is_ordinary_quoted : ℕ → Bool
+is_ordinary_quoted b = not (b == 34 || b == 36 || b == 37 || b == 92 || b == 10 || b == 13)

@@ -7,14 +7,14 @@
 //! asked of the allocator behind the first line is the call's. A call whose name begins with
 //! `no_memory_` takes none.
 
-mod alike;
-mod editing;
-mod inputs;
+mod edits;
+mod equality;
+mod fixtures;
 mod journals;
-mod lending;
-mod reading;
-mod stepping;
-mod streaming;
+mod no_allocation;
+mod one_text;
+mod sessions;
+mod stream_calls;
 
 use crate::tests::{Host, given};
 

@@ -3,7 +3,7 @@
 mod journals;
 mod squashing;
 mod told;
-mod whole;
+mod whole_texts;
 
 use std::io;
 use std::io::{Error, ErrorKind, Read, Write};

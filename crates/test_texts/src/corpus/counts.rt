@@ -68,7 +68,7 @@ impl Tally {
     }
 
     /// Tells the rules that occur too seldom.
-    pub fn tell_rare(&self, rt: &HostRuntime) -> Result<()> {
+    pub fn print_rare(&self, rt: &HostRuntime) -> Result<()> {
         for (rule, texts) in Rule::ALL.iter().zip(self.texts.iter()) {
             if *texts < wanted(*rule) {
                 let name = short(*rule);

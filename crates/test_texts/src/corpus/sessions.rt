@@ -31,7 +31,7 @@ pub fn step(session: &mut Session, command: Command, report: &mut Report) -> Don
 }
 
 /// Whether as many reverts as there are records lead to this text, and one more is refused.
-pub fn goes_back(session: &Session, first: &[u8], report: &mut Report) {
+pub fn reverts_to(session: &Session, first: &[u8], report: &mut Report) {
     let mut copy = State::of(session, report).session(report);
     for _ in 0..session.journal().records().len() {
         let is_done = copy.step(report.alloc, Command::Revert).is_ok();
@@ -48,7 +48,7 @@ pub fn goes_back(session: &Session, first: &[u8], report: &mut Report) {
 pub fn is_one_list(session: &Session, first: &[u8], report: &mut Report) {
     let goes = match Edits::make(first.len(), Vec::new(report.alloc)) {
         Ok(none) => match squashed(report.alloc, none, session.journal().records()) {
-            Ok(all) => goes_between(&all, first, session.text(), report.alloc),
+            Ok(all) => leads_between(&all, first, session.text(), report.alloc),
             Err(_) => false,
         },
         Err(_) => false,
@@ -64,7 +64,7 @@ fn squashed(alloc: Global, first: Edits, records: &[Record]) -> Result<Edits, Un
     Ok(all)
 }
 
-fn goes_between(edits: &Edits, first: &[u8], last: &[u8], alloc: Global) -> bool {
+fn leads_between(edits: &Edits, first: &[u8], last: &[u8], alloc: Global) -> bool {
     is(edits.apply(alloc, first), last) && is(edits.undo(alloc, last), first)
 }
 

@@ -1,10 +1,11 @@
 //! A walk over a tree, which notes each production that it comes by.
 
-use crate::corpus::seen::Seen;
+use crate::corpus::coverage::Seen;
 use crate::report::Report;
 use hcl_grammar::tree::{
-    Attribute, Block, Call, Content, Elem, Expr, ForDirective, ForObject, ForTuple, Form,
-    IfDirective, Intro, Label, Link, Member, Operator, Part, Prefix, Shape, Tail, Template, Tree,
+    Attribute, BinaryOperator, Block, Call, Content, Elem, Expr, ExprKind, ForDirective, ForObject,
+    ForTuple, IfDirective, Intro, Label, Member, Operation, Part, Primary, Tail, Template, Tree,
+    UnaryOperator,
 };
 use hcl_scan::{Kind, Scanned};
 use plain_tree::{Boxed, Items};
@@ -50,7 +51,7 @@ fn see_node<'t>(scanned: &Scanned<'_>, node: Node<'t>, left: &mut Left<'t>, seen
     match node {
         Node::Member(Member::Attribute(attribute)) => left.attribute(attribute, seen),
         Node::Member(Member::Block(block)) => left.block(block, seen),
-        Node::Expr(expr) => left.form(&expr.form, seen),
+        Node::Expr(expr) => left.form(&expr.kind, seen),
         Node::Tail(tail) => left.tail(tail, seen),
         Node::Elem(elem) => {
             see_elem(scanned, elem, seen);
@@ -86,15 +87,15 @@ impl<'t> Left<'t> {
     fn block(&mut self, block: &'t Block, seen: &mut Seen) {
         see_labels(&block.labels, seen);
         match &block.content {
-            Content::Lines(body) => {
+            Content::Body(body) => {
                 seen.form("a block on lines");
                 self.members(&body.get().members);
             }
-            Content::Line(Some(attribute)) => {
+            Content::OneLine(Some(attribute)) => {
                 seen.form("a block on a line, with an attribute");
                 self.attribute(attribute.get(), seen);
             }
-            Content::Line(None) => seen.form("a block on a line, empty"),
+            Content::OneLine(None) => seen.form("a block on a line, empty"),
         }
     }
 
@@ -103,31 +104,31 @@ impl<'t> Left<'t> {
         self.expr(attribute.value.get());
     }
 
-    fn form(&mut self, form: &'t Form, seen: &mut Seen) {
+    fn form(&mut self, form: &'t ExprKind, seen: &mut Seen) {
         match form {
-            Form::Conditional(condition, met, unmet) => {
+            ExprKind::Conditional(condition, met, unmet) => {
                 seen.form("A ? B : C");
                 self.expr(condition.get());
                 self.expr(met.get());
                 self.expr(unmet.get());
             }
-            Form::Chain(head, links) => {
+            ExprKind::Binary(head, links) => {
                 self.expr(head.get());
                 self.links(links.get(), seen);
             }
-            Form::Prefixed(prefix, operand) => {
+            ExprKind::Unary(prefix, operand) => {
                 seen.form(name_of_prefix(*prefix));
                 self.expr(operand.get());
             }
-            Form::Tailed(term, tails) => {
-                self.shape(&term.get().shape, seen);
+            ExprKind::Postfix(term, tails) => {
+                self.shape(&term.get().kind, seen);
                 self.tails(tails.get());
             }
-            Form::Plain(term) => self.shape(&term.shape, seen),
+            ExprKind::Term(term) => self.shape(&term.kind, seen),
         }
     }
 
-    fn links(&mut self, links: &'t Items<Link>, seen: &mut Seen) {
+    fn links(&mut self, links: &'t Items<Operation>, seen: &mut Seen) {
         for link in links.as_slice() {
             seen.form(name_of(link.operator));
             self.expr(&link.operand);
@@ -143,7 +144,7 @@ impl<'t> Left<'t> {
     fn tail(&mut self, tail: &'t Tail, seen: &mut Seen) {
         match tail {
             Tail::Name(_) => seen.form("A.NAME"),
-            Tail::Legacy(_) => seen.form("A.0"),
+            Tail::LegacyIndex(_) => seen.form("A.0"),
             Tail::AttributeSplat => seen.form("A.*"),
             Tail::FullSplat => seen.form("A[*]"),
             Tail::Index(expr) => {
@@ -153,17 +154,17 @@ impl<'t> Left<'t> {
         }
     }
 
-    fn shape(&mut self, shape: &'t Shape, seen: &mut Seen) {
+    fn shape(&mut self, shape: &'t Primary, seen: &mut Seen) {
         seen.form(name_of_shape(shape));
         match shape {
-            Shape::Number | Shape::Identifier => {}
-            Shape::Call(call) => self.call(call.get(), seen),
-            Shape::Tuple(exprs) => self.exprs(exprs.get()),
-            Shape::Object(elems) => self.elems(elems.get()),
-            Shape::ForTuple(each) => self.for_tuple(each.get(), seen),
-            Shape::ForObject(each) => self.for_object(each.get(), seen),
-            Shape::Quoted(template) | Shape::Heredoc(template) => self.parts(template.get()),
-            Shape::Parens(expr) => self.expr(expr.get()),
+            Primary::Number | Primary::Identifier => {}
+            Primary::Call(call) => self.call(call.get(), seen),
+            Primary::Tuple(exprs) => self.exprs(exprs.get()),
+            Primary::Object(elems) => self.elems(elems.get()),
+            Primary::ForTuple(each) => self.for_tuple(each.get(), seen),
+            Primary::ForObject(each) => self.for_object(each.get(), seen),
+            Primary::Quoted(template) | Primary::Heredoc(template) => self.parts(template.get()),
+            Primary::Parens(expr) => self.expr(expr.get()),
         }
     }
 
@@ -175,16 +176,16 @@ impl<'t> Left<'t> {
 
     fn call(&mut self, call: &'t Call, seen: &mut Seen) {
         seen.form_if(call.arguments.is_empty(), "a call without arguments");
-        seen.form_if(call.spread, "a call with ...");
+        seen.form_if(call.expand_final, "a call with ...");
         self.exprs(&call.arguments);
     }
 
     fn intro(&mut self, intro: &'t Intro, seen: &mut Seen) {
-        seen.form(match intro.second {
+        seen.form(match intro.second_name {
             Some(_) => "for NAME, NAME in A",
             None => "for NAME in A",
         });
-        self.expr(&intro.source);
+        self.expr(&intro.collection);
     }
 
     fn filter(&mut self, filter: &'t Option<Boxed<Expr>>) {
@@ -229,8 +230,8 @@ impl<'t> Left<'t> {
 
     fn if_directive(&mut self, choice: &'t IfDirective, seen: &mut Seen) {
         self.expr(&choice.condition);
-        self.parts(&choice.met);
-        match &choice.unmet {
+        self.parts(&choice.then_branch);
+        match &choice.else_branch {
             Some(unmet) => {
                 seen.form("%{if with else");
                 self.parts(unmet);
@@ -267,23 +268,23 @@ fn stands(scanned: &Scanned<'_>, kind: Kind, first: usize, past: usize) -> bool 
     stands
 }
 
-fn name_of_shape(shape: &Shape) -> &'static str {
+fn name_of_shape(shape: &Primary) -> &'static str {
     match shape {
-        Shape::Number => "a number",
-        Shape::Identifier => "a name",
-        Shape::Call(call) if call.get().names.len() > 1 => "a call of a name with ::",
-        Shape::Call(_) => "a call",
-        Shape::Tuple(exprs) if exprs.get().is_empty() => "a tuple without elements",
-        Shape::Tuple(_) => "a tuple",
-        Shape::Object(elems) if elems.get().is_empty() => "an object without elements",
-        Shape::Object(_) => "an object",
-        Shape::ForTuple(_) => "[for",
-        Shape::ForObject(_) => "{for",
-        Shape::Quoted(template) if template.get().parts.is_empty() => "quotes alone",
-        Shape::Quoted(_) => "quoted text",
-        Shape::Heredoc(template) if template.get().parts.is_empty() => "a heredoc without a line",
-        Shape::Heredoc(_) => "a heredoc",
-        Shape::Parens(_) => "( )",
+        Primary::Number => "a number",
+        Primary::Identifier => "a name",
+        Primary::Call(call) if call.get().names.len() > 1 => "a call of a name with ::",
+        Primary::Call(_) => "a call",
+        Primary::Tuple(exprs) if exprs.get().is_empty() => "a tuple without elements",
+        Primary::Tuple(_) => "a tuple",
+        Primary::Object(elems) if elems.get().is_empty() => "an object without elements",
+        Primary::Object(_) => "an object",
+        Primary::ForTuple(_) => "[for",
+        Primary::ForObject(_) => "{for",
+        Primary::Quoted(template) if template.get().parts.is_empty() => "quotes alone",
+        Primary::Quoted(_) => "quoted text",
+        Primary::Heredoc(template) if template.get().parts.is_empty() => "a heredoc without a line",
+        Primary::Heredoc(_) => "a heredoc",
+        Primary::Parens(_) => "( )",
     }
 }
 
@@ -299,27 +300,27 @@ fn see_labels(labels: &Items<Label>, seen: &mut Seen) {
     }
 }
 
-fn name_of_prefix(prefix: Prefix) -> &'static str {
+fn name_of_prefix(prefix: UnaryOperator) -> &'static str {
     match prefix {
-        Prefix::Minus => "-A",
-        Prefix::Not => "!A",
+        UnaryOperator::Minus => "-A",
+        UnaryOperator::Not => "!A",
     }
 }
 
-fn name_of(operator: Operator) -> &'static str {
+fn name_of(operator: BinaryOperator) -> &'static str {
     match operator {
-        Operator::Or => "||",
-        Operator::And => "&&",
-        Operator::Equal => "==",
-        Operator::NotEqual => "!=",
-        Operator::Less => "<",
-        Operator::LessEqual => "<=",
-        Operator::Greater => ">",
-        Operator::GreaterEqual => ">=",
-        Operator::Plus => "+",
-        Operator::Minus => "-",
-        Operator::Times => "*",
-        Operator::Divide => "/",
-        Operator::Modulo => "%",
+        BinaryOperator::Or => "||",
+        BinaryOperator::And => "&&",
+        BinaryOperator::Equal => "==",
+        BinaryOperator::NotEqual => "!=",
+        BinaryOperator::Less => "<",
+        BinaryOperator::LessEqual => "<=",
+        BinaryOperator::Greater => ">",
+        BinaryOperator::GreaterEqual => ">=",
+        BinaryOperator::Plus => "+",
+        BinaryOperator::Minus => "-",
+        BinaryOperator::Times => "*",
+        BinaryOperator::Divide => "/",
+        BinaryOperator::Modulo => "%",
     }
 }

@@ -3,13 +3,13 @@ use Rattle.std.specs.Prelude.{List, [], ◌∷◌, ◌++◌, length}
 use Rattle.hcl_token.specs.Tokens.{Pair}
 use Rattle.tf_rule.specs.declared.rule_set.RuleSet.{RuleSet}
 use Rattle.tf_rule.specs.declared.finding.Finding.{Finding}
-use Rattle.tf_rule.specs.Findings.{sound}
+use Rattle.tf_rule.specs.Findings.{valid_findings}
 use Rattle.tf_rules.specs.NodeFindings.{node_findings}
-use Rattle.tf_rules.specs.Nodes.{Node, parts}
+use Rattle.tf_rules.specs.Preorder.{Node, children}
 
 pub data Collects (rules : RuleSet) (pairs : List Pair) : List Node → List Finding → List Finding
     → Type 0 where
-  nothing : {xs : List Finding} → Collects rules pairs [] xs xs
-  one : {n : Node} {ns : List Node} {xs ys zs : List Finding}
-      → Collects rules pairs (parts n) (xs ++ sound (length pairs) (node_findings rules pairs n)) ys
+  no_nodes : {xs : List Finding} → Collects rules pairs [] xs xs
+  visit : {n : Node} {ns : List Node} {xs ys zs : List Finding}
+      → Collects rules pairs (children n) (xs ++ valid_findings (length pairs) (node_findings rules pairs n)) ys
       → Collects rules pairs ns ys zs → Collects rules pairs (n ∷ ns) xs zs

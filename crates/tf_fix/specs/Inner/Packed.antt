@@ -1,9 +1,9 @@
 -- For proofs: the place that a number stands for.
 use Rattle.std.specs.Prelude.{ℕ, ◌==◌, ◌/◌, ◌%◌, if◌then◌else◌}
-use Rattle.tf_fix.specs.declared.edge.Edge.{Edge}
-use Rattle.tf_fix.specs.declared.edge.Edge.TheVariants.{Gap as BeforeGap, Token as BeforeToken}
+use Rattle.tf_fix.specs.declared.boundary.Boundary.{Boundary}
+use Rattle.tf_fix.specs.declared.boundary.Boundary.TheVariants.{Gap as BeforeGap, Token as BeforeToken}
 
 -- the place before which so many gaps and tokens stand
-abbrev pub edge_at : ℕ → Edge
-edge_at place =
+abbrev pub boundary_at : ℕ → Boundary
+boundary_at place =
     if place % 2 == 0 then BeforeGap (place / 2) else BeforeToken (place / 2)

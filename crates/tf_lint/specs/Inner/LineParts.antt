@@ -5,11 +5,11 @@ use Rattle.hcl_token.specs.declared.place.Place.{Place}
 use Rattle.tf_rule.specs.declared.rule.Rule.{Rule}
 use Rattle.tf_rule.specs.Rules.{name_of, severity_of, label_of}
 
-abbrev pub front_of : List ℕ → Place → Rule → List ℕ
-front_of name place rule =
+abbrev pub line_prefix : List ℕ → Place → Rule → List ℕ
+line_prefix name place rule =
     name ++ (codes ":" ++
     (decimal place.line ++ (codes ":" ++ (decimal place.column ++ (codes ": "
     ++ (label_of (severity_of rule) ++ codes " - "))))))
 
-abbrev pub end_of : Rule → List ℕ
-end_of rule = codes " (" ++ (name_of rule ++ codes ")")
+abbrev pub line_suffix : Rule → List ℕ
+line_suffix rule = codes " (" ++ (name_of rule ++ codes ")")

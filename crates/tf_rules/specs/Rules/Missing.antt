@@ -14,7 +14,7 @@ use Rattle.tf_rule.specs.declared.rule_set.RuleSet.{RuleSet}
 use Rattle.tf_rule.specs.Findings.{finding_at}
 use Rattle.tf_rule.specs.RuleSets.{has_rule}
 use Rattle.tf_rules.specs.Attributes.{attributes, has_attribute}
-use Rattle.tf_rules.specs.Words.{word}
+use Rattle.tf_rules.specs.Spelling.{token_text}
 
 -- no description, or one that is `""`
 abbrev pub is_undocumented : List Pair → List Attribute → Bool
@@ -23,24 +23,24 @@ is_undocumented pairs all =
     || has_attribute pairs (codes "description") true all
 
 -- the finding at the word that the block begins with
-abbrev pub missing : Rule → Block → Option ℕ → List Finding
-missing rule b name =
-    finding_at rule b.word (b.word + 1) (record { named = None; name = name }) None
+abbrev pub missing_finding : Rule → Block → Option ℕ → List Finding
+missing_finding rule b name =
+    finding_at rule b.block_type (b.block_type + 1) (record { kind = None; name = name }) None
 
 abbrev pub untyped_findings : RuleSet → List Pair → Block → Label → List Finding
 untyped_findings rules pairs b l =
     if has_rule rules TypedVariables
-    && (bytes_eq (word pairs b.word) (codes "variable")
+    && (bytes_eq (token_text pairs b.block_type) (codes "variable")
     && not (has_attribute pairs (codes "type") false (attributes b)))
-    then missing TypedVariables b l.name else []
+    then missing_finding TypedVariables b l.name else []
 
 -- of the rule on blocks that begin with this word
 abbrev pub undocumented_findings : RuleSet → List Pair → Rule → List ℕ → Block → Label
     → List Finding
 undocumented_findings rules pairs rule kind b l =
     if has_rule rules rule
-    && (bytes_eq (word pairs b.word) kind && is_undocumented pairs (attributes b))
-    then missing rule b l.name else []
+    && (bytes_eq (token_text pairs b.block_type) kind && is_undocumented pairs (attributes b))
+    then missing_finding rule b l.name else []
 
 -- those of a block whose first label is this; a block without labels has none
 abbrev pub missing_findings : RuleSet → List Pair → Block → Option Label → List Finding

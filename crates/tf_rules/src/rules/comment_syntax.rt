@@ -2,9 +2,9 @@
 
 ghost use Rattle.std.specs.Prelude.{◌≡◌, ◌++◌, ◌<◌, ◌==◌, ◌&&◌, Some, slice_get, slice_index, length, OnOk};
 ghost use Rattle.std.specs.Option.{option_map};
-ghost use Rattle.tf_rule.specs.Findings.{sound};
+ghost use Rattle.tf_rule.specs.Findings.{valid_findings};
 ghost use Rattle.hcl_token.specs.Tokens.{Pair};
-ghost use Rattle.tf_rules.specs.Rules.CommentSyntax.{is_slash_comment, comment_finding, found_at};
+ghost use Rattle.tf_rules.specs.Rules.CommentSyntax.{is_slash_comment, comment_finding, comment_finding_at};
 
 use hcl_scan::Scanned;
 use hcl_token::Kind;
@@ -25,28 +25,28 @@ fn is_slash_comment(scanned: &Scanned<'_>, i: usize) -> bool
     scanned.kind(i) == Kind::LineComment && begins_with_slashes(scanned.spelling(i))
 }
 
-fn add_comment(
+fn add_comment_finding(
     scanned: &Scanned<'_>,
     i: usize,
-    slashed: bool,
+    has_slashes: bool,
     found: &mut Vec<Finding>,
 ) -> Result<(), AllocError>
     requires { i < length scanned.now.pairs }
     ensures { OnOk result
         (found.new.items ≡ found.old.items
-        ++ sound (length scanned.now.pairs) (comment_finding i slashed)) }
+        ++ valid_findings (length scanned.now.pairs) (comment_finding i has_slashes)) }
 {
     let count = scanned.len();
-    if !slashed {
+    if !has_slashes {
         return Ok(());
     }
-    let fix = Some(Fix::Slashes);
+    let fix = Some(Fix::CommentMarker);
     let finding = Finding::new(Rule::CommentSyntax, i, i + 1, Message::PLAIN, fix)?;
     add_finding(found, count, finding)
 }
 
 /// Adds token `i`, if it is a comment that begins with `//` and the rule is in the set.
-pub fn at_comment(
+pub fn check_comment(
     scanned: &Scanned<'_>,
     rules: RuleSet,
     i: usize,
@@ -55,11 +55,11 @@ pub fn at_comment(
     requires { i < length scanned.now.pairs }
     ensures { (p : Pair) → slice_get scanned.now.pairs i ≡ Some p
         → OnOk result (found.new.items ≡ found.old.items
-        ++ sound (length scanned.now.pairs) (found_at rules i p)) }
+        ++ valid_findings (length scanned.now.pairs) (comment_finding_at rules i p)) }
 {
     if !rules.has(Rule::CommentSyntax) {
         return Ok(());
     }
-    let slashed = is_slash_comment(scanned, i);
-    add_comment(scanned, i, slashed, found)
+    let has_slashes = is_slash_comment(scanned, i);
+    add_comment_finding(scanned, i, has_slashes, found)
 }

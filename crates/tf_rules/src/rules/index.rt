@@ -1,50 +1,50 @@
 //! Legacy indices.
 
 ghost use Rattle.std.specs.Prelude.{◌≡◌, ◌++◌, OnOk, length, [], if◌then◌else◌};
-ghost use Rattle.hcl_grammar.specs.declared.tree.Form.TheOpen.{Tail-F};
+ghost use Rattle.hcl_grammar.specs.declared.tree.ExprKind.TheOpen.{Tail-F};
 ghost use Rattle.hcl_grammar.specs.declared.tree.Tail.{out-Tail};
 ghost use Rattle.tf_rules.specs.Rules.Index.{index_findings};
 ghost use Rattle.tf_rule.specs.RuleSets.{has_rule};
 ghost use Rattle.tf_rule.specs.declared.rule.Rule.TheVariants.{DeprecatedIndex};
-ghost use Rattle.tf_rule.specs.Findings.{sound};
+ghost use Rattle.tf_rule.specs.Findings.{valid_findings};
 
-use crate::finder::Finder;
+use crate::context::LintContext;
 use hcl_grammar::tree::Tail;
 use std::alloc::AllocError;
 use tf_rule::{Finding, Fix, Insertion, Message, Rule};
 
-fn find_at_tail(
-    finder: &Finder<'_, '_>,
+fn check_tail(
+    cx: &LintContext<'_, '_>,
     splat: bool,
     t: &Tail,
     found: &mut Vec<Finding>,
 ) -> Result<(), AllocError>
     ensures { OnOk result
         (found.new.items ≡ found.old.items
-        ++ sound (length finder.now.scanned.now.pairs)
-        (index_findings finder.now.scanned.now.pairs splat (out-Tail t.now))) }
+        ++ valid_findings (length cx.now.scanned.now.pairs)
+        (index_findings cx.now.scanned.now.pairs splat (out-Tail t.now))) }
 {
     match t {
         Tail::Name(_) => Ok(()),
-        Tail::Legacy(n) => find_legacy(finder, splat, *n, found),
+        Tail::LegacyIndex(n) => check_legacy_index(cx, splat, *n, found),
         Tail::AttributeSplat => Ok(()),
         Tail::FullSplat => Ok(()),
         Tail::Index(_) => Ok(()),
     }
 }
 
-fn find_legacy(
-    finder: &Finder<'_, '_>,
+fn check_legacy_index(
+    cx: &LintContext<'_, '_>,
     splat: bool,
     n: usize,
     found: &mut Vec<Finding>,
 ) -> Result<(), AllocError>
     ensures { OnOk result
         (found.new.items ≡ found.old.items
-        ++ sound (length finder.now.scanned.now.pairs)
-        (index_findings finder.now.scanned.now.pairs splat (Tail-F.Legacy n))) }
+        ++ valid_findings (length cx.now.scanned.now.pairs)
+        (index_findings cx.now.scanned.now.pairs splat (Tail-F.LegacyIndex n))) }
 {
-    if n >= finder.scanned.len() {
+    if n >= cx.scanned.len() {
         return Ok(());
     }
     let fix = Fix::Tokens {
@@ -52,24 +52,24 @@ fn find_legacy(
         kept: [None, None],
     };
     let fix = fix.when(!splat);
-    finder.add(Rule::DeprecatedIndex, n, n + 1, Message::PLAIN, fix, found)
+    cx.report(Rule::DeprecatedIndex, n, n + 1, Message::PLAIN, fix, found)
 }
 
 /// At a tail, if the rule is chosen.
-pub fn find(
-    finder: &Finder<'_, '_>,
+pub fn check(
+    cx: &LintContext<'_, '_>,
     splat: bool,
     t: &Tail,
     found: &mut Vec<Finding>,
 ) -> Result<(), AllocError>
     ensures { OnOk result
         (found.new.items ≡ found.old.items
-        ++ sound (length finder.now.scanned.now.pairs)
-        ((if has_rule finder.now.rules DeprecatedIndex
-        then index_findings finder.now.scanned.now.pairs splat (out-Tail t.now) else []))) }
+        ++ valid_findings (length cx.now.scanned.now.pairs)
+        ((if has_rule cx.now.rules DeprecatedIndex
+        then index_findings cx.now.scanned.now.pairs splat (out-Tail t.now) else []))) }
 {
-    if !finder.rules.has(Rule::DeprecatedIndex) {
+    if !cx.rules.has(Rule::DeprecatedIndex) {
         return Ok(());
     }
-    find_at_tail(finder, splat, t, found)
+    check_tail(cx, splat, t, found)
 }

@@ -2,22 +2,22 @@
 
 ghost use Rattle.std.specs.Prelude.{◌≡◌, ◌++◌, ◌+◌, ◌-◌, false, Some, OnOk, option_map, length, ◌∷◌, [], if◌then◌else◌};
 ghost use Rattle.hcl_grammar.specs.declared.tree.Part.{out-Part};
-ghost use Rattle.hcl_grammar.specs.declared.tree.Shape.{out-Shape};
-ghost use Rattle.tf_rules.specs.Rules.Interpolation.{is_post, is_key, is_elsewhere, sole, sole_in, part_interpolation, is_writable, interpolation_findings};
-ghost use Rattle.tf_rules.specs.Spans.{tokens, has_break};
+ghost use Rattle.hcl_grammar.specs.declared.tree.Primary.{out-Primary};
+ghost use Rattle.tf_rules.specs.Rules.Interpolation.{is_post, is_object_key, is_elsewhere, sole_part, sole_interpolation, part_interpolation, is_interpolation_fixable, interpolation_findings};
+ghost use Rattle.tf_rules.specs.Trivia.{token_range, has_line_break};
 ghost use Rattle.tf_rule.specs.RuleSets.{has_rule};
-ghost use Rattle.tf_rule.specs.Findings.{plain, finding_at, sound};
+ghost use Rattle.tf_rule.specs.Findings.{plain_message, finding_at, valid_findings};
 ghost use Rattle.tf_rule.specs.declared.rule.Rule.TheVariants.{DeprecatedInterpolation};
 
-use crate::finder::Finder;
+use crate::context::LintContext;
 use crate::role::Role;
-use crate::spans::has_break;
-use hcl_grammar::tree::{Expr, Form, Part, Shape, Term};
+use crate::trivia::has_line_break;
+use hcl_grammar::tree::{Expr, ExprKind, Part, Primary, Term};
 use std::alloc::AllocError;
-use tf_rule::{Finding, Fix, Insertion, Kept, Message, Rule};
+use tf_rule::{Finding, Fix, Insertion, KeptTokens, Message, Rule};
 
-fn is_key(role: Role) -> bool
-    ensures { result ≡ is_key role }
+fn is_object_key(role: Role) -> bool
+    ensures { result ≡ is_object_key role }
 {
     match role {
         Role::ObjectKey => true,
@@ -35,33 +35,33 @@ fn is_elsewhere(role: Role) -> bool
 }
 
 /// The expression of the interpolation that is all of quoted text.
-fn sole_in(shape: &Shape) -> Option<&Expr>
-    ensures { option_map (λ e. e.now) result ≡ sole_in (out-Shape shape.now) }
+fn sole_interpolation(shape: &Primary) -> Option<&Expr>
+    ensures { option_map (λ e. e.now) result ≡ sole_interpolation (out-Primary shape.now) }
 {
     match shape {
-        Shape::Number => None,
-        Shape::Identifier => None,
-        Shape::Call(_) => None,
-        Shape::Tuple(_) => None,
-        Shape::Object(_) => None,
-        Shape::ForTuple(_) => None,
-        Shape::ForObject(_) => None,
-        Shape::Quoted(t) => sole(t.get().parts.as_slice()),
-        Shape::Heredoc(_) => None,
-        Shape::Parens(_) => None,
+        Primary::Number => None,
+        Primary::Identifier => None,
+        Primary::Call(_) => None,
+        Primary::Tuple(_) => None,
+        Primary::Object(_) => None,
+        Primary::ForTuple(_) => None,
+        Primary::ForObject(_) => None,
+        Primary::Quoted(t) => sole_part(t.get().parts.as_slice()),
+        Primary::Heredoc(_) => None,
+        Primary::Parens(_) => None,
     }
 }
 
-fn sole(parts: &[Part]) -> Option<&Expr>
-    ensures { option_map (λ e. e.now) result ≡ sole parts.now }
+fn sole_part(parts: &[Part]) -> Option<&Expr>
+    ensures { option_map (λ e. e.now) result ≡ sole_part parts.now }
 {
     match parts {
-        [part] => in_interpolation(part),
+        [part] => interpolated_expr(part),
         _ => None,
     }
 }
 
-fn in_interpolation(part: &Part) -> Option<&Expr>
+fn interpolated_expr(part: &Part) -> Option<&Expr>
     ensures { option_map (λ e. e.now) result ≡ part_interpolation (out-Part part.now) }
 {
     match part {
@@ -75,15 +75,15 @@ fn in_interpolation(part: &Part) -> Option<&Expr>
 fn is_post(e: &Expr) -> bool
     ensures { result ≡ is_post e.now }
 {
-    match &e.form {
-        Form::Tailed(_, _) => true,
-        Form::Plain(_) => true,
+    match &e.kind {
+        ExprKind::Postfix(_, _) => true,
+        ExprKind::Term(_) => true,
         _ => false,
     }
 }
 
-fn add(
-    finder: &Finder<'_, '_>,
+fn report(
+    cx: &LintContext<'_, '_>,
     first: usize,
     past: usize,
     fix: Option<Fix>,
@@ -91,33 +91,33 @@ fn add(
 ) -> Result<(), AllocError>
     ensures { OnOk result
         (found.new.items ≡ found.old.items
-        ++ sound (length finder.now.scanned.now.pairs)
-        (finding_at DeprecatedInterpolation first past plain fix)) }
+        ++ valid_findings (length cx.now.scanned.now.pairs)
+        (finding_at DeprecatedInterpolation first past plain_message fix)) }
 {
     let rule = Rule::DeprecatedInterpolation;
-    finder.add(rule, first, past, Message::PLAIN, fix, found)
+    cx.report(rule, first, past, Message::PLAIN, fix, found)
 }
 
-fn find_at_term(
-    finder: &Finder<'_, '_>,
+fn check_term(
+    cx: &LintContext<'_, '_>,
     role: Role,
     t: &Term,
     found: &mut Vec<Finding>,
 ) -> Result<(), AllocError>
     ensures { OnOk result
         (found.new.items ≡ found.old.items
-        ++ sound (length finder.now.scanned.now.pairs)
-        (interpolation_findings finder.now.scanned.now.pairs role t.now.first t.now.past
-        (sole_in (out-Shape t.now.shape)))) }
+        ++ valid_findings (length cx.now.scanned.now.pairs)
+        (interpolation_findings cx.now.scanned.now.pairs role t.now.first t.now.past
+        (sole_interpolation (out-Primary t.now.kind)))) }
 {
-    match sole_in(&t.shape) {
+    match sole_interpolation(&t.kind) {
         None => Ok(()),
-        Some(e) => find_sole(finder, role, t.first as usize, t.past as usize, e, found),
+        Some(e) => check_interpolation(cx, role, t.first as usize, t.past as usize, e, found),
     }
 }
 
-fn find_sole(
-    finder: &Finder<'_, '_>,
+fn check_interpolation(
+    cx: &LintContext<'_, '_>,
     role: Role,
     first: usize,
     past: usize,
@@ -126,42 +126,48 @@ fn find_sole(
 ) -> Result<(), AllocError>
     ensures { OnOk result
         (found.new.items ≡ found.old.items
-        ++ sound (length finder.now.scanned.now.pairs)
-        (interpolation_findings finder.now.scanned.now.pairs role first past (Some e.now))) }
+        ++ valid_findings (length cx.now.scanned.now.pairs)
+        (interpolation_findings cx.now.scanned.now.pairs role first past (Some e.now))) }
 {
-    if is_key(role) {
+    if is_object_key(role) {
         return Ok(());
     }
-    if !is_writable(finder, role, first, past, e) {
-        return add(finder, first, past, None, found);
+    if !is_interpolation_fixable(cx, role, first, past, e) {
+        return report(cx, first, past, None, found);
     }
     if past < 2 || first >= past - 2 {
         return Ok(());
     }
-    let kept = Kept {
+    let kept = KeptTokens {
         from: first + 2,
         to: past - 2,
-        behind: Insertion::Nothing,
+        after: Insertion::Nothing,
     };
     let fix = Fix::Tokens {
         before: Insertion::Nothing,
         kept: [Some(kept), None],
     };
-    add(finder, first, past, Some(fix), found)
+    report(cx, first, past, Some(fix), found)
 }
 
-fn is_writable(finder: &Finder<'_, '_>, role: Role, first: usize, past: usize, e: &Expr) -> bool
-    ensures { result ≡ is_writable finder.now.scanned.now.pairs role first past e.now }
+fn is_interpolation_fixable(
+    cx: &LintContext<'_, '_>,
+    role: Role,
+    first: usize,
+    past: usize,
+    e: &Expr,
+) -> bool
+    ensures { result ≡ is_interpolation_fixable cx.now.scanned.now.pairs role first past e.now }
 {
-    if has_break_inside(finder, first, past) {
+    if has_line_break_inside(cx, first, past) {
         return false;
     }
     is_post(e) || !is_elsewhere(role)
 }
 
-fn has_break_inside(finder: &Finder<'_, '_>, first: usize, past: usize) -> bool
-    ensures { result ≡ has_break false 0
-        (tokens finder.now.scanned.now.pairs (first + 2) (past - 2)) }
+fn has_line_break_inside(cx: &LintContext<'_, '_>, first: usize, past: usize) -> bool
+    ensures { result ≡ has_line_break false 0
+        (token_range cx.now.scanned.now.pairs (first + 2) (past - 2)) }
 {
     if past <= 2 || first >= past - 2 {
         return false;
@@ -169,25 +175,25 @@ fn has_break_inside(finder: &Finder<'_, '_>, first: usize, past: usize) -> bool
     if past - 2 - first <= 2 {
         return false;
     }
-    has_break(finder.scanned, false, first + 2, past - 2)
+    has_line_break(cx.scanned, false, first + 2, past - 2)
 }
 
 /// At a term, if the rule is chosen.
-pub fn find(
-    finder: &Finder<'_, '_>,
+pub fn check(
+    cx: &LintContext<'_, '_>,
     role: Role,
     t: &Term,
     found: &mut Vec<Finding>,
 ) -> Result<(), AllocError>
     ensures { OnOk result
         (found.new.items ≡ found.old.items
-        ++ sound (length finder.now.scanned.now.pairs)
-        ((if has_rule finder.now.rules DeprecatedInterpolation
-        then interpolation_findings finder.now.scanned.now.pairs role t.now.first t.now.past
-        (sole_in (out-Shape t.now.shape)) else []))) }
+        ++ valid_findings (length cx.now.scanned.now.pairs)
+        ((if has_rule cx.now.rules DeprecatedInterpolation
+        then interpolation_findings cx.now.scanned.now.pairs role t.now.first t.now.past
+        (sole_interpolation (out-Primary t.now.kind)) else []))) }
 {
-    if !finder.rules.has(Rule::DeprecatedInterpolation) {
+    if !cx.rules.has(Rule::DeprecatedInterpolation) {
         return Ok(());
     }
-    find_at_term(finder, role, t, found)
+    check_term(cx, role, t, found)
 }

@@ -2,12 +2,12 @@
 
 ghost use Rattle.std.specs.Prelude.{◌≡◌, ◌++◌, Some, slice_get, OnOk, length};
 ghost use Rattle.tf_rules.specs.Attributes.{attributes};
-ghost use Rattle.tf_rules.specs.Rules.Missing.{is_undocumented, missing, untyped_findings, undocumented_findings, missing_findings};
-ghost use Rattle.tf_rule.specs.Findings.{sound};
+ghost use Rattle.tf_rules.specs.Rules.Missing.{is_undocumented, missing_finding, untyped_findings, undocumented_findings, missing_findings};
+ghost use Rattle.tf_rule.specs.Findings.{valid_findings};
 
 use crate::attributes::has_attribute;
-use crate::finder::Finder;
-use crate::words::{is_word, word};
+use crate::context::LintContext;
+use crate::spelling::{is_spelled, token_text};
 use hcl_grammar::tree::{Block, Label};
 use hcl_scan::Scanned;
 use std::alloc::AllocError;
@@ -21,7 +21,7 @@ fn is_undocumented(scanned: &Scanned<'_>, b: &Block) -> bool
 }
 
 fn add_missing(
-    finder: &Finder<'_, '_>,
+    cx: &LintContext<'_, '_>,
     rule: Rule,
     b: &Block,
     name: Option<usize>,
@@ -29,92 +29,96 @@ fn add_missing(
 ) -> Result<(), AllocError>
     ensures { OnOk result
         (found.new.items ≡ found.old.items
-        ++ sound (length finder.now.scanned.now.pairs) (missing rule b.now name)) }
+        ++ valid_findings (length cx.now.scanned.now.pairs) (missing_finding rule b.now name)) }
 {
-    let word = b.word as usize;
-    if word >= finder.scanned.len() {
+    let word = b.block_type as usize;
+    if word >= cx.scanned.len() {
         return Ok(());
     }
-    let message = Message { named: None, name };
-    finder.add(rule, word, word + 1, message, None, found)
+    let message = Message { kind: None, name };
+    cx.report(rule, word, word + 1, message, None, found)
 }
 
-fn find_untyped(
-    finder: &Finder<'_, '_>,
+fn check_type(
+    cx: &LintContext<'_, '_>,
     b: &Block,
     l: &Label,
     found: &mut Vec<Finding>,
 ) -> Result<(), AllocError>
     ensures { OnOk result
         (found.new.items ≡ found.old.items
-        ++ sound (length finder.now.scanned.now.pairs)
-        (untyped_findings finder.now.rules finder.now.scanned.now.pairs b.now l.now)) }
+        ++ valid_findings (length cx.now.scanned.now.pairs)
+        (untyped_findings cx.now.rules cx.now.scanned.now.pairs b.now l.now)) }
 {
-    if !finder.rules.has(Rule::TypedVariables) {
+    if !cx.rules.has(Rule::TypedVariables) {
         return Ok(());
     }
-    if !is_word(word(finder.scanned, b.word as usize), b"variable") {
+    if !is_spelled(token_text(cx.scanned, b.block_type as usize), b"variable") {
         return Ok(());
     }
-    if has_attribute(finder.scanned, b"type", false, b) {
+    if has_attribute(cx.scanned, b"type", false, b) {
         return Ok(());
     }
-    add_missing(finder, Rule::TypedVariables, b, l.name, found)
+    add_missing(cx, Rule::TypedVariables, b, l.name, found)
 }
 
-fn find_undocumented(
-    finder: &Finder<'_, '_>,
+fn check_description(
+    cx: &LintContext<'_, '_>,
     rule: Rule,
-    kind: &[u8],
+    block_type: &[u8],
     b: &Block,
     l: &Label,
     found: &mut Vec<Finding>,
 ) -> Result<(), AllocError>
     ensures { OnOk result
         (found.new.items ≡ found.old.items
-        ++ sound (length finder.now.scanned.now.pairs)
-        (undocumented_findings finder.now.rules finder.now.scanned.now.pairs rule kind.now b.now
+        ++ valid_findings (length cx.now.scanned.now.pairs)
+        (undocumented_findings cx.now.rules cx.now.scanned.now.pairs rule block_type.now b.now
         l.now)) }
 {
-    if !finder.rules.has(rule) {
+    if !cx.rules.has(rule) {
         return Ok(());
     }
-    if !is_word(word(finder.scanned, b.word as usize), kind) {
+    if !is_spelled(token_text(cx.scanned, b.block_type as usize), block_type) {
         return Ok(());
     }
-    if !is_undocumented(finder.scanned, b) {
+    if !is_undocumented(cx.scanned, b) {
         return Ok(());
     }
-    add_missing(finder, rule, b, l.name, found)
+    add_missing(cx, rule, b, l.name, found)
 }
 
-fn find_labelled(
-    finder: &Finder<'_, '_>,
+fn check_labelled(
+    cx: &LintContext<'_, '_>,
     b: &Block,
     l: &Label,
     found: &mut Vec<Finding>,
 ) -> Result<(), AllocError>
     ensures { OnOk result
         (found.new.items ≡ found.old.items
-        ++ sound (length finder.now.scanned.now.pairs)
-        (missing_findings finder.now.rules finder.now.scanned.now.pairs b.now (Some l.now))) }
+        ++ valid_findings (length cx.now.scanned.now.pairs)
+        (missing_findings cx.now.rules cx.now.scanned.now.pairs b.now (Some l.now))) }
 {
-    find_untyped(finder, b, l, found)?;
-    find_undocumented(finder, Rule::DocumentedVariables, b"variable", b, l, found)?;
-    find_undocumented(finder, Rule::DocumentedOutputs, b"output", b, l, found)?;
+    check_type(cx, b, l, found)?;
+    check_description(cx, Rule::DocumentedVariables, b"variable", b, l, found)?;
+    check_description(cx, Rule::DocumentedOutputs, b"output", b, l, found)?;
     Ok(())
 }
 
 /// At a block of a text's body, what the rules that are chosen find: a type, a description.
-pub fn find(finder: &Finder<'_, '_>, b: &Block, found: &mut Vec<Finding>) -> Result<(), AllocError>
+pub fn check(
+    cx: &LintContext<'_, '_>,
+    b: &Block,
+    found: &mut Vec<Finding>,
+) -> Result<(), AllocError>
     ensures { OnOk result
         (found.new.items ≡ found.old.items
-        ++ sound (length finder.now.scanned.now.pairs)
-        (missing_findings finder.now.rules finder.now.scanned.now.pairs b.now
+        ++ valid_findings (length cx.now.scanned.now.pairs)
+        (missing_findings cx.now.rules cx.now.scanned.now.pairs b.now
         (slice_get b.now.labels 0))) }
 {
     match b.labels.as_slice().get(0) {
         None => Ok(()),
-        Some(l) => find_labelled(finder, b, l, found),
+        Some(l) => check_labelled(cx, b, l, found),
     }
 }

@@ -2,46 +2,46 @@
 
 ghost use Rattle.std.specs.Prelude.{◌≡◌, ◌++◌, [], Some, slice_get, OnOk, option_map, length, if◌then◌else◌};
 ghost use Rattle.std.specs.List.{flat_map};
-ghost use Rattle.tf_rules.specs.Attributes.{member_attributes, attribute_at, attributes};
-ghost use Rattle.tf_rules.specs.Words.{word};
-ghost use Rattle.tf_rules.specs.Rules.Naming.{naming_finding, declaration, label_findings, declared_findings, local_findings, locals_findings, naming_findings};
+ghost use Rattle.tf_rules.specs.Attributes.{member_attributes, optional_attribute, attributes};
+ghost use Rattle.tf_rules.specs.Spelling.{token_text};
+ghost use Rattle.tf_rules.specs.Rules.Naming.{naming_finding, declared_name, label_findings, declared_findings, local_findings, locals_findings, naming_findings};
 ghost use Rattle.tf_rule.specs.RuleSets.{has_rule};
 ghost use Rattle.tf_rule.specs.declared.rule.Rule.TheVariants.{NamingConvention};
-ghost use Rattle.tf_rule.specs.Findings.{sound};
+ghost use Rattle.tf_rule.specs.Findings.{valid_findings};
 
-use crate::finder::Finder;
+use crate::context::LintContext;
 use crate::snake_case::is_snake_case;
-use crate::words::{is_word, name_at, word};
+use crate::spelling::{is_spelled, name_text, token_text};
 use hcl_grammar::tree::{Attribute, Block, Content, Label, Member};
 use plain_tree::Boxed;
 use std::alloc::AllocError;
-use tf_rule::{Finding, Message, Named, Rule};
+use tf_rule::{Finding, Message, NameKind, Rule};
 
 /// What a block that begins with this word declares, and the number of the label that names it.
-fn declaration(kind: &[u8]) -> Option<(Named, usize)>
-    ensures { result ≡ declaration kind.now }
+fn declared_name(block_type: &[u8]) -> Option<(NameKind, usize)>
+    ensures { result ≡ declared_name block_type.now }
 {
-    if is_word(kind, b"resource") {
-        return Some((Named::Resource, 1));
+    if is_spelled(block_type, b"resource") {
+        return Some((NameKind::Resource, 1));
     }
-    if is_word(kind, b"data") {
-        return Some((Named::Data, 1));
+    if is_spelled(block_type, b"data") {
+        return Some((NameKind::Data, 1));
     }
-    if is_word(kind, b"variable") {
-        return Some((Named::Variable, 0));
+    if is_spelled(block_type, b"variable") {
+        return Some((NameKind::Variable, 0));
     }
-    if is_word(kind, b"output") {
-        return Some((Named::Output, 0));
+    if is_spelled(block_type, b"output") {
+        return Some((NameKind::Output, 0));
     }
-    if is_word(kind, b"module") {
-        return Some((Named::Module, 0));
+    if is_spelled(block_type, b"module") {
+        return Some((NameKind::Module, 0));
     }
     None
 }
 
-fn add_name(
-    finder: &Finder<'_, '_>,
-    named: Named,
+fn check_name(
+    cx: &LintContext<'_, '_>,
+    named: NameKind,
     name: Option<usize>,
     first: usize,
     past: usize,
@@ -49,183 +49,180 @@ fn add_name(
 ) -> Result<(), AllocError>
     ensures { OnOk result
         (found.new.items ≡ found.old.items
-        ++ sound (length finder.now.scanned.now.pairs)
-        (naming_finding finder.now.scanned.now.pairs named name first past)) }
+        ++ valid_findings (length cx.now.scanned.now.pairs)
+        (naming_finding cx.now.scanned.now.pairs named name first past)) }
 {
-    if is_snake_case(name_at(finder.scanned, name)) {
+    if is_snake_case(name_text(cx.scanned, name)) {
         return Ok(());
     }
     let message = Message {
-        named: Some(named),
+        kind: Some(named),
         name,
     };
-    finder.add(Rule::NamingConvention, first, past, message, None, found)
+    cx.report(Rule::NamingConvention, first, past, message, None, found)
 }
 
-fn find_label(
-    finder: &Finder<'_, '_>,
-    named: Named,
+fn check_label(
+    cx: &LintContext<'_, '_>,
+    named: NameKind,
     l: Option<&Label>,
     found: &mut Vec<Finding>,
 ) -> Result<(), AllocError>
     ensures { OnOk result
         (found.new.items ≡ found.old.items
-        ++ sound (length finder.now.scanned.now.pairs)
-        (label_findings finder.now.scanned.now.pairs named (option_map (λ x. x.now) l.entry))) }
+        ++ valid_findings (length cx.now.scanned.now.pairs)
+        (label_findings cx.now.scanned.now.pairs named (option_map (λ x. x.now) l.entry))) }
 {
     match l {
         None => Ok(()),
-        Some(l) => add_name(finder, named, l.name, l.first, l.past, found),
+        Some(l) => check_name(cx, named, l.name, l.first, l.past, found),
     }
 }
 
-fn find_declared(
-    finder: &Finder<'_, '_>,
+fn check_declaration(
+    cx: &LintContext<'_, '_>,
     b: &Block,
     found: &mut Vec<Finding>,
 ) -> Result<(), AllocError>
     ensures { OnOk result
         (found.new.items ≡ found.old.items
-        ++ sound (length finder.now.scanned.now.pairs)
-        (declared_findings finder.now.scanned.now.pairs b.now
-        (declaration (word finder.now.scanned.now.pairs b.now.word)))) }
+        ++ valid_findings (length cx.now.scanned.now.pairs)
+        (declared_findings cx.now.scanned.now.pairs b.now
+        (declared_name (token_text cx.now.scanned.now.pairs b.now.block_type)))) }
 {
-    match declaration(word(finder.scanned, b.word as usize)) {
+    match declared_name(token_text(cx.scanned, b.block_type as usize)) {
         None => Ok(()),
-        Some((named, i)) => find_label(finder, named, b.labels.as_slice().get(i), found),
+        Some((named, i)) => check_label(cx, named, b.labels.as_slice().get(i), found),
     }
 }
 
-fn find_local(
-    finder: &Finder<'_, '_>,
+fn check_local(
+    cx: &LintContext<'_, '_>,
     a: &Attribute,
     found: &mut Vec<Finding>,
 ) -> Result<(), AllocError>
     ensures { OnOk result
         (found.new.items ≡ found.old.items
-        ++ sound (length finder.now.scanned.now.pairs)
-        (local_findings finder.now.scanned.now.pairs a.now)) }
+        ++ valid_findings (length cx.now.scanned.now.pairs)
+        (local_findings cx.now.scanned.now.pairs a.now)) }
 {
-    if a.name >= finder.scanned.len() {
+    if a.name >= cx.scanned.len() {
         return Ok(());
     }
-    add_name(
-        finder,
-        Named::Local,
-        Some(a.name),
-        a.name,
-        a.name + 1,
-        found,
-    )
+    check_name(cx, NameKind::Local, Some(a.name), a.name, a.name + 1, found)
 }
 
-fn local_if(
-    finder: &Finder<'_, '_>,
+fn check_optional_local(
+    cx: &LintContext<'_, '_>,
     a: &Option<Boxed<Attribute>>,
     found: &mut Vec<Finding>,
 ) -> Result<(), AllocError>
     ensures { OnOk result
         (found.new.items ≡ found.old.items
-        ++ sound (length finder.now.scanned.now.pairs)
-        (flat_map (local_findings finder.now.scanned.now.pairs) (attribute_at a.now))) }
+        ++ valid_findings (length cx.now.scanned.now.pairs)
+        (flat_map (local_findings cx.now.scanned.now.pairs) (optional_attribute a.now))) }
 {
     match a {
         None => Ok(()),
-        Some(a) => find_local(finder, a.get(), found),
+        Some(a) => check_local(cx, a.get(), found),
     }
 }
 
-fn local_member(
-    finder: &Finder<'_, '_>,
+fn check_local_member(
+    cx: &LintContext<'_, '_>,
     m: &Member,
     found: &mut Vec<Finding>,
 ) -> Result<(), AllocError>
     ensures { OnOk result
         (found.new.items ≡ found.old.items
-        ++ sound (length finder.now.scanned.now.pairs)
-        (flat_map (local_findings finder.now.scanned.now.pairs) (member_attributes m.now))) }
+        ++ valid_findings (length cx.now.scanned.now.pairs)
+        (flat_map (local_findings cx.now.scanned.now.pairs) (member_attributes m.now))) }
 {
     match m {
-        Member::Attribute(a) => find_local(finder, a, found),
+        Member::Attribute(a) => check_local(cx, a, found),
         Member::Block(_) => Ok(()),
     }
 }
 
-fn local_members(
-    finder: &Finder<'_, '_>,
+fn check_local_members(
+    cx: &LintContext<'_, '_>,
     members: &[Member],
     found: &mut Vec<Finding>,
 ) -> Result<(), AllocError>
     ensures { OnOk result
         (found.new.items ≡ found.old.items
-        ++ sound (length finder.now.scanned.now.pairs)
-        (flat_map (local_findings finder.now.scanned.now.pairs)
+        ++ valid_findings (length cx.now.scanned.now.pairs)
+        (flat_map (local_findings cx.now.scanned.now.pairs)
         (flat_map member_attributes members.now))) }
 {
     for m in members {
-        local_member(finder, m, found)?;
+        check_local_member(cx, m, found)?;
     }
     Ok(())
 }
 
-fn local_attributes(
-    finder: &Finder<'_, '_>,
+fn check_local_attributes(
+    cx: &LintContext<'_, '_>,
     b: &Block,
     found: &mut Vec<Finding>,
 ) -> Result<(), AllocError>
     ensures { OnOk result
         (found.new.items ≡ found.old.items
-        ++ sound (length finder.now.scanned.now.pairs)
-        (flat_map (local_findings finder.now.scanned.now.pairs) (attributes b.now))) }
+        ++ valid_findings (length cx.now.scanned.now.pairs)
+        (flat_map (local_findings cx.now.scanned.now.pairs) (attributes b.now))) }
 {
     match &b.content {
-        Content::Lines(body) => local_members(finder, body.get().members.as_slice(), found),
-        Content::Line(a) => local_if(finder, a, found),
+        Content::Body(body) => check_local_members(cx, body.get().members.as_slice(), found),
+        Content::OneLine(a) => check_optional_local(cx, a, found),
     }
 }
 
-fn find_locals(
-    finder: &Finder<'_, '_>,
+fn check_locals(
+    cx: &LintContext<'_, '_>,
     b: &Block,
     found: &mut Vec<Finding>,
 ) -> Result<(), AllocError>
     ensures { OnOk result
         (found.new.items ≡ found.old.items
-        ++ sound (length finder.now.scanned.now.pairs)
-        (locals_findings finder.now.scanned.now.pairs b.now)) }
+        ++ valid_findings (length cx.now.scanned.now.pairs)
+        (locals_findings cx.now.scanned.now.pairs b.now)) }
 {
-    if !is_word(word(finder.scanned, b.word as usize), b"locals") {
+    if !is_spelled(token_text(cx.scanned, b.block_type as usize), b"locals") {
         return Ok(());
     }
-    local_attributes(finder, b, found)
+    check_local_attributes(cx, b, found)
 }
 
 /// What the rule on names finds in a block.
-fn find_at_block(
-    finder: &Finder<'_, '_>,
+fn check_block(
+    cx: &LintContext<'_, '_>,
     b: &Block,
     found: &mut Vec<Finding>,
 ) -> Result<(), AllocError>
     ensures { OnOk result
         (found.new.items ≡ found.old.items
-        ++ sound (length finder.now.scanned.now.pairs)
-        (naming_findings finder.now.scanned.now.pairs b.now)) }
+        ++ valid_findings (length cx.now.scanned.now.pairs)
+        (naming_findings cx.now.scanned.now.pairs b.now)) }
 {
-    find_declared(finder, b, found)?;
-    find_locals(finder, b, found)?;
+    check_declaration(cx, b, found)?;
+    check_locals(cx, b, found)?;
     Ok(())
 }
 
 /// At a block of a text's body, if the rule is chosen.
-pub fn find(finder: &Finder<'_, '_>, b: &Block, found: &mut Vec<Finding>) -> Result<(), AllocError>
+pub fn check(
+    cx: &LintContext<'_, '_>,
+    b: &Block,
+    found: &mut Vec<Finding>,
+) -> Result<(), AllocError>
     ensures { OnOk result
         (found.new.items ≡ found.old.items
-        ++ sound (length finder.now.scanned.now.pairs)
-        ((if has_rule finder.now.rules NamingConvention
-        then naming_findings finder.now.scanned.now.pairs b.now else []))) }
+        ++ valid_findings (length cx.now.scanned.now.pairs)
+        ((if has_rule cx.now.rules NamingConvention
+        then naming_findings cx.now.scanned.now.pairs b.now else []))) }
 {
-    if !finder.rules.has(Rule::NamingConvention) {
+    if !cx.rules.has(Rule::NamingConvention) {
         return Ok(());
     }
-    find_at_block(finder, b, found)
+    check_block(cx, b, found)
 }

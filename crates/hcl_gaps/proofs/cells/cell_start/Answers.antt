@@ -8,9 +8,9 @@ returns-in-None-clause-width c = (no_start c.args.cell c.args.gaps.now c.args.sc
 pub returns-in-None-clause-token : goal.returns-in-None-clause-token
 returns-in-None-clause-token c = (no_start c.args.cell c.args.gaps.now c.args.scanned.now.pairs c.args.at c.args.line.past c.args.frozen c.requires.same c.in-None.ensures.cell).1
 
-pub width-requires-clause-small : goal.width-requires-clause-small
-width-requires-clause-small c =
-    let h = narrow_start c.args.cell c.args.gaps.now c.args.scanned.now.pairs c.args.at c.args.line.past c.args.frozen c.in-Some.i 1073741824 c.requires.same c.in-Some.ensures.cell c.in-Some.ensures.inside.0 c.in-Some.ensures.inside.1 c.requires.narrow in
+pub width-requires-clause-bounded : goal.width-requires-clause-bounded
+width-requires-clause-bounded c =
+    let h = narrow_start c.args.cell c.args.gaps.now c.args.scanned.now.pairs c.args.at c.args.line.past c.args.frozen c.in-Some.i 1073741824 c.requires.same c.in-Some.ensures.cell c.in-Some.ensures.inside.0 c.in-Some.ensures.inside.1 c.requires.bounded in
     omega (arith, h)
 
 pub returns-in-Some-clause-width : goal.returns-in-Some-clause-width

@@ -4,12 +4,12 @@ use Rattle.hcl_gaps.proofs.LineLemmas.{no_span, line_at, no_line}
 use Rattle.hcl_gaps.proofs.CellCode.{starts_narrow, starts_turn, starts_end}
 use Rattle.hcl_gaps.proofs.cells.cell_starts.Goals as goal
 
-pub cell_start-start-requires-clause-narrow : goal.cell_start-start-requires-clause-narrow
-cell_start-start-requires-clause-narrow c =
+pub cell_start-start-requires-clause-bounded : goal.cell_start-start-requires-clause-bounded
+cell_start-start-requires-clause-bounded c =
     let line : LineSpan = get_or c.args.lines.now c.loop-line.line-index no_span in
     let (this, more) = line_at c.args.scanned.now.pairs c.loop-line.at c.loop-line.frozen c.args.lines.now c.loop-line.line-index c.loop-line-test.true c.loop-line.invariant.lines in
     let split = this.split in
-    starts_narrow c.args.cell c.args.gaps.now c.args.scanned.now.pairs c.args.first c.loop-line.at c.loop-line.frozen c.loop-line.starts.items line.past line.next
+    starts_narrow c.args.cell c.args.gaps.now c.args.scanned.now.pairs c.args.first c.loop-line.at c.loop-line.frozen c.loop-line.starts.items line.past line.next_frozen
     c.requires.same split c.loop-line.invariant.starts
 
 pub loop-line-preserved : goal.loop-line-preserved
@@ -19,7 +19,7 @@ loop-line-preserved c =
     let split = this.split in
     record {
       starts =
-          starts_turn c.args.cell c.args.gaps.now c.args.scanned.now.pairs c.args.first c.loop-line.at c.loop-line.frozen c.loop-line.starts.items c.push.new.self.items line.past line.next c.cell_start-start.result
+          starts_turn c.args.cell c.args.gaps.now c.args.scanned.now.pairs c.args.first c.loop-line.at c.loop-line.frozen c.loop-line.starts.items c.push.new.self.items line.past line.next_frozen c.cell_start-start.result
           c.requires.same split c.loop-line.invariant.starts c.in_ok-push.ensures.items c.cell_start-start.ensures.width c.cell_start-start.ensures.token c.cell_start-start.ensures.inside;
       lines = more;
     }
@@ -34,7 +34,7 @@ returns-clause-tokens c =
     let end = no_line c.args.scanned.now.pairs c.loop-line.at c.loop-line.frozen c.args.lines.now c.loop-line.line-index c.loop-line-test.false c.loop-line.invariant.lines in
     (starts_end c.args.cell c.args.gaps.now c.args.scanned.now.pairs c.args.first c.loop-line.at c.loop-line.frozen c.loop-line.starts.items c.requires.same (omega (arith, end)) c.loop-line.invariant.starts).1
 
-pub cell_start-start-requires-clause-marked : goal.cell_start-start-requires-clause-marked
-cell_start-start-requires-clause-marked c =
+pub cell_start-start-requires-clause-flags : goal.cell_start-start-requires-clause-flags
+cell_start-start-requires-clause-flags c =
     let (this, more) = line_at c.args.scanned.now.pairs c.loop-line.at c.loop-line.frozen c.args.lines.now c.loop-line.line-index c.loop-line-test.true c.loop-line.invariant.lines in
-    this.marked
+    this.flags

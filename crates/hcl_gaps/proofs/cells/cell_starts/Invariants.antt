@@ -1,5 +1,5 @@
 use Rattle.std.proofs.Common.{drop}
-use Rattle.hcl_gaps.specs.Inner.Near.{AreLines}
+use Rattle.hcl_gaps.specs.Inner.CodeViews.{AreLines}
 use Rattle.hcl_gaps.proofs.CellCode.{StartsSoFar}
 use Rattle.hcl_gaps.proofs.cells.cell_starts.Given as goal
 

@@ -1,6 +1,6 @@
 use Rattle.std.proofs.Common.{◌≡◌, max, drop}
 use Rattle.hcl_gaps.specs.Cells.{greatest}
-use Rattle.hcl_gaps.specs.Inner.Near.{widths_of}
+use Rattle.hcl_gaps.specs.Inner.CodeViews.{widths_of}
 use Rattle.hcl_gaps.proofs.cells.greatest.Given as goal
 
 abbrev pub invariant-loop-start : goal.invariant-loop-start

@@ -1,5 +1,5 @@
 use Rattle.std.proofs.Common.{◌≡◌, ℕ, ◌-◌, ◌++◌, List, [], ◌∷◌, length, sym, ap, ap₂, ◌∙◌, arith}
-use Rattle.edit_list.specs.Pieces.{Entry, changes_from}
+use Rattle.edit_list.specs.Pieces.{EditEntry, changed_entries}
 use Rattle.hcl_token.specs.Tokens.{whole_text}
 use Rattle.hcl_gaps.specs.Layout.{gap_piece}
 use Rattle.hcl_gaps.specs.Inner.Stages.{with_gaps}
@@ -14,16 +14,16 @@ loop-i-preserved c =
 
 pub overflow_sub-text : goal.overflow_sub-text
 overflow_sub-text c =
-    omega (arith, last_fits c.args.scanned.now.pairs c.args.scanned.now.last c.args.scanned.now.text c.text.ensures.cut.cuts.text_is, ap length c.text.ensures.text, ap length c.last_gap-last.ensures)
+    omega (arith, last_fits c.args.scanned.now.pairs c.args.scanned.now.last c.args.scanned.now.text c.text.ensures.tokenization.tokenizes.text_is, ap length c.text.ensures.text, ap length c.last_gap-last.ensures)
 
 pub returns : goal.returns
 returns c =
     let ps = c.args.scanned.now.pairs in
     let last = c.args.scanned.now.last in
     let at : length c.text.result.now - length c.last_gap-last.result.now ≡ length (whole_text ps []) =
-    omega (arith, last_at ps last c.args.scanned.now.text c.text.ensures.cut.cuts.text_is, ap length c.text.ensures.text, ap length c.last_gap-last.ensures) in
-    let edit = ap₂ (λ n (g : List ℕ). changes_from n (gap_piece g [] ∷ [])) at c.last_gap-last.ensures in
+    omega (arith, last_at ps last c.args.scanned.now.text c.text.ensures.tokenization.tokenizes.text_is, ap length c.text.ensures.text, ap length c.last_gap-last.ensures) in
+    let edit = ap₂ (λ n (g : List ℕ). changed_entries n (gap_piece g [] ∷ [])) at c.last_gap-last.ensures in
     c.in_ok-push_gap-2.ensures
-    ∙ ap (λ (es : List Entry). c.loop-i.edits.items ++ es) (edit ∙ sym (come_last ps c.args.gaps.now last c.loop-i.i c.requires (omega (arith, c.loop-i-test.false, c.len-i-end.ensures.value))))
+    ∙ ap (λ (es : List EditEntry). c.loop-i.edits.items ++ es) (edit ∙ sym (come_last ps c.args.gaps.now last c.loop-i.i c.requires (omega (arith, c.loop-i-test.false, c.len-i-end.ensures.value))))
     ∙ c.loop-i.invariant
     ∙ come_first ps (with_gaps c.args.gaps.now ps) last

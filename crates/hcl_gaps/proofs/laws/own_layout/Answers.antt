@@ -1,5 +1,5 @@
-use Rattle.hcl_gaps.proofs.LayoutPieces.{laid_again}
+use Rattle.hcl_gaps.proofs.LayoutPieces.{layout_again}
 use Rattle.hcl_gaps.proofs.laws.own_layout.Goals as goal
 
 pub returns : goal.returns
-returns c = laid_again
+returns c = layout_again

@@ -5,9 +5,9 @@ use Rattle.hcl_gaps.proofs.lines.line_spans.Goals as goal
 
 pub loop-at-preserved : goal.loop-at-preserved
 loop-at-preserved c = record {
-  lines = subst (λ (lines : List LineSpan). LinesTo c.args.scanned.now.pairs c.args.first false lines c.line_from-line.result.past c.line_from-line.result.next) (sym c.in_ok-push.ensures.items)
-      (lines_push c.args.scanned.now.pairs c.args.first false c.loop-at.lines.items c.loop-at.at c.loop-at.frozen c.line_from-line.result c.loop-at.invariant.lines c.line_from-line.ensures);
-  within = c.line_from-line.ensures.split.within;
+  lines = subst (λ (lines : List LineSpan). LinesTo c.args.scanned.now.pairs c.args.first false lines c.line_at-line.result.past c.line_at-line.result.next_frozen) (sym c.in_ok-push.ensures.items)
+      (lines_push c.args.scanned.now.pairs c.args.first false c.loop-at.lines.items c.loop-at.at c.loop-at.frozen c.line_at-line.result c.loop-at.invariant.lines c.line_at-line.ensures);
+  within = c.line_at-line.ensures.split.within;
 }
 
 pub returns : goal.returns

@@ -2,4 +2,4 @@ use Rattle.hcl_layout.proofs.LaidCut.{laid_out_is_text}
 use Rattle.hcl_layout.proofs.laws.laid_out_is_text.Goals as goal
 
 pub returns : goal.returns
-returns c = laid_out_is_text c.layout_is_cut.ensures c.one_cut.ensures
+returns c = laid_out_is_text c.layout_tokenizes.ensures c.one_tokenization.ensures

@@ -2,4 +2,4 @@ use Rattle.hcl_layout.proofs.LaidCut.{layout_fits}
 use Rattle.hcl_layout.proofs.laws.layout_fits.Goals as goal
 
 pub returns : goal.returns
-returns c = layout_fits c.cut_follows.ensures c.gaps_of.ensures c.lines_have_all_tokens.ensures
+returns c = layout_fits c.tokenization_follows_modes.ensures c.gaps_of.ensures c.lines_have_all_tokens.ensures

@@ -1,6 +1,6 @@
 use Rattle.std.proofs.Common.{refl, arith}
 use Rattle.hcl_scan.specs.declared.bytes.TheConstants.{CLASS}
-use Rattle.hcl_scan.specs.Inner.Front.{is_letter}
+use Rattle.hcl_scan.specs.Inner.LexemeStarts.{is_letter}
 use Rattle.hcl_scan.proofs.TableLemmas.{agree_below, from_table}
 use Rattle.hcl_scan.proofs.bytes.is_letter.Goals as goal
 

@@ -4,5 +4,5 @@ use Rattle.hcl_scan.proofs.token.dot_token.Goals as goal
 
 pub returns-then-is_ascii_digit : goal.returns-then-is_ascii_digit
 returns-then-is_ascii_digit c =
-    let digit = rw c.byte-second.ensures.value at (sym c.is_ascii_digit.ensures.value ∙ c.if-is_ascii_digit.true) in
+    let digit = rw c.byte_at-second.ensures.value at (sym c.is_ascii_digit.ensures.value ∙ c.if-is_ascii_digit.true) in
     index_token c.args.text.now c.args.at (c.digits_end.result - c.args.at) digit (omega arith)

@@ -7,4 +7,4 @@ pub returns-then-is_letter : goal.returns-then-is_letter
 returns-then-is_letter c =
     let letter = rw c.requires.first at (sym c.is_letter.ensures ∙ c.if-is_letter.true) in
     let word = letter_ascii (slice_index c.args.text.now c.args.at) letter in
-    c.word_len.ensures ∙ sym (token_of_word c.args.text.now c.args.at c.args.closes word.1)
+    c.word_len.ensures ∙ sym (token_of_word c.args.text.now c.args.at c.args.can_close word.1)

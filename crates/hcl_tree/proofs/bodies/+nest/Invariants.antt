@@ -1,5 +1,5 @@
 use Rattle.std.proofs.Common.{◌≡◌, ◌+◌, ◌-◌, ◌*◌}
-use Rattle.hcl_tree.specs.Rules as spec
+use Rattle.hcl_tree.specs.BodyRules as spec
 use Rattle.hcl_tree.proofs.bodies.+nest.Given as goal
 
 -- A block has 8 places of its own: each function calls those below it, and what stands in a block that was opened has the next 8.
@@ -10,8 +10,8 @@ decreases-members l = 8 * l.reader.now.depth + 5
 abbrev pub decreases-next_member : goal.decreases-next_member
 decreases-next_member l = 8 * l.reader.now.depth + 4
 
-abbrev pub decreases-named : goal.decreases-named
-decreases-named l = 8 * l.reader.now.depth + 3
+abbrev pub decreases-attribute_or_block : goal.decreases-attribute_or_block
+decreases-attribute_or_block l = 8 * l.reader.now.depth + 3
 
 abbrev pub decreases-block : goal.decreases-block
 decreases-block l = 8 * l.reader.now.depth + 2

@@ -1,7 +1,7 @@
 use Rattle.std.proofs.Common.{rules, arith}
 use Rattle.std.proofs.lemmas.Grind.{common_steps}
 use Rattle.hcl_grammar.specs.Pure.BodyParser.{labels_from}
-use Rattle.hcl_tree.specs.Rules as spec
+use Rattle.hcl_tree.specs.BodyRules as spec
 use Rattle.hcl_expr.proofs.Turns.{turn_left, none_left, refused}
 use Rattle.hcl_tree.proofs.labels.labels.Goals as goal
 

@@ -1,5 +1,5 @@
 use Rattle.std.proofs.Common.{◌≡◌, ◌-◌}
-use Rattle.hcl_tree.specs.Rules as spec
+use Rattle.hcl_tree.specs.BodyRules as spec
 use Rattle.hcl_tree.proofs.labels.labels.Given as goal
 
 abbrev pub invariant-loop-turn : goal.invariant-loop-turn

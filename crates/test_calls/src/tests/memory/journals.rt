@@ -1,7 +1,7 @@
 //! Calls on the text of a journal, and on a text with it.
 
-use super::alike::{are_same_records, are_same_sessions};
-use super::inputs::{JOURNAL, LAST, MIGRATED, OLD_JOURNAL, journal_of, roomy, session_of};
+use super::equality::{are_same_records, are_same_sessions};
+use super::fixtures::{JOURNAL, LAST, MIGRATED, OLD_JOURNAL, journal_of, roomy, session_of};
 use super::{answered, begin, gave};
 use crate::tests::Host;
 use edit_record::RecordFault;

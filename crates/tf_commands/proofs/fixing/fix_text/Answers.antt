@@ -2,7 +2,7 @@
 use Rattle.std.proofs.Common.{sym, subst}
 use Rattle.tf_commands.specs.declared.command.Command.TheVariants.{Fix}
 use Rattle.tf_commands.specs.declared.command.Fault.{Fault}
-use Rattle.tf_commands.specs.Makes.{RefusesText}
+use Rattle.tf_commands.specs.Rewrites.{RefusesText}
 use Rattle.tf_commands.proofs.ReadTexts.{refused_fix}
 use Rattle.tf_commands.proofs.fixing.fix_text.Goals as goal
 

@@ -1,19 +1,19 @@
 -- The edits of the layout stand in the text, and make it.
 use Rattle.std.proofs.Common.{◌∙◌, rules, ap, inl}
-use Rattle.edit_list.specs.Pieces.{Turns}
+use Rattle.edit_list.specs.Pieces.{Transforms}
 use Rattle.tf_commands.specs.Faults.{fault_of_refused}
-use Rattle.tf_commands.proofs.Laying.{made, only_memory}
+use Rattle.tf_commands.proofs.LayoutLemmas.{made, only_memory}
 use Rattle.tf_commands.proofs.formatting.layout_change.Goals as goal
 
 pub returns-in-Ok-clause-layout : goal.returns-in-Ok-clause-layout
 returns-in-Ok-clause-layout c =
-    let turns : Turns c.in_ok-edits.edits c.args.scanned.now.text c.in-Ok.text.items = search rules in
-    (made c.in_ok-edits.edits c.args.scanned.now.text c.in-Ok.text.items c.requires.0 (c.in_ok-edits.ensures.edits c.requires.0 c.requires.1) (c.sides_fix_each_other.ensures.new c.args.scanned.now.text) turns).0
+    let turns : Transforms c.in_ok-edits.edits c.args.scanned.now.text c.in-Ok.text.items = search rules in
+    (made c.in_ok-edits.edits c.args.scanned.now.text c.in-Ok.text.items c.requires.0 (c.in_ok-edits.ensures.edits c.requires.0 c.requires.1) (c.change_is_one_to_one.ensures.new c.args.scanned.now.text) turns).0
 
 pub returns-in-Ok-clause-short : goal.returns-in-Ok-clause-short
 returns-in-Ok-clause-short c =
-    let turns : Turns c.in_ok-edits.edits c.args.scanned.now.text c.in-Ok.text.items = search rules in
-    (made c.in_ok-edits.edits c.args.scanned.now.text c.in-Ok.text.items c.requires.0 (c.in_ok-edits.ensures.edits c.requires.0 c.requires.1) (c.sides_fix_each_other.ensures.new c.args.scanned.now.text) turns).1
+    let turns : Transforms c.in_ok-edits.edits c.args.scanned.now.text c.in-Ok.text.items = search rules in
+    (made c.in_ok-edits.edits c.args.scanned.now.text c.in-Ok.text.items c.requires.0 (c.in_ok-edits.ensures.edits c.requires.0 c.requires.1) (c.change_is_one_to_one.ensures.new c.args.scanned.now.text) turns).1
 
 pub returns-in-Err-clause-fault : goal.returns-in-Err-clause-fault
 returns-in-Err-clause-fault c =

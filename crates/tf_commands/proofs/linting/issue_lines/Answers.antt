@@ -2,23 +2,23 @@
 use Rattle.std.proofs.Common.{◌≡◌, ◌∙◌, List, length, map, sym, ap, subst, rules}
 use Rattle.std.specs.Prelude.{string_bytes}
 use Rattle.std.proofs.lemmas.List.{length-map}
-use Rattle.hcl_token.specs.CutText.{CutText}
+use Rattle.hcl_token.specs.TokenizedText.{TokenizedText}
 use Rattle.tf_lint.specs.Reports.{report_of, lines_of}
 use Rattle.tf_rule.specs.declared.finding.Finding.{Finding}
 use Rattle.tf_rule.specs.declared.rule_set.RuleSet.{RuleSet}
-use Rattle.tf_fix.specs.OneStep.{Finds}
+use Rattle.tf_fix.specs.OneStep.{RulesFind}
 use Rattle.tf_commands.proofs.linting.issue_lines.Goals as goal
 
 pub returns-in-Ok-clause-lines : goal.returns-in-Ok-clause-lines
 returns-in-Ok-clause-lines c =
-    let (p, reads, h) = c.in_ok-searched.ensures.searched in
-    let s = c.in_ok-searched.searched in
+    let (p, reads, h) = c.in_ok-searched.ensures.linted in
+    let s = c.in_ok-searched.linted in
     let fs = s.found.items in
-    let finds = subst (λ (rules : RuleSet). Finds rules p fs) c.in_ok-searched.ensures.rules h.finds in
+    let finds = subst (λ (rules : RuleSet). RulesFind rules p fs) c.in_ok-searched.ensures.rules h.findings_are in
     let found = c.as_slice-found.ensures.value in
     let lines = c.in-Ok.ensures.lines ∙ ap (λ (xs : List Finding). lines_of c.args.name.now (map (report_of s.scanned.pairs) xs)) found in
     let bytes : c.into_bytes.result.items ≡ string_bytes c.in-Ok.lines = search rules in
-    let of_text = ap (λ (t : CutText). map (report_of t.pairs) fs) (sym h.same) in
+    let of_text = ap (λ (t : TokenizedText). map (report_of t.pairs) fs) (sym h.same) in
     let counted = ap (λ (xs : List Finding). length xs) found in (
       map (report_of s.scanned.pairs) fs,
       (p, reads, (fs, finds, of_text)),

@@ -3,31 +3,31 @@ use Rattle.std.specs.List.{flat_map}
 use Rattle.tf_rule.specs.declared.finding.Finding.{Finding}
 use Rattle.tf_rules.specs.declared.role.Role.TheVariants as role
 use Rattle.tf_diagnostics.specs.Inner.Collects.{Collects}
-use Rattle.tf_rules.specs.Nodes.{expr, part, elem_parts, tails_from}
-use Rattle.hcl_grammar.specs.declared.tree.Link.{Link}
+use Rattle.tf_rules.specs.Preorder.{expr, part, elem_children, nodes_of_tails}
+use Rattle.hcl_grammar.specs.declared.tree.Operation.{Operation}
 use Rattle.tf_diagnostics.proofs.expressions.+expressions.Given as goal
 
-abbrev pub invariant-elems-loop-x : goal.invariant-elems-loop-x
-invariant-elems-loop-x l = (zs : List Finding)
-    → Collects l.fn.finder.rules l.fn.finder.scanned.now.pairs (flat_map elem_parts (drop l.x-index l.x-items)) l.found.items zs
-    → Collects l.fn.finder.rules l.fn.finder.scanned.now.pairs (flat_map elem_parts l.fn.xs) l.fn.found.items zs
+abbrev pub invariant-walk_elems-loop-x : goal.invariant-walk_elems-loop-x
+invariant-walk_elems-loop-x l = (zs : List Finding)
+    → Collects l.fn.cx.rules l.fn.cx.scanned.now.pairs (flat_map elem_children (drop l.x-index l.x-items)) l.found.items zs
+    → Collects l.fn.cx.rules l.fn.cx.scanned.now.pairs (flat_map elem_children l.fn.xs) l.fn.found.items zs
 
-abbrev pub invariant-exprs-loop-e : goal.invariant-exprs-loop-e
-invariant-exprs-loop-e l = (zs : List Finding)
-    → Collects l.fn.finder.rules l.fn.finder.scanned.now.pairs (map (expr l.fn.role) (drop l.e-index l.e-items)) l.found.items zs
-    → Collects l.fn.finder.rules l.fn.finder.scanned.now.pairs (map (expr l.fn.role) l.fn.es) l.fn.found.items zs
+abbrev pub invariant-walk_exprs-loop-e : goal.invariant-walk_exprs-loop-e
+invariant-walk_exprs-loop-e l = (zs : List Finding)
+    → Collects l.fn.cx.rules l.fn.cx.scanned.now.pairs (map (expr l.fn.role) (drop l.e-index l.e-items)) l.found.items zs
+    → Collects l.fn.cx.rules l.fn.cx.scanned.now.pairs (map (expr l.fn.role) l.fn.es) l.fn.found.items zs
 
-abbrev pub invariant-links-loop-link : goal.invariant-links-loop-link
-invariant-links-loop-link l = (zs : List Finding)
-    → Collects l.fn.finder.rules l.fn.finder.scanned.now.pairs (map (λ (x : Link). expr role.Elsewhere x.operand) (drop l.link-index l.link-items)) l.found.items zs
-    → Collects l.fn.finder.rules l.fn.finder.scanned.now.pairs (map (λ (x : Link). expr role.Elsewhere x.operand) l.fn.links) l.fn.found.items zs
+abbrev pub invariant-walk_operations-loop-link : goal.invariant-walk_operations-loop-link
+invariant-walk_operations-loop-link l = (zs : List Finding)
+    → Collects l.fn.cx.rules l.fn.cx.scanned.now.pairs (map (λ (x : Operation). expr role.Elsewhere x.operand) (drop l.link-index l.link-items)) l.found.items zs
+    → Collects l.fn.cx.rules l.fn.cx.scanned.now.pairs (map (λ (x : Operation). expr role.Elsewhere x.operand) l.fn.operations) l.fn.found.items zs
 
-abbrev pub invariant-parts-loop-x : goal.invariant-parts-loop-x
-invariant-parts-loop-x l = (zs : List Finding)
-    → Collects l.fn.finder.rules l.fn.finder.scanned.now.pairs (map part (drop l.x-index l.x-items)) l.found.items zs
-    → Collects l.fn.finder.rules l.fn.finder.scanned.now.pairs (map part l.fn.parts) l.fn.found.items zs
+abbrev pub invariant-walk_parts-loop-x : goal.invariant-walk_parts-loop-x
+invariant-walk_parts-loop-x l = (zs : List Finding)
+    → Collects l.fn.cx.rules l.fn.cx.scanned.now.pairs (map part (drop l.x-index l.x-items)) l.found.items zs
+    → Collects l.fn.cx.rules l.fn.cx.scanned.now.pairs (map part l.fn.parts) l.fn.found.items zs
 
-abbrev pub invariant-tails-loop-t : goal.invariant-tails-loop-t
-invariant-tails-loop-t l = (zs : List Finding)
-    → Collects l.fn.finder.rules l.fn.finder.scanned.now.pairs (tails_from l.splat (drop l.t-index l.t-items)) l.found.items zs
-    → Collects l.fn.finder.rules l.fn.finder.scanned.now.pairs (tails_from false l.fn.tails) l.fn.found.items zs
+abbrev pub invariant-walk_tails-loop-t : goal.invariant-walk_tails-loop-t
+invariant-walk_tails-loop-t l = (zs : List Finding)
+    → Collects l.fn.cx.rules l.fn.cx.scanned.now.pairs (nodes_of_tails l.splat (drop l.t-index l.t-items)) l.found.items zs
+    → Collects l.fn.cx.rules l.fn.cx.scanned.now.pairs (nodes_of_tails false l.fn.tails) l.fn.found.items zs

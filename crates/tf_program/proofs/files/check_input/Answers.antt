@@ -4,4 +4,4 @@ use Rattle.tf_program.proofs.files.check_input.Goals as goal
 
 pub returns-clause-answer : goal.returns-clause-answer
 returns-clause-answer g c =
-    checked c.layout.result c.in_ok-is_laid_out.is_laid_out _ c.layout.ensures.laid c.layout.ensures.unlaid c.in_ok-is_laid_out.ensures.answer
+    checked c.from_layout.result c.in_ok-is_formatted.is_formatted _ c.from_layout.ensures.formatted c.from_layout.ensures.unformatted c.in_ok-is_formatted.ensures.answer

@@ -1,12 +1,12 @@
 use Rattle.std.proofs.Common.{◌≡◌, ◌+◌, ◌≤◌, ◌^◌, ◌-◌, List, ◌++◌, take, drop, min}
-use Rattle.edit_list.specs.Pieces.{Entry, removed_len, added_len}
-use Rattle.edit_list.specs.Made.{first_fault, ArePlaced}
+use Rattle.edit_list.specs.Pieces.{EditEntry, removed_len, added_len}
+use Rattle.edit_list.specs.Validity.{first_fault, AreDisjoint}
 use Rattle.edit_list.proofs.edits.Edits.make.Given as goal
 
 abbrev pub invariant-loop-i : goal.invariant-loop-i
 invariant-loop-i l = record {
   faults : first_fault l.old_len l.from l.i (drop l.i l.edit-items) ≡ first_fault l.old_len 0 0 l.edit-items;
-  placed : (tail : List Entry) → ArePlaced l.old_len l.from tail → ArePlaced l.old_len 0 ((take l.i l.edit-items) ++ tail);
+  disjoint : (tail : List EditEntry) → AreDisjoint l.old_len l.from tail → AreDisjoint l.old_len 0 ((take l.i l.edit-items) ++ tail);
   removed : l.removed + removed_len (drop l.i l.edit-items) ≡ removed_len l.edit-items;
   added : min (l.added + added_len (drop l.i l.edit-items)) (2 ^ 64 - 1) ≡ min (added_len l.edit-items) (2 ^ 64 - 1);
   within : l.from ≤ l.old_len;

@@ -1,5 +1,5 @@
 use Rattle.std.proofs.Common.{◌≡◌, ◌-◌, ◌∷◌, drop}
-use Rattle.hcl_expr.specs.Rules as spec
+use Rattle.hcl_expr.specs.ReaderRules as spec
 use Rattle.hcl_expr.proofs.reader.Reader.names.Given as goal
 
 abbrev pub invariant-loop-turn : goal.invariant-loop-turn

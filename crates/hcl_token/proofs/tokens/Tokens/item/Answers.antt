@@ -1,6 +1,6 @@
 use Rattle.std.proofs.Common.{List, ap, ◌∙◌, arith}
 use Rattle.hcl_token.specs.declared.token.Token.{Token}
-use Rattle.hcl_token.specs.Inner.Milestones.{gap_at}
+use Rattle.hcl_token.specs.Inner.LineColumn.{gap_at}
 use Rattle.hcl_token.proofs.TokensLemmas.{known_token, known_place, number_is}
 use Rattle.hcl_token.proofs.tokens.Tokens.item.Goals as goal
 

@@ -4,12 +4,12 @@ use Rattle.tf_commands.specs.declared.command.Command.{Command}
 use Rattle.tf_commands.specs.declared.command.Done.{Done}
 use Rattle.tf_commands.specs.Records.{DoesStep}
 use Rattle.tf_commands.specs.Session.{text_of, records_of}
-use Rattle.tf_commands.proofs.Putting.{put_layout}
+use Rattle.tf_commands.proofs.PushChange.{push_layout}
 use Rattle.tf_commands.proofs.session.Session.step.Goals as goal
 
 pub returns-in_ok-change-in-Fmt-clause-done : goal.returns-in_ok-change-in-Fmt-clause-done
 returns-in_ok-change-in-Fmt-clause-done c =
-    let makes = c.in_ok-change-in-Fmt.ensures.made in
-    let does = put_layout c.as_slice.result.now (text_of c.args.self.now) (records_of c.args.self.now) c.in_ok-change-in-Fmt.change 0 0 c.put_on.result (text_of c.put_on.new.self) (records_of c.put_on.new.self)
-    c.as_slice.ensures.value makes c.in_ok-change-in-Fmt.ensures.change c.put_on.ensures.replied c.put_on.ensures.put c.put_on.ensures.added in
-    subst (λ (command : Command). IfOk c.put_on.result (λ (d : Done). DoesStep command (text_of c.args.self.now) (records_of c.args.self.now) d (text_of c.put_on.new.self) (records_of c.put_on.new.self))) (sym c.in-Fmt.is) does
+    let makes = c.in_ok-change-in-Fmt.ensures.rewrites in
+    let does = push_layout c.as_slice.result.now (text_of c.args.self.now) (records_of c.args.self.now) c.in_ok-change-in-Fmt.change 0 0 c.push_change.result (text_of c.push_change.new.self) (records_of c.push_change.new.self)
+    c.as_slice.ensures.value makes c.in_ok-change-in-Fmt.ensures.change c.push_change.ensures.replied c.push_change.ensures.pushed c.push_change.ensures.added in
+    subst (λ (command : Command). IfOk c.push_change.result (λ (d : Done). DoesStep command (text_of c.args.self.now) (records_of c.args.self.now) d (text_of c.push_change.new.self) (records_of c.push_change.new.self))) (sym c.in-Fmt.is) does

@@ -1,0 +1,252 @@
+-- Where memory is taken, the text begins with a head and the whole of what stands behind it.
+use Rattle.std.proofs.Common.{◌≡◌, ℕ, zero, suc, ◌-◌, ◌<◌, ◌≤◌, List, [], ◌∷◌, ◌++◌, length, Bool, true, false, Option, None, Some, refl, sym, ap, subst, ◌∙◌, append_assoc, arith, ◌⊎◌, inl, inr}
+use Rattle.std.specs.Prelude.{codes, is_some, ◌||◌}
+use Rattle.std.specs.List.{flat_map, AllByRecursion}
+use Rattle.std.proofs.lemmas.List.Concat.{flat_map-cons}
+use Rattle.edit_list.specs.Pieces.{EditEntry, EditList}
+use Rattle.edit_list.specs.Journal.{JournalEntry}
+use Rattle.edit_record.specs.Text.{space, newline, number_text, edit_text, list_text, word_text, IsValidList, steps, step_text}
+use Rattle.edit_record.specs.Decoding.{NumbersFit, FollowsHead, mark_after, ReachesFirstEdit, OldReachesFirstEdit, MayAllocate}
+use Rattle.edit_record.specs.Inner.Reading.{strip, max_number, number_at, edit_at, word_at, step_at, OldHead, old_head_at}
+use Rattle.edit_record.specs.Inner.Allocating.{is_some_and, edits_allocate, edit_list_allocates, record_allocates, step_allocates, old_head_allocates, steps_allocate, old_record_allocates, allocates}
+use Rattle.edit_record.specs.Inner.ParseResults.{RecordAt}
+use Rattle.edit_record.proofs.Choices.{some_is, through, through_one}
+use Rattle.edit_record.proofs.Numbers.{number_takes}
+use Rattle.edit_record.proofs.Fields.{HasText, after_takes, edit_takes, edit_fits}
+use Rattle.edit_record.proofs.Making.{has_numbers}
+use Rattle.edit_record.proofs.Records.{three, four, word_takes, step_takes}
+
+-- what is read where memory is taken
+pub found_some : {A P : Type 0} (r : Option A) (f : A → Bool) → is_some_and r f ≡ true → ((x : A) → r ≡ Some x → f x ≡ true → P) → P
+found_some None f e k = absurd cc
+found_some (Some x) f e k = k x refl e
+
+some_read : {A P : Type 0} (r : Option A) → is_some r ≡ true → ((x : A) → r ≡ Some x → P) → P
+some_read None e k = absurd cc
+some_read (Some x) e k = k x refl
+
+is_read : {A : Type 0} (r : Option A) (x : A) → r ≡ Some x → is_some r ≡ true
+is_read r x e = rw e refl
+
+either_true : (a b : Bool) → (a || b) ≡ true → (a ≡ true) ⊎ (b ≡ true)
+either_true true b e = inl refl
+either_true false b e = inr e
+
+-- ---- in the loops over edits and steps
+
+pub one_allocates : (i count : ℕ) (t text : List ℕ) → i < count → (t ≡ text) ⊎ (edits_allocate count text ≡ true) → is_some (edit_at t) ≡ true → edits_allocate count text ≡ true
+one_allocates i zero t text lt begun here = absurd (omega (arith, lt))
+one_allocates i (suc n) t text lt (inl e) here = subst (λ (x : List ℕ). is_some (edit_at x) ≡ true) e here
+one_allocates i (suc n) t text lt (inr h) here = h
+
+pub edit_taken : (i count : ℕ) (t text : List ℕ) (x : EditEntry × List ℕ) → i < count → (t ≡ text) ⊎ (edits_allocate count text ≡ true) → edit_at t ≡ Some x → edits_allocate count text ≡ true
+edit_taken i count t text x lt begun e = one_allocates i count t text lt begun (is_read (edit_at t) x e)
+
+step_begins : (t : List ℕ) (x : EditList × List ℕ) → step_at t ≡ Some x → is_some (strip (codes "step ") t) ≡ true
+unfolding step_at
+step_begins t x e = through_one (strip (codes "step ") t) _ x e λ a a_is e1. is_read (strip (codes "step ") t) a a_is
+
+one_more_allocates : (i count : ℕ) (t text : List ℕ) → i < count → (t ≡ text) ⊎ (steps_allocate count text ≡ true) → is_some (strip (codes "step ") t) ≡ true → steps_allocate count text ≡ true
+one_more_allocates i zero t text lt begun here = absurd (omega (arith, lt))
+one_more_allocates i (suc n) t text lt (inl e) here = subst (λ (x : List ℕ). is_some (strip (codes "step ") x) ≡ true) e here
+one_more_allocates i (suc n) t text lt (inr h) here = h
+
+pub step_allocated : (i count : ℕ) (t text : List ℕ) → i < count → (t ≡ text) ⊎ (steps_allocate count text ≡ true) → step_allocates t ≡ true → steps_allocate count text ≡ true
+unfolding step_allocates
+step_allocated i count t text lt begun here =
+    found_some (strip (codes "step ") t) _ here λ a a_is h. one_more_allocates i count t text lt begun (is_read (strip (codes "step ") t) a a_is)
+
+pub step_taken : (i count : ℕ) (t text : List ℕ) (x : EditList × List ℕ) → i < count → (t ≡ text) ⊎ (steps_allocate count text ≡ true) → step_at t ≡ Some x → steps_allocate count text ≡ true
+step_taken i count t text x lt begun e = one_more_allocates i count t text lt begun (step_begins t x e)
+
+-- ---- a list of edits that has begun
+
+-- its head, and the first edit, or this mark where there is none
+record Opens (mark t : List ℕ) : Type 0 where
+  pub old_len : ℕ
+  pub count : ℕ
+  pub old_len_fits : old_len ≤ max_number
+  pub count_fits : count ≤ max_number
+  pub next : List ℕ
+  pub next_is : FollowsHead old_len count mark next
+  pub rest : List ℕ
+  pub is : t ≡ number_text space old_len ++ (number_text newline count ++ (next ++ rest))
+
+fit : (e : EditEntry) → HasText e → NumbersFit e
+fit e h = record { at = h.at; removed = h.removed; added = h.added }
+
+first_fits : (es : List EditEntry) (f : EditEntry) (others : List EditEntry) → es ≡ f ∷ others → AllByRecursion HasText es → NumbersFit f
+first_fits es f others is h = let all : AllByRecursion HasText (f ∷ others) = subst (λ (l : List EditEntry). AllByRecursion HasText l) is h in fit f all.0
+
+opens_at : (mark t t1 t2 : List ℕ) (old_len count : ℕ) → t ≡ number_text space old_len ++ t1 → t1 ≡ number_text newline count ++ t2 → old_len ≤ max_number → count ≤ max_number → edits_allocate count t2 ≡ true → Opens mark t
+opens_at mark t t1 t2 old_len zero e1 e2 long many h = absurd cc
+opens_at mark t t1 t2 old_len (suc n) e1 e2 long many h =
+    some_read (edit_at t2) h λ x x_is.
+    let e3 = edit_takes t2 x.0 x.1 x_is in
+    record {
+      old_len = old_len;
+      count = suc n;
+      old_len_fits = long;
+      count_fits = many;
+      next = edit_text x.0;
+      next_is = (x.0, refl, fit x.0 (edit_fits t2 x.0 x.1 x_is));
+      rest = x.1;
+      is = e1 ∙ ap (λ (y : List ℕ). number_text space old_len ++ y) (e2 ∙ ap (λ (y : List ℕ). number_text newline (suc n) ++ y) e3);
+    }
+
+list_opens : (mark t : List ℕ) → edit_list_allocates t ≡ true → Opens mark t
+unfolding edit_list_allocates
+list_opens mark t h =
+    found_some (number_at 0 max_number space t) _ h λ old_len old_len_is h1.
+    found_some (number_at 0 max_number newline old_len.1) _ h1 λ count count_is h2.
+    let n0 = number_takes 0 max_number space t old_len (omega arith) old_len_is in
+    let n1 = number_takes 0 max_number newline old_len.1 count (omega arith) count_is in
+    opens_at mark t old_len.1 count.1 old_len.0 count.0 n0.0 n1.0 n0.2 n1.2 h2
+
+two : (a b c rest : List ℕ) → (a ++ b ++ c) ++ rest ≡ a ++ (b ++ (c ++ rest))
+two a b c rest = simp append_assoc
+
+-- one that stands whole, with the mark behind it
+whole_opens : (e : EditList) (es : List EditEntry) (mark rest : List ℕ) → e.entries ≡ es → IsValidList e → Opens mark (list_text e ++ (mark ++ rest))
+whole_opens e [] mark rest is made =
+    let parts = two (number_text space e.old_len) (number_text newline (length e.entries)) (flat_map edit_text e.entries) (mark ++ rest) in
+    let none : (es : List EditEntry) → es ≡ [] → number_text newline (length es) ++ (flat_map edit_text es ++ (mark ++ rest)) ≡ number_text newline 0 ++ (mark ++ rest) = λ es h. ap (λ (x : List EditEntry). number_text newline (length x) ++ (flat_map edit_text x ++ (mark ++ rest))) h in
+    record { old_len = e.old_len; count = 0; old_len_fits = (has_numbers e made).old_len; count_fits = omega arith; next = mark; next_is = (refl, made.old_fits); rest = rest; is = parts ∙ ap (λ (y : List ℕ). number_text space e.old_len ++ y) (none e.entries is) }
+whole_opens e (f ∷ es) mark rest is made =
+    let fits = has_numbers e made in
+    let n = length es in
+    let parts = two (number_text space e.old_len) (number_text newline (length e.entries)) (flat_map edit_text e.entries) (mark ++ rest) in
+    let cut : flat_map edit_text (f ∷ es) ++ (mark ++ rest) ≡ edit_text f ++ (flat_map edit_text es ++ (mark ++ rest)) =
+    ap (λ (y : List ℕ). y ++ (mark ++ rest)) (flat_map-cons edit_text f es) ∙ append_assoc (edit_text f) (flat_map edit_text es) (mark ++ rest) in
+    let some = ap (λ (x : List EditEntry). number_text newline (length x) ++ (flat_map edit_text x ++ (mark ++ rest))) is ∙ ap (λ (y : List ℕ). number_text newline (suc n) ++ y) cut in
+    record { old_len = e.old_len; count = suc n; old_len_fits = fits.old_len; count_fits = omega (arith, fits.count, ap length is); next = edit_text f; next_is = (f, refl, first_fits e.entries f es is fits.edits); rest = flat_map edit_text es ++ (mark ++ rest); is = parts ∙ ap (λ (y : List ℕ). number_text space e.old_len ++ y) some }
+
+-- ---- a record that has begun
+
+from_new : (t t1 t2 : List ℕ) (word : _) → t ≡ codes "tfrec 2 " ++ t1 → t1 ≡ word_text word ++ t2 → Opens (codes "end\n") t2 → ReachesFirstEdit t
+from_new t t1 t2 word e1 e2 o = record {
+  word = word;
+  old_len = o.old_len;
+  count = o.count;
+  old_len_fits = o.old_len_fits;
+  count_fits = o.count_fits;
+  next = o.next;
+  next_is = o.next_is;
+  rest = o.rest;
+  is = e1 ∙ ap (λ (y : List ℕ). codes "tfrec 2 " ++ y) (e2 ∙ ap (λ (y : List ℕ). word_text word ++ y) o.is);
+}
+
+from_old : (t t1 t2 t3 t4 : List ℕ) (word : _) (n : ℕ) → t ≡ codes "tfrec 1 " ++ t1 → t1 ≡ word_text word ++ t2 → t2 ≡ number_text newline n ++ t3 → 0 < n → n ≤ 64 → t3 ≡ codes "step " ++ t4 → Opens (mark_after n) t4 → OldReachesFirstEdit t
+from_old t t1 t2 t3 t4 word n e1 e2 e3 some few e4 o = record {
+  word = word;
+  steps = n;
+  has_steps = some;
+  steps_within_limit = few;
+  old_len = o.old_len;
+  count = o.count;
+  old_len_fits = o.old_len_fits;
+  count_fits = o.count_fits;
+  next = o.next;
+  next_is = o.next_is;
+  rest = o.rest;
+  is = e1 ∙ ap (λ (y : List ℕ). codes "tfrec 1 " ++ y) (e2 ∙ ap (λ (y : List ℕ). word_text word ++ y) (e3 ∙ ap (λ (y : List ℕ). number_text newline n ++ y) (e4 ∙ ap (λ (y : List ℕ). codes "step " ++ y) o.is)));
+}
+
+record_opens : (t : List ℕ) → record_allocates t ≡ true → ReachesFirstEdit t
+unfolding record_allocates
+record_opens t h =
+    found_some (strip (codes "tfrec 2 ") t) _ h λ t1 t1_is h1.
+    found_some (word_at t1) _ h1 λ word word_is h2.
+    from_new t t1 word.1 word.0 (after_takes (codes "tfrec 2 ") t t1 t1_is) (word_takes t1 word.0 word.1 word_is) (list_opens (codes "end\n") word.1 h2)
+
+old_head_opens : (t : List ℕ) → old_head_allocates t ≡ true → OldReachesFirstEdit t
+unfolding old_head_allocates step_allocates
+old_head_opens t h =
+    found_some (strip (codes "tfrec 1 ") t) _ h λ t1 t1_is h1.
+    found_some (word_at t1) _ h1 λ word word_is h2.
+    found_some (number_at 1 64 newline word.1) _ h2 λ count count_is h3.
+    found_some (strip (codes "step ") count.1) _ h3 λ t4 t4_is h4.
+    let n = number_takes 1 64 newline word.1 count (omega arith) count_is in
+    from_old t t1 word.1 count.1 t4 word.0 count.0 (after_takes (codes "tfrec 1 ") t t1 t1_is) (word_takes t1 word.0 word.1 word_is)
+    n.0 n.1 n.2 (after_takes (codes "step ") count.1 t4 t4_is) (list_opens (mark_after count.0) t4 h4)
+
+two_marks : (n k : ℕ) → n - 1 ≡ suc k → mark_after n ≡ codes "step "
+two_marks zero k e = absurd cc
+two_marks (suc zero) k e = absurd cc
+two_marks (suc (suc n)) k e = refl
+
+more_steps : {P : Type 0} (m : ℕ) (t : List ℕ) → steps_allocate m t ≡ true → ((k : ℕ) (x : List ℕ) → m ≡ suc k → t ≡ codes "step " ++ x → P) → P
+more_steps zero t h k = absurd cc
+more_steps (suc n) t h k = some_read (strip (codes "step ") t) h λ x x_is. k n x refl (after_takes (codes "step ") t x x_is)
+
+old_steps_open : (t : List ℕ) (head : OldHead) (after : List ℕ) → old_head_at t ≡ Some (head, after) → steps_allocate head.others after ≡ true → OldReachesFirstEdit t
+unfolding old_head_at
+old_steps_open t head after e h =
+    through_one (strip (codes "tfrec 1 ") t) _ (head, after) e λ t1 begins g1.
+    through (word_at t1) _ (head, after) g1 λ word t2 word_is g2.
+    through (number_at 1 64 newline t2) _ (head, after) g2 λ count t3 count_is g3.
+    through (step_at t3) _ (head, after) g3 λ first t4 first_is g4.
+    let head_eq : (record { word = word; first = first; others = count - 1 }, t4) ≡ (head, after) = some_is _ _ g4 in
+    let grown : steps_allocate (count - 1) t4 ≡ true = ap (λ (x : OldHead × List ℕ). steps_allocate x.0.others x.1) head_eq ∙ h in
+    more_steps (count - 1) t4 grown λ k x count_eq step_is.
+    let mark = two_marks count k count_eq in
+    let taken = step_takes t3 first t4 first_is in
+    let n = number_takes 1 64 newline t2 (count, t3) (omega arith) count_is in
+    let t3_is : t3 ≡ codes "step " ++ (list_text first ++ t4) = taken.0 ∙ append_assoc (codes "step ") (list_text first) t4 in
+    let opens : Opens (codes "step ") (list_text first ++ (codes "step " ++ x)) = whole_opens first first.entries (codes "step ") x refl taken.1 in
+    let opens_here : Opens (mark_after count) (list_text first ++ t4) =
+    subst (λ (m : List ℕ). Opens m (list_text first ++ t4)) (sym mark) (subst (λ (y : List ℕ). Opens (codes "step ") (list_text first ++ y)) (sym step_is) opens) in
+    from_old t t1 t2 t3 (list_text first ++ t4) word count (after_takes (codes "tfrec 1 ") t t1 begins) (word_takes t1 word t2 word_is)
+    n.0 n.1 n.2 t3_is opens_here
+
+old_opens : (t : List ℕ) → old_record_allocates t ≡ true → OldReachesFirstEdit t
+old_opens t h =
+    elim (either_true (old_head_allocates t) _ h) as (λ _. OldReachesFirstEdit t) [
+      | inl a ↦ old_head_opens t a
+      | inr b ↦ found_some (old_head_at t) _ b λ head head_is g. old_steps_open t head.0 head.1 head_is g
+    ]
+
+allocates_out : (old : Bool) (t : List ℕ) → allocates old t ≡ true → MayAllocate t
+allocates_out false t h = inl (record_opens t h)
+allocates_out true t h = inr (old_opens t h)
+
+-- ---- a record that stands whole
+
+-- what stands behind the first step
+after_first : (others : List EditList) (rest : List ℕ) → (x : List ℕ) × (flat_map step_text others ++ (codes "end\n" ++ rest) ≡ mark_after (suc (length others)) ++ x)
+after_first [] rest = (rest, refl)
+after_first (o ∷ others) rest = (
+  list_text o ++ (flat_map step_text others ++ (codes "end\n" ++ rest)),
+  ap (λ (y : List ℕ). y ++ (codes "end\n" ++ rest)) (flat_map-cons step_text o others) ∙ append_assoc (step_text o) (flat_map step_text others) (codes "end\n" ++ rest)
+      ∙ append_assoc (codes "step ") (list_text o) (flat_map step_text others ++ (codes "end\n" ++ rest)),
+)
+
+record_out : (old : Bool) (t : List ℕ) (r : JournalEntry) (rest : List ℕ) → RecordAt old t r rest → MayAllocate t
+record_out false t r rest h =
+    let parts = h.0 ∙ three (codes "tfrec 2 ") (word_text r.word) (list_text r.edits) (codes "end\n") rest in
+    inl (from_new t _ _ r.word parts refl (whole_opens r.edits r.edits.entries (codes "end\n") rest refl h.1))
+record_out true t r rest h =
+    let old = h.0 in
+    let n = length (steps old) in
+    let parts = h.1 ∙ four (codes "tfrec 1 ") (word_text old.word) (number_text newline n) (flat_map step_text (steps old)) (codes "end\n") rest in
+    let b = after_first old.others rest in
+    let later = flat_map step_text old.others ++ (codes "end\n" ++ rest) in
+    let cut : flat_map step_text (steps old) ++ (codes "end\n" ++ rest) ≡ codes "step " ++ (list_text old.first ++ later) =
+    ap (λ (y : List ℕ). y ++ (codes "end\n" ++ rest)) (flat_map-cons step_text old.first old.others) ∙ append_assoc (step_text old.first) (flat_map step_text old.others) (codes "end\n" ++ rest)
+    ∙ append_assoc (codes "step ") (list_text old.first) later in
+    let opens : Opens (mark_after n) (list_text old.first ++ later) = subst (λ (y : List ℕ). Opens (mark_after n) (list_text old.first ++ y)) (sym b.1) (whole_opens old.first old.first.entries (mark_after n) b.0 refl h.2.made.0) in
+    inr (from_old t _ _ _ _ old.word n parts refl refl (omega arith) h.2.within_limit cut opens)
+
+-- ---- in the loop over records
+
+-- nothing is read of the text, or it may have taken memory
+abbrev pub Begun : List ℕ → List ℕ → Type 0
+Begun text rest = (rest ≡ text) ⊎ MayAllocate text
+
+pub runs_out : (old : Bool) (text rest : List ℕ) → Begun text rest → allocates old rest ≡ true → MayAllocate text
+runs_out old text rest (inl e) h = allocates_out old text (subst (λ (x : List ℕ). allocates old x ≡ true) e h)
+runs_out old text rest (inr m) h = m
+
+pub record_taken : (old : Bool) (text rest after : List ℕ) (r : JournalEntry) → Begun text rest → RecordAt old rest r after → MayAllocate text
+record_taken old text rest after r (inl e) h = record_out old text r after (subst (λ (x : List ℕ). RecordAt old x r after) e h)
+record_taken old text rest after r (inr m) h = m

@@ -1,7 +1,0 @@
-use Rattle.std.proofs.lemmas.Bool.Decides.{Decides-eqb}
-use Rattle.std.proofs.lemmas.Slice.Eq.{strip_prefix_is}
-use Rattle.edit_record.proofs.Fields.{stripped}
-use Rattle.edit_record.proofs.parts.after.Goals as goal
-
-pub returns : goal.returns
-returns c = stripped c.args.expected.now c.args.text.now c.strip_prefix.result (strip_prefix_is Decides-eqb c.args.text.now c.args.expected.now c.strip_prefix.result c.strip_prefix.ensures.cases)

@@ -1,0 +1,160 @@
+//! Reading a journal.
+ghost use Rattle.std.specs.Prelude.{◌≡◌, ◌≤◌, IsTrue, ◌↔◌, List, ℕ, ◌++◌, codes};
+ghost use Rattle.edit_record.specs.Decoding.{IsDecodeResult};
+ghost use Rattle.edit_record.specs.Inner.ParseResults.{AgreesWith, ParsesAs, IsSquashOrStop, SquashAt, OldRecordAt, RecordAt, IsReadResult};
+ghost use Rattle.edit_record.specs.Inner.Allocating.{record_allocates, step_allocates, old_head_allocates, steps_allocate, old_record_allocates, allocates};
+ghost use Rattle.edit_record.specs.Inner.Reading.{record_at, step_at, old_head_at};
+ghost use Rattle.edit_record.specs.Inner.OldHead.{head_view};
+
+use crate::RecordFault;
+use crate::fault::{DecodeStop, FaultKind};
+use crate::readers::{expect, list_of_edits, number, word};
+use edit_list::{Edits, Journal, Record, Word};
+use edit_squash::{Unmet, squash};
+use std::alloc::Global;
+
+/// The most steps of a record of version 1.
+const MAX_STEPS: usize = 64;
+
+/// A record of version 2.
+#[tactic(auto, unfolding(crate::specs::Inner::Reading::record_at, crate::specs::Inner::Allocating::record_allocates))]
+fn record(alloc: Global, text: &[u8]) -> Result<(Record, &[u8]), DecodeStop>
+    ensures { AgreesWith (λ x. (x.0, x.1.now)) (record_allocates text.now) result (record_at text.now) }
+{
+    let rest = expect(b"tfrec 2 ", FaultKind::Head, text)?;
+    let (word, rest) = word(rest)?;
+    let (edits, rest) = list_of_edits(alloc, text.len(), rest)?;
+    let rest = expect(b"end\n", FaultKind::End, rest)?;
+    Ok((Record::make(word, edits), rest))
+}
+
+/// A step of a record of version 1.
+#[tactic(auto, unfolding(crate::specs::Inner::Reading::step_at, crate::specs::Inner::Allocating::step_allocates))]
+fn step(alloc: Global, text: &[u8]) -> Result<(Edits, &[u8]), DecodeStop>
+    ensures { AgreesWith (λ x. (x.0, x.1.now)) (step_allocates text.now) result (step_at text.now) }
+{
+    let rest = expect(b"step ", FaultKind::Head, text)?;
+    list_of_edits(alloc, text.len(), rest)
+}
+
+/// Parses `count` further steps and squashes each into the result so far, beginning with `first`.
+fn squash_steps(
+    alloc: Global,
+    first: Edits,
+    count: usize,
+    text: &[u8],
+) -> Result<(Edits, &[u8]), DecodeStop>
+    ensures { ParsesAs (λ x. x.0) (λ x. x.1.now) (steps_allocate count text.now) result
+        (SquashAt first count text.now) }
+{
+    let mut edits = first;
+    let mut rest = text;
+    for _ in 0..count {
+        let (next, after) = step(alloc, rest)?;
+        edits = squash_two(alloc, &edits, &next, rest.len())?;
+        rest = after;
+    }
+    Ok((edits, rest))
+}
+
+/// The two steps as one. Where they are none, the fault has `left` bytes behind it.
+fn squash_two(
+    alloc: Global,
+    first: &Edits,
+    second: &Edits,
+    left: usize,
+) -> Result<Edits, DecodeStop>
+    ensures { IsSquashOrStop first.now second.now result }
+{
+    match squash(alloc, first, second) {
+        Ok(edits) => Ok(edits),
+        Err(Unmet::Memory) => Err(DecodeStop::Memory),
+        Err(_) => Err(DecodeStop::Bad(FaultKind::Steps, left)),
+    }
+}
+
+/// What stands before the second step of a record of version 1.
+struct OldHead {
+    word: Word,
+    first: Edits,
+    /// How many others there are.
+    others: usize,
+}
+
+/// What stands before the second step of a record of version 1.
+#[tactic(auto, unfolding(crate::specs::Inner::Reading::old_head_at, crate::specs::Inner::Allocating::old_head_allocates))]
+fn old_head(alloc: Global, text: &[u8]) -> Result<(OldHead, &[u8]), DecodeStop>
+    ensures { AgreesWith (λ x. (head_view x.0, x.1.now)) (old_head_allocates text.now) result
+        (old_head_at text.now) }
+{
+    let rest = expect(b"tfrec 1 ", FaultKind::Head, text)?;
+    let (word, rest) = word(rest)?;
+    let (count, rest) = number(1, MAX_STEPS, b'\n', rest)?;
+    let (first, rest) = step(alloc, rest)?;
+    let others = count - 1;
+    let head = OldHead {
+        word,
+        first,
+        others,
+    };
+    Ok((head, rest))
+}
+
+/// A record of version 1, with its steps squashed into one list.
+fn old_record(alloc: Global, text: &[u8]) -> Result<(Record, &[u8]), DecodeStop>
+    ensures { ParsesAs (λ x. x.0) (λ x. x.1.now) (old_record_allocates text.now) result (OldRecordAt text.now) }
+{
+    let (head, rest) = old_head(alloc, text)?;
+    let OldHead {
+        word,
+        first,
+        others,
+    } = head;
+    let (edits, rest) = squash_steps(alloc, first, others, rest)?;
+    let rest = expect(b"end\n", FaultKind::End, rest)?;
+    Ok((Record::make(word, edits), rest))
+}
+
+/// A record of version 1, if `old`, or of version 2.
+fn record_of_version(alloc: Global, old: bool, text: &[u8]) -> Result<(Record, &[u8]), DecodeStop>
+    ensures { ParsesAs (λ x. x.0) (λ x. x.1.now) (allocates old text.now) result (RecordAt old text.now) }
+{
+    if old {
+        old_record(alloc, text)
+    } else {
+        record(alloc, text)
+    }
+}
+
+/// All the records. The mark of the first one decides the version.
+fn records(alloc: Global, text: &[u8]) -> Result<Journal, DecodeStop>
+    ensures { IsReadResult text.now result }
+{
+    let old = text.starts_with(b"tfrec 1");
+    let mut journal = Journal::empty(alloc);
+    let mut rest = text;
+    while !rest.is_empty() {
+        let (record, after) = record_of_version(alloc, old, rest)?;
+        journal.push(record)?;
+        rest = after;
+    }
+    Ok(journal)
+}
+
+/// The journal with this text.
+///
+/// A text is all of version 2, which [`encode`](crate::encode) writes, or all of version 1, in
+/// which a record is a row of steps; these are squashed into one list of edits. The first record
+/// decides the version. Each journal has one spelling in version 2. Anything else is refused with
+/// the first fault from left to right.
+///
+/// It is one pass over the text. Nothing is reserved by a number that the text names, and no memory
+/// is taken before the first edit has been read whole.
+pub fn decode(alloc: Global, text: &[u8]) -> Result<Journal, RecordFault>
+    ensures { IsDecodeResult text.now result }
+{
+    match records(alloc, text) {
+        Ok(journal) => Ok(journal),
+        Err(stop) => Err(stop.into_fault(text.len())),
+    }
+}

@@ -1,6 +1,0 @@
-use Rattle.std.proofs.Common.{sym, ◌∙◌}
-use Rattle.hcl_expr.proofs.Behind.{nothing_behind}
-use Rattle.hcl_expr.proofs.reader.Reader.eat_opening.Goals as goal
-
-pub returns-in-None-clause-found : goal.returns-in-None-clause-found
-returns-in-None-clause-found c = sym (nothing_behind (c.args.self.now.tokens) c.args.self.now.inside c.args.word.now c.args.at.now (sym c.token-number.ensures.kind ∙ c.in-None.is))

@@ -1,0 +1,213 @@
+//! Lists and comprehensions: what stands in a construct that was opened.
+
+ghost use Rattle.hcl_grammar.specs.Pure.Reading.{Reads};
+ghost use Rattle.hcl_expr.specs.ReaderRules as spec;
+
+use crate::reader::Reader;
+use hcl_grammar::fault::TokenFault;
+use hcl_grammar::goal::Goal;
+use hcl_grammar::tree::{Elem, Expr, Intro, Primary, Term};
+use hcl_nodes::nodes;
+use hcl_token::Kind;
+use plain_tree::{Boxed, Items};
+
+impl<'s, 't> Reader<'s, 't> {
+    /// The arguments of a call and the parenthesis behind them; whether `...` stands behind the
+    /// last.
+    #[cycle(nest)]
+    pub fn arguments(&self, at: &mut usize) -> Result<(Items<Expr>, bool), TokenFault>
+        ensures { Reads (spec.arguments self.now at.old) result at.new }
+    {
+        let bracketed = self.in_brackets();
+        let mut found = Items::new(self.alloc());
+        for _turn in 0..bracketed.len() {
+            if bracketed.eat(Kind::CloseParen, at) {
+                return Ok((found, false));
+            }
+            found.push(bracketed.expr(Goal::Whole, at)?)?;
+            if !bracketed.eat(Kind::Comma, at) {
+                let expand_final = bracketed.eat(Kind::Ellipsis, at);
+                bracketed.expect(Kind::CloseParen, at)?;
+                return Ok((found, expand_final));
+            }
+        }
+        Err(bracketed.syntax_fault(*at))
+    }
+
+    /// Expressions and the closing bracket behind them.
+    #[cycle(nest)]
+    fn tuple_items(&self, at: &mut usize) -> Result<Items<Expr>, TokenFault>
+        ensures { Reads (spec.tuple_items self.now at.old) result at.new }
+    {
+        let bracketed = self.in_brackets();
+        let mut found = Items::new(self.alloc());
+        for _turn in 0..bracketed.len() {
+            if bracketed.eat(Kind::CloseBracket, at) {
+                return Ok(found);
+            }
+            found.push(bracketed.expr(Goal::Whole, at)?)?;
+            if !bracketed.eat(Kind::Comma, at) {
+                bracketed.expect(Kind::CloseBracket, at)?;
+                return Ok(found);
+            }
+        }
+        Err(bracketed.syntax_fault(*at))
+    }
+
+    /// What stands behind the key of an element.
+    #[cycle(nest)]
+    fn element_value(&self, at: &mut usize) -> Result<Expr, TokenFault>
+        ensures { Reads (spec.element_value self.now at.old) result at.new }
+    {
+        let lines = self.outside_brackets();
+        if !lines.eat(Kind::Equal, at) {
+            lines.expect(Kind::Colon, at)?;
+        }
+        lines.expr(Goal::Whole, at)
+    }
+
+    /// A key of an object and its value.
+    #[cycle(nest)]
+    #[tactic(auto, unfolding(hcl_grammar::specs::Pure::Parser::element))]
+    fn element(&self, at: &mut usize) -> Result<Elem, TokenFault>
+        ensures { Reads (spec.element self.now at.old) result at.new }
+    {
+        let key = self.outside_brackets().expr(Goal::Whole, at)?;
+        let value = self.element_value(at)?;
+        Ok(nodes::elem(key, value))
+    }
+
+    /// Keys with their values, and the closing brace behind them.
+    #[cycle(nest)]
+    fn elements(&self, at: &mut usize) -> Result<Items<Elem>, TokenFault>
+        ensures { Reads (spec.elements self.now at.old) result at.new }
+    {
+        let lines = self.outside_brackets();
+        let mut found = Items::new(self.alloc());
+        for _turn in 0..lines.len() {
+            if lines.eat(Kind::CloseBrace, at) {
+                return Ok(found);
+            }
+            found.push(lines.element(at)?)?;
+            if !lines.eat_separator_or_brace(at)? {
+                return Ok(found);
+            }
+        }
+        Err(lines.syntax_fault(*at))
+    }
+
+    /// What a `for` begins with, up to the colon.
+    #[cycle(nest)]
+    #[tactic(auto, unfolding(hcl_grammar::specs::Pure::Parser::intro))]
+    fn intro(&self, at: &mut usize) -> Result<Intro, TokenFault>
+        ensures { Reads (spec.intro self.now at.old) result at.new }
+    {
+        let bracketed = self.in_brackets();
+        let first = bracketed.next_index(*at);
+        bracketed.expect_word(b"for", at)?;
+        let name = bracketed.next_index(*at);
+        bracketed.expect(Kind::Identifier, at)?;
+        let second = bracketed.second_name(at)?;
+        bracketed.expect_word(b"in", at)?;
+        let collection = bracketed.expr(Goal::Whole, at)?;
+        Ok(nodes::intro(first, *at, name, second, collection))
+    }
+
+    /// The same, in memory of its own.
+    #[cycle(nest)]
+    pub fn boxed_intro(&self, at: &mut usize) -> Result<Boxed<Intro>, TokenFault>
+        ensures { Reads (spec.intro self.now at.old) result at.new }
+    {
+        let intro = self.intro(at)?;
+        Ok(Boxed::new(self.alloc(), intro)?)
+    }
+
+    /// The condition of a `for`, if it has one, and the bracket that closes it.
+    #[cycle(nest)]
+    #[tactic(auto, unfolding(hcl_grammar::specs::Pure::Parser::filter))]
+    fn filter(&self, close: Kind, at: &mut usize) -> Result<Option<Boxed<Expr>>, TokenFault>
+        ensures { Reads (spec.filter self.now close at.old) result at.new }
+    {
+        let bracketed = self.in_brackets();
+        if !bracketed.eat_word(b"if", at) {
+            bracketed.expect(close, at)?;
+            return Ok(None);
+        }
+        let condition = bracketed.boxed_expr(Goal::Whole, at)?;
+        bracketed.expect(close, at)?;
+        Ok(Some(condition))
+    }
+
+    /// A tuple, after its bracket.
+    #[cycle(nest)]
+    #[tactic(auto, unfolding(hcl_grammar::specs::Pure::Parser::tuple))]
+    pub fn tuple(&self, first: usize, at: &mut usize) -> Result<Term, TokenFault>
+        ensures { Reads (spec.tuple self.now first at.old) result at.new }
+    {
+        let found = self.tuple_items(at)?;
+        let found = Boxed::new(self.alloc(), found)?;
+        nodes::term(first, *at, Primary::Tuple(found))
+    }
+
+    /// An object, after its brace.
+    #[cycle(nest)]
+    #[tactic(auto, unfolding(hcl_grammar::specs::Pure::Parser::object))]
+    pub fn object(&self, first: usize, at: &mut usize) -> Result<Term, TokenFault>
+        ensures { Reads (spec.object self.now first at.old) result at.new }
+    {
+        self.skip_newlines(at)?;
+        let found = self.elements(at)?;
+        let found = Boxed::new(self.alloc(), found)?;
+        nodes::term(first, *at, Primary::Object(found))
+    }
+
+    /// A `for` in brackets, after the bracket.
+    #[cycle(nest)]
+    #[tactic(auto, unfolding(hcl_grammar::specs::Pure::Parser::for_tuple))]
+    pub fn for_tuple(&self, first: usize, at: &mut usize) -> Result<Term, TokenFault>
+        ensures { Reads (spec.for_tuple self.now first at.old) result at.new }
+    {
+        let bracketed = self.in_brackets();
+        let intro = bracketed.boxed_intro(at)?;
+        bracketed.expect(Kind::Colon, at)?;
+        let value = bracketed.boxed_expr(Goal::Whole, at)?;
+        let filter = bracketed.filter(Kind::CloseBracket, at)?;
+        let shape = nodes::for_tuple(self.alloc(), intro.into_inner(), value.into_inner(), filter)?;
+        nodes::term(first, *at, shape)
+    }
+
+    /// A `for` in braces, after its key.
+    #[cycle(nest)]
+    #[tactic(auto, unfolding(hcl_grammar::specs::Pure::Parser::for_value))]
+    fn for_value(
+        &self,
+        first: usize,
+        intro: Boxed<Intro>,
+        key: Boxed<Expr>,
+        at: &mut usize,
+    ) -> Result<Term, TokenFault>
+        ensures { Reads (spec.for_value self.now first intro key at.old) result at.new }
+    {
+        let bracketed = self.in_brackets();
+        bracketed.expect(Kind::FatArrow, at)?;
+        let value = bracketed.boxed_expr(Goal::Whole, at)?;
+        let grouped = bracketed.eat(Kind::Ellipsis, at);
+        let filter = bracketed.filter(Kind::CloseBrace, at)?;
+        let (intro, key, value) = (intro.into_inner(), key.into_inner(), value.into_inner());
+        let shape = nodes::for_object(self.alloc(), intro, key, value, grouped, filter)?;
+        nodes::term(first, *at, shape)
+    }
+
+    /// A `for` in braces, after the brace.
+    #[cycle(nest)]
+    #[tactic(auto, unfolding(hcl_grammar::specs::Pure::Parser::for_object))]
+    pub fn for_object(&self, first: usize, at: &mut usize) -> Result<Term, TokenFault>
+        ensures { Reads (spec.for_object self.now first at.old) result at.new }
+    {
+        let bracketed = self.in_brackets();
+        let intro = bracketed.boxed_intro(at)?;
+        bracketed.expect(Kind::Colon, at)?;
+        let key = bracketed.boxed_expr(Goal::Whole, at)?;
+        self.for_value(first, intro, key, at)
+    }
+}

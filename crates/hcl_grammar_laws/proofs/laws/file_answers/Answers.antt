@@ -1,5 +1,0 @@
-use Rattle.hcl_grammar_laws.proofs.Whole.{derived, only, deeper_only}
-use Rattle.hcl_grammar_laws.proofs.laws.file_answers.Goals as goal
-
-pub returns : goal.returns
-returns c = λ ts b r new h. record { derived = derived ts b r new h; only = only ts b r new h; deeper = deeper_only ts b r new h }

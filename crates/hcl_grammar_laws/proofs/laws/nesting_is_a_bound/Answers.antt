@@ -1,5 +1,0 @@
-use Rattle.hcl_grammar_laws.proofs.Placed.{weaken}
-use Rattle.hcl_grammar_laws.proofs.laws.nesting_is_a_bound.Goals as goal
-
-pub returns : goal.returns
-returns c = weaken

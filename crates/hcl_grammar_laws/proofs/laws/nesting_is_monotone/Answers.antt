@@ -1,0 +1,5 @@
+use Rattle.hcl_grammar_laws.proofs.Placed.{weaken}
+use Rattle.hcl_grammar_laws.proofs.laws.nesting_is_monotone.Goals as goal
+
+pub returns : goal.returns
+returns c = weaken

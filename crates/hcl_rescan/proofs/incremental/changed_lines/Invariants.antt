@@ -1,0 +1,12 @@
+use Rattle.std.proofs.Common.{◌-◌, ◌≤◌, length}
+use Rattle.hcl_rescan.specs.Inner.WholeLines.{IsLineStart}
+use Rattle.hcl_rescan.proofs.incremental.changed_lines.Given as goal
+
+abbrev pub invariant-loop-count : goal.invariant-loop-count
+invariant-loop-count l = record {
+  line_start : IsLineStart l.old l.to.index l.to.at;
+  count : l.first ≤ l.count;
+}
+
+abbrev pub decreases-loop-count : goal.decreases-loop-count
+decreases-loop-count l = length l.replaced - l.count

@@ -1,0 +1,76 @@
+-- Whole lines of a text that is cut, and a text of which the front is made of such.
+use Rattle.std.specs.Prelude.{◌≡◌, ℕ, ◌+◌, ◌-◌, ◌≤◌, min, List, [], ◌∷◌, length, take, drop, slice_range, ⊤}
+use Rattle.hcl_token.specs.declared.token.Token.{Token}
+use Rattle.hcl_token.specs.declared.kind.Kind.{Kind}
+use Rattle.hcl_token.specs.declared.kind.Kind.TheVariants.{LineEnd, OpenBrace, CloseBrace, QuoteOpen, QuoteClose, HereOpen, HereClose, InterpOpen, DirectiveOpen, SeqClose}
+use Rattle.hcl_token.specs.TokenizedText.{TokenizedText}
+use Rattle.hcl_token.specs.Pairs.{pairs_of, InOrder}
+use Rattle.hcl_token.specs.Tokens.{Pair, whole_text}
+use Rattle.hcl_scan.specs.Tokenization.{IsTokenization}
+use Rattle.hcl_scan.specs.Follows.{FollowsFrom, AreApart}
+
+-- how many openings are open behind a token of the kind, of so many before it: a `{` is one only
+-- behind another
+abbrev pub depth_after : Kind → ℕ → ℕ
+depth_after QuoteOpen depth = depth + 1
+depth_after HereOpen depth = depth + 1
+depth_after InterpOpen depth = depth + 1
+depth_after DirectiveOpen depth = depth + 1
+depth_after OpenBrace depth = depth + min depth 1
+depth_after QuoteClose depth = depth - 1
+depth_after HereClose depth = depth - 1
+depth_after SeqClose depth = depth - 1
+depth_after CloseBrace depth = depth - 1
+depth_after kind depth = depth
+
+-- nothing, or the last token ends a line
+abbrev pub EndsWithLineEnd : List Pair → Type 0
+EndsWithLineEnd [] = ⊤
+EndsWithLineEnd (p ∷ []) = p.kind ≡ LineEnd
+EndsWithLineEnd (p ∷ q ∷ ps) = EndsWithLineEnd (q ∷ ps)
+
+-- tokens up to a line end, with no opening open before them and behind them
+pub record AreWholeLines (pairs : List Pair) : Type 0 where
+  pub follow : FollowsFrom [] pairs [] []
+  pub ended : EndsWithLineEnd pairs
+  pub apart : AreApart pairs
+
+-- tokens and a last gap, with no opening open before them
+pub record AreSelfContained (pairs : List Pair) (last : List ℕ) : Type 0 where
+  pub follow : FollowsFrom [] pairs last []
+  pub apart : AreApart pairs
+
+-- a line of the text begins with the token of this number, and so many bytes stand before it
+pub record IsLineStart (cut : TokenizedText) (index at : ℕ) : Type 0 where
+  pub within : index ≤ length cut.pairs
+  pub place : at ≡ length (whole_text (take index cut.pairs) [])
+  pub rest : AreSelfContained (drop index cut.pairs) cut.last
+
+-- the tokens from one number on, up to another, are whole lines
+pub record IsLineRange (pairs : List Pair) (from to : ℕ) : Type 0 where
+  pub ordered : from ≤ to
+  pub lines : AreWholeLines (slice_range pairs from to)
+
+-- the text up to a place is whole lines, of which these are the items
+pub record IsRescannedTo (text : List ℕ) (items : List Token) (at : ℕ) : Type 0 where
+  pub within : at ≤ length text
+  pub lines : AreWholeLines (pairs_of text items)
+  pub text_is : text ≡ whole_text (pairs_of text items) (drop at text)
+  pub order : InOrder 0 items at
+
+-- the items of pairs that stand in a text from this place on
+abbrev pub tokens_at : ℕ → List Pair → List Token
+tokens_at at [] = []
+tokens_at at (p ∷ ps) =
+    record {
+      start = at + length p.gap;
+      stop = at + length p.gap + length p.spelling;
+      kind = p.kind;
+    }
+    ∷ tokens_at (at + length p.gap + length p.spelling) ps
+
+-- the text is cut into these items, and the last gap begins at this place
+pub record IsRescanned (text : List ℕ) (items : List Token) (last_gap_at : ℕ) : Type 0 where
+  pub tokenization : IsTokenization text (pairs_of text items) (drop last_gap_at text)
+  pub order : InOrder 0 items last_gap_at
+  pub within : last_gap_at ≤ length text

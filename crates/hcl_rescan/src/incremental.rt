@@ -1,0 +1,503 @@
+//! The cut of a text that came from one that was cut: lines that stayed are not cut again.
+//!
+//! A line here is a stretch of tokens up to a line end behind which no opening is open. Its tokens
+//! don't depend on what stands before and behind it, so where its bytes stand in the new text at
+//! the front of a line, so do its tokens. The rest is cut as texts of their own, each a number of
+//! lines.
+
+ghost use Rattle.std.specs.Prelude.{◌≡◌, ◌<◌, ◌≤◌, ◌+◌, ◌-◌, ◌^◌, ◌++◌, ◌∷◌, ℕ, true, false, Some, [], length, drop, slice_get, slice_range, IsTrue, IsUtf8, OnOk, IfOk, IfErr, ◌⊎◌};
+ghost use Rattle.hcl_token.specs.declared.kind.Kind.TheVariants.{LineEnd};
+ghost use Rattle.hcl_token.specs.Tokens.{Pair, whole_text};
+ghost use Rattle.hcl_token.specs.Pairs.{InOrder, pairs_of};
+ghost use Rattle.hcl_scan.specs.Tokenization.{IsTokenization, MAX_TEXT};
+ghost use Rattle.hcl_scan.specs.Fault.{IsFault};
+ghost use Rattle.hcl_scan.specs.Follows.{AreApart, FollowsFrom, IsApart};
+ghost use Rattle.hcl_rescan.specs.Inner.WholeLines.{AreSelfContained, EndsWithLineEnd, IsRescannedTo, IsLineStart, IsLineRange, IsRescanned, depth_after, tokens_at};
+ghost use Rattle.hcl_scan.specs.declared.fault.ScanFault.TheVariants.{Memory};
+
+use hcl_scan::{Item, Kind, MAX_TEXT, ScanFault, Scanned, Token, scan_in};
+use std::alloc::{AllocError, Global};
+
+/// Bytes of an old text in the place of which others stand in the new one: where they begin in the
+/// old text, in bytes from 0, how many they are, and how many the others are.
+#[derive(Clone, Copy, Debug, PartialEq, Eq)]
+pub struct ReplacedRange {
+    pub at: u32,
+    pub removed: u32,
+    pub added: u32,
+}
+
+/// Why a text is not cut from the cut of an old one.
+#[derive(Clone, Copy)]
+enum RescanFault {
+    /// A growth was refused.
+    Memory,
+    /// The text is not made of old lines and of lines that are cut by themselves.
+    Mismatch,
+}
+
+impl From<AllocError> for RescanFault {
+    fn from(_: AllocError) -> Self {
+        RescanFault::Memory
+    }
+}
+
+/// Where a line of a text begins: the number of its first token, and the bytes before it.
+#[derive(Clone, Copy)]
+struct LineStart {
+    index: usize,
+    at: usize,
+}
+
+/// The bytes between two places.
+fn slice(text: &[u8], from: usize, to: usize) -> &[u8]
+    requires ordered { from ≤ to }
+    requires within { to ≤ length text.now }
+    ensures { result.now ≡ slice_range text.now from to }
+{
+    &text[from..to]
+}
+
+/// Whether a token ends a line.
+fn is_line_end(kind: Kind) -> bool
+    ensures { result ≡ true → kind ≡ LineEnd }
+{
+    matches!(kind, Kind::LineEnd)
+}
+
+/// Whether the byte order mark is a text's first token.
+fn has_mark(scanned: &Scanned<'_>) -> bool
+    ensures { result ≡ false → FollowsFrom [] scanned.now.pairs scanned.now.last [] }
+{
+    hcl_scan::laws::tokenization_follows_modes();
+    let count = scanned.len();
+    count > 0 && matches!(scanned.kind(0), Kind::Mark)
+}
+
+/// How many openings are open behind a token of the kind, of so many before it. A brace opens
+/// something in a template alone.
+fn depth_after(kind: Kind, depth: usize) -> usize
+    requires { depth + 1 < 2 ^ 64 }
+    ensures value { result ≡ depth_after kind depth }
+    ensures small { result ≤ depth + 1 }
+{
+    match kind {
+        Kind::QuoteOpen | Kind::HereOpen | Kind::InterpOpen | Kind::DirectiveOpen => depth + 1,
+        Kind::OpenBrace => { if depth == 0 { 0 } else { depth + 1 } }
+        Kind::QuoteClose | Kind::HereClose | Kind::SeqClose | Kind::CloseBrace => {
+            depth.saturating_sub(1)
+        }
+        _ => depth,
+    }
+}
+
+/// Whether a token ends a line, where so many openings are open.
+fn ends_top_level_line(kind: Kind, depth: usize) -> bool
+    ensures kind { result ≡ true → kind ≡ LineEnd }
+    ensures none { result ≡ true → depth ≡ 0 }
+{
+    is_line_end(kind) && depth == 0
+}
+
+/// The last place at most so far from the front of the text, and behind whole lines, where a line
+/// begins.
+fn last_line_start(old: &Scanned<'_>, from: LineStart, limit: usize) -> LineStart
+    requires { IsLineStart old.now from.index from.at }
+    ensures line_start { IsLineStart old.now result.index result.at }
+    ensures lines { IsLineRange old.now.pairs from.index result.index }
+{
+    let mut to = from;
+    let mut depth = 0;
+    for i in from.index..old.len() {
+        let kind = old.kind(i);
+        if ends_top_level_line(kind, depth) {
+            let at = old.item(i).stop as usize;
+            if at > limit {
+                return to;
+            }
+            to = LineStart { index: i + 1, at };
+        } else {
+            depth = depth_after(kind, depth);
+        }
+    }
+    to
+}
+
+/// The first place behind a line of the old text that comes further than so far from its front;
+/// unfit where there is none.
+fn next_line_start(
+    old: &Scanned<'_>,
+    from: LineStart,
+    limit: usize,
+) -> Result<LineStart, RescanFault>
+    requires { IsLineStart old.now from.index from.at }
+    ensures { IfOk result (λ to. IsLineStart old.now to.index to.at) }
+{
+    if from.at > limit {
+        return Ok(from);
+    }
+    let mut depth = 0;
+    for i in from.index..old.len() {
+        let kind = old.kind(i);
+        if ends_top_level_line(kind, depth) {
+            let at = old.item(i).stop as usize;
+            if at > limit {
+                return Ok(LineStart { index: i + 1, at });
+            }
+        } else {
+            depth = depth_after(kind, depth);
+        }
+    }
+    Err(RescanFault::Mismatch)
+}
+
+/// A token as it stands where the bytes from one place on stand from another on.
+fn relocate(item: Item, from: usize, to: usize) -> Token
+    requires start { from ≤ item.start }
+    requires stop { item.start ≤ item.stop }
+    requires from { from ≤ MAX_TEXT }
+    requires fits { to + (item.start - from) < MAX_TEXT }
+    requires short { item.stop ≤ MAX_TEXT }
+    ensures start { result.start ≡ to + (item.start - from) }
+    ensures stop { result.stop ≡ to + (item.stop - from) }
+    ensures kind { result.kind ≡ item.kind }
+{
+    let from = from as u32;
+    let to = to as u32;
+    Token::new(to + (item.start - from), to + (item.stop - from), item.kind)
+}
+
+/// Adds the items of tokens of a text as they stand in another one from a place on.
+fn push_relocated(
+    items: &mut Vec<Token>,
+    at: usize,
+    old: &Scanned<'_>,
+    from: LineStart,
+    to: usize,
+) -> Result<(), AllocError>
+    requires line_start { IsLineStart old.now from.index from.at }
+    requires ordered { from.index ≤ to }
+    requires within { to ≤ length old.now.pairs }
+    requires fits { at + length (whole_text (slice_range old.now.pairs from.index to) [])
+        ≤ MAX_TEXT }
+    ensures { OnOk result (items.new.items
+        ≡ items.old.items ++ tokens_at at (slice_range old.now.pairs from.index to)) }
+{
+    let _text = old.text();
+    for i in from.index..to {
+        items.push(relocate(old.item(i), from.at, at))?;
+    }
+    Ok(())
+}
+
+/// Whether two pieces of text are one.
+fn same_bytes(a: &[u8], b: &[u8]) -> bool
+    ensures { result ≡ true → a.now ≡ b.now }
+{
+    a == b
+}
+
+/// Whether the bytes stand in a text at a place.
+fn has_bytes_at(text: &[u8], at: usize, bytes: &[u8]) -> bool
+    requires { at ≤ length text.now }
+    ensures { result ≡ true
+        → drop at text.now ≡ bytes.now ++ drop (at + length bytes.now) text.now }
+{
+    if bytes.len() > text.len() - at {
+        return false;
+    }
+    same_bytes(slice(text, at, at + bytes.len()), bytes)
+}
+
+/// Adds the items of whole lines of the old text, if their bytes stand in the new one behind what
+/// is done, and answers how far that comes.
+fn reuse_lines(
+    text: &[u8],
+    items: &mut Vec<Token>,
+    at: usize,
+    old: &Scanned<'_>,
+    from: LineStart,
+    to: LineStart,
+) -> Result<usize, RescanFault>
+    requires rescanned { IsRescannedTo text.now items.old.items at }
+    requires short { length text.now ≤ MAX_TEXT }
+    requires line_start { IsLineStart old.now from.index from.at }
+    requires end_line_start { IsLineStart old.now to.index to.at }
+    requires lines { IsLineRange old.now.pairs from.index to.index }
+    ensures { IfOk result (λ end. IsRescannedTo text.now items.new.items end) }
+{
+    let bytes = slice(old.text(), from.at, to.at);
+    if !has_bytes_at(text, at, bytes) {
+        return Err(RescanFault::Mismatch);
+    }
+    push_relocated(items, at, old, from, to.index)?;
+    Ok(at + bytes.len())
+}
+
+/// Whether a token touches the one before it and joins with it.
+fn joins_previous(scanned: &Scanned<'_>, i: usize) -> bool
+    requires first { 0 < i }
+    requires within { i < length scanned.now.pairs }
+    ensures { result ≡ false → (p q : Pair) → slice_get scanned.now.pairs (i - 1) ≡ Some p
+        → slice_get scanned.now.pairs i ≡ Some q → IsApart p.kind p.spelling (q ∷ []) }
+{
+    scanned.gap(i).is_empty() && scanned.joins(i - 1, i)
+}
+
+/// Whether no token joins with one that it touches.
+fn are_apart(scanned: &Scanned<'_>) -> bool
+    ensures { result ≡ true → AreApart scanned.now.pairs }
+{
+    for i in 1..scanned.len() {
+        if joins_previous(scanned, i) {
+            return false;
+        }
+    }
+    true
+}
+
+/// Whether a text that was cut by itself is cut so behind whole lines too.
+fn can_follow_lines(scanned: &Scanned<'_>) -> bool
+    ensures { result ≡ true → AreSelfContained scanned.now.pairs scanned.now.last }
+{
+    !has_mark(scanned) && are_apart(scanned)
+}
+
+/// Whether a text ends with a token that ends a line.
+fn ends_with_line_end(scanned: &Scanned<'_>) -> bool
+    ensures ended { result ≡ true → EndsWithLineEnd scanned.now.pairs }
+    ensures none { result ≡ true → scanned.now.last ≡ [] }
+{
+    let count = scanned.len();
+    if count == 0 {
+        return false;
+    }
+    is_line_end(scanned.kind(count - 1)) && scanned.last_gap().is_empty()
+}
+
+/// The cut of a text by itself; unfit where it has none.
+fn scan_part<'t>(
+    alloc: Global,
+    buffer: Vec<Token>,
+    text: &'t [u8],
+) -> Result<Scanned<'t>, RescanFault>
+    ensures text { IfOk result (λ s. s.text ≡ text.now) }
+    ensures tokenization { IfOk result (λ s. IsTokenization text.now s.pairs s.last) }
+{
+    match scan_in(alloc, buffer, text) {
+        Ok(scanned) => Ok(scanned),
+        Err(ScanFault::Memory) => Err(RescanFault::Memory),
+        Err(_) => Err(RescanFault::Mismatch),
+    }
+}
+
+/// Adds the items of so many bytes, if they are whole lines, and gives back the room for their cut.
+fn scan_lines(
+    alloc: Global,
+    text: &[u8],
+    items: &mut Vec<Token>,
+    at: usize,
+    len: usize,
+    scratch: Vec<Token>,
+) -> Result<Vec<Token>, RescanFault>
+    requires rescanned { IsRescannedTo text.now items.old.items at }
+    requires short { length text.now ≤ MAX_TEXT }
+    ensures { IfOk result (λ scratch. IsRescannedTo text.now items.new.items (at + len)) }
+{
+    if len > text.len() - at {
+        return Err(RescanFault::Mismatch);
+    }
+    let lines = scan_part(alloc, scratch, slice(text, at, at + len))?;
+    if !ends_with_line_end(&lines) || !can_follow_lines(&lines) {
+        return Err(RescanFault::Mismatch);
+    }
+    push_relocated(
+        items,
+        at,
+        &lines,
+        LineStart { index: 0, at: 0 },
+        lines.len(),
+    )?;
+    Ok(lines.into_buffer())
+}
+
+/// Adds the items of what is left of a text, and answers where its last gap begins.
+fn scan_rest(
+    alloc: Global,
+    text: &[u8],
+    items: &mut Vec<Token>,
+    at: usize,
+    scratch: Vec<Token>,
+) -> Result<usize, RescanFault>
+    requires rescanned { IsRescannedTo text.now items.old.items at }
+    requires short { length text.now ≤ MAX_TEXT }
+    ensures { IfOk result (λ last_gap_at. IsRescanned text.now items.new.items last_gap_at) }
+{
+    let rest = scan_part(alloc, scratch, slice(text, at, text.len()))?;
+    if !can_follow_lines(&rest) {
+        return Err(RescanFault::Mismatch);
+    }
+    push_relocated(items, at, &rest, LineStart { index: 0, at: 0 }, rest.len())?;
+    Ok(text.len() - rest.last_gap().len())
+}
+
+/// Lines of the old text in which bytes are replaced: where the next line begins that stays, how
+/// many bytes stand in their place in the new text, and how many pieces were replaced up to there.
+struct ChangedLines {
+    to: LineStart,
+    len: usize,
+    count: usize,
+}
+
+/// The lines from this one on in which the pieces with this number and those behind it are
+/// replaced.
+fn changed_lines(
+    old: &Scanned<'_>,
+    from: LineStart,
+    replaced: &[ReplacedRange],
+    first: usize,
+) -> Result<ChangedLines, RescanFault>
+    requires line_start { IsLineStart old.now from.index from.at }
+    requires some { first < length replaced.now }
+    ensures { IfOk result (λ changed. IsLineStart old.now changed.to.index changed.to.at
+        × (first < changed.count)) }
+{
+    let mut count = first;
+    let mut to = from;
+    let mut removed: usize = 0;
+    let mut added: usize = 0;
+    while count < replaced.len() && (count == first || (replaced[count].at as usize) < to.at) {
+        let piece = replaced[count];
+        removed = removed.saturating_add(piece.removed as usize);
+        added = added.saturating_add(piece.added as usize);
+        to = next_line_start(old, to, piece.at as usize + piece.removed as usize)?;
+        count += 1;
+    }
+    let before = to.at.saturating_sub(from.at);
+    let len = before.saturating_add(added).saturating_sub(removed);
+    Ok(ChangedLines { to, len, count })
+}
+
+/// How far a new text is done: so many of its bytes, up to a line of the old one.
+#[derive(Clone, Copy)]
+struct Progress {
+    line_start: LineStart,
+    at: usize,
+}
+
+/// Adds the items of the lines up to those in which bytes are replaced, or up to the last.
+fn reuse_unchanged(
+    text: &[u8],
+    items: &mut Vec<Token>,
+    old: &Scanned<'_>,
+    progress: Progress,
+    limit: usize,
+) -> Result<Progress, RescanFault>
+    requires rescanned { IsRescannedTo text.now items.old.items progress.at }
+    requires short { length text.now ≤ MAX_TEXT }
+    requires line_start { IsLineStart old.now progress.line_start.index progress.line_start.at }
+    ensures { IfOk result (λ progress. IsRescannedTo text.now items.new.items progress.at
+        × IsLineStart old.now progress.line_start.index progress.line_start.at) }
+{
+    let line_start = last_line_start(old, progress.line_start, limit);
+    let at = reuse_lines(
+        text,
+        items,
+        progress.at,
+        old,
+        progress.line_start,
+        line_start,
+    )?;
+    Ok(Progress { line_start, at })
+}
+
+/// The items of a text that came from one that was cut, and where its last gap begins; unfit where
+/// more was changed than the replaced pieces say, or what was changed is not cut by itself.
+fn rescan_tokens(
+    alloc: Global,
+    text: &[u8],
+    old: &Scanned<'_>,
+    replaced: &[ReplacedRange],
+    items: &mut Vec<Token>,
+) -> Result<usize, RescanFault>
+    requires apart { AreApart old.now.pairs }
+    requires short { length text.now ≤ MAX_TEXT }
+    ensures { IfOk result (λ last_gap_at. IsRescanned text.now items.new.items last_gap_at) }
+{
+    items.clear();
+    if has_mark(old) {
+        return Err(RescanFault::Mismatch);
+    }
+    items.reserve(text.len() / 8)?;
+    let mut scratch = Vec::new(alloc);
+    let mut progress = Progress {
+        line_start: LineStart { index: 0, at: 0 },
+        at: 0,
+    };
+    let mut first = 0;
+    while first < replaced.len() {
+        let limit = replaced[first].at as usize;
+        progress = reuse_unchanged(text, items, old, progress, limit)?;
+        let ChangedLines { to, len, count } = changed_lines(
+            old,
+            progress.line_start,
+            replaced,
+            first,
+        )?;
+        if len > text.len() / 2 {
+            // Its lines are cut by themselves into a list of their own: that would be as long as
+            // the list of the whole text.
+            return Err(RescanFault::Mismatch);
+        }
+        scratch = scan_lines(alloc, text, items, progress.at, len, scratch)?;
+        progress = Progress {
+            line_start: to,
+            at: progress.at + len,
+        };
+        first = count;
+    }
+    progress = reuse_unchanged(text, items, old, progress, usize::MAX)?;
+    scan_rest(alloc, text, items, progress.at, scratch)
+}
+
+/// The fault of a text for the cut of which memory was refused: ill-formed bytes are told before
+/// that.
+fn memory_fault(text: &[u8]) -> ScanFault
+    requires { length text.now ≤ MAX_TEXT }
+    ensures { ((result ≡ Memory) × IsUtf8 text.now) ⊎ IsFault text.now result }
+{
+    match simdutf8::compat::from_utf8(text) {
+        Err(e) => ScanFault::NotUtf8 {
+            at: e.valid_up_to(),
+        },
+        Ok(_) => ScanFault::Memory,
+    }
+}
+
+/// The cut of a text that came from one whose tokens don't join, or its fault: what `scan_in`
+/// answers, and lines that stayed are not cut again. The pieces that were replaced are handed in in
+/// order; where more was changed than they say, the text is cut anew.
+pub fn rescan<'t>(
+    alloc: Global,
+    buffer: Vec<Token>,
+    text: &'t [u8],
+    old: &Scanned<'_>,
+    replaced: &[ReplacedRange],
+) -> Result<Scanned<'t>, ScanFault>
+    requires { AreApart old.now.pairs }
+    ensures text { IfOk result (λ s. s.text ≡ text.now) }
+    ensures tokenization { IfOk result (λ s. IsTokenization text.now s.pairs s.last) }
+    ensures fault { IfErr result
+        (λ e. ((e ≡ Memory) × (length text.now ≤ MAX_TEXT) × IsUtf8 text.now)
+        ⊎ IsFault text.now e) }
+{
+    let mut items = buffer;
+    if text.len() > MAX_TEXT {
+        return scan_in(alloc, items, text);
+    }
+    match rescan_tokens(alloc, text, old, replaced, &mut items) {
+        Ok(last_gap_at) => { Ok(Scanned::of_tokens(text, items, last_gap_at)) }
+        Err(RescanFault::Memory) => Err(memory_fault(text)),
+        Err(RescanFault::Mismatch) => scan_in(alloc, items, text),
+    }
+}

@@ -1,9 +1,0 @@
-use Rattle.std.proofs.Common.{refl, arith}
-use Rattle.hcl_scan.specs.declared.bytes.TheConstants.{CLASS}
-use Rattle.hcl_scan.specs.Inner.Front.{goes_on}
-use Rattle.hcl_scan.proofs.TableLemmas.{agree_below, from_table}
-use Rattle.hcl_scan.proofs.bytes.goes_on.Goals as goal
-
-pub returns : goal.returns
-unfolding agree_below
-returns c = from_table CLASS 1 goes_on c.args.b (omega arith) refl

@@ -1,0 +1,9 @@
+use Rattle.std.proofs.Common.{refl, arith}
+use Rattle.hcl_scan.specs.declared.bytes.TheConstants.{CLASS}
+use Rattle.hcl_scan.specs.Inner.LexemeStarts.{is_ascii_id_continue}
+use Rattle.hcl_scan.proofs.TableLemmas.{agree_below, from_table}
+use Rattle.hcl_scan.proofs.bytes.is_ascii_id_continue.Goals as goal
+
+pub returns : goal.returns
+unfolding agree_below
+returns c = from_table CLASS 1 is_ascii_id_continue c.args.b (omega arith) refl

@@ -1,9 +1,0 @@
-use Rattle.std.proofs.Common.{◌<◌, length, sym, arith}
-use Rattle.std.proofs.lemmas.Bool.Decides.{nat_tests}
-use Rattle.hcl_scan.proofs.OpeningLemmas.{line_behind-end}
-use Rattle.hcl_scan.proofs.mode.line_behind.Goals as goal
-
-pub returns-else-is_empty : goal.returns-else-is_empty
-returns-else-is_empty c =
-    let some : 0 < length c.args.text.now = grind (arith, nat_tests) in
-    sym (line_behind-end c.args.fresh c.args.text.now some)

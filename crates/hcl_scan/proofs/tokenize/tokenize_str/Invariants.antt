@@ -1,0 +1,15 @@
+use Rattle.std.proofs.Common.{◌≡◌, ◌-◌, length}
+use Rattle.hcl_scan.specs.Modes.{mode_of}
+use Rattle.hcl_scan.specs.Inner.Openings.{mode_view, modes_of, places_of}
+use Rattle.hcl_scan.proofs.TokenizedTo.{IsTokenizedTo}
+use Rattle.hcl_scan.proofs.tokenize.tokenize_str.Given as goal
+
+-- the text up to the place is cut, and the mode is that of the innermost opening
+abbrev pub invariant-tokens : goal.invariant-tokens
+invariant-tokens l = record {
+  tokenization : IsTokenizedTo l.bytes l.items.items l.at (modes_of l.openings.items) (places_of l.openings.items);
+  mode : mode_view l.mode ≡ mode_of (modes_of l.openings.items);
+}
+
+abbrev pub decreases-tokens : goal.decreases-tokens
+decreases-tokens l = length l.bytes - l.at

@@ -1,0 +1,170 @@
+//! Where the tokens of a whole text stand.
+
+ghost use Rattle.std.specs.Prelude.{◌≡◌, ◌+◌, ◌<◌, ◌≤◌, ◌++◌, ◌∷◌, length, drop, IsUtf8, IfOk, IfErr, OnOk, IsTrue, ◌↔◌, [], ◌⊎◌};
+ghost use Rattle.hcl_token.specs.Pairs.{pairs_of, InOrder};
+ghost use Rattle.hcl_scan.specs.Characters.{is_prefix_of};
+ghost use Rattle.hcl_scan.specs.Tokenization.{IsTokenization, MAX_TEXT, byte_order_mark};
+ghost use Rattle.hcl_scan.specs.declared.fault.ScanFault.TheVariants.{Memory};
+ghost use Rattle.hcl_scan.specs.Fault.{EndsInFault, IsFault, token_fault, fault_at};
+ghost use Rattle.hcl_scan.specs.Inner.Openings.{mode_view};
+ghost use Rattle.hcl_scan.specs.Inner.MarkToken.{mark_tokens, mark_length, token_at};
+
+use crate::bytes::{byte_at, slice};
+use crate::fault::ScanFault;
+use crate::mode::{
+    Mode, Opening, can_change_openings, innermost_template_start, mode_of, update_openings,
+};
+use crate::token::next_token;
+use hcl_token::{Kind, MAX_TEXT, Token};
+use std::alloc::{AllocError, Global};
+
+/// The fault outside of literal text, at a place where no token can be cut.
+fn token_fault(text: &[u8], at: usize) -> ScanFault
+    requires { at ≤ length text.now }
+    ensures { result ≡ token_fault at (drop at text.now) }
+{
+    if byte_at(text, at) == b'/' && byte_at(text, at + 1) == b'*' {
+        ScanFault::OpenComment { at }
+    } else {
+        ScanFault::BadCharacter { at }
+    }
+}
+
+/// The fault at a place where no token can be cut, in a template that begins at `opened`.
+fn fault_at(text: &[u8], mode: Mode<'_>, opened: usize, at: usize) -> ScanFault
+    requires { at ≤ length text.now }
+    ensures { result ≡ fault_at (mode_view mode.entry) opened at (drop at text.now) }
+{
+    match mode {
+        Mode::Quoted => {
+            if byte_at(text, at) == b'\\' {
+                ScanFault::BadEscape { at }
+            } else {
+                ScanFault::OpenString { at: opened }
+            }
+        }
+        Mode::Heredoc {
+            marker: _,
+            at_line_start: _,
+        } => ScanFault::OpenHeredoc { at: opened },
+        Mode::Expression => token_fault(text, at),
+        _ => {
+            if at == text.len() {
+                ScanFault::OpenTemplate { at: opened }
+            } else {
+                token_fault(text, at)
+            }
+        }
+    }
+}
+
+/// Whether the text is cut to its end.
+fn is_done(openings: &[Opening<'_>], start: usize, len: usize) -> bool
+    ensures { IsTrue result ↔ ((start ≡ len) × (openings.now ≡ [])) }
+{
+    start == len && openings.is_empty()
+}
+
+/// Whether a byte order mark stands at the front.
+fn starts_with_mark(text: &[u8]) -> bool
+    ensures { result ≡ is_prefix_of byte_order_mark text.now }
+{
+    byte_at(text, 0) == 0xef && byte_at(text, 1) == 0xbb && byte_at(text, 2) == 0xbf
+}
+
+/// The byte order mark at the front of a text, if one stands there, becomes the first item; the
+/// answer is its length.
+fn push_mark(items: &mut Vec<Token>, text: &[u8]) -> Result<usize, AllocError>
+    ensures items { OnOk result (items.new.items ≡ items.old.items ++ mark_tokens text.now) }
+    ensures length { IfOk result (λ at. at ≡ mark_length text.now) }
+{
+    if !starts_with_mark(text) {
+        return Ok(0);
+    }
+    items.push(Token::new(0, 3, Kind::Mark))?;
+    Ok(3)
+}
+
+/// One token more.
+fn push_token(
+    items: &mut Vec<Token>,
+    start: usize,
+    stop: usize,
+    kind: Kind,
+) -> Result<(), AllocError>
+    requires start { start < MAX_TEXT }
+    requires stop { stop ≤ MAX_TEXT }
+    ensures { OnOk result (items.new.items ≡ items.old.items ++ token_at start stop kind ∷ []) }
+{
+    items.reserve(1)?;
+    items.push_reserved(Token::new(start as u32, stop as u32, kind));
+    Ok(())
+}
+
+/// The items of a text, in a list that has room, and where its last gap begins.
+fn tokenize_str(
+    alloc: Global,
+    buffer: Vec<Token>,
+    text: &str,
+) -> Result<(Vec<Token>, usize), ScanFault>
+    requires { length text.now ≤ MAX_TEXT }
+    ensures tokenization { IfOk result
+        (λ r. IsTokenization text.now (pairs_of text.now r.0.items) (drop r.1 text.now)) }
+    ensures order { IfOk result (λ r. InOrder 0 r.0.items r.1 × (r.1 ≤ length text.now)) }
+    ensures fault { IfErr result (λ e. (e ≡ Memory) ⊎ EndsInFault text.now e) }
+{
+    let bytes = text.as_bytes();
+    let mut items = buffer;
+    items.clear();
+    items.reserve(text.len() / 8)?;
+    let mut openings: Vec<Opening<'_>> = Vec::new(alloc);
+    let mut at = push_mark(&mut items, bytes)?;
+    let mut mode = Mode::Expression;
+    'tokens: loop {
+        let next = next_token(text, at, mode);
+        let start = next.start;
+        match next.token {
+            None => {
+                if is_done(&openings, start, bytes.len()) {
+                    return Ok((items, at));
+                }
+                let opened = innermost_template_start(&openings);
+                return Err(fault_at(bytes, mode, opened, start));
+            }
+            Some((kind, len)) => {
+                let stop = start + len;
+                push_token(&mut items, start, stop, kind)?;
+                if can_change_openings(kind) {
+                    update_openings(&mut openings, kind, slice(bytes, start, stop), start)?;
+                    mode = mode_of(&openings);
+                }
+                at = stop;
+            }
+        }
+    }
+}
+
+/// The items of a text, in a list that has room, and where its last gap begins; or its fault. A
+/// text that is too long or not UTF-8 takes no memory.
+pub fn tokenize(
+    alloc: Global,
+    buffer: Vec<Token>,
+    text: &[u8],
+) -> Result<(Vec<Token>, usize), ScanFault>
+    ensures tokenization { IfOk result
+        (λ r. IsTokenization text.now (pairs_of text.now r.0.items) (drop r.1 text.now)) }
+    ensures order { IfOk result (λ r. InOrder 0 r.0.items r.1 × (r.1 ≤ length text.now)) }
+    ensures fault { IfErr result
+        (λ e. ((e ≡ Memory) × (length text.now ≤ MAX_TEXT) × IsUtf8 text.now)
+        ⊎ IsFault text.now e) }
+{
+    if text.len() > MAX_TEXT {
+        return Err(ScanFault::TooLong);
+    }
+    match simdutf8::compat::from_utf8(text) {
+        Err(e) => Err(ScanFault::NotUtf8 {
+            at: e.valid_up_to(),
+        }),
+        Ok(text) => tokenize_str(alloc, buffer, text),
+    }
+}

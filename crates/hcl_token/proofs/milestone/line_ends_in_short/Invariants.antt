@@ -1,6 +1,0 @@
-use Rattle.std.proofs.Common.{◌≡◌, count_by, take}
-use Rattle.hcl_token.specs.Place.{is_lf}
-use Rattle.hcl_token.proofs.milestone.line_ends_in_short.Given as goal
-
-abbrev pub invariant-loop-byte : goal.invariant-loop-byte
-invariant-loop-byte l = l.ends ≡ count_by is_lf (take l.byte-index l.piece)

@@ -1,0 +1,34 @@
+-- Which gaps and tokens are meant by a text and by where its tokens start and stop.
+use Rattle.std.specs.Prelude.{◌≡◌, ℕ, ◌≤◌, List, [], ◌∷◌, drop, slice_range}
+use Rattle.hcl_token.specs.declared.token.Token.{Token}
+use Rattle.hcl_token.specs.TokenizedText.{TokenizedText}
+use Rattle.hcl_token.specs.Tokens.{Pair}
+
+-- the bytes from a place to where the token starts, and those from there to where it stops
+abbrev pub pair_at : List ℕ → ℕ → Token → Pair
+pair_at text at token =
+    record {
+      gap = slice_range text at token.start;
+      kind = token.kind;
+      spelling = slice_range text token.start token.stop;
+    }
+
+-- the gap before the first of the tokens begins at a place, each other one where the token before
+-- it stops
+abbrev pub pairs_from : List ℕ → ℕ → List Token → List Pair
+pairs_from text at [] = []
+pairs_from text at (token ∷ tokens) = pair_at text at token ∷ pairs_from text token.stop tokens
+
+abbrev pub pairs_of : List ℕ → List Token → List Pair
+pairs_of text tokens = pairs_from text 0 tokens
+
+-- the text with its tokens, and with what is behind the last of them
+abbrev pub tokenized_text : List ℕ → List Token → ℕ → TokenizedText
+tokenized_text text tokens last_gap_at =
+    record { text = text; pairs = pairs_of text tokens; last = drop last_gap_at text }
+
+-- the gaps and the tokens stand one behind the other, from this place to that
+abbrev pub InOrder : ℕ → List Token → ℕ → Type 0
+InOrder at [] last = at ≡ last
+InOrder at (token ∷ tokens) last =
+    (at ≤ token.start) × (token.start ≤ token.stop) × InOrder token.stop tokens last

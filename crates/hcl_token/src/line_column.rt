@@ -1,0 +1,233 @@
+//! Lines and columns, told by going forward over the tokens.
+
+ghost use Rattle.std.specs.Prelude.{◌≡◌, ℕ, true, ◌+◌, ◌^◌, ◌<◌, ◌≤◌, [], ◌∷◌, length, slice_range, take, count_by, IsUtf8};
+ghost use Rattle.hcl_token.specs.Pairs.{pair_at, pairs_from, pairs_of};
+ghost use Rattle.hcl_token.specs.Inner.LineColumn.{IsGapPlace, IsOnLine, IsPlaceBounded, IsTokenRange, place_after_pair, place_after_piece, place_after_pairs, first_place, gap_at, has_mark};
+ghost use Rattle.hcl_token.specs.Inner.AsciiText.{is_ascii_without_cr};
+ghost use Rattle.hcl_token.specs.Place.{is_lf, is_mark, last_line, line_of, place_of};
+
+use crate::graphemes::{clusters, is_ascii_without_cr};
+use crate::kind::Kind;
+use crate::place::Place;
+use crate::token::Token;
+use memchr::memrchr;
+
+/// The greatest number of bytes whose line ends are counted in 8 bits.
+const MAX_U8_COUNT: usize = 255;
+
+/// So many bytes at a time are counted of a longer piece: a multiple of 32, so that none of them is
+/// done alone.
+const CHUNK: usize = 224;
+
+/// The place at the beginning of a text.
+pub(crate) const FIRST_PLACE: Place = Place { line: 1, column: 1 };
+
+/// The bytes of a text from one place to another.
+pub(crate) fn slice(text: &[u8], from: u32, to: u32) -> &[u8]
+    requires ordered { from ≤ to }
+    requires within { to ≤ length text.now }
+    ensures { result.now ≡ slice_range text.now from to }
+{
+    &text[from as usize..to as usize]
+}
+
+/// Where the gap before a token begins, or the gap behind the last token.
+pub(crate) fn gap_at(tokens: &[Token], i: usize) -> u32
+    requires { i ≤ length tokens.now }
+    ensures { result ≡ gap_at tokens.now i }
+{
+    if i == 0 { 0 } else { tokens[i - 1].stop() }
+}
+
+/// The tokens from one number to another.
+pub(crate) fn token_range(tokens: &[Token], from: usize, to: usize) -> &[Token]
+    requires ordered { from ≤ to }
+    requires within { to ≤ length tokens.now }
+    ensures { result.now ≡ slice_range tokens.now from to }
+{
+    &tokens[from..to]
+}
+
+fn is_mark(kind: Kind) -> bool
+    ensures { result ≡ is_mark kind }
+{
+    matches!(kind, Kind::Mark)
+}
+
+/// No early end: the processor does many tokens at once.
+fn has_mark(tokens: &[Token]) -> bool
+    ensures { result ≡ has_mark tokens.now }
+{
+    let mut marked = false;
+    for token in tokens {
+        marked |= is_mark(token.kind());
+    }
+    marked
+}
+
+/// Counted in 8 bits, of which the processor adds sixteen at once.
+fn count_line_feeds_u8(piece: &[u8]) -> u8
+    requires { length piece.now < 2 ^ 8 }
+    ensures { result ≡ count_by is_lf piece.now }
+{
+    let mut count: u8 = 0;
+    for byte in piece {
+        count += u8::from(*byte == 10);
+    }
+    count
+}
+
+fn count_line_feeds(piece: &[u8]) -> usize
+    ensures value { result ≡ count_by is_lf piece.now }
+    ensures within { result ≤ length piece.now }
+{
+    let mut count = 0;
+    let mut from = 0;
+    while piece.len() - from > MAX_U8_COUNT {
+        count += usize::from(count_line_feeds_u8(&piece[from..from + CHUNK]));
+        from += CHUNK;
+    }
+    count + usize::from(count_line_feeds_u8(&piece[from..]))
+}
+
+fn last_line(piece: &[u8]) -> &[u8]
+    ensures { result.now ≡ last_line piece.now }
+{
+    match memrchr(b'\n', piece) {
+        Some(at) => &piece[at + 1..],
+        None => piece,
+    }
+}
+
+/// The place behind a piece of text.
+fn place_after_piece(at: Place, piece: &[u8]) -> Place
+    requires utf8 { IsUtf8 piece.now }
+    requires line { at.line + length piece.now < 2 ^ 32 }
+    requires column { at.column + length piece.now < 2 ^ 32 }
+    ensures value { result ≡ place_after_piece at piece.now }
+    ensures line { result.line ≤ at.line + length piece.now }
+    ensures column { result.column ≤ at.column + length piece.now }
+{
+    let count = count_line_feeds(piece);
+    let column = if count == 0 {
+        at.column + clusters(piece)
+    } else {
+        1 + clusters(last_line(piece))
+    };
+    Place {
+        line: at.line + count,
+        column,
+    }
+}
+
+/// The place behind a token and the gap before it, which begins at `from`.
+fn place_after_token(text: &[u8], token: Token, from: u32, at: Place) -> Place
+    requires { IsTokenRange text.now (token ∷ []) from token.stop at }
+    ensures value { result ≡ place_after_pair at (pair_at text.now from token) }
+    ensures bounded { IsPlaceBounded result token.stop }
+{
+    let at_start = place_after_piece(at, slice(text, from, token.start()));
+    if is_mark(token.kind()) {
+        at_start
+    } else {
+        place_after_piece(at_start, slice(text, token.start(), token.stop()))
+    }
+}
+
+/// The place behind tokens, one after the other; the gap before the first begins at `from`.
+fn place_after_each(text: &[u8], tokens: &[Token], from: u32, at: Place) -> Place
+    requires { (to : ℕ) × IsTokenRange text.now tokens.now from to at }
+    ensures { result ≡ place_after_pairs at (pairs_from text.now from tokens.now) }
+{
+    let mut gap_at = from;
+    let mut place = at;
+    for token in tokens {
+        place = place_after_token(text, *token, gap_at, place);
+        gap_at = token.stop();
+    }
+    place
+}
+
+/// The place behind a piece of text in which each byte ends a line or is a column.
+fn place_after_ascii(at: Place, piece: &[u8]) -> Place
+    requires ascii { is_ascii_without_cr piece.now ≡ true }
+    requires line { at.line + length piece.now < 2 ^ 32 }
+    requires column { at.column + length piece.now < 2 ^ 32 }
+    ensures { result ≡ place_after_piece at piece.now }
+{
+    match memrchr(b'\n', piece) {
+        Some(last) => Place {
+            line: at.line + count_line_feeds(piece),
+            column: piece.len() - last,
+        },
+        None => Place {
+            line: at.line,
+            column: at.column + piece.len(),
+        },
+    }
+}
+
+/// The place behind tokens that take the bytes between two offsets. Where all of these are ASCII
+/// without CR, they are one piece.
+fn place_after_tokens(text: &[u8], tokens: &[Token], from: u32, to: u32, at: Place) -> Place
+    requires { IsTokenRange text.now tokens.now from to at }
+    ensures value { result ≡ place_after_pairs at (pairs_from text.now from tokens.now) }
+    ensures bounded { IsPlaceBounded result to }
+{
+    let bytes = slice(text, from, to);
+    if is_ascii_without_cr(bytes) & !has_mark(tokens) {
+        place_after_ascii(at, bytes)
+    } else {
+        place_after_each(text, tokens, from, at)
+    }
+}
+
+/// The place of the gap before token `to`, where that of the gap before token `from` is `at`.
+pub(crate) fn gap_place(text: &[u8], tokens: &[Token], from: usize, at: Place, to: usize) -> Place
+    requires at { (last : ℕ) × IsGapPlace text.now tokens.now last from at }
+    requires order { from ≤ to }
+    requires within { to ≤ length tokens.now }
+    ensures { result ≡ place_after_pairs first_place (take to (pairs_of text.now tokens.now)) }
+{
+    let token_range = token_range(tokens, from, to);
+    place_after_tokens(
+        text,
+        token_range,
+        gap_at(tokens, from),
+        gap_at(tokens, to),
+        at,
+    )
+}
+
+/// The place of token `i`, where that of the gap before it is `at`.
+pub(crate) fn token_place(text: &[u8], tokens: &[Token], i: usize, at: Place) -> Place
+    requires at { (last : ℕ) × IsGapPlace text.now tokens.now last i at }
+    requires within { i < length tokens.now }
+    ensures { result ≡ place_of (pairs_of text.now tokens.now) i }
+{
+    let token = tokens[i];
+    let begins = gap_at(tokens, i);
+    place_after_piece(at, slice(text, begins, token.start()))
+}
+
+/// The line of the gap before token `to`, where that of the gap before token `from` is `line`. No
+/// byte order mark has a line feed, so no look at the kinds of the tokens is needed.
+pub(crate) fn gap_line(text: &[u8], tokens: &[Token], from: usize, line: usize, to: usize) -> usize
+    requires at { (last : ℕ) × IsOnLine text.now tokens.now last from line }
+    requires order { from ≤ to }
+    requires within { to ≤ length tokens.now }
+    ensures { result ≡ (place_after_pairs first_place (take to (pairs_of text.now tokens.now))).line }
+{
+    line + count_line_feeds(slice(text, gap_at(tokens, from), gap_at(tokens, to)))
+}
+
+/// The line of token `i`, where that of the gap before it is `line`.
+pub(crate) fn token_line(text: &[u8], tokens: &[Token], i: usize, line: usize) -> usize
+    requires at { (last : ℕ) × IsOnLine text.now tokens.now last i line }
+    requires within { i < length tokens.now }
+    ensures { result ≡ line_of (pairs_of text.now tokens.now) i }
+{
+    let token = tokens[i];
+    let begins = gap_at(tokens, i);
+    line + count_line_feeds(slice(text, begins, token.start()))
+}

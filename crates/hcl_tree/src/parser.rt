@@ -1,0 +1,65 @@
+//! The tree of a text.
+//!
+//! HCL native syntax specification, Structural Elements.
+
+ghost use Rattle.std.specs.Prelude.{◌≡◌, ℕ, IfOk, MatchResult};
+ghost use Rattle.hcl_grammar.specs.Bodies.{IsFile};
+ghost use Rattle.hcl_grammar.specs.Pure.Reading.{Reads};
+ghost use Rattle.hcl_grammar.specs.declared.tree.Tree as tree;
+ghost use Rattle.hcl_text_laws.specs.Parses.{Parses};
+ghost use Rattle.hcl_scan.specs.Follows.{tokens_of};
+ghost use Rattle.hcl_text_laws.specs.Faults.{IsMemory, IsMemoryOrDeep};
+ghost use Rattle.hcl_tree.specs.BodyRules as spec;
+
+use crate::bodies::members;
+use hcl_expr::Reader;
+use hcl_grammar::MAX_NESTING;
+use hcl_grammar::fault::TokenFault;
+use hcl_grammar::tree::Tree;
+use hcl_nodes::nodes;
+use hcl_scan::Scanned;
+use hcl_text_laws::{ParseFault, to_parse_fault};
+use hcl_token::Kind;
+use std::alloc::Global;
+
+/// The tree over all the tokens.
+#[tactic(auto, unfolding(hcl_grammar::specs::Pure::BodyParser::file))]
+fn file(reader: &Reader<'_, '_>, at: &mut usize) -> Result<Tree, TokenFault>
+    ensures { Reads (spec.file reader.now at.old) result at.new }
+{
+    let lines = reader.outside_brackets();
+    let _is_mark = lines.eat(Kind::Mark, at);
+    let from = *at;
+    let members = members(reader, at)?;
+    let to = *at;
+    let _is_comment = lines.eat(Kind::LineComment, at);
+    reader.expect_end(at)?;
+    let first = lines.first_token_in(from, to);
+    Ok(nodes::tree(reader.len(), nodes::body(first, to, members)))
+}
+
+/// The tree of a text, if it parses: if its tokens follow the grammar, with at most 100 constructs
+/// in one another.
+///
+/// Each node has the numbers of its first token and past its last. The text is read once, from left
+/// to right.
+pub fn parse(alloc: Global, scanned: &Scanned<'_>) -> Result<Tree, ParseFault>
+    // The text parses, and this is its tree.
+    ensures parses { IfOk result (λ t. Parses scanned.now.text t) }
+    ensures derived { IfOk result (λ t. IsFile (tokens_of scanned.now.pairs) MAX_NESTING t) }
+    // A text that parses is not refused, unless memory runs out.
+    ensures only { (t : tree.Tree) → Parses scanned.now.text t
+        → MatchResult result (λ x. x ≡ t) IsMemory }
+    // Where the tokens follow the grammar with more constructs in one another, the fault is that.
+    ensures deeper { (d : ℕ) (t : tree.Tree) → IsFile (tokens_of scanned.now.pairs) d t
+        → MatchResult result (λ x. x ≡ t) IsMemoryOrDeep }
+{
+    hcl_grammar_laws::laws::file_parser_is_exact();
+    hcl_scan::laws::one_tokenization();
+    let _count = scanned.len();
+    let mut at = 0;
+    match file(&Reader::new(alloc, scanned), &mut at) {
+        Ok(tree) => Ok(tree),
+        Err(fault) => Err(to_parse_fault(scanned, fault)),
+    }
+}

@@ -1,0 +1,80 @@
+//! Tokens of a text beside those of another, and tokens that were kept without their text.
+
+use crate::actual::Answer;
+use crate::row::Row;
+use crate::tokens::{cut, yes_or_no};
+use hcl_rescan::{ReplacedRange, rescan};
+use hcl_scan::{Scanned, scan};
+use hcl_text_laws::laws::parsed_tokens_are_apart;
+
+pub fn answer(row: &Row, out: &mut Answer) {
+    match row.word(0) {
+        "kept" => kept(row.text(1), out),
+        "again" => again(row, out),
+        _ => same(row, out),
+    }
+}
+
+/// The cut of a text whose tokens were kept without it.
+fn kept(text: &[u8], out: &mut Answer) {
+    match scan(out.alloc, text) {
+        Ok(scanned) => {
+            let list = scanned.detach();
+            cut(&Scanned::attach(text, list), out);
+        }
+        Err(fault) => out.refuse(&fault),
+    }
+}
+
+fn narrow(number: usize) -> u32 {
+    u32::try_from(number).unwrap_or(u32::MAX)
+}
+
+/// The cut of a text from that of an old one, of which a piece was replaced.
+fn again(row: &Row, out: &mut Answer) {
+    let piece = ReplacedRange {
+        at: narrow(row.number(3)),
+        removed: narrow(row.number(4)),
+        added: narrow(row.number(5)),
+    };
+    match scan(out.alloc, row.text(1)) {
+        Ok(old) => cut_again(&old, row.text(2), piece, out),
+        Err(fault) => out.refuse(&fault),
+    }
+}
+
+fn cut_again(old: &Scanned<'_>, text: &[u8], piece: ReplacedRange, out: &mut Answer) {
+    parsed_tokens_are_apart();
+    let _old_text = old.text();
+    match hcl_check::check(out.alloc, old) {
+        Ok(()) => match rescan(out.alloc, Vec::new(out.alloc), text, old, &[piece]) {
+            Ok(scanned) => cut(&scanned, out),
+            Err(fault) => out.refuse(&fault),
+        },
+        Err(_) => out.put("the old text does not parse"),
+    }
+}
+
+/// Whether so many tokens stand in both texts, with the same gaps between them.
+fn same(row: &Row, out: &mut Answer) {
+    match scan(out.alloc, row.text(1)) {
+        Ok(one) => same_in(&one, row, out),
+        Err(fault) => out.refuse(&fault),
+    }
+}
+
+fn same_in(one: &Scanned<'_>, row: &Row, out: &mut Answer) {
+    match scan(out.alloc, row.text(2)) {
+        Ok(other) => same_stretch(one, &other, row, out),
+        Err(fault) => out.refuse(&fault),
+    }
+}
+
+fn same_stretch(one: &Scanned<'_>, other: &Scanned<'_>, row: &Row, out: &mut Answer) {
+    let (from, to, count) = (row.number(3), row.number(4), row.number(5));
+    let (len, other_len) = (one.len(), other.len());
+    if count > len || from > len - count || count > other_len || to > other_len - count {
+        return out.put("no such tokens");
+    }
+    yes_or_no(one.has_same_tokens(from, other, to, count), out);
+}

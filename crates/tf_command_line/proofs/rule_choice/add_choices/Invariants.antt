@@ -1,0 +1,12 @@
+use Rattle.std.proofs.Common.{◌≡◌, ◌||◌, take}
+use Rattle.tf_rule.specs.declared.rule.Rule.{Rule}
+use Rattle.tf_rule.specs.RuleSets.{has_rule}
+use Rattle.tf_command_line.specs.Choices.{is_chosen}
+use Rattle.tf_command_line.proofs.rule_choice.add_choices.Given as goal
+
+-- the rules of the set, and those that the choices so far name
+abbrev pub invariant-loop-choice : goal.invariant-loop-choice
+invariant-loop-choice l =
+    (rule : Rule)
+    → has_rule l.rules rule
+    ≡ (has_rule l.fn.set rule || is_chosen (take l.choice-index l.fn.enabled) rule)

@@ -1,0 +1,10 @@
+use Rattle.std.proofs.Common.{◌≡◌, not, take}
+use Rattle.tf_rule.specs.declared.rule.Rule.{Rule}
+use Rattle.tf_rule.specs.RuleSets.{has_rule}
+use Rattle.tf_command_line.specs.Choices.{is_chosen}
+use Rattle.tf_command_line.proofs.rule_choice.all_except.Given as goal
+
+-- all rules are left but those that the choices so far name
+abbrev pub invariant-loop-choice : goal.invariant-loop-choice
+invariant-loop-choice l =
+    (rule : Rule) → has_rule l.rules rule ≡ not (is_chosen (take l.choice-index l.fn.disabled) rule)

@@ -1,0 +1,57 @@
+-- What comes is settled alike with the gaps beside it and without.
+use Rattle.std.proofs.Common.{◌≡◌, List, [], ◌∷◌, ◌++◌, refl, ap, ◌∙◌}
+use Rattle.std.proofs.lemmas.List.{append-nil}
+use Rattle.hcl_token.specs.Tokens.{Pair}
+use Rattle.tf_rule.specs.declared.fix.Insertion.{Insertion}
+use Rattle.tf_rule.specs.declared.fix.Insertion.TheVariants.{Nothing}
+use Rattle.tf_fix.specs.Inner.Views.{replacement_parts, skip_of, tail_of}
+use Rattle.tf_fix.specs.FindingReplacements.{inserted, pairs_parts, inserted_parts, empty_gap}
+use Rattle.tf_fix.specs.Parts.{Part, text_of_parts}
+use Rattle.tf_fix.specs.Parts.Part.{Token}
+use Rattle.tf_fix.specs.Replacements.{added, space_before}
+use Rattle.tf_fix.specs.SettledSpaces.{Prev, prev_after, settled}
+use Rattle.tf_fix.specs.declared.boundary.Boundary.{Boundary}
+use Rattle.tf_fix.specs.declared.boundary.Boundary.TheVariants.{Gap as BeforeGap, Token as BeforeToken}
+use Rattle.tf_fix.proofs.SettledLemmas.{written-append, settled-append, after-append}
+
+tail_settled : (prev : Prev) (xs : List Part) (to : Boundary) → text_of_parts (settled prev (xs ++ tail_of to)) ≡ text_of_parts (settled prev xs)
+tail_settled prev xs (BeforeGap i) = ap (λ t. text_of_parts (settled prev t)) (append-nil xs)
+tail_settled prev xs (BeforeToken i) = ap text_of_parts (settled-append prev xs empty_gap) ∙ written-append (settled prev xs) empty_gap ∙ append-nil (text_of_parts (settled prev xs))
+
+tail_after : (prev : Prev) (xs : List Part) (to : Boundary) → prev_after prev (xs ++ tail_of to) ≡ prev_after prev xs
+tail_after prev xs (BeforeGap i) = ap (prev_after prev) (append-nil xs)
+tail_after prev xs (BeforeToken i) = after-append prev xs empty_gap
+
+-- no gap stands before what is written
+pub data Bare : List Pair → Type 0 where
+  bare : {p : Pair} {ps : List Pair} → p.gap ≡ [] → Bare (p ∷ ps)
+  none : Bare []
+
+bare_is : (pairs : List Pair) (w : Insertion) → Bare (inserted pairs w)
+bare_is pairs Nothing = none
+bare_is pairs w = bare refl
+
+insert_settled : (prev : Prev) (from to : Boundary) (ps : List Pair) → Bare ps → text_of_parts (settled prev (inserted_parts (skip_of from) ps (tail_of to))) ≡ text_of_parts (settled prev (pairs_parts ps))
+insert_settled prev (BeforeGap i) to ps is = tail_settled prev (pairs_parts ps) to
+insert_settled prev (BeforeToken i) (BeforeGap j) [] is = refl
+insert_settled prev (BeforeToken i) (BeforeToken j) [] is = refl
+insert_settled prev (BeforeToken i) to (p ∷ ps) (bare e) = tail_settled prev (Token p.kind p.spelling ∷ pairs_parts ps) to ∙ rw e refl
+
+insert_after : (prev : Prev) (from to : Boundary) (ps : List Pair) → Bare ps → prev_after prev (inserted_parts (skip_of from) ps (tail_of to)) ≡ prev_after prev (pairs_parts ps)
+insert_after prev (BeforeGap i) to ps is = tail_after prev (pairs_parts ps) to
+insert_after prev (BeforeToken i) (BeforeGap j) [] is = refl
+insert_after prev (BeforeToken i) (BeforeToken j) [] is = refl
+insert_after prev (BeforeToken i) to (p ∷ ps) (bare e) = tail_after prev (Token p.kind p.spelling ∷ pairs_parts ps) to ∙ rw e refl
+
+pub insertion_settled : (pairs : List Pair) (prev : Prev) (from to : Boundary) (w : Insertion) → text_of_parts (settled prev (replacement_parts pairs from to w)) ≡ text_of_parts (settled prev (pairs_parts (inserted pairs w)))
+insertion_settled pairs prev from to w = insert_settled prev from to (inserted pairs w) (bare_is pairs w)
+
+pub insertion_after : (pairs : List Pair) (prev : Prev) (from to : Boundary) (w : Insertion) → prev_after prev (replacement_parts pairs from to w) ≡ prev_after prev (pairs_parts (inserted pairs w))
+insertion_after pairs prev from to w = insert_after prev from to (inserted pairs w) (bare_is pairs w)
+
+-- so the same is added
+pub insertion_added : (pairs : List Pair) (prev : Prev) (from to : Boundary) (w : Insertion) (stay : List Part)
+    → added prev (replacement_parts pairs from to w) stay ≡ added prev (pairs_parts (inserted pairs w)) stay
+insertion_added pairs prev from to w stay =
+    ap (λ t. t ++ space_before (prev_after prev (replacement_parts pairs from to w)) stay) (insertion_settled pairs prev from to w)
+    ∙ ap (λ n. text_of_parts (settled prev (pairs_parts (inserted pairs w))) ++ space_before n stay) (insertion_after pairs prev from to w)

@@ -1,0 +1,7 @@
+use Rattle.std.proofs.Common.{refl}
+use Rattle.tf_rule.specs.declared.rule.Rule.TheVariants.{CommentSyntax}
+use Rattle.tf_fix.proofs.CommentLemmas.{comments_settled}
+use Rattle.tf_fix.proofs.laws.comment_fixes_need_no_space.Goals as goal
+
+pub returns : goal.returns
+returns c = λ cut findings apart of sound. comments_settled CommentSyntax cut findings refl apart of sound

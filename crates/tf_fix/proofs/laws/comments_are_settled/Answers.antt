@@ -1,7 +1,0 @@
-use Rattle.std.proofs.Common.{refl}
-use Rattle.tf_rule.specs.declared.rule.Rule.TheVariants.{CommentSyntax}
-use Rattle.tf_fix.proofs.CommentLemmas.{comments_settled}
-use Rattle.tf_fix.proofs.laws.comments_are_settled.Goals as goal
-
-pub returns : goal.returns
-returns c = λ cut findings apart of sound. comments_settled CommentSyntax cut findings refl apart of sound

@@ -1,0 +1,16 @@
+use Rattle.std.proofs.Common.{◌≡◌, ◌≤◌, ◌++◌, length, drop, filter}
+use Rattle.std.specs.List.{flat_map}
+use Rattle.tf_diagnostics.specs.RuleFilter.{is_found_by}
+use Rattle.tf_fix.specs.Inner.Views.{replacements, CanInsertAll}
+use Rattle.tf_fix.specs.FindingReplacements.{finding_replacements, step_replacements}
+use Rattle.tf_rule.specs.Findings.{AreValidFindings}
+use Rattle.tf_fix.specs.Selection.{selected_from, selected}
+use Rattle.tf_fix.proofs.replacement_list.selected_replacements.Given as goal
+
+-- what is replaced so far, with what is replaced for the rule's findings that are left, is all
+abbrev pub invariant-loop-one : goal.invariant-loop-one
+invariant-loop-one l =
+    (replacements l.scanned.pairs l.all.items ++ flat_map (finding_replacements l.scanned.pairs) (selected_from l.past (filter (is_found_by l.fn.rule) (drop l.one-index l.findings))) ≡ step_replacements l.scanned.pairs (filter (is_found_by l.fn.rule) l.findings))
+    × CanInsertAll l.scanned.pairs l.all.items
+    × (length (selected_from l.past (filter (is_found_by l.fn.rule) (drop l.one-index l.findings))) ≤ length (selected (filter (is_found_by l.fn.rule) l.findings)))
+    × AreValidFindings (length l.scanned.pairs) (filter (is_found_by l.fn.rule) (drop l.one-index l.findings))

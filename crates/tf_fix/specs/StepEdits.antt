@@ -1,0 +1,22 @@
+-- By which edits one step of a fix makes a text into another.
+use Rattle.std.specs.Prelude.{List, length, map, if◌then◌else◌}
+use Rattle.edit_list.specs.Pieces.{EditEntry, EditList, as_list, changed_entries}
+use Rattle.hcl_token.specs.TokenizedText.{TokenizedText}
+use Rattle.tf_rule.specs.declared.finding.Finding.{Finding}
+use Rattle.tf_rule.specs.declared.rule.Rule.{Rule}
+use Rattle.tf_rule.specs.Rules.{is_comment_rule}
+use Rattle.tf_fix.specs.Comments.{comment_edit}
+use Rattle.tf_fix.specs.FindingReplacements.{step_replacements}
+use Rattle.tf_fix.specs.Parts.{parts}
+use Rattle.tf_fix.specs.Replacements.{replaced_pieces}
+use Rattle.tf_fix.specs.Selection.{selected}
+
+-- the edits of the step: an edit of two bytes for each comment that it takes; for the other rules
+-- the pieces of the text that change
+abbrev pub fix_step_entries : Rule → TokenizedText → List Finding → List EditEntry
+fix_step_entries rule cut findings =
+    if is_comment_rule rule then map (comment_edit cut.pairs) (selected findings)
+    else changed_entries 0 (replaced_pieces (parts cut) (step_replacements cut.pairs findings))
+
+abbrev pub fix_step_edits : Rule → TokenizedText → List Finding → EditList
+fix_step_edits rule cut findings = as_list (length cut.text) (fix_step_entries rule cut findings)

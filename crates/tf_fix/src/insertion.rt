@@ -1,0 +1,74 @@
+//! What comes in the place of parts that go.
+
+ghost use Rattle.std.specs.Prelude.{◌≡◌, ◌<◌, length, IfOk, IfErr};
+ghost use Rattle.tf_fix.specs.Parts.{text_of_parts};
+ghost use Rattle.tf_fix.specs.SettledSpaces.{prev_after, settled};
+ghost use Rattle.tf_fix.specs.Inner.Views.{prev_view, CanInsert};
+ghost use Rattle.tf_fix.specs.FindingReplacements.{pairs_parts, inserted};
+
+use crate::prev_token::{PrevToken, joins_prev};
+use hcl_scan::Scanned;
+use hcl_token::Kind;
+use std::alloc::{AllocError, Global};
+use tf_rule::Insertion;
+
+/// What is added behind `near`.
+pub fn added_text(
+    alloc: Global,
+    scanned: &Scanned<'_>,
+    prev: PrevToken<'_>,
+    insertion: Insertion,
+) -> Result<Vec<u8>, AllocError>
+    requires { CanInsert scanned.now.pairs insertion }
+    ensures { IfOk result
+        (λ text. text.items
+        ≡ text_of_parts (settled (prev_view prev.entry) (pairs_parts (inserted scanned.now.pairs insertion)))) }
+{
+    let mut text = Vec::new(alloc);
+    match insertion {
+        Insertion::Nothing => {}
+        Insertion::Index(i) => {
+            text.extend_from_slice(b"[")?;
+            text.extend_from_slice(&scanned.spelling(i)[1..])?;
+            text.extend_from_slice(b"]")?;
+        }
+        Insertion::Length => {
+            if joins_prev(prev, Kind::Identifier, b"length") {
+                text.extend_from_slice(b" length(")?;
+            } else {
+                text.extend_from_slice(b"length(")?;
+            }
+        }
+        Insertion::IsZero => text.extend_from_slice(b") == 0")?,
+        Insertion::IsPositive => text.extend_from_slice(b") > 0")?,
+        Insertion::OpenBracket => text.extend_from_slice(b"[")?,
+        Insertion::CloseBracket => text.extend_from_slice(b"]")?,
+    }
+    Ok(text)
+}
+
+/// The token that then stands last.
+pub fn prev_after_insertion<'t>(prev: PrevToken<'t>, insertion: Insertion) -> PrevToken<'t>
+    ensures { (pairs : _)
+        → prev_view result ≡ prev_after (prev_view prev.entry) (pairs_parts (inserted pairs insertion)) }
+{
+    match insertion {
+        Insertion::Nothing => prev,
+        Insertion::Index(_) | Insertion::CloseBracket => PrevToken::Token {
+            kind: Kind::CloseBracket,
+            spelling: b"]",
+        },
+        Insertion::Length => PrevToken::Token {
+            kind: Kind::OpenParen,
+            spelling: b"(",
+        },
+        Insertion::IsZero | Insertion::IsPositive => PrevToken::Token {
+            kind: Kind::Number,
+            spelling: b"0",
+        },
+        Insertion::OpenBracket => PrevToken::Token {
+            kind: Kind::OpenBracket,
+            spelling: b"[",
+        },
+    }
+}

@@ -1,0 +1,119 @@
+//! The token right before a place.
+
+ghost use Rattle.std.specs.Prelude.{◌≡◌, ◌≤◌, ◌<◌, ◌+◌, ◌*◌, length, slice_range, slice_get, Some};
+ghost use Rattle.std.specs.Option.{option_map};
+ghost use Rattle.tf_fix.specs.Parts.{parts};
+ghost use Rattle.tf_fix.specs.SettledSpaces.{prev_after, joins_prev, is_glued};
+ghost use Rattle.tf_fix.specs.Inner.Views.{boundary_index, prev_view, prev_at};
+
+use crate::boundary::{Boundary, is_after, is_before_gap, is_before_token};
+use hcl_scan::Scanned;
+use hcl_token::{Kind, joins};
+
+/// The token right before a place.
+#[derive(Clone, Copy)]
+pub enum PrevToken<'t> {
+    /// Blanks stand before it, or it is the front of the text.
+    Nothing,
+    Token { kind: Kind, spelling: &'t [u8] },
+}
+
+fn token_at<'t>(scanned: &Scanned<'t>, i: usize) -> PrevToken<'t>
+    requires { i < length scanned.now.pairs }
+    ensures { Some (prev_view result) ≡ option_map prev_at (slice_get scanned.now.pairs i) }
+{
+    PrevToken::Token {
+        kind: scanned.kind(i),
+        spelling: scanned.spelling(i),
+    }
+}
+
+/// Whether the token joins with this one.
+pub fn joins_prev(prev: PrevToken<'_>, kind: Kind, spelling: &[u8]) -> bool
+    ensures { result ≡ joins_prev (prev_view prev.entry) kind spelling.now }
+{
+    match prev {
+        PrevToken::Nothing => false,
+        PrevToken::Token {
+            kind: first,
+            spelling: letters,
+        } => joins(first, letters, kind, spelling),
+    }
+}
+
+/// The token before gap `i`, where `near` stands before `from`.
+fn prev_before_gap<'t>(
+    scanned: &Scanned<'t>,
+    prev: PrevToken<'t>,
+    from: Boundary,
+    i: usize,
+) -> PrevToken<'t>
+    requires order { boundary_index from ≤ 2 * i }
+    requires within { i ≤ length scanned.now.pairs }
+    ensures { prev_view result
+        ≡ prev_after (prev_view prev.entry) (slice_range (parts scanned.now) (boundary_index from) (2 * i)) }
+{
+    if is_before_gap(from, i) {
+        prev
+    } else {
+        token_at(scanned, i - 1)
+    }
+}
+
+/// Returns the token right before `to`, or `Nothing` if a space or tab separates them. `near` is
+/// the token right before `from`, for the case that there is no token between the two places.
+pub fn prev_before<'t>(
+    scanned: &Scanned<'t>,
+    prev: PrevToken<'t>,
+    from: Boundary,
+    to: Boundary,
+) -> PrevToken<'t>
+    requires order { boundary_index from ≤ boundary_index to }
+    requires within { boundary_index to ≤ 2 * length scanned.now.pairs }
+    ensures { prev_view result
+        ≡ prev_after (prev_view prev.entry)
+        (slice_range (parts scanned.now) (boundary_index from) (boundary_index to)) }
+{
+    match to {
+        Boundary::Gap(i) => prev_before_gap(scanned, prev, from, i),
+        Boundary::Token(i) => {
+            if is_before_token(from, i) {
+                prev
+            } else if scanned.gap(i).is_empty() {
+                prev_before_gap(scanned, prev, from, i)
+            } else {
+                PrevToken::Nothing
+            }
+        }
+    }
+}
+
+/// Whether `near`, which stands before `from`, joins with the first token up to `to`, with nothing
+/// between.
+pub fn is_glued(scanned: &Scanned<'_>, prev: PrevToken<'_>, from: Boundary, to: Boundary) -> bool
+    requires order { boundary_index from ≤ boundary_index to }
+    requires within { boundary_index to ≤ 2 * length scanned.now.pairs + 1 }
+    ensures { result ≡ is_glued (prev_view prev.entry)
+        (slice_range (parts scanned.now) (boundary_index from) (boundary_index to)) }
+{
+    match from {
+        Boundary::Gap(i) => {
+            if is_after(to, i) {
+                if scanned.gap(i).is_empty() {
+                    joins_prev(prev, scanned.kind(i), scanned.spelling(i))
+                } else {
+                    false
+                }
+            } else {
+                false
+            }
+        }
+        Boundary::Token(i) => {
+            if is_after(to, i) {
+                joins_prev(prev, scanned.kind(i), scanned.spelling(i))
+            } else {
+                false
+            }
+        }
+    }
+}

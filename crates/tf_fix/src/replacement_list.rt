@@ -1,0 +1,122 @@
+//! What is replaced to mend the findings that one step takes.
+
+ghost use Rattle.std.specs.Prelude.{◌≡◌, ◌++◌, ◌<◌, length, filter, IfOk, IfErr};
+ghost use Rattle.tf_diagnostics.specs.RuleFilter.{is_found_by};
+ghost use Rattle.tf_rule.specs.Findings.{AreValidFindings};
+ghost use Rattle.tf_fix.specs.FindingReplacements.{replacements_from, finding_replacements, step_replacements};
+ghost use Rattle.tf_fix.specs.Selection.{selected};
+ghost use Rattle.tf_fix.specs.Inner.Nonempty.{AreNonempty, IsFixableWithin};
+ghost use Rattle.tf_fix.specs.Inner.Views.{boundary_index, skip_of, replacements, CanInsertAll, CanInsertKept};
+
+use crate::boundary::Boundary;
+use crate::packed::{PackedReplacement, push_packed};
+use crate::selection::{is_selected, selected_count};
+use crate::splice::Replacement;
+use hcl_scan::Scanned;
+use std::alloc::{AllocError, Global};
+use tf_diagnostics::is_found_by;
+use tf_rule::{Finding, Fix, Insertion, KeptTokens, Rule};
+
+/// Appends the replacements of one fix from `from` on: it inserts `text_of_parts` there, keeps each range
+/// of `kept` and inserts what follows it, and removes all other tokens up to `past`.
+fn push_kept_replacements(
+    all: &mut Vec<PackedReplacement>,
+    scanned: &Scanned<'_>,
+    from: Boundary,
+    written: Insertion,
+    kept: &[Option<KeptTokens>],
+    past: usize,
+) -> Result<(), AllocError>
+    requires insertion { CanInsertKept scanned.now.pairs written kept.now }
+    ensures items { IfOk result
+        (λ _. replacements scanned.now.pairs all.new.items
+        ≡ replacements scanned.now.pairs all.old.items
+        ++ replacements_from scanned.now.pairs (boundary_index from) (skip_of from) written kept.now past) }
+    ensures insertion { IfOk result
+        (λ _. CanInsertAll scanned.now.pairs all.old.items
+        → CanInsertAll scanned.now.pairs all.new.items) }
+{
+    match kept {
+        [] => {
+            let one = Replacement {
+                from,
+                to: Boundary::Gap(past),
+                insertion: written,
+            };
+            push_packed(all, one)
+        }
+        [None, rest @ ..] => push_kept_replacements(all, scanned, from, written, rest, past),
+        [Some(one), rest @ ..] => {
+            let first = Replacement {
+                from,
+                to: Boundary::Token(one.from),
+                insertion: written,
+            };
+            push_packed(all, first)?;
+            push_kept_replacements(all, scanned, Boundary::Gap(one.to), one.after, rest, past)
+        }
+    }
+}
+
+/// What is replaced to mend the finding, behind what is replaced before it.
+fn push_finding_replacements(
+    all: &mut Vec<PackedReplacement>,
+    scanned: &Scanned<'_>,
+    one: &Finding,
+) -> Result<(), AllocError>
+    requires nonempty { AreNonempty scanned.now.pairs }
+    requires fits { IsFixableWithin (length scanned.now.pairs) one.now }
+    ensures items { IfOk result
+        (λ _. replacements scanned.now.pairs all.new.items
+        ≡ replacements scanned.now.pairs all.old.items
+        ++ finding_replacements scanned.now.pairs one.now) }
+    ensures insertion { IfOk result
+        (λ _. CanInsertAll scanned.now.pairs all.old.items
+        → CanInsertAll scanned.now.pairs all.new.items) }
+{
+    match one.fix() {
+        Some(fix) => match fix {
+            Fix::Tokens { before, kept } => {
+                push_kept_replacements(
+                    all,
+                    scanned,
+                    Boundary::Token(one.first()),
+                    before,
+                    &kept,
+                    one.past(),
+                )
+            }
+            // A comment is mended within its token.
+            Fix::CommentMarker => Ok(()),
+        },
+        None => Ok(()),
+    }
+}
+
+/// What is replaced to mend the findings that one step of the rule takes, in order. Where it takes
+/// none it asks for no memory.
+pub fn selected_replacements(
+    alloc: Global,
+    scanned: &Scanned<'_>,
+    rule: Rule,
+    findings: &[Finding],
+) -> Result<Vec<PackedReplacement>, AllocError>
+    requires nonempty { AreNonempty scanned.now.pairs }
+    requires valid { AreValidFindings (length scanned.now.pairs) (filter (is_found_by rule) findings.now) }
+    ensures items { IfOk result
+        (λ all. replacements scanned.now.pairs all.items
+        ≡ step_replacements scanned.now.pairs (filter (is_found_by rule) findings.now)) }
+    ensures insertion { IfOk result (λ all. CanInsertAll scanned.now.pairs all.items) }
+    ensures allocates { IfErr result (λ _. 0 < length (selected (filter (is_found_by rule) findings.now))) }
+{
+    // Each finding that is taken has one or more; comments, which have none, are mended elsewhere.
+    let mut all = Vec::with_capacity(alloc, selected_count(findings, rule))?;
+    let mut past = 0;
+    for one in findings {
+        if is_found_by(rule, one) && is_selected(one, past) {
+            push_finding_replacements(&mut all, scanned, one)?;
+            past = one.past();
+        }
+    }
+    Ok(all)
+}

@@ -1,0 +1,118 @@
+//! The edits of replacements, in one pass over these.
+
+ghost use Rattle.std.specs.Prelude.{◌≡◌, ◌≤◌, ◌+◌, ◌*◌, length, take, slice_range, IfOk};
+ghost use Rattle.edit_list.specs.Pieces.{changed_entries};
+ghost use Rattle.tf_fix.specs.Parts.{parts, text_of_parts};
+ghost use Rattle.tf_fix.specs.FindingReplacements.{pairs_parts, inserted};
+ghost use Rattle.tf_fix.specs.Replacements.{AreInOrder, added, replaced_pieces};
+ghost use Rattle.tf_fix.specs.Inner.Views.{boundary_index, next_index, prev_view, replacement_parts, CanInsert, replacements, CanInsertAll};
+
+use crate::boundary::{Boundary, offset, text_between};
+use crate::insertion::{added_text, prev_after_insertion};
+use crate::packed::PackedReplacement;
+use crate::prev_token::{PrevToken, is_glued, prev_before};
+use edit_list::Edit;
+use hcl_scan::Scanned;
+use std::alloc::{AllocError, Global};
+use tf_rule::Insertion;
+
+/// The parts from one place to another go, and others come in their place.
+#[derive(Clone, Copy)]
+pub struct Replacement {
+    pub from: Boundary,
+    pub to: Boundary,
+    pub insertion: Insertion,
+}
+
+/// Where the next replacement begins, or the end of the text.
+fn next_boundary(scanned: &Scanned<'_>, rest: &[PackedReplacement]) -> Boundary
+    ensures { boundary_index result
+        ≡ next_index (2 * length scanned.now.pairs + 1) (replacements scanned.now.pairs rest.now) }
+{
+    match rest.first() {
+        Some(next) => next.unpack().from,
+        None => Boundary::Token(scanned.len()),
+    }
+}
+
+/// What is added behind `near`, where parts from `to` up to `end` stay behind it.
+fn settled_text(
+    alloc: Global,
+    scanned: &Scanned<'_>,
+    prev: PrevToken<'_>,
+    insertion: Insertion,
+    to: Boundary,
+    end: Boundary,
+) -> Result<Vec<u8>, AllocError>
+    requires order { boundary_index to ≤ boundary_index end }
+    requires within { boundary_index end ≤ 2 * length scanned.now.pairs + 1 }
+    requires insertion { CanInsert scanned.now.pairs insertion }
+    ensures { IfOk result
+        (λ text. text.items
+        ≡ added (prev_view prev.entry) (pairs_parts (inserted scanned.now.pairs insertion))
+        (slice_range (parts scanned.now) (boundary_index to) (boundary_index end))) }
+{
+    let mut text = added_text(alloc, scanned, prev, insertion)?;
+    if is_glued(scanned, prev_after_insertion(prev, insertion), to, end) {
+        text.push(b' ')?;
+    }
+    Ok(text)
+}
+
+#[tactic(auto, using(crate::proofs::InsertionLemmas::insertion_added))]
+fn replacement_edit(
+    alloc: Global,
+    scanned: &Scanned<'_>,
+    prev: PrevToken<'_>,
+    one: Replacement,
+    end: Boundary,
+) -> Result<Edit, AllocError>
+    requires from { boundary_index one.from ≤ boundary_index one.to }
+    requires to { boundary_index one.to ≤ boundary_index end }
+    requires within { boundary_index one.to ≤ 2 * length scanned.now.pairs }
+    requires end { boundary_index end ≤ 2 * length scanned.now.pairs + 1 }
+    requires insertion { CanInsert scanned.now.pairs one.insertion }
+    ensures at { IfOk result
+        (λ edit. edit.at ≡ length (text_of_parts (take (boundary_index one.from) (parts scanned.now)))) }
+    ensures removed { IfOk result
+        (λ edit. edit.removed
+        ≡ text_of_parts (slice_range (parts scanned.now) (boundary_index one.from) (boundary_index one.to))) }
+    ensures added { IfOk result
+        (λ edit. edit.added
+        ≡ added (prev_view prev.entry)
+        (replacement_parts scanned.now.pairs one.from one.to one.insertion)
+        (slice_range (parts scanned.now) (boundary_index one.to) (boundary_index end))) }
+{
+    let added = settled_text(alloc, scanned, prev, one.insertion, one.to, end)?;
+    let removed = text_between(scanned, one.from, one.to);
+    Edit::new(alloc, offset(scanned, one.from), removed, &added)
+}
+
+/// The edits that make the replacements.
+pub fn replacement_edits(
+    alloc: Global,
+    scanned: &Scanned<'_>,
+    all: &[PackedReplacement],
+) -> Result<Vec<Edit>, AllocError>
+    requires order { AreInOrder 0 (replacements scanned.now.pairs all.now)
+        (2 * length scanned.now.pairs) }
+    requires insertion { CanInsertAll scanned.now.pairs all.now }
+    ensures { IfOk result
+        (λ edits. edits.items
+        ≡ changed_entries 0 (replaced_pieces (parts scanned.now)
+        (replacements scanned.now.pairs all.now))) }
+{
+    let mut edits = Vec::with_capacity(alloc, all.len())?;
+    let mut prev = PrevToken::Nothing;
+    let mut at = Boundary::Gap(0);
+    let mut left = all;
+    while let [first, rest @ ..] = left {
+        let one = first.unpack();
+        prev = prev_before(scanned, prev, at, one.from);
+        edits.push(replacement_edit(alloc, scanned, prev, one, next_boundary(scanned, rest))?)?;
+        prev = prev_after_insertion(prev, one.insertion);
+        at = one.to;
+        left = rest;
+    }
+    Ok(edits)
+}

@@ -1,0 +1,71 @@
+-- Why a text is not read.
+use Rattle.std.proofs.Common.{◌≡◌, ◌∙◌, ◌⊎◌, ℕ, List, refl, sym, ap, subst, inl, inr}
+use Rattle.hcl_token.specs.TokenizedText.{TokenizedText}
+use Rattle.hcl_token.specs.Tokens.{Pair}
+use Rattle.hcl_scan.specs.declared.fault.ScanFault.{ScanFault}
+use Rattle.hcl_scan.specs.Tokenization.{IsTokenization}
+use Rattle.hcl_scan.specs.Fault.{IsFault}
+use Rattle.hcl_scan.specs.Follows.{tokens_of}
+use Rattle.hcl_grammar.specs.declared.tree.Tree.{Tree}
+use Rattle.hcl_grammar.specs.Bodies.{IsFile}
+use Rattle.hcl_grammar.specs.declared.bounds.TheConstants.{MAX_NESTING}
+use Rattle.hcl_text_laws.specs.Parses.{Parses}
+use Rattle.hcl_text_laws.specs.declared.fault.ParseFault.{ParseFault}
+use Rattle.hcl_text_laws.specs.declared.fault.ParseFault.TheVariants as parse
+use Rattle.hcl_text_laws.specs.Faults.{IsMemory, IsMemoryOrDeep}
+use Rattle.tf_lint.specs.declared.fault.FixFault.{FixFault}
+use Rattle.tf_lint.specs.declared.fault.FixFault.TheVariants.{Scan, Parse, FixBroken, TooLong, Memory}
+use Rattle.tf_lint.specs.Faults.{fault_of_parse}
+use Rattle.tf_fix.specs.declared.parsed.Parsed.{Parsed}
+use Rattle.tf_fix.specs.ParsedTexts.{IsParseOf}
+use Rattle.tf_lint.specs.ParseFaults.{DoesNotParse, IsParseFault, IsReadFault}
+
+abbrev pub OneCut : Type 0
+OneCut = (text : List ℕ) (pairs others : List Pair) (last other : List ℕ) → IsTokenization text pairs last → IsTokenization text others other → (pairs ≡ others) × (last ≡ other)
+
+abbrev pub NoCutWithFault : Type 0
+NoCutWithFault = (text : List ℕ) (fault : ScanFault) (pairs : List Pair) (last : List ℕ) → IsFault text fault → IsTokenization text pairs last → ⊥
+
+abbrev pub OneFault : Type 0
+OneFault = (text : List ℕ) (fault other : ScanFault) → IsFault text fault → IsFault text other → fault ≡ other
+
+-- a text with tokens over which the parser found no tree
+pub not_parsed : (text : List ℕ) (pairs : List Pair) (last : List ℕ) (fault : ParseFault) → IsTokenization text pairs last
+    → ((t : Tree) → Parses text t → IsMemory fault) → ((d : ℕ) (t : Tree) → IsFile (tokens_of pairs) d t → IsMemoryOrDeep fault)
+    → IsReadFault text (fault_of_parse fault)
+not_parsed text pairs last (parse.Syntax at) cut only deeper = (pairs, last, cut, deeper)
+not_parsed text pairs last (parse.TooDeep at) cut only deeper = (pairs, last, cut, only)
+not_parsed text pairs last parse.Memory cut only deeper = (cut.short, cut.utf8)
+
+-- a text with a fault does not parse
+pub not_both : OneCut → (text : List ℕ) (fault : ParseFault) (t : Tree) → IsParseFault text fault → Parses text t → ⊥
+not_both one_cut text (parse.Syntax at) t h p =
+    h.3 MAX_NESTING t (subst (λ (ps : List Pair). IsFile (tokens_of ps) MAX_NESTING t) (one_cut text p.pairs h.0 p.last h.1 p.tokenization h.2).0 p.derived)
+not_both one_cut text (parse.TooDeep at) t h p = h.3 t p
+not_both one_cut text parse.Memory t h p = h
+
+-- what is not read, but for want of memory, does not parse
+pub unread : OneCut → NoCutWithFault → (text : List ℕ) (fault : FixFault) → IsReadFault text fault → (fault ≡ Memory) ⊎ DoesNotParse text
+unread one_cut no_cut text (Scan fault) h = inr (λ t p. no_cut text fault p.pairs p.last h p.tokenization)
+unread one_cut no_cut text (Parse fault) h = inr (λ t p. not_both one_cut text fault t h p)
+unread one_cut no_cut text (FixBroken rule) h = absurd h
+unread one_cut no_cut text TooLong h = absurd h
+unread one_cut no_cut text Memory h = inl refl
+
+-- the tree of a text that is read
+pub parses_of : (text : List ℕ) (p : Parsed) → IsParseOf text p → Parses text p.tree
+parses_of text p reads = record {
+  pairs = p.scanned.pairs;
+  last = p.scanned.last;
+  tokenization = subst (λ (t : List ℕ). IsTokenization t p.scanned.pairs p.scanned.last) reads.0 reads.1;
+  derived = reads.2;
+}
+
+-- one text has one cut
+pub same_cut : OneCut → (text : List ℕ) (a b : Parsed) → IsParseOf text a → IsParseOf text b → a.scanned ≡ b.scanned
+same_cut one_cut text a b p q =
+    let h = one_cut text a.scanned.pairs b.scanned.pairs a.scanned.last b.scanned.last
+    (subst (λ (t : List ℕ). IsTokenization t a.scanned.pairs a.scanned.last) p.0 p.1) (subst (λ (t : List ℕ). IsTokenization t b.scanned.pairs b.scanned.last) q.0 q.1) in
+    ap (λ (x : List ℕ). let r : TokenizedText = record { text = x; pairs = a.scanned.pairs; last = a.scanned.last } in r) (p.0 ∙ sym q.0)
+    ∙ ap (λ (x : List Pair). let r : TokenizedText = record { text = b.scanned.text; pairs = x; last = a.scanned.last } in r) h.0
+    ∙ ap (λ (x : List ℕ). let r : TokenizedText = record { text = b.scanned.text; pairs = b.scanned.pairs; last = x } in r) h.1

@@ -1,0 +1,11 @@
+-- The lines of the findings so far.
+use Rattle.std.proofs.Common.{◌≡◌, take, map}
+use Rattle.std.specs.Prelude.{string_bytes}
+use Rattle.tf_lint.specs.Reports.{report_of, lines_of}
+use Rattle.tf_lint.proofs.issue_list.lines_of_findings.Given as goal
+
+abbrev pub invariant-loop-finding : goal.invariant-loop-finding
+invariant-loop-finding l = record {
+  lines : string_bytes l.lines ≡ lines_of l.fn.name (map (report_of l.fn.scanned.pairs) (take l.finding-index l.found));
+  places : l.places ≡ l.fn.scanned.pairs;
+}

@@ -1,9 +1,0 @@
--- The lines of the issues so far.
-use Rattle.std.proofs.Common.{◌≡◌, take}
-use Rattle.std.specs.Prelude.{string_bytes}
-use Rattle.tf_lint.specs.Issues.{reports}
-use Rattle.tf_lint.specs.Reports.{lines_of}
-use Rattle.tf_lint.proofs.listing.lines_of_issues.Given as goal
-
-abbrev pub invariant-loop-issue : goal.invariant-loop-issue
-invariant-loop-issue l = string_bytes l.lines ≡ lines_of l.name (reports (take l.issue-index l.found))

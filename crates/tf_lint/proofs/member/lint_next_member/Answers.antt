@@ -1,0 +1,25 @@
+-- What the parser answers stands there.
+use Rattle.std.proofs.Common.{◌≡◌, true, Some, Ok, rules}
+use Rattle.hcl_grammar.specs.Pure.BodyParser.{deeper_members, member_of}
+use Rattle.hcl_grammar.specs.declared.bounds.TheConstants.{MAX_NESTING}
+use Rattle.hcl_scan.specs.Follows.{tokens_of}
+use Rattle.tf_lint.proofs.MemberAnswers.{member_derives}
+use Rattle.tf_lint.proofs.member.lint_next_member.Goals as goal
+
+pub returns-clause-next : goal.returns-clause-next
+returns-clause-next c =
+    let ts = tokens_of c.args.scanned.now.pairs in
+    let x = c.in-Some.x in
+    let read : member_of ts MAX_NESTING (deeper_members ts MAX_NESTING) c.args.at.now
+    ≡ Ok (Some x, c.member.new.at) = search rules in
+    let stands = member_derives ts MAX_NESTING c.args.at.now x c.member.new.at read in
+    let seen = c.in_ok-lint_member.ensures in (
+      seen.place.0,
+      seen.place.1,
+      record {
+        member = x;
+        is_member = rw seen.place.0 (rw seen.place.1 stands);
+        at_nodes = seen.at_nodes;
+        at_block = seen.at_block;
+      },
+    )

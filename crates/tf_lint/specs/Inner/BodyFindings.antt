@@ -1,0 +1,24 @@
+-- What is found in the members that a parser reads.
+use Rattle.std.specs.Prelude.{◌≡◌, ℕ, List, Ok, map, length}
+use Rattle.hcl_grammar.specs.Pure.Reading.{Outcome}
+use Rattle.hcl_grammar.specs.declared.tree.Member.{Member}
+use Rattle.hcl_token.specs.Tokens.{Pair}
+use Rattle.tf_rules.specs.Preorder.{member}
+use Rattle.tf_diagnostics.specs.TreeFindings.{AreTreeFindings}
+use Rattle.tf_lint.specs.LintedMembers.{AreLintedMembers}
+use Rattle.tf_lint.specs.declared.body.BodyFindings.{BodyFindings}
+use Rattle.tf_rule.specs.Findings.{valid_findings}
+use Rattle.tf_rule.specs.declared.rule_set.RuleSet.{RuleSet}
+use Rattle.tf_rules.specs.TopLevelFindings.{top_level_findings}
+
+-- these members, with what is found in each that is kept, and in all
+pub record AreBodyFindings (rules : RuleSet) (pairs : List Pair) (ms : List Member)
+    (g : BodyFindings) : Type 0 where
+  pub each : AreLintedMembers rules pairs g.members.items
+  pub at_nodes : AreTreeFindings rules pairs (map member ms) g.nodes.items
+  pub at_blocks : g.blocks.items ≡ valid_findings (length pairs) (top_level_findings rules pairs ms)
+
+-- the parser reads members up to this place, and this is found in them
+abbrev pub IsBodyRead : RuleSet → List Pair → Outcome (List Member) → ℕ → BodyFindings → Type 0
+IsBodyRead rules pairs outcome new g =
+    (ms : List Member) × (outcome ≡ Ok (ms, new)) × AreBodyFindings rules pairs ms g

@@ -1,0 +1,19 @@
+-- For proofs: a text that a step made, and what the rules up to the first that changes it did.
+use Rattle.std.specs.Prelude.{ℕ, List, length}
+use Rattle.tf_rule.specs.declared.rule.Rule.{Rule}
+use Rattle.tf_rule.specs.Findings.{AreValidFindings}
+use Rattle.tf_fix.specs.OneStep.{RulesFind}
+use Rattle.tf_fix.specs.ParsedTexts.{IsParseOf}
+use Rattle.tf_fix.specs.declared.parsed.Parsed.{Parsed}
+use Rattle.tf_lint.specs.Inner.FirstChange.{IsFirstChange}
+use Rattle.tf_lint.specs.LintedText.{IsPreviousOf}
+use Rattle.tf_lint.specs.declared.steps.FixState.{FixState}
+
+-- the text with its tree, what was found in it, and what these rules did to it, where so many
+-- findings were mended before
+pub record IsFixState (order : List Rule) (count : ℕ) (p : Parsed) (turned : FixState) : Type 0 where
+  pub reads : IsParseOf turned.text.items p
+  pub before : IsPreviousOf p turned.before
+  pub findings_are : RulesFind turned.before.rules p turned.found.items
+  pub sound : AreValidFindings (length p.scanned.pairs) turned.found.items
+  pub passes : IsFirstChange turned.before.rules order p count turned.found_change

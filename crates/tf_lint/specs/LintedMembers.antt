@@ -1,0 +1,32 @@
+-- What is found in the members of a text's body.
+use Rattle.std.specs.Prelude.{◌≡◌, ℕ, true, List, [], ◌∷◌, slice_get, length, Option, Some, None, Ok}
+use Rattle.hcl_grammar.specs.Pure.BodyParser.{deeper_members, member_of}
+use Rattle.tf_reuse.specs.OneMember.{IsOneMember}
+use Rattle.hcl_grammar.specs.declared.tree.Member.{Member}
+use Rattle.hcl_grammar.specs.declared.bounds.TheConstants.{MAX_NESTING}
+use Rattle.hcl_scan.specs.Follows.{tokens_of}
+use Rattle.hcl_token.specs.Tokens.{Pair}
+use Rattle.tf_rules.specs.Preorder as node
+use Rattle.tf_diagnostics.specs.TreeFindings.{AreTreeFindings}
+use Rattle.tf_lint.specs.declared.member.LintedMember.{LintedMember}
+use Rattle.tf_rule.specs.Findings.{valid_findings}
+use Rattle.tf_rule.specs.declared.rule_set.RuleSet.{RuleSet}
+use Rattle.tf_rules.specs.TopLevelFindings.{top_level_member_findings}
+
+-- a member stands there, and that is what the rules find in it
+pub record IsLintedMember (rules : RuleSet) (pairs : List Pair) (x : LintedMember) : Type 0 where
+  pub member : Member
+  pub is_member : IsOneMember (tokens_of pairs) MAX_NESTING member x.from x.past
+  pub at_nodes : AreTreeFindings rules pairs (node.member member ∷ []) x.nodes.items
+  pub at_block : x.blocks.items ≡ valid_findings (length pairs) (top_level_member_findings rules pairs member)
+
+-- each of these is
+abbrev pub AreLintedMembers : RuleSet → List Pair → List LintedMember → Type 0
+AreLintedMembers rules pairs xs = (i : ℕ) (x : LintedMember) → slice_get xs i ≡ Some x → IsLintedMember rules pairs x
+
+-- the member, or none, that the parser reads from one place up to another, with what is found in it
+abbrev pub IsNextMember : RuleSet → List Pair → ℕ → Option LintedMember → ℕ → Type 0
+IsNextMember rules pairs from None past =
+    member_of (tokens_of pairs) MAX_NESTING (deeper_members (tokens_of pairs) MAX_NESTING)
+    from ≡ Ok (None, past)
+IsNextMember rules pairs from (Some x) past = (x.from ≡ from) × (x.past ≡ past) × IsLintedMember rules pairs x

@@ -1,0 +1,97 @@
+//! All issues of a text.
+
+ghost use Rattle.std.specs.Prelude.{◌≡◌, ◌++◌, [], ◌∷◌, ◌<◌, length, map, string_bytes, IfOk, IfErr};
+ghost use Rattle.tf_rule.specs.Findings.{AreValidFindings};
+ghost use Rattle.tf_lint.specs.Issues.{reports, AreIssues};
+ghost use Rattle.tf_lint.specs.Reports.{report_of, lines_of};
+ghost use Rattle.tf_fix.specs.declared.fault.LintFault.TheVariants.{Memory};
+
+use crate::issue::Issue;
+use crate::report_line::add_line;
+use hcl_grammar::tree::Tree;
+use hcl_scan::Scanned;
+use std::alloc::{AllocError, Global};
+use tf_diagnostics::findings;
+use tf_fix::LintFault;
+use tf_rule::{Finding, RuleSet};
+
+/// The issues of the rules in the set, by place, then by rule, then the longer first; without what
+/// comments silence. The only refusal is `Memory`.
+///
+/// The tree is that of the text.
+pub fn issues(
+    alloc: Global,
+    scanned: &Scanned<'_>,
+    tree: &Tree,
+    rules: RuleSet,
+) -> Result<Vec<Issue>, LintFault>
+    ensures ok { IfOk result
+        (λ issues. AreIssues rules scanned.now.pairs tree.now.body.members issues.items) }
+    ensures err { IfErr result (λ fault. fault ≡ Memory) }
+{
+    let found = findings(alloc, scanned, tree, rules)?;
+    let issues = issues_of(alloc, scanned, found.as_slice())?;
+    Ok(issues)
+}
+
+/// The issue of each of these findings in a text, in their order. The only refusal is `Memory`.
+pub fn issues_of(
+    alloc: Global,
+    scanned: &Scanned<'_>,
+    found: &[Finding],
+) -> Result<Vec<Issue>, LintFault>
+    requires { AreValidFindings (length scanned.now.pairs) found.now }
+    ensures ok { IfOk result
+        (λ issues. reports issues.items ≡ map (report_of scanned.now.pairs) found.now) }
+    ensures err { IfErr result (λ fault. fault ≡ Memory) }
+    ensures allocates { IfErr result (λ _. 0 < length found.now) }
+{
+    if found.is_empty() {
+        return Ok(Vec::new(alloc));
+    }
+    let mut issues = Vec::with_capacity(alloc, found.len())?;
+    let mut places = scanned.places();
+    for finding in found {
+        let place = places.of(finding.first());
+        let issue = Issue::of(alloc, scanned, finding, place)?;
+        issues.push(issue)?;
+    }
+    Ok(issues)
+}
+
+/// A report on the file of this name: the line of the issue of each of these findings in a text, in
+/// their order, each followed by LF. No issue is made for it.
+pub fn lines_of_findings(
+    alloc: Global,
+    name: &str,
+    scanned: &Scanned<'_>,
+    found: &[Finding],
+) -> Result<String, AllocError>
+    requires { AreValidFindings (length scanned.now.pairs) found.now }
+    ensures lines { IfOk result
+        (λ lines. string_bytes lines
+        ≡ lines_of name.now (map (report_of scanned.now.pairs) found.now)) }
+    ensures allocates { IfErr result (λ _. 0 < length found.now) }
+{
+    let mut lines = String::new(alloc);
+    let mut places = scanned.places();
+    for finding in found {
+        let place = places.of(finding.first());
+        add_line(name, scanned, finding, place, &mut lines)?;
+    }
+    Ok(lines)
+}
+
+/// The same of issues.
+pub fn lines_of_issues(alloc: Global, name: &str, found: &[Issue]) -> Result<String, AllocError>
+    ensures lines { IfOk result
+        (λ lines. string_bytes lines ≡ lines_of name.now (reports found.now)) }
+    ensures allocates { IfErr result (λ _. 0 < length found.now) }
+{
+    let mut lines = String::new(alloc);
+    for issue in found {
+        issue.add_line(name, &mut lines)?;
+        lines.push_str("\n")?;
+    }
+    Ok(lines)
+}

@@ -1,0 +1,22 @@
+-- The fix is done; there are its lines, or a growth was refused.
+use Rattle.std.proofs.Common.{◌≡◌, ◌∙◌, Err, List, ℕ, rules, subst, sym}
+use Rattle.std.specs.Prelude.{string_bytes}
+use Rattle.tf_lint.specs.Remaining.{IsRemaining}
+use Rattle.tf_lint.specs.Steps.{IsReport}
+use Rattle.tf_commands.specs.declared.fault.RunFault.{RunFault}
+use Rattle.tf_commands.specs.Session.{text_of, records_of}
+use Rattle.tf_program.proofs.Fixing.{no_lines}
+use Rattle.tf_program.proofs.files.FixReport.fix_session.Goals as goal
+
+pub returns-in_err-lines-clause-fault : goal.returns-in_err-lines-clause-fault
+returns-in_err-lines-clause-fault c =
+    let answer : c.from_residual-in_err-lines.result ≡ Err RunFault.Memory = search rules in
+    rw answer (no_lines c.args.rules (text_of c.args.session.now) (records_of c.args.session.now) c.in_ok-done.done (text_of c.fix.new.self) (records_of c.fix.new.self) c.in_ok-done.ensures.done)
+
+pub returns-clause-done : goal.returns-clause-done
+returns-clause-done c =
+    let bytes : c.into_bytes.result.items ≡ string_bytes c.in_ok-lines.lines = search rules in
+    let remains = subst (λ (t : List ℕ). IsRemaining c.args.rules t c.in_ok-done.left) (sym c.text.ensures) c.in_ok-done.ensures.left in
+    let (told, report, lines) = c.in_ok-lines.ensures.lines c.args.rules remains in
+    let here = subst (λ (t : List ℕ). IsReport c.args.rules t told) c.text.ensures report in
+    (c.in_ok-done.ensures.done, told, here, bytes ∙ lines)

@@ -1,0 +1,88 @@
+//! Files that have their journals beside them.
+
+use crate::calls::recover;
+use crate::file_paths::{FilePaths, is_absent, is_not_found};
+use crate::save_files::{NewContents, save};
+use crate::snapshot::Snapshot;
+use std::alloc::Global;
+use std::io::{ErrorKind, Read};
+use std::rt::Files;
+use std::{fs, io};
+use tf_session::{RunFault, Session, Told, journal_text, load};
+
+/// A file and its journal, as they were read. A journal that is not there is the empty one.
+#[derive(Drop)]
+pub struct JournaledFile<'a> {
+    paths: FilePaths<'a>,
+    /// The file from before it was read.
+    read: Option<Snapshot>,
+    pub session: Session,
+}
+
+impl<'a> JournaledFile<'a> {
+    /// Recovers from a command that was interrupted, then reads both. A file that cannot be opened
+    /// is `Read`.
+    pub fn open<R: Files>(
+        rt: &R,
+        alloc: Global,
+        name: &'a str,
+    ) -> Result<JournaledFile<'a>, RunFault> {
+        let paths = FilePaths::of(rt, alloc, name)?;
+        recover(rt, alloc, &paths)?;
+        let snapshot = Snapshot::of(rt, paths.text);
+        let session = read(rt, alloc, paths.text, &paths.journal)?;
+        Ok(JournaledFile {
+            paths,
+            read: snapshot,
+            session,
+        })
+    }
+
+    /// Writes both. At a fault they are as they were; `Write` names the part that could not be
+    /// written.
+    pub fn save<R: Files>(&self, rt: &R, alloc: Global) -> Result<(), RunFault> {
+        let journal = journal_text(alloc, &self.session)?;
+        let contents = NewContents {
+            journal: &journal,
+            text: self.session.text(),
+        };
+        save(rt, alloc, &self.paths, contents, self.read)
+    }
+}
+
+/// Reads a file and its journal, and writes nothing.
+pub fn load_read_only<R: Files>(rt: &R, alloc: Global, name: &str) -> Result<Session, RunFault> {
+    let paths = FilePaths::of(rt, alloc, name)?;
+    read(rt, alloc, paths.text, paths.current_journal(rt, alloc)?)
+}
+
+/// A journal that is there and cannot be opened: its first read fails.
+#[derive(Drop)]
+struct Unreadable;
+
+impl Read for Unreadable {
+    fn read(&mut self, _buf: &mut [u8]) -> io::Result<usize> {
+        Err(io::Error::from(ErrorKind::PermissionDenied))
+    }
+}
+
+/// Reads a text and a journal. A journal that is not there is the empty one; a link to nothing is
+/// no such journal, since to write it would create a file wherever the link leads.
+pub fn read<R: Files>(
+    rt: &R,
+    alloc: Global,
+    text: &str,
+    journal: &str,
+) -> Result<Session, RunFault> {
+    let Ok(text) = fs::open(rt, text) else {
+        return Err(RunFault::Read);
+    };
+    let mut text = Told::new(text);
+    match fs::open(rt, journal) {
+        Ok(journal) => load(alloc, &mut text, &mut Told::new(journal)),
+        Err(error) if is_not_found(&error) && is_absent(rt, journal) => {
+            load(alloc, &mut text, &mut Told::new(b"".as_slice()))
+        }
+        Err(_) => load(alloc, &mut text, &mut Told::new(Unreadable)),
+    }
+}

@@ -1,0 +1,41 @@
+//! The lines of a journal's records.
+
+ghost use Rattle.std.specs.Prelude.{◌≡◌, IfOk, string_bytes};
+ghost use Rattle.tf_program.specs.Lines.{line_of, command_name, edit_unit};
+
+use edit_record::{Record, Word};
+use std::alloc::{AllocError, Global};
+
+/// A line for each record, from the oldest on, which has the number 1: `1 fix 3 edits`.
+pub fn record_lines(alloc: Global, records: &[Record]) -> Result<String, AllocError> {
+    let mut lines = String::new(alloc);
+    for (before, record) in records.iter().enumerate() {
+        let edits = record.edits().edits().len();
+        let line = record_line(alloc, before + 1, record.word(), edits)?;
+        lines.push_str(line.as_str())?;
+    }
+    Ok(lines)
+}
+
+fn record_line(alloc: Global, number: usize, word: Word, edits: usize) -> Result<String, AllocError>
+    ensures { IfOk result (λ line. string_bytes line ≡ line_of number word edits) }
+{
+    let word = command_name(word);
+    let unit = edit_unit(edits);
+    format!(in alloc; "{number} {word} {edits} {unit}\n")
+}
+
+fn command_name(word: Word) -> &'static str
+    ensures { result.now ≡ command_name word }
+{
+    match word {
+        Word::Fmt => "fmt",
+        Word::Fix => "fix",
+    }
+}
+
+fn edit_unit(count: usize) -> &'static str
+    ensures { result.now ≡ edit_unit count }
+{
+    if count == 1 { "edit" } else { "edits" }
+}

@@ -1,5 +1,0 @@
-use Rattle.tf_reuse.proofs.MoveBodies.{in_front}
-use Rattle.tf_reuse.proofs.laws.a_member_stands_in_front.Goals as goal
-
-pub returns : goal.returns
-returns c = λ ts d x ms i n l one others. in_front one others

@@ -1,0 +1,5 @@
+use Rattle.tf_reuse.proofs.MoveBodies.{in_front}
+use Rattle.tf_reuse.proofs.laws.prepended_member_extends_body.Goals as goal
+
+pub returns : goal.returns
+returns c = λ ts d x ms i n l one others. in_front one others

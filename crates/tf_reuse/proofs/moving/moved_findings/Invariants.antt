@@ -1,6 +1,0 @@
-use Rattle.std.proofs.Common.{◌≡◌, map, take}
-use Rattle.tf_reuse.specs.Moving.{moved_finding}
-use Rattle.tf_reuse.proofs.moving.moved_findings.Given as goal
-
-abbrev pub invariant-loop-finding : goal.invariant-loop-finding
-invariant-loop-finding l = l.all.items ≡ map (moved_finding l.from l.to) (take l.finding-index l.findings)

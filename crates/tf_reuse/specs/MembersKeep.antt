@@ -1,0 +1,35 @@
+-- What is found in a member whose tokens stand elsewhere too.
+use Rattle.std.specs.Prelude.{◌≡◌, ◌≢◌, ◌≤◌, ◌<◌, ℕ, ◌+◌, ◌^◌, false, List, [], ◌∷◌, length, map, take, drop, None}
+use Rattle.tf_reuse.specs.OneMember.{IsOneMember}
+use Rattle.hcl_grammar.specs.Tokens.{Token, next_kind}
+use Rattle.hcl_grammar.specs.declared.tree.Member.{Member}
+use Rattle.hcl_scan.specs.Follows.{tokens_of}
+use Rattle.hcl_token.specs.Tokens.{Pair}
+use Rattle.tf_rules.specs.Preorder.{member}
+use Rattle.tf_diagnostics.specs.TreeFindings.{AreTreeFindings}
+use Rattle.tf_reuse.specs.Renumbering.{renumber_finding}
+use Rattle.tf_rule.specs.declared.finding.Finding.{Finding}
+use Rattle.tf_rule.specs.Findings.{valid_findings}
+use Rattle.tf_rule.specs.declared.rule_set.RuleSet.{RuleSet}
+use Rattle.tf_rules.specs.TopLevelFindings.{top_level_member_findings}
+
+-- so many tokens stand from number `from` on in the one list, and from number `to` on in the other:
+-- of the same kinds, spelled alike
+pub record SameTokens (old new : List Token) (from to count : ℕ) : Type 0 where
+  pub in_old : from + count ≤ length old
+  pub in_new : to + count ≤ length new
+  pub fits : to + count < 2 ^ 64
+  pub same : take count (drop from old) ≡ take count (drop to new)
+
+-- A member that stands over these tokens, with others behind it, stands over them elsewhere, and
+-- the same is found in it, its numbers moved.
+abbrev pub UnchangedMembersKeepFindings : Type 0
+UnchangedMembersKeepFindings = (rules : RuleSet) (old new : List Pair) (depth from to count : ℕ) (x : Member)
+    → SameTokens (tokens_of old) (tokens_of new) from to count
+    → IsOneMember (tokens_of old) depth x from (from + count)
+    → next_kind (tokens_of old) false (from + count) ≢ None
+    → (y : Member) × IsOneMember (tokens_of new) depth y to (to + count)
+    × ((found : List Finding) → AreTreeFindings rules old (member x ∷ []) found
+    → AreTreeFindings rules new (member y ∷ []) (map (renumber_finding from to) found))
+    × (valid_findings (length new) (top_level_member_findings rules new y)
+    ≡ map (renumber_finding from to) (valid_findings (length old) (top_level_member_findings rules old x)))

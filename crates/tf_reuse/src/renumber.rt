@@ -1,0 +1,109 @@
+//! Findings with other numbers.
+
+ghost use Rattle.std.specs.Prelude.{◌≡◌, map, IfOk};
+ghost use Rattle.std.specs.Option.{option_map};
+ghost use Rattle.tf_reuse.specs.Renumbering as spec;
+ghost use Rattle.tf_reuse.specs.Renumbering.{renumber_finding};
+
+use std::alloc::{AllocError, Global};
+use tf_rule::{Finding, Fix, Insertion, KeptTokens, Message};
+
+/// The number of a token, where the tokens that stood from number `from` on stand from number `to`
+/// on.
+fn renumber(number: usize, from: usize, to: usize) -> usize
+    ensures { result ≡ spec.renumber from to number }
+{
+    to.saturating_add(number.saturating_sub(from))
+}
+
+/// What a fix writes, with such numbers.
+fn renumber_insertion(written: Insertion, from: usize, to: usize) -> Insertion
+    ensures { result ≡ spec.renumber_insertion from to written }
+{
+    match written {
+        Insertion::Index(number) => Insertion::Index(renumber(number, from, to)),
+        _ => written,
+    }
+}
+
+/// Tokens that a fix keeps.
+fn renumber_kept(kept: Option<KeptTokens>, from: usize, to: usize) -> Option<KeptTokens>
+    ensures { result ≡ option_map (spec.renumber_kept from to) kept }
+{
+    match kept {
+        None => None,
+        Some(kept) => Some(KeptTokens {
+            from: renumber(kept.from, from, to),
+            to: renumber(kept.to, from, to),
+            after: renumber_insertion(kept.after, from, to),
+        }),
+    }
+}
+
+/// What a fix does.
+fn renumber_fix(fix: Fix, from: usize, to: usize) -> Fix
+    ensures { result ≡ spec.renumber_fix from to fix }
+{
+    match fix {
+        Fix::CommentMarker => Fix::CommentMarker,
+        Fix::Tokens { before, kept } => Fix::Tokens {
+            before: renumber_insertion(before, from, to),
+            kept: kept.map(
+                |one: Option<KeptTokens>| -> Option<KeptTokens>
+                    ensures { result ≡ option_map (spec.renumber_kept from to) one }
+                { renumber_kept(one, from, to) },
+            ),
+        },
+    }
+}
+
+/// The fix, where there is one.
+fn renumber_optional_fix(fix: Option<Fix>, from: usize, to: usize) -> Option<Fix>
+    ensures { result ≡ option_map (spec.renumber_fix from to) fix }
+{
+    match fix {
+        None => None,
+        Some(fix) => Some(renumber_fix(fix, from, to)),
+    }
+}
+
+/// What a message names.
+fn renumber_message(message: Message, from: usize, to: usize) -> Message
+    ensures { result ≡ spec.renumber_message from to message }
+{
+    let name = match message.name {
+        Some(number) => Some(renumber(number, from, to)),
+        None => None,
+    };
+    Message {
+        kind: message.kind,
+        name,
+    }
+}
+
+/// A finding with such numbers.
+fn renumber_finding(finding: &Finding, from: usize, to: usize) -> Result<Finding, AllocError>
+    ensures { IfOk result (λ f. f ≡ spec.renumber_finding from to finding.now) }
+{
+    let first = renumber(finding.first(), from, to);
+    let past = renumber(finding.past(), from, to);
+    let message = renumber_message(finding.message(), from, to);
+    let fix = renumber_optional_fix(finding.fix(), from, to);
+    Finding::new(finding.rule(), first, past, message, fix)
+}
+
+/// The findings in tokens that stood from number `from` on, where they stand from number `to` on.
+pub fn renumber_findings(
+    alloc: Global,
+    findings: &[Finding],
+    from: usize,
+    to: usize,
+) -> Result<Vec<Finding>, AllocError>
+    ensures { IfOk result (λ found. found.items ≡ map (renumber_finding from to) findings.now) }
+{
+    let mut all = Vec::with_capacity(alloc, findings.len())?;
+    for finding in findings {
+        all.push(renumber_finding(finding, from, to)?)?;
+    }
+    Ok(all)
+}

@@ -1,0 +1,13 @@
+-- What a finding says.
+use Rattle.std.specs.Prelude.{ℕ, Option}
+use Rattle.tf_rule.specs.declared.finding.Message.{Message}
+use Rattle.tf_rule.specs.declared.fix.Fix.{Fix}
+use Rattle.tf_rule.specs.declared.rule.Rule.{Rule}
+
+-- its rule, its tokens from number first up to past, its message, and what mends it
+pub record FindingModel : Type 0 where
+  pub rule : Rule
+  pub first : ℕ
+  pub past : ℕ
+  pub message : Message
+  pub fix : Option Fix

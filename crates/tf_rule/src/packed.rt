@@ -1,0 +1,229 @@
+//! The packed form of a fix: token numbers have 32 bits, and `Insertion::Index` has none, since it
+//! is always the finding's first token.
+
+ghost use Rattle.std.specs.Prelude.{◌≡◌, ℕ, ◌&&◌, false, Some, IfOk, IfErr, is_some};
+ghost use Rattle.std.specs.Option.{option_map};
+ghost use Rattle.tf_rule.specs.declared.fix.Fix.TheVariants.{Tokens};
+ghost use Rattle.tf_rule.specs.Findings.{is_fixable};
+ghost use Rattle.tf_rule.specs.Representable.{fits_u32, fits_insertion, fits_kept, fits_fix, fits_name};
+ghost use Rattle.tf_rule.specs.Inner.Unpacking.{unpack_insertion, unpack_kept, unpack_fix, unpack_name};
+ghost use Rattle.tf_rule.specs.Inner.Unpacking.{IsCanonicalRange, IsCanonical, IsCanonicalName};
+
+use crate::fix::{Fix, Insertion, KeptTokens};
+use std::alloc::AllocError;
+
+/// Tokens that a fix writes, as [`Insertion`] has them.
+#[derive(Clone, Copy)]
+pub enum PackedInsertion {
+    Nothing,
+    Index,
+    Length,
+    IsZero,
+    IsPositive,
+    OpenBracket,
+    CloseBracket,
+}
+
+/// What a fix does, without the numbers of the tokens that it keeps: at most two stretches, each
+/// with what is written behind it.
+#[derive(Clone, Copy)]
+pub enum PackedFixKind {
+    Nothing,
+    CommentMarker,
+    Tokens {
+        before: PackedInsertion,
+        one: Option<PackedInsertion>,
+        two: Option<PackedInsertion>,
+    },
+}
+
+/// Tokens that are kept; 0 where none are.
+#[derive(Clone, Copy)]
+pub struct PackedRange {
+    pub from: u32,
+    pub to: u32,
+}
+
+const EMPTY_RANGE: PackedRange = PackedRange { from: 0, to: 0 };
+
+/// A fix, or none.
+#[derive(Clone, Copy)]
+pub struct PackedFix {
+    outline: PackedFixKind,
+    one: PackedRange,
+    two: PackedRange,
+}
+
+/// A number in 32 bits; `AllocError` past them, where no list of tokens has room for so many.
+pub fn to_u32(number: usize) -> Result<u32, AllocError>
+    ensures ok { IfOk result (λ n. n ≡ number) }
+    ensures err { IfErr result (λ _. fits_u32 number ≡ false) }
+{
+    if number <= u32::MAX as usize {
+        Ok(number as u32)
+    } else {
+        Err(AllocError)
+    }
+}
+
+/// The number of what a message names, 0 where it names nothing.
+pub fn name_to_u32(name: Option<usize>) -> Result<u32, AllocError>
+    ensures ok { IfOk result (λ n. (unpack_name (is_some name) n ≡ name) × IsCanonicalName (is_some name) n) }
+    ensures err { IfErr result (λ _. fits_name name ≡ false) }
+{
+    match name {
+        None => Ok(0),
+        Some(number) => to_u32(number),
+    }
+}
+
+impl PackedInsertion {
+    /// What is written in a finding that begins with token `first`; `AllocError` for the index that
+    /// is another token, which no rule writes.
+    fn of(insertion: Insertion, first: usize) -> Result<PackedInsertion, AllocError>
+        ensures ok { IfOk result (λ written. unpack_insertion first written ≡ insertion) }
+        ensures err { IfErr result (λ _. fits_insertion first insertion ≡ false) }
+    {
+        match insertion {
+            Insertion::Nothing => Ok(PackedInsertion::Nothing),
+            Insertion::Index(number) => {
+                if number == first {
+                    Ok(PackedInsertion::Index)
+                } else {
+                    Err(AllocError)
+                }
+            }
+            Insertion::Length => Ok(PackedInsertion::Length),
+            Insertion::IsZero => Ok(PackedInsertion::IsZero),
+            Insertion::IsPositive => Ok(PackedInsertion::IsPositive),
+            Insertion::OpenBracket => Ok(PackedInsertion::OpenBracket),
+            Insertion::CloseBracket => Ok(PackedInsertion::CloseBracket),
+        }
+    }
+
+    fn insertion(self, first: usize) -> Insertion
+        ensures { result ≡ unpack_insertion first self }
+    {
+        match self {
+            PackedInsertion::Nothing => Insertion::Nothing,
+            PackedInsertion::Index => Insertion::Index(first),
+            PackedInsertion::Length => Insertion::Length,
+            PackedInsertion::IsZero => Insertion::IsZero,
+            PackedInsertion::IsPositive => Insertion::IsPositive,
+            PackedInsertion::OpenBracket => Insertion::OpenBracket,
+            PackedInsertion::CloseBracket => Insertion::CloseBracket,
+        }
+    }
+}
+
+/// The numbers of what is kept, and what is written behind it.
+fn pack_kept(
+    kept: Option<KeptTokens>,
+    first: usize,
+) -> Result<(PackedRange, Option<PackedInsertion>), AllocError>
+    ensures ok { IfOk result
+        (λ s. (option_map (unpack_kept first s.0) s.1 ≡ kept) × IsCanonicalRange s.1 s.0) }
+    ensures err { IfErr result (λ _. fits_kept first kept ≡ false) }
+{
+    let Some(kept) = kept else {
+        return Ok((EMPTY_RANGE, None));
+    };
+    let from = to_u32(kept.from)?;
+    let to = to_u32(kept.to)?;
+    let after = PackedInsertion::of(kept.after, first)?;
+    Ok((PackedRange { from, to }, Some(after)))
+}
+
+fn unpack_kept(
+    range: PackedRange,
+    after: Option<PackedInsertion>,
+    first: usize,
+) -> Option<KeptTokens>
+    ensures { result ≡ option_map (unpack_kept first range) after }
+{
+    match after {
+        None => None,
+        Some(after) => Some(KeptTokens {
+            from: range.from as usize,
+            to: range.to as usize,
+            after: after.insertion(first),
+        }),
+    }
+}
+
+/// What a fix does that keeps no tokens.
+fn without_tokens(outline: PackedFixKind) -> PackedFix
+    ensures { result ≡ record { outline = outline; one = EMPTY_RANGE; two = EMPTY_RANGE } }
+{
+    PackedFix {
+        outline,
+        one: EMPTY_RANGE,
+        two: EMPTY_RANGE,
+    }
+}
+
+fn pack_tokens(
+    before: Insertion,
+    kept: [Option<KeptTokens>; 2],
+    first: usize,
+) -> Result<PackedFix, AllocError>
+    ensures ok { IfOk result
+        (λ packed_fix. (unpack_fix first packed_fix ≡ Some (Tokens before kept)) × IsCanonical packed_fix) }
+    ensures err { IfErr result (λ _. fits_fix first (Some (Tokens before kept)) ≡ false) }
+{
+    let before = PackedInsertion::of(before, first)?;
+    let (one, behind_one) = pack_kept(kept[0], first)?;
+    let (two, behind_two) = pack_kept(kept[1], first)?;
+    Ok(PackedFix {
+        outline: PackedFixKind::Tokens {
+            before,
+            one: behind_one,
+            two: behind_two,
+        },
+        one,
+        two,
+    })
+}
+
+impl PackedFix {
+    /// What mends a finding that begins with token `first`; `AllocError` where a number has no
+    /// room.
+    pub fn of(fix: Option<Fix>, first: usize) -> Result<PackedFix, AllocError>
+        ensures ok { IfOk result (λ packed_fix. (unpack_fix first packed_fix ≡ fix) × IsCanonical packed_fix) }
+        ensures err { IfErr result (λ _. fits_fix first fix ≡ false) }
+    {
+        match fix {
+            None => Ok(without_tokens(PackedFixKind::Nothing)),
+            Some(Fix::CommentMarker) => Ok(without_tokens(PackedFixKind::CommentMarker)),
+            Some(Fix::Tokens { before, kept }) => pack_tokens(before, kept, first),
+        }
+    }
+
+    /// Whether it is a fix.
+    #[inline]
+    pub fn is_fix(&self) -> bool
+        ensures { (first : ℕ) → result ≡ is_fixable (unpack_fix first self.now) }
+    {
+        match self.outline {
+            PackedFixKind::Nothing => false,
+            _ => true,
+        }
+    }
+
+    /// The fix of a finding that begins with token `first`, where there is one.
+    pub fn fix(&self, first: usize) -> Option<Fix>
+        ensures { result ≡ unpack_fix first self.now }
+    {
+        match self.outline {
+            PackedFixKind::Nothing => None,
+            PackedFixKind::CommentMarker => Some(Fix::CommentMarker),
+            PackedFixKind::Tokens { before, one, two } => Some(Fix::Tokens {
+                before: before.insertion(first),
+                kept: [
+                    unpack_kept(self.one, one, first),
+                    unpack_kept(self.two, two, first),
+                ],
+            }),
+        }
+    }
+}

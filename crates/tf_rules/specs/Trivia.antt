@@ -1,0 +1,65 @@
+-- Some of a text's tokens.
+use Rattle.std.specs.Prelude.{ℕ, ◌+◌, ◌-◌, ◌&&◌, ◌||◌, ◌==◌, Bool, true, false, List, [], ◌∷◌, take, drop, Option, Some, if◌then◌else◌}
+use Rattle.hcl_token.specs.TokenizedText.{kind_of}
+use Rattle.hcl_token.specs.declared.kind.Kind.{Kind}
+use Rattle.hcl_token.specs.declared.kind.Kind.TheVariants as k
+use Rattle.hcl_token.specs.Tokens.{Pair}
+
+-- the tokens from number first up to, not with, number past
+abbrev pub token_range : List Pair → ℕ → ℕ → List Pair
+token_range pairs first past = take (past - first) (drop first pairs)
+
+-- a line end, or, where that is asked for, a line comment
+abbrev pub is_line_break : Bool → Kind → Bool
+is_line_break comments k.LineEnd = true
+is_line_break comments k.LineComment = comments
+is_line_break comments _ = false
+
+-- a comment or a line end
+abbrev pub is_trivia : Kind → Bool
+is_trivia k.LineEnd = true
+is_trivia k.LineComment = true
+is_trivia k.InlineComment = true
+is_trivia _ = false
+
+-- whether a comment or a line end stands among the tokens
+abbrev pub has_trivia : List Pair → Bool
+has_trivia [] = false
+has_trivia (p ∷ ps) = is_trivia p.kind || has_trivia ps
+
+-- what opens a bracket or a sequence
+abbrev pub is_opening : Kind → Bool
+is_opening k.OpenParen = true
+is_opening k.OpenBracket = true
+is_opening k.OpenBrace = true
+is_opening k.InterpOpen = true
+is_opening k.DirectiveOpen = true
+is_opening _ = false
+
+-- what closes one
+abbrev pub is_closing : Kind → Bool
+is_closing k.CloseParen = true
+is_closing k.CloseBracket = true
+is_closing k.CloseBrace = true
+is_closing k.SeqClose = true
+is_closing _ = false
+
+-- how many brackets and sequences are open behind a token, if so many are before it
+abbrev pub depth_after : Kind → ℕ → ℕ
+depth_after kind depth =
+    if is_opening kind then depth + 1 else (if is_closing kind then depth - 1 else depth)
+
+-- Whether a line end (or line comment) stands among these tokens outside of the brackets and
+-- sequences that are opened among them, of which so many are open before the first of these.
+abbrev pub has_line_break : Bool → ℕ → List Pair → Bool
+has_line_break comments depth [] = false
+has_line_break comments depth (p ∷ ps) =
+    (depth == 0 && is_line_break comments p.kind) || has_line_break comments (depth_after p.kind depth) ps
+
+-- whether token i is the closing line of a heredoc
+abbrev pub is_here_close_kind : Option Kind → Bool
+is_here_close_kind (Some k.HereClose) = true
+is_here_close_kind _ = false
+
+abbrev pub is_here_close : List Pair → ℕ → Bool
+is_here_close pairs i = is_here_close_kind (kind_of pairs i)

@@ -1,0 +1,37 @@
+//! A search for what the rules of a set find in a text.
+
+ghost use Rattle.std.specs.Prelude.{◌≡◌, ◌++◌, length, OnOk};
+ghost use Rattle.tf_rule.specs.Findings.{finding_at, valid_findings};
+
+use hcl_scan::Scanned;
+use std::alloc::AllocError;
+use tf_rule::{Finding, Fix, Message, Rule, RuleSet, add_finding};
+
+/// The text that is searched, and the rules.
+#[derive(Clone, Copy)]
+pub struct LintContext<'s, 't> {
+    pub scanned: &'s Scanned<'t>,
+    pub rules: RuleSet,
+}
+
+impl<'s, 't> LintContext<'s, 't> {
+    /// Adds what a rule finds at the tokens from number `first` up to, not with, number `past`, if
+    /// it is sound in the text.
+    pub fn report(
+        &self,
+        rule: Rule,
+        first: usize,
+        past: usize,
+        message: Message,
+        fix: Option<Fix>,
+        found: &mut Vec<Finding>,
+    ) -> Result<(), AllocError>
+        ensures { OnOk result
+            (found.new.items ≡ found.old.items
+            ++ valid_findings (length self.now.scanned.now.pairs)
+            (finding_at rule first past message fix)) }
+    {
+        let finding = Finding::new(rule, first, past, message, fix)?;
+        add_finding(found, self.scanned.len(), finding)
+    }
+}

@@ -1,0 +1,33 @@
+//! Words and names by the numbers of their tokens.
+
+ghost use Rattle.std.specs.Prelude.{◌≡◌};
+ghost use Rattle.std.specs.Str.{bytes_eq};
+ghost use Rattle.tf_rules.specs.Spelling.{token_text, name_text};
+
+use hcl_scan::Scanned;
+
+/// The spelling of a token; nothing where there is no such token.
+pub fn token_text<'t>(scanned: &Scanned<'t>, n: usize) -> &'t [u8]
+    ensures { result.now ≡ token_text scanned.now.pairs n }
+{
+    if n >= scanned.len() {
+        return b"";
+    }
+    scanned.spelling(n)
+}
+
+/// The spelling of a name that may have no token, as that of the label `""`.
+pub fn name_text<'t>(scanned: &Scanned<'t>, name: Option<usize>) -> &'t [u8]
+    ensures { result.now ≡ name_text scanned.now.pairs name }
+{
+    match name {
+        Some(n) => token_text(scanned, n),
+        None => b"",
+    }
+}
+
+pub fn is_spelled(spelling: &[u8], expected: &[u8]) -> bool
+    ensures { result ≡ bytes_eq spelling.now expected.now }
+{
+    spelling == expected
+}

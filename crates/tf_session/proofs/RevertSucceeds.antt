@@ -1,0 +1,201 @@
+-- A revert over what a command wrote is refused for nothing that it reads.
+use Rattle.std.proofs.Common.{◌≡◌, ◌∙◌, ◌+◌, ◌≤◌, ℕ, List, [], ◌∷◌, ◌++◌, true, Option, Some, None, Err, length, length-append, arith, ap, sym, refl, subst, inl, inr}
+use Rattle.std.specs.Io.KnownBytes.{Consumes}
+use Rattle.hcl_scan.specs.Tokenization.{MAX_TEXT}
+use Rattle.edit_list.specs.Journal.{JournalEntry, record_transforms}
+use Rattle.edit_record.specs.Text.{record_text, journal_text, IsCurrentText, IsJournalText}
+use Rattle.edit_record.specs.Decoding.{IsDecodeResult}
+use Rattle.edit_record.specs.declared.fault.RecordFault.{RecordFault}
+use Rattle.edit_record.specs.declared.fault.RecordFault.TheVariants.{BadHead, BadNumber, CutShort, BadEdits, BadEnd, BadSteps}
+use Rattle.tf_stream.specs.Streams.{Source, Target, ReadAtFault, WritesBytes}
+use Rattle.tf_stream.specs.declared.fault.ReadFault.{ReadFault}
+use Rattle.tf_commands.specs.declared.command.Command.{Command}
+use Rattle.tf_commands.specs.declared.command.Command.TheVariants.{Revert}
+use Rattle.tf_commands.specs.declared.command.Done.{Done}
+use Rattle.tf_commands.specs.declared.command.Fault.{Fault}
+use Rattle.tf_commands.specs.declared.fault.Part.{Part}
+use Rattle.tf_commands.specs.declared.fault.RunFault.{RunFault}
+use Rattle.tf_commands.specs.declared.fault.RunFault.TheVariants.{Scan, Parse, FixBroken, TooLong, NoRecord, Refused, Memory, Blocked, Read, Write, Endless, BadJournal}
+use Rattle.tf_commands.specs.Faults.{run_fault_of, run_fault_of_take, run_fault_of_record}
+use Rattle.tf_commands.specs.Records.{RefusesStep}
+use Rattle.tf_commands.specs.Streams.{IsWriteFault}
+use Rattle.tf_session.specs.Journals.{MAX_JOURNAL, Loads, JournalTextFault, LoadReadFault, LoadDecodeFault, SaveFault, JournaledStreamFault}
+use Rattle.tf_session.specs.RevertRestores.{ReadsBack, AddsOneRecord, StreamsCommandAt, ReadsWhatWasWritten, Endpoints, is_from_outside, RevertSucceeds}
+use Rattle.tf_session.proofs.RevertRestores.{not_nil, same_last, held, same_bytes, put}
+
+abbrev TextIsOne : Type 0
+TextIsOne = (text : List ℕ) (rs ss : List JournalEntry) → IsJournalText text rs → IsJournalText text ss → rs ≡ ss
+
+-- ---- what is read ends within its limit
+
+not_over : (before after : Option (List ℕ)) (bytes kept : List ℕ) (limit : ℕ) → before ≡ Some kept → Consumes before after bytes → length kept ≤ limit → length bytes ≡ limit + 1 → ⊥
+not_over None after bytes kept limit b p short over = cc
+not_over (Some xs) None bytes kept limit b p short over = absurd p
+not_over (Some xs) (Some ys) bytes kept limit b p short over =
+    let x : xs ≡ kept = cc in
+    let whole : length kept ≡ length bytes + length ys = ap length (sym x ∙ p) ∙ length-append bytes ys in
+    omega (arith, whole, short, over)
+
+not_endless : (limit : ℕ) (target : Target) (source : Source) (bytes : List ℕ) → ReadsBack target source → WritesBytes target bytes → length bytes ≤ limit → ReadAtFault limit ReadFault.Endless source → ⊥
+not_endless limit target source bytes back p short t =
+    let same : back.bytes ≡ bytes = held target.before target.after bytes back.bytes back.empty back.written p in
+    let within : length back.bytes ≤ limit = subst (λ (x : List ℕ). length x ≤ limit) (sym same) short in
+    not_over source.before source.after t.0 back.bytes limit back.read t.1 within t.2
+
+read_fault : (fault : ReadFault) → (fault ≡ ReadFault.Endless → ⊥) → is_from_outside (run_fault_of_take fault) ≡ true
+read_fault ReadFault.Read never = refl
+read_fault ReadFault.Memory never = refl
+read_fault ReadFault.Endless never = absurd (never refl)
+
+-- ---- what is read for the journal is the text of one
+
+decoding : (fault : RecordFault) (bytes : List ℕ) (records : List JournalEntry) → IsJournalText bytes records → IsDecodeResult bytes (Err fault) → is_from_outside (run_fault_of_record fault) ≡ true
+decoding (BadHead at) bytes records is d = absurd (d records is)
+decoding (BadNumber at) bytes records is d = absurd (d records is)
+decoding (CutShort at) bytes records is d = absurd (d records is)
+decoding (BadEdits at) bytes records is d = absurd (d records is)
+decoding (BadEnd at) bytes records is d = absurd (d records is)
+decoding RecordFault.Memory bytes records is d = refl
+decoding (BadSteps at) bytes records is d = absurd (d records is)
+
+-- ---- the last record stands
+
+refusing : (refusal : Fault) (text new : List ℕ) (records earlier : List JournalEntry) (r : JournalEntry) → records ≡ earlier ++ r ∷ [] → record_transforms r text new
+    → RefusesStep Revert new records refusal → is_from_outside (run_fault_of refusal) ≡ true
+refusing (Fault.Scan fault) text new records earlier r is turns p = absurd p
+refusing (Fault.Parse fault) text new records earlier r is turns p = absurd p
+refusing (Fault.FixBroken rule) text new records earlier r is turns p = absurd p
+refusing Fault.TooLong text new records earlier r is turns p = absurd p
+refusing (Fault.Blocked number) text new records earlier r is turns p = absurd p
+refusing Fault.NoRecord text new records earlier r is turns p = absurd (not_nil earlier r (sym is ∙ p))
+refusing (Fault.Refused refused) text new records earlier r is turns p =
+    let lasts = same_last earlier p.1.0 r p.0 (sym is ∙ p.1.1) in
+    absurd (p.3 text (subst (λ (x : JournalEntry). record_transforms x text new) lasts.1 turns))
+refusing Fault.Memory text new records earlier r is turns p = refl
+
+-- ---- what is left is not too long
+
+fewer : (records : List JournalEntry) (r : JournalEntry) → length (journal_text records) ≤ length (journal_text (records ++ r ∷ []))
+fewer [] r = omega (arith)
+fewer (s ∷ records) r =
+    let more = fewer records r in
+    let before = length-append (record_text s) (journal_text records) in
+    let after = length-append (record_text s) (journal_text (records ++ r ∷ [])) in
+    omega (arith, more, before, after)
+
+no_text : (fault : RunFault) (records : List JournalEntry) → length (journal_text records) ≤ MAX_JOURNAL → JournalTextFault records fault → is_from_outside fault ≡ true
+no_text (Scan fault) records short p = absurd p
+no_text (Parse fault) records short p = absurd p
+no_text (FixBroken rule) records short p = absurd p
+no_text TooLong records short p = absurd p
+no_text NoRecord records short p = absurd p
+no_text (Blocked number) records short p = absurd p
+no_text (Refused refused) records short p = absurd p
+no_text Memory records short p = refl
+no_text Read records short p = absurd p
+no_text (Write part sent) records short p = absurd p
+no_text Endless records short p = absurd (omega (arith, short, p))
+no_text (BadJournal fault) records short p = absurd p
+
+write_fault : (part : Part) (fault : RunFault) (target : Target) (bytes : List ℕ) → IsWriteFault part fault target bytes → is_from_outside fault ≡ true
+write_fault part (Scan fault) target bytes p = absurd p
+write_fault part (Parse fault) target bytes p = absurd p
+write_fault part (FixBroken rule) target bytes p = absurd p
+write_fault part TooLong target bytes p = absurd p
+write_fault part NoRecord target bytes p = absurd p
+write_fault part (Blocked number) target bytes p = absurd p
+write_fault part (Refused refused) target bytes p = absurd p
+write_fault part Memory target bytes p = absurd p
+write_fault part Read target bytes p = absurd p
+write_fault part (Write named sent) target bytes p = refl
+write_fault part Endless target bytes p = absurd p
+write_fault part (BadJournal fault) target bytes p = absurd p
+
+saving : (fault : RunFault) (text : List ℕ) (records : List JournalEntry) (journal_out text_out : Target) → length (journal_text records) ≤ MAX_JOURNAL
+    → SaveFault fault text records journal_out text_out → is_from_outside fault ≡ true
+saving fault text records journal_out text_out short (inl p) = no_text fault records short p.0
+saving fault text records journal_out text_out short (inr (inl p)) = write_fault Part.Journal fault journal_out p.0 p.2
+saving fault text records journal_out text_out short (inr (inr p)) = write_fault Part.Text fault text_out text p.3
+
+-- ---- a command that changed the text
+
+-- what it wrote: a text and a journal within their limits, the last record of which turns the first text into the new one
+record Wrote (first : Endpoints) : Type 0 where
+  text : List ℕ
+  new : List ℕ
+  earlier : List JournalEntry
+  r : JournalEntry
+  bytes : List ℕ
+  short : length new ≤ MAX_TEXT
+  is_text : IsCurrentText bytes (earlier ++ r ∷ [])
+  within : length bytes ≤ MAX_JOURNAL
+  transforms : record_transforms r text new
+  journal_put : WritesBytes first.journal_out bytes
+  text_put : WritesBytes first.text_out new
+
+wrote : (command : Command) (d : Done) (first : Endpoints) → AddsOneRecord command → StreamsCommandAt command d first → d.changed ≡ true → Wrote first
+wrote command d first other s changed =
+    let (text, records, loads, new, new_records, does, saves) = s in
+    let p = put command text records d new new_records other does changed in
+    record {
+      text = text;
+      new = new;
+      earlier = records;
+      r = p.r;
+      bytes = saves.0;
+      short = p.short;
+      is_text = subst (λ (rs : List JournalEntry). IsCurrentText saves.0 rs) p.added saves.1.0;
+      within = saves.1.1;
+      transforms = p.transforms;
+      journal_put = saves.2;
+      text_put = saves.3;
+    }
+
+-- what was loaded is what it wrote
+loaded : TextIsOne → (first second : Endpoints) (w : Wrote first) → ReadsWhatWasWritten first second → (text : List ℕ) (records : List JournalEntry) → Loads text records second.text_in second.journal_in
+    → (text ≡ w.new) × (records ≡ w.earlier ++ w.r ∷ [])
+loaded one first second w goes text records loads =
+    let same_text : w.new ≡ text = same_bytes _ first.text_out second.text_in w.new text goes.text w.text_put loads.0 in
+    let same_journal : w.bytes ≡ loads.1 = same_bytes _ first.journal_out second.journal_in w.bytes loads.1 goes.journal w.journal_put loads.2 in
+    let written : IsJournalText loads.1 (w.earlier ++ w.r ∷ []) = subst (λ (b : List ℕ). IsJournalText b (w.earlier ++ w.r ∷ [])) same_journal (inl w.is_text) in
+    (sym same_text, one loads.1 records (w.earlier ++ w.r ∷ []) loads.3 written)
+
+not_taken : (fault : ReadFault) (first second : Endpoints) (w : Wrote first) → ReadsWhatWasWritten first second → LoadReadFault fault second.text_in second.journal_in → fault ≡ ReadFault.Endless → ⊥
+not_taken fault first second w goes (inl p) e =
+    not_endless MAX_TEXT first.text_out second.text_in w.new goes.text w.text_put w.short (subst (λ (x : ReadFault). ReadAtFault MAX_TEXT x second.text_in) e p.0)
+not_taken fault first second w goes (inr p) e =
+    not_endless MAX_JOURNAL first.journal_out second.journal_in w.bytes goes.journal w.journal_put w.within (subst (λ (x : ReadFault). ReadAtFault MAX_JOURNAL x second.journal_in) e p.2)
+
+not_decoded : (fault : RecordFault) (first second : Endpoints) (w : Wrote first) → ReadsWhatWasWritten first second → LoadDecodeFault fault second.text_in second.journal_in → is_from_outside (run_fault_of_record fault) ≡ true
+not_decoded fault first second w goes p =
+    let same_journal : w.bytes ≡ p.1 = same_bytes _ first.journal_out second.journal_in w.bytes p.1 goes.journal w.journal_put p.3 in
+    let written : IsJournalText p.1 (w.earlier ++ w.r ∷ []) = subst (λ (b : List ℕ). IsJournalText b (w.earlier ++ w.r ∷ [])) same_journal (inl w.is_text) in
+    decoding fault p.1 (w.earlier ++ w.r ∷ []) written p.4
+
+kept_short : (first : Endpoints) (w : Wrote first) → length (journal_text w.earlier) ≤ MAX_JOURNAL
+kept_short first w =
+    let more = fewer w.earlier w.r in
+    let same = ap length w.is_text.is in
+    let within = w.within in
+    omega (arith, more, same, within)
+
+outside : (fault given : RunFault) → fault ≡ given → is_from_outside given ≡ true → is_from_outside fault ≡ true
+outside fault given e o = ap is_from_outside e ∙ o
+
+fault_of : TextIsOne → (first second : Endpoints) (w : Wrote first) → ReadsWhatWasWritten first second → (fault : RunFault)
+    → JournaledStreamFault Revert fault second.text_in second.journal_in second.journal_out second.text_out → is_from_outside fault ≡ true
+fault_of one first second w goes fault (inl (inl (taken, is, p), u, v)) = outside fault _ is (read_fault taken (not_taken taken first second w goes p))
+fault_of one first second w goes fault (inl (inr (reading, is, p), u, v)) = outside fault _ is (not_decoded reading first second w goes p)
+fault_of one first second w goes fault (inr (inl ((text, records, loads, refusal, is, p), u, v))) =
+    let (same_text, same_records) = loaded one first second w goes text records loads in
+    let turns : record_transforms w.r w.text text = subst (λ (x : List ℕ). record_transforms w.r w.text x) (sym same_text) w.transforms in
+    outside fault _ is (refusing refusal w.text text records w.earlier w.r same_records turns p)
+fault_of one first second w goes fault (inr (inr (text, records, loads, d, u, us, takes, p))) =
+    let (same_text, same_records) = loaded one first second w goes text records loads in
+    let lasts = same_last us w.earlier takes.0 w.r (sym takes.1 ∙ same_records) in
+    let short : length (journal_text us) ≤ MAX_JOURNAL = subst (λ (rs : List JournalEntry). length (journal_text rs) ≤ MAX_JOURNAL) (sym lasts.0) (kept_short first w) in
+    saving fault u us second.journal_out second.text_out short p
+
+pub command_can_be_taken_back : TextIsOne → RevertSucceeds
+command_can_be_taken_back one command d first second other s changed goes fault p =
+    fault_of one first second (wrote command d first other s changed) goes fault p

@@ -1,0 +1,12 @@
+-- What was not loaded, or not done, left the targets as they were.
+use Rattle.std.proofs.Common.{rules}
+use Rattle.tf_commands.specs.Session.{text_of, records_of}
+use Rattle.tf_session.proofs.Refusing.{not_loaded, not_done}
+use Rattle.tf_session.proofs.journaled_streams.command_stream.Goals as goal
+
+pub returns-in-Err-clause-fault : goal.returns-in-Err-clause-fault
+returns-in-Err-clause-fault g c = not_loaded c.args.command c.in-Err.fault _ _ _ _ (search rules) (search rules) (search rules)
+
+pub returns-in-Err-step-clause-fault : goal.returns-in-Err-step-clause-fault
+returns-in-Err-step-clause-fault g c =
+    rw c.from.ensures (not_done c.args.command c.in-Err-step.refusal _ _ _ _ (text_of c.in-Ok.session) (records_of c.in-Ok.session) (search rules) (search rules) (search rules) (search rules))

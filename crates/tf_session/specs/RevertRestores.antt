@@ -1,0 +1,66 @@
+-- A command is taken back over what it wrote.
+use Rattle.std.specs.Prelude.{◌≡◌, ℕ, Bool, true, false, List, [], Some}
+use Rattle.edit_list.specs.Journal.{JournalEntry}
+use Rattle.tf_stream.specs.Streams.{Source, Target}
+use Rattle.tf_commands.specs.declared.command.Command.{Command}
+use Rattle.tf_commands.specs.declared.command.Command.TheVariants.{Fmt, Fix, Revert}
+use Rattle.tf_commands.specs.declared.command.Done.{Done}
+use Rattle.tf_commands.specs.declared.fault.RunFault.{RunFault}
+use Rattle.tf_commands.specs.declared.fault.RunFault.TheVariants.{Memory, Read, Write}
+use Rattle.tf_commands.specs.Machine.{done}
+use Rattle.tf_session.specs.Journals.{Loads, Saves, StreamsCommand, JournaledStreamFault}
+
+-- the source has just what went to the target, which held nothing before
+pub record ReadsBack (target : Target) (source : Source) : Type 0 where
+  pub bytes : List ℕ
+  pub empty : target.before ≡ Some []
+  pub written : target.after ≡ Some bytes
+  pub read : source.before ≡ Some bytes
+
+-- the sources and the targets of a call
+pub record Endpoints : Type 0 where
+  pub text_in : Source
+  pub journal_in : Source
+  pub journal_out : Target
+  pub text_out : Target
+
+abbrev pub StreamsCommandAt : Command → Done → Endpoints → Type 0
+StreamsCommandAt command d e = StreamsCommand command d e.text_in e.journal_in e.journal_out e.text_out
+
+abbrev pub JournaledStreamFaultAt : Command → RunFault → Endpoints → Type 0
+JournaledStreamFaultAt command fault e =
+    JournaledStreamFault command fault e.text_in e.journal_in e.journal_out e.text_out
+
+-- The second call reads what the first one wrote.
+pub record ReadsWhatWasWritten (first second : Endpoints) : Type 0 where
+  pub text : ReadsBack first.text_out second.text_in
+  pub journal : ReadsBack first.journal_out second.journal_in
+
+-- fmt and fix put a record on, where the text changes
+abbrev pub AddsOneRecord : Command → Type 0
+AddsOneRecord Fmt = Unit {0}
+AddsOneRecord (Fix rules) = Unit {0}
+AddsOneRecord _ = ⊥
+
+-- A fmt or a fix that changed the text, and then a revert over what it wrote: that writes the first
+-- text again, with the journal as it was read.
+abbrev pub RevertRestores : Type 0
+RevertRestores = (command : Command) (d again : Done) (first second : Endpoints) → AddsOneRecord command
+    → StreamsCommandAt command d first → d.changed ≡ true
+    → ReadsWhatWasWritten first second → StreamsCommandAt Revert again second
+    → (text : List ℕ) × (records : List JournalEntry) × Loads text records first.text_in first.journal_in
+    × Saves text records second.journal_out second.text_out × (again ≡ done true 0 0)
+
+-- a growth, a read or a write was refused
+abbrev pub is_from_outside : RunFault → Bool
+is_from_outside Memory = true
+is_from_outside Read = true
+is_from_outside (Write part sent) = true
+is_from_outside _ = false
+
+-- That revert is never refused for what it reads.
+abbrev pub RevertSucceeds : Type 0
+RevertSucceeds = (command : Command) (d : Done) (first second : Endpoints) → AddsOneRecord command
+    → StreamsCommandAt command d first → d.changed ≡ true
+    → ReadsWhatWasWritten first second → (fault : RunFault) → JournaledStreamFaultAt Revert fault second
+    → is_from_outside fault ≡ true

@@ -1,0 +1,188 @@
+//! One command over a text and its journal, from readers to writers.
+
+ghost use Rattle.std.specs.Prelude.{◌≡◌, ◌↔◌, ◌⊎◌, true, false, IfOk, IfErr, IsErrOf, IsErrAnd};
+ghost use Rattle.tf_stream.specs.Told.{has_failed};
+ghost use Rattle.tf_stream.specs.Streams.{source_of, target_of, Untouched};
+ghost use Rattle.tf_commands.specs.Streams.{is_write};
+ghost use Rattle.tf_commands.specs.declared.command.Command.TheVariants.{Fmt, Fix, Revert};
+ghost use Rattle.tf_session.specs.Journals.{IsWriteOf, StreamsCommand, JournaledStreamFault};
+
+use crate::loader::load;
+use crate::saver::save;
+use std::alloc::Global;
+use std::io::{Read, Write};
+use tf_commands::{Command, Done, Part, RuleSet, RunFault, Told};
+
+/// Lays out the text of a reader, and writes the journal with the record of that, then the new
+/// text.
+///
+/// What comes of it is written where nothing changed, too. Nothing is written at any fault but
+/// `Write`.
+pub fn fmt_stream<R: Read, J: Read, K: Write, W: Write>(
+    alloc: Global,
+    text: &mut Told<R>,
+    journal: &mut Told<J>,
+    journal_out: &mut Told<K>,
+    text_out: &mut Told<W>,
+) -> Result<Done, RunFault>
+    requires text_not_failed { has_failed text.old ≡ false }
+    requires journal_not_failed { has_failed journal.old ≡ false }
+    requires journal_out_not_failed { has_failed journal_out.old ≡ false }
+    requires text_out_not_failed { has_failed text_out.old ≡ false }
+    ensures done { IfOk result
+        (λ d. StreamsCommand Fmt d (source_of R.remaining text.old text.new)
+        (source_of J.remaining journal.old journal.new)
+        (target_of K.contents journal_out.old journal_out.new)
+        (target_of W.contents text_out.old text_out.new)) }
+    ensures fault { IfErr result
+        (λ fault. JournaledStreamFault Fmt fault (source_of R.remaining text.old text.new)
+        (source_of J.remaining journal.old journal.new)
+        (target_of K.contents journal_out.old journal_out.new)
+        (target_of W.contents text_out.old text_out.new)) }
+    ensures journal_untouched { IfErr result
+        (λ fault. is_write fault ≡ false
+        → Untouched (target_of K.contents journal_out.old journal_out.new)) }
+    ensures text_untouched { IfErr result
+        (λ fault. is_write fault ≡ false → Untouched (target_of W.contents text_out.old text_out.new)) }
+    ensures read { IsErrOf result RunFault.Read
+        ↔ (has_failed text.new ≡ true) ⊎ (has_failed journal.new ≡ true) }
+    ensures journal_failed { IsErrAnd result (IsWriteOf Part.Journal)
+        ↔ has_failed journal_out.new ≡ true }
+    ensures text_failed { IsErrAnd result (IsWriteOf Part.Text) ↔ has_failed text_out.new ≡ true }
+{
+    command_stream(alloc, Command::Fmt, text, journal, journal_out, text_out)
+}
+
+/// Fixes what the rules find in the text of a reader, and writes the journal with the record of
+/// that, then the new text.
+///
+/// What comes of it is written where nothing changed, too. Nothing is written at any fault but
+/// `Write`.
+pub fn fix_stream<R: Read, J: Read, K: Write, W: Write>(
+    alloc: Global,
+    text: &mut Told<R>,
+    journal: &mut Told<J>,
+    journal_out: &mut Told<K>,
+    text_out: &mut Told<W>,
+    rules: RuleSet,
+) -> Result<Done, RunFault>
+    requires text_not_failed { has_failed text.old ≡ false }
+    requires journal_not_failed { has_failed journal.old ≡ false }
+    requires journal_out_not_failed { has_failed journal_out.old ≡ false }
+    requires text_out_not_failed { has_failed text_out.old ≡ false }
+    ensures done { IfOk result
+        (λ d. StreamsCommand (Fix rules) d (source_of R.remaining text.old text.new)
+        (source_of J.remaining journal.old journal.new)
+        (target_of K.contents journal_out.old journal_out.new)
+        (target_of W.contents text_out.old text_out.new)) }
+    ensures fault { IfErr result
+        (λ fault. JournaledStreamFault (Fix rules) fault (source_of R.remaining text.old text.new)
+        (source_of J.remaining journal.old journal.new)
+        (target_of K.contents journal_out.old journal_out.new)
+        (target_of W.contents text_out.old text_out.new)) }
+    ensures journal_untouched { IfErr result
+        (λ fault. is_write fault ≡ false
+        → Untouched (target_of K.contents journal_out.old journal_out.new)) }
+    ensures text_untouched { IfErr result
+        (λ fault. is_write fault ≡ false → Untouched (target_of W.contents text_out.old text_out.new)) }
+    ensures read { IsErrOf result RunFault.Read
+        ↔ (has_failed text.new ≡ true) ⊎ (has_failed journal.new ≡ true) }
+    ensures journal_failed { IsErrAnd result (IsWriteOf Part.Journal)
+        ↔ has_failed journal_out.new ≡ true }
+    ensures text_failed { IsErrAnd result (IsWriteOf Part.Text) ↔ has_failed text_out.new ≡ true }
+{
+    command_stream(
+        alloc,
+        Command::Fix(rules),
+        text,
+        journal,
+        journal_out,
+        text_out,
+    )
+}
+
+/// Takes back the last command on the text of a reader, and writes the journal without its record,
+/// then the text that there was before it.
+///
+/// Nothing is written at any fault but `Write`.
+pub fn revert_stream<R: Read, J: Read, K: Write, W: Write>(
+    alloc: Global,
+    text: &mut Told<R>,
+    journal: &mut Told<J>,
+    journal_out: &mut Told<K>,
+    text_out: &mut Told<W>,
+) -> Result<Done, RunFault>
+    requires text_not_failed { has_failed text.old ≡ false }
+    requires journal_not_failed { has_failed journal.old ≡ false }
+    requires journal_out_not_failed { has_failed journal_out.old ≡ false }
+    requires text_out_not_failed { has_failed text_out.old ≡ false }
+    ensures done { IfOk result
+        (λ d. StreamsCommand Revert d (source_of R.remaining text.old text.new)
+        (source_of J.remaining journal.old journal.new)
+        (target_of K.contents journal_out.old journal_out.new)
+        (target_of W.contents text_out.old text_out.new)) }
+    ensures fault { IfErr result
+        (λ fault. JournaledStreamFault Revert fault (source_of R.remaining text.old text.new)
+        (source_of J.remaining journal.old journal.new)
+        (target_of K.contents journal_out.old journal_out.new)
+        (target_of W.contents text_out.old text_out.new)) }
+    ensures journal_untouched { IfErr result
+        (λ fault. is_write fault ≡ false
+        → Untouched (target_of K.contents journal_out.old journal_out.new)) }
+    ensures text_untouched { IfErr result
+        (λ fault. is_write fault ≡ false → Untouched (target_of W.contents text_out.old text_out.new)) }
+    ensures read { IsErrOf result RunFault.Read
+        ↔ (has_failed text.new ≡ true) ⊎ (has_failed journal.new ≡ true) }
+    ensures journal_failed { IsErrAnd result (IsWriteOf Part.Journal)
+        ↔ has_failed journal_out.new ≡ true }
+    ensures text_failed { IsErrAnd result (IsWriteOf Part.Text) ↔ has_failed text_out.new ≡ true }
+{
+    command_stream(alloc, Command::Revert, text, journal, journal_out, text_out)
+}
+
+/// Loads the text and its journal, runs the command, and saves both. `fmt_stream`, `fix_stream` and
+/// `revert_stream` are this with one command each.
+fn command_stream<R: Read, J: Read, K: Write, W: Write>(
+    alloc: Global,
+    command: Command,
+    text: &mut Told<R>,
+    journal: &mut Told<J>,
+    journal_out: &mut Told<K>,
+    text_out: &mut Told<W>,
+) -> Result<Done, RunFault>
+    requires text_not_failed { has_failed text.old ≡ false }
+    requires journal_not_failed { has_failed journal.old ≡ false }
+    requires journal_out_not_failed { has_failed journal_out.old ≡ false }
+    requires text_out_not_failed { has_failed text_out.old ≡ false }
+    ensures done { IfOk result
+        (λ d. StreamsCommand command d (source_of R.remaining text.old text.new)
+        (source_of J.remaining journal.old journal.new)
+        (target_of K.contents journal_out.old journal_out.new)
+        (target_of W.contents text_out.old text_out.new)) }
+    ensures fault { IfErr result
+        (λ fault. JournaledStreamFault command fault (source_of R.remaining text.old text.new)
+        (source_of J.remaining journal.old journal.new)
+        (target_of K.contents journal_out.old journal_out.new)
+        (target_of W.contents text_out.old text_out.new)) }
+    ensures journal_untouched { IfErr result
+        (λ fault. is_write fault ≡ false
+        → Untouched (target_of K.contents journal_out.old journal_out.new)) }
+    ensures text_untouched { IfErr result
+        (λ fault. is_write fault ≡ false → Untouched (target_of W.contents text_out.old text_out.new)) }
+    ensures read { IsErrOf result RunFault.Read
+        ↔ (has_failed text.new ≡ true) ⊎ (has_failed journal.new ≡ true) }
+    ensures journal_failed { IsErrAnd result (IsWriteOf Part.Journal)
+        ↔ has_failed journal_out.new ≡ true }
+    ensures text_failed { IsErrAnd result (IsWriteOf Part.Text) ↔ has_failed text_out.new ≡ true }
+{
+    let mut session = match load(alloc, text, journal) {
+        Ok(session) => session,
+        Err(fault) => return Err(fault),
+    };
+    let done = match session.step(alloc, command) {
+        Ok(done) => done,
+        Err(refusal) => return Err(RunFault::from(refusal)),
+    };
+    save(alloc, &session, journal_out, text_out)?;
+    Ok(done)
+}

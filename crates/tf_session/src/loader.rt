@@ -1,0 +1,45 @@
+//! A session from a text and the text of its journal.
+
+ghost use Rattle.std.specs.Prelude.{◌≡◌, ◌↔◌, ◌⊎◌, true, false, IfOk, IfErr, IsErrOf};
+ghost use Rattle.tf_stream.specs.Told.{has_failed};
+ghost use Rattle.tf_stream.specs.Streams.{source_of};
+ghost use Rattle.tf_commands.specs.Session.{text_of, records_of};
+ghost use Rattle.tf_session.specs.Journals.{Loads, LoadFault};
+
+use edit_record::decode;
+use hcl_scan::MAX_TEXT;
+use std::alloc::Global;
+use std::io::Read;
+use tf_commands::{RunFault, Session, Told};
+use tf_stream::read_to_limit;
+
+/// The most bytes of a journal's text, read or written.
+pub const MAX_JOURNAL: usize = 268_435_456;
+
+/// The session of a text and the text of its journal, each read up to its end. The text is read
+/// first, then the journal, and then that is decoded; the first fault is answered.
+///
+/// `Read` where a read failed, whatever its error; `Endless` where the text has more than
+/// 16,777,216 bytes or the journal more than [`MAX_JOURNAL`], of which one byte more is taken;
+/// `BadJournal` where the journal's bytes are the text of none.
+pub fn load<R: Read, J: Read>(
+    alloc: Global,
+    text: &mut Told<R>,
+    journal: &mut Told<J>,
+) -> Result<Session, RunFault>
+    requires text_not_failed { has_failed text.old ≡ false }
+    requires journal_not_failed { has_failed journal.old ≡ false }
+    ensures loaded { IfOk result
+        (λ session. Loads (text_of session) (records_of session)
+        (source_of R.remaining text.old text.new) (source_of J.remaining journal.old journal.new)) }
+    ensures fault { IfErr result
+        (λ fault. LoadFault fault (source_of R.remaining text.old text.new)
+        (source_of J.remaining journal.old journal.new)) }
+    ensures read { IsErrOf result RunFault.Read
+        ↔ (has_failed text.new ≡ true) ⊎ (has_failed journal.new ≡ true) }
+{
+    let text = read_to_limit(alloc, MAX_TEXT, text)?;
+    let bytes = read_to_limit(alloc, MAX_JOURNAL, journal)?;
+    let journal = decode(alloc, bytes.as_slice())?;
+    Ok(Session::start(text, journal))
+}
