@@ -4,7 +4,7 @@ use Rattle.std.proofs.lemmas.Bool.{false≢true}
 use Rattle.hcl_token.specs.declared.kind.Kind.{Kind}
 use Rattle.hcl_token.specs.declared.kind.Kind.TheVariants.{LineEnd, HereOpen}
 use Rattle.hcl_token.specs.Tokens.{Pair}
-use Rattle.hcl_gaps.specs.Lines.{Line, heredocs_after, ends_line, prepend_to_first, lines_from, lines_of}
+use Rattle.hcl_layout.specs.Gaps.Lines.{Line, heredocs_after, ends_line, prepend_to_first, lines_from, lines_of}
 
 -- the kind of the last of the tokens; this one, if there is none
 abbrev pub last_of : Kind → List Pair → Kind

@@ -11,7 +11,7 @@ use Rattle.hcl_scan.specs.Modes.{Mode}
 use Rattle.hcl_scan.specs.Modes.Mode.{Expression}
 use Rattle.hcl_scan.specs.Lexeme.{is_allowed_in}
 use Rattle.hcl_scan.specs.Follows.{FollowsFrom, Follows, mark, IsApart, AreApart, AreAllowedGaps}
-use Rattle.hcl_gaps.specs.Layout.{layout_body, layout_pairs, layout_text, IsLaidOut}
+use Rattle.hcl_layout.specs.Gaps.Layout.{layout_body, layout_pairs, layout_text, IsLaidOut}
 use Rattle.hcl_layout.specs.LayoutLaws.{LayoutFits, LayoutTokenizes, LaidOutIsText}
 use Rattle.hcl_layout.proofs.Lower.{OneTokenization, TokenizationFollows, GapsOf, OtherGaps, WritesBack, LinesHaveAll, KeepsTokens}
 use Rattle.hcl_layout.proofs.Stands.{AllStand, stand_gaps, stand_apart, front_is_allowed}

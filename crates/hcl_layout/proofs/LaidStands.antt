@@ -9,12 +9,12 @@ use Rattle.hcl_token.specs.Tokens.{Pair}
 use Rattle.hcl_token.specs.Joins.{joins_with}
 use Rattle.hcl_scan.specs.Characters.{is_whitespace}
 use Rattle.hcl_scan.specs.Follows.{has_no_gap_before, has_no_gap_after}
-use Rattle.hcl_gaps.specs.Kinds.{is_line_end, is_line_comment, is_equal}
-use Rattle.hcl_gaps.specs.Lines.{Line, lines_of, pairs_in}
-use Rattle.hcl_gaps.specs.Indent.{level}
-use Rattle.hcl_gaps.specs.Space.{prev_after, prev_after_all, is_spaced, spaces, gap_between}
-use Rattle.hcl_gaps.specs.Cells.{index_of_first, index_after_first, has_cells, is_balanced, assignment, closing_comment, widths, cell_gaps, with_gap, with_cell_gap, with_cell_gaps, aligned}
-use Rattle.hcl_gaps.specs.Layout.{with_spacing, with_indent, format_line, format_lines, layout_body}
+use Rattle.hcl_layout.specs.Gaps.Kinds.{is_line_end, is_line_comment, is_equal}
+use Rattle.hcl_layout.specs.Gaps.Lines.{Line, lines_of, pairs_in}
+use Rattle.hcl_layout.specs.Gaps.Indent.{level}
+use Rattle.hcl_layout.specs.Gaps.Space.{prev_after, prev_after_all, is_spaced, spaces, gap_between}
+use Rattle.hcl_layout.specs.Gaps.Cells.{index_of_first, index_after_first, has_cells, is_balanced, assignment, closing_comment, widths, cell_gaps, with_gap, with_cell_gap, with_cell_gaps, aligned}
+use Rattle.hcl_layout.specs.Gaps.Layout.{with_spacing, with_indent, format_line, format_lines, layout_body}
 use Rattle.hcl_layout.proofs.Lower.{LinesHaveAll}
 use Rattle.hcl_layout.proofs.Stands.{Stands, AllStand}
 use Rattle.hcl_layout.proofs.Begun.{last_of, AreBegun, lines_begun}

@@ -6,9 +6,9 @@ use Rattle.hcl_token.specs.TokenizedText.{TokenizedText}
 use Rattle.hcl_token.specs.Tokens.{Pair, whole_text}
 use Rattle.hcl_scan.specs.Tokenization.{MAX_TEXT, IsTokenization}
 use Rattle.hcl_scan.specs.Follows.{tokens_of}
-use Rattle.hcl_gaps.specs.Layout.{layout_pairs, layout_text, IsLaidOut}
-use Rattle.hcl_gaps.specs.declared.fault.LayoutFault.{LayoutFault}
-use Rattle.hcl_gaps.specs.declared.fault.LayoutFault.TheVariants.{TooLong, Memory}
+use Rattle.hcl_layout.specs.Gaps.Layout.{layout_pairs, layout_text, IsLaidOut}
+use Rattle.hcl_layout.specs.declared.gaps.fault.LayoutFault.{LayoutFault}
+use Rattle.hcl_layout.specs.declared.gaps.fault.LayoutFault.TheVariants.{TooLong, Memory}
 use Rattle.hcl_grammar.specs.declared.tree.Tree.{Tree}
 use Rattle.hcl_grammar.specs.Bodies.{IsFile}
 use Rattle.hcl_grammar.specs.declared.bounds.TheConstants.{MAX_NESTING}

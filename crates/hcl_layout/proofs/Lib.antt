@@ -5,3 +5,4 @@ pub mod LaidTexts
 pub mod LineEnds
 pub mod Lower
 pub mod Stands
+pub mod GapsLemmas

@@ -3,8 +3,8 @@ use Rattle.std.proofs.Common.{◌≡◌, ℕ, ◌≤◌, false, List, [], length
 use Rattle.hcl_token.specs.Tokens.{Pair, whole_text}
 use Rattle.hcl_scan.specs.Tokenization.{MAX_TEXT, IsTokenization}
 use Rattle.hcl_scan.specs.Follows.{Follows, AreApart, AreAllowedGaps, tokens_of}
-use Rattle.hcl_gaps.specs.Lines.{lines_of, pairs_in}
-use Rattle.hcl_gaps.specs.Layout.{layout_pairs}
+use Rattle.hcl_layout.specs.Gaps.Lines.{lines_of, pairs_in}
+use Rattle.hcl_layout.specs.Gaps.Layout.{layout_pairs}
 
 abbrev pub OneTokenization : Type 0
 OneTokenization = (text : List ℕ) (pairs others : List Pair) (last other : List ℕ) → IsTokenization text pairs last → IsTokenization text others other → (pairs ≡ others) × (last ≡ other)

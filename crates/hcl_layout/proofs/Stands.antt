@@ -12,7 +12,7 @@ use Rattle.hcl_scan.specs.Modes.{Mode, mode_of, is_literal, is_at_line_start, mo
 use Rattle.hcl_scan.specs.Modes.Mode.{Quoted, Heredoc}
 use Rattle.hcl_scan.specs.Lexeme.{is_quoted, is_heredoc, is_allowed_in, Spells}
 use Rattle.hcl_scan.specs.Follows.{following_text, AllowsNext, FollowsFrom, IsApart, AreApart, has_no_gap_before, has_no_gap_after, AreAllowedGaps}
-use Rattle.hcl_gaps.specs.Kinds.{is_line_end}
+use Rattle.hcl_layout.specs.Gaps.Kinds.{is_line_end}
 use Rattle.hcl_layout.proofs.LineEnds.{line_token}
 
 -- A token behind another: its gap can stand there, and, whatever the gap, what stands before literal text joins with nothing and ends no

@@ -4,7 +4,7 @@ use Rattle.hcl_token.specs.TokenizedText.{TokenizedText}
 use Rattle.hcl_token.specs.Tokens.{Pair, whole_text}
 use Rattle.hcl_scan.specs.Tokenization.{MAX_TEXT, IsTokenization}
 use Rattle.hcl_scan.specs.Follows.{AreApart, AreAllowedGaps}
-use Rattle.hcl_gaps.specs.Layout.{layout_pairs, layout_text, IsLaidOut}
+use Rattle.hcl_layout.specs.Gaps.Layout.{layout_pairs, layout_text, IsLaidOut}
 use Rattle.hcl_grammar.specs.declared.tree.Tree.{Tree}
 use Rattle.hcl_text_laws.specs.Parses.{Parses}
 use Rattle.hcl_layout.specs.Layouts.{IsLayout, HaveSameTokens}

@@ -4,7 +4,7 @@ use Rattle.edit_list.specs.Pieces.{EditList, Transforms}
 use Rattle.hcl_token.specs.Tokens.{Pair, whole_text}
 use Rattle.hcl_scan.specs.Tokenization.{MAX_TEXT, IsTokenization}
 use Rattle.hcl_scan.specs.Follows.{tokens_of}
-use Rattle.hcl_gaps.specs.Layout.{layout_pairs}
+use Rattle.hcl_layout.specs.Gaps.Layout.{layout_pairs}
 use Rattle.hcl_grammar.specs.declared.tree.Tree.{Tree}
 use Rattle.hcl_text_laws.specs.Parses.{Parses}
 

@@ -1,2 +1,3 @@
 pub mod LayoutLaws
 pub mod Layouts
+pub mod Gaps

@@ -10,13 +10,13 @@ ghost use Rattle.hcl_scan.specs.Follows.{tokens_of};
 ghost use Rattle.hcl_grammar.specs.Bodies.{IsFile};
 ghost use Rattle.hcl_grammar.specs.declared.tree.Tree as tree;
 ghost use Rattle.hcl_grammar.specs.declared.bounds.TheConstants.{MAX_NESTING};
-ghost use Rattle.hcl_gaps.specs.Layout.{layout_edits};
-ghost use Rattle.hcl_gaps.specs.declared.fault.LayoutFault.TheVariants.{TooLong, Memory};
+ghost use Rattle.hcl_layout.specs.Gaps.Layout.{layout_edits};
+ghost use Rattle.hcl_layout.specs.declared.gaps.fault.LayoutFault.TheVariants.{TooLong, Memory};
 ghost use Rattle.hcl_layout.specs.Layouts.{IsLayout, IsTooLong, IsLayoutEdits};
 
+use crate::gaps::LayoutFault;
 use crate::laws;
 use edit_list::Edits;
-use hcl_gaps::LayoutFault;
 use hcl_grammar::tree::Tree;
 use hcl_scan::Scanned;
 use std::alloc::Global;
@@ -39,7 +39,7 @@ pub fn layout_of_parsed(alloc: Global, scanned: &Scanned<'_>) -> Result<Edits, L
     laws::layout_keeps_tokens();
     laws::layout_is_laid_out();
     let _text = scanned.text();
-    hcl_gaps::layout(alloc, scanned)
+    crate::gaps::layout(alloc, scanned)
 }
 
 /// The same of a text with its tree.
@@ -69,7 +69,7 @@ pub fn formatted_text(alloc: Global, scanned: &Scanned<'_>) -> Result<Vec<u8>, L
 {
     laws::layout_parses();
     let _text = scanned.text();
-    match hcl_gaps::formatted_text(alloc, scanned) {
+    match crate::gaps::formatted_text(alloc, scanned) {
         Ok(text) => Ok(text),
         Err(fault) => Err(fault),
     }
@@ -89,7 +89,7 @@ pub fn is_parsed_laid_out(alloc: Global, scanned: &Scanned<'_>) -> Result<bool, 
     laws::one_layout();
     hcl_text_laws::laws::parsed_tokens_are_apart();
     let _text = scanned.text();
-    hcl_gaps::is_laid_out(alloc, scanned)
+    crate::gaps::is_laid_out(alloc, scanned)
 }
 
 /// The same of a text with its tree.

@@ -8,7 +8,7 @@ pub fn layout_fits()
 {
     hcl_scan::laws::tokenization_follows_modes();
     hcl_scan::laws::gaps_of();
-    hcl_gaps::laws::lines_have_all_tokens();
+    crate::gaps::laws::lines_have_all_tokens();
 }
 
 /// A layout within the limit is cut into the same tokens, with the gaps of the layout.
@@ -19,7 +19,7 @@ pub fn layout_tokenizes()
     hcl_scan::laws::tokenization_follows_modes();
     hcl_scan::laws::other_gaps();
     hcl_scan::laws::writes_back();
-    hcl_gaps::laws::keeps_tokens();
+    crate::gaps::laws::keeps_tokens();
 }
 
 /// The gaps are those of the layout exactly where the layout is the text.
@@ -43,7 +43,7 @@ pub fn layout_parses()
 {
     layout_tokenizes();
     hcl_scan::laws::one_tokenization();
-    hcl_gaps::laws::keeps_tokens();
+    crate::gaps::laws::keeps_tokens();
     hcl_text_laws::laws::parsed_tokens_are_apart();
 }
 
@@ -53,7 +53,7 @@ pub fn layout_keeps_tokens()
 {
     layout_tokenizes();
     hcl_scan::laws::one_tokenization();
-    hcl_gaps::laws::keeps_tokens();
+    crate::gaps::laws::keeps_tokens();
     hcl_text_laws::laws::parsed_tokens_are_apart();
 }
 
@@ -63,7 +63,7 @@ pub fn layout_is_laid_out()
 {
     layout_tokenizes();
     hcl_scan::laws::one_tokenization();
-    hcl_gaps::laws::own_layout();
+    crate::gaps::laws::own_layout();
     hcl_text_laws::laws::parsed_tokens_are_apart();
 }
 

@@ -8,7 +8,8 @@
 #![tactic(auto)]
 
 mod format;
+pub mod gaps;
 pub mod laws;
 
 pub use format::{formatted_text, is_laid_out, is_parsed_laid_out, layout, layout_of_parsed};
-pub use hcl_gaps::LayoutFault;
+pub use gaps::LayoutFault;

@@ -7,7 +7,7 @@ use Rattle.hcl_scan.specs.Tokenization.{IsTokenization, MAX_TEXT}
 use Rattle.hcl_grammar.specs.declared.tree.Tree.{Tree}
 use Rattle.hcl_grammar.specs.declared.bounds.TheConstants.{MAX_NESTING}
 use Rattle.hcl_text_laws.specs.Parses.{ParsedTokensAreApart}
-use Rattle.hcl_gaps.specs.Layout.{layout_text, layout_edits, gap_piece, pieces, IsLaidOut}
+use Rattle.hcl_layout.specs.Gaps.Layout.{layout_text, layout_edits, gap_piece, pieces, IsLaidOut}
 use Rattle.hcl_layout.specs.Layouts.{IsLayout, IsLayoutEdits}
 use Rattle.hcl_layout.specs.LayoutLaws.{LaidOutIsText, OneLayout}
 use Rattle.edit_list.specs.declared.change.Refused.{Refused}

@@ -5,7 +5,7 @@ use Rattle.edit_list.specs.declared.record.Word.{Word}
 use Rattle.edit_list.specs.Journal.{JournalEntry}
 use Rattle.edit_list.specs.Pieces.{EditList, Transforms}
 use Rattle.hcl_scan.specs.Tokenization.{MAX_TEXT}
-use Rattle.hcl_gaps.specs.Layout.{layout_edits}
+use Rattle.hcl_layout.specs.Gaps.Layout.{layout_edits}
 use Rattle.hcl_layout.specs.Layouts.{IsLayout}
 use Rattle.tf_fix.specs.declared.parsed.Parsed.{Parsed}
 use Rattle.tf_fix.specs.ParsedTexts.{IsParseOf}

@@ -17,7 +17,7 @@ use Rattle.tf_commands.specs.Faults.{fault_of_fix}
 use Rattle.tf_commands.specs.Fixing.{FixRewrites}
 use Rattle.tf_lint.specs.declared.fault.FixFault.{FixFault}
 use Rattle.tf_lint.specs.Steps.{Rewrite, Breaks, FixIsUnique}
-use Rattle.hcl_gaps.specs.Layout.{layout_edits}
+use Rattle.hcl_layout.specs.Gaps.Layout.{layout_edits}
 use Rattle.hcl_layout.specs.Layouts.{IsTooLong}
 use Rattle.hcl_layout.specs.LayoutLaws.{OneLayout}
 use Rattle.tf_commands.specs.Parsing.{DoesParse}

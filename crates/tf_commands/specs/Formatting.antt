@@ -2,7 +2,7 @@
 use Rattle.std.specs.Prelude.{◌≡◌, ◌≤◌, ℕ, List, length, Option, Result, Ok, Err}
 use Rattle.hcl_scan.specs.Tokenization.{MAX_TEXT}
 use Rattle.hcl_scan.specs.Fault.{IsFault}
-use Rattle.hcl_gaps.specs.Layout.{layout_edits}
+use Rattle.hcl_layout.specs.Gaps.Layout.{layout_edits}
 use Rattle.hcl_layout.specs.Layouts.{IsLayout, IsTooLong}
 use Rattle.tf_commands.specs.declared.command.Fault.{Fault}
 use Rattle.tf_commands.specs.declared.command.Fault.TheVariants.{Scan, Parse, FixBroken, TooLong, NoRecord, Refused, Memory, Blocked}

@@ -5,7 +5,7 @@ ghost use Rattle.edit_list.specs.Pieces.{Transforms};
 ghost use Rattle.hcl_layout.specs.Layouts.{IsLayout, IsTooLong};
 ghost use Rattle.hcl_grammar.specs.Bodies.{IsFile};
 ghost use Rattle.hcl_grammar.specs.declared.tree.Tree as tree;
-ghost use Rattle.hcl_gaps.specs.Layout.{layout_edits};
+ghost use Rattle.hcl_layout.specs.Gaps.Layout.{layout_edits};
 ghost use Rattle.hcl_grammar.specs.declared.bounds.TheConstants.{MAX_NESTING};
 ghost use Rattle.hcl_scan.specs.Tokenization.{MAX_TEXT};
 ghost use Rattle.hcl_scan.specs.Follows.{tokens_of};

@@ -1,7 +1,0 @@
-use Rattle.std.proofs.Common.{◌≡◌, max, drop}
-use Rattle.hcl_gaps.specs.Cells.{greatest}
-use Rattle.hcl_gaps.specs.Inner.CodeViews.{widths_of}
-use Rattle.hcl_gaps.proofs.cells.greatest.Given as goal
-
-abbrev pub invariant-loop-start : goal.invariant-loop-start
-invariant-loop-start l = max l.greatest (greatest (widths_of (drop l.start-index l.starts))) ≡ greatest (widths_of l.starts)

@@ -1,8 +1,0 @@
-use Rattle.std.proofs.Common.{◌≡◌, ◌++◌}
-use Rattle.hcl_gaps.specs.Inner.Stages.{with_gaps}
-use Rattle.hcl_gaps.proofs.EditLemmas.{to_come}
-use Rattle.hcl_gaps.proofs.edits.gap_edits.Given as goal
-
-abbrev pub invariant-loop-i : goal.invariant-loop-i
-invariant-loop-i l =
-    l.edits.items ++ to_come l.scanned.pairs (with_gaps l.gaps l.scanned.pairs) l.scanned.last l.i ≡ to_come l.scanned.pairs (with_gaps l.gaps l.scanned.pairs) l.scanned.last 0

@@ -1,7 +1,0 @@
-use Rattle.std.proofs.Common.{◌≡◌, ◌-◌, drop, length}
-use Rattle.std.specs.Str.{bytes_eq}
-use Rattle.hcl_gaps.specs.Space.{spaces}
-use Rattle.hcl_gaps.proofs.edits.is_spaces.Given as goal
-
-abbrev pub invariant-loop-b : goal.invariant-loop-b
-invariant-loop-b l = bytes_eq (drop l.b-index l.gap) (spaces (length l.gap - l.b-index)) ≡ bytes_eq l.gap (spaces (length l.gap))

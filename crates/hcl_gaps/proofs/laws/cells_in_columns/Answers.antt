@@ -1,9 +1,0 @@
-use Rattle.hcl_gaps.specs.declared.cells.Cell.TheVariants.{Assignment, ClosingComment}
-use Rattle.hcl_gaps.proofs.ColumnLaw.{cells_aligned}
-use Rattle.hcl_gaps.proofs.laws.cells_in_columns.Goals as goal
-
-pub returns-clause-assignments : goal.returns-clause-assignments
-returns-clause-assignments c = cells_aligned Assignment
-
-pub returns-clause-comments : goal.returns-clause-comments
-returns-clause-comments c = cells_aligned ClosingComment

@@ -1,5 +1,0 @@
-use Rattle.hcl_gaps.proofs.GapLaw.{pairs_of_lines}
-use Rattle.hcl_gaps.proofs.laws.lines_have_all_tokens.Goals as goal
-
-pub returns : goal.returns
-returns c = pairs_of_lines 0

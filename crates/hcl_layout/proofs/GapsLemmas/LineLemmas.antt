@@ -1,0 +1,425 @@
+-- Going over the tokens of a text, and over its lines.
+use Rattle.std.proofs.Common.{◌≡◌, ℕ, zero, suc, ◌+◌, ◌-◌, ◌<◌, ◌≤◌, Bool, true, false, nat_lt, List, [], ◌∷◌, length, take, drop, get_or, slice_range, Some, if◌then◌else◌, refl, sym, ap, ap₂, subst, ◌∙◌, arith, inl, inr}
+use Rattle.std.specs.Prelude.{slice_get}
+use Rattle.std.specs.Option.{option_map}
+use Rattle.std.proofs.lemmas.Option.{slice_get_cases}
+use Rattle.std.proofs.Common.{count_by, cond, reverse, set, take_all, ◌++◌}
+use Rattle.std.proofs.lemmas.List.Sums.{sum_by-cons}
+use Rattle.std.proofs.lemmas.List.{drop_more, drop_all, drop-drop, take_more, length-take-le, reverse-append}
+use Rattle.std.proofs.Math.Seq.{set-append_seam}
+use Rattle.hcl_token.specs.declared.kind.Kind.{Kind}
+use Rattle.hcl_token.specs.declared.kind.Kind.TheVariants.{LineEnd, HereOpen, HereClose}
+use Rattle.hcl_token.specs.Tokens.{Pair}
+use Rattle.hcl_token.specs.TokenizedText.{kind_of, spelling_of, gap_of}
+use Rattle.hcl_layout.specs.Gaps.Kinds.{is_here_open}
+use Rattle.hcl_layout.specs.Gaps.Lines.{Line, heredocs_after, ends_line, prepend_to_first, lines_from}
+use Rattle.hcl_layout.specs.Gaps.Inner.Stages.{line_len, open_heredocs_after, open_heredocs_of, SplitsLine, close_brackets}
+use Rattle.hcl_layout.specs.Gaps.Inner.CodeViews.{is_bracket, is_comment, has_no_line_effect, are_some, IsLine, AreLines}
+use Rattle.std.proofs.Common.{take-add, ◌||◌, ◌&&◌, None}
+use Rattle.std.specs.List.{list_any}
+use Rattle.hcl_token.specs.Place.{is_lf}
+use Rattle.hcl_token.specs.declared.kind.Kind.TheVariants.{Equal, LineComment, InlineComment, OpenBrace, CloseBrace, OpenBracket, CloseBracket, OpenParen, CloseParen, SeqClose, InterpOpen, DirectiveOpen}
+use Rattle.hcl_layout.specs.Gaps.Kinds.{is_line_comment, is_inline_comment, is_equal}
+use Rattle.hcl_layout.specs.Gaps.Indent.{is_opening, is_closing, openings, closings}
+use Rattle.hcl_layout.specs.Gaps.Cells.{index_of_first, index_after_first}
+use Rattle.hcl_layout.specs.declared.gaps.lines.LineSpan.{LineSpan}
+use Rattle.std.proofs.lemmas.Bool.Decides.{nat_tests}
+
+-- token i, which stands before token `to`
+pub record Turn (pairs : List Pair) (i to : ℕ) : Type 0 where
+  pub pair : Pair
+  pub at : slice_get pairs i ≡ Some pair
+  pub rest : drop i pairs ≡ pair ∷ drop (i + 1) pairs
+  pub range : slice_range pairs i to ≡ pair ∷ slice_range pairs (i + 1) to
+
+pub turn : (pairs : List Pair) (i to : ℕ) → i < to → to ≤ length pairs → Turn pairs i to
+turn pairs i to less within = elim (slice_get_cases pairs i).1 [
+  | inl (x, inside, found, same) ↦
+      let split : drop i pairs ≡ x ∷ drop (i + 1) pairs = rw (← same) (drop_more pairs i x inside) in
+      let count : to - i ≡ suc (to - (i + 1)) = omega arith in
+      record { pair = x; at = found; rest = split; range = ap₂ (λ n (ps : List Pair). take n ps) count split }
+  | inr (past, none) ↦ absurd (omega arith)
+]
+
+pub kind_is : (pairs : List Pair) (i to : ℕ) (k : Kind) (t : Turn pairs i to) → Some k ≡ kind_of pairs i → k ≡ t.pair.kind
+kind_is pairs i to k t h = let e = h ∙ ap (option_map (λ (p : Pair). p.kind)) t.at in cc
+
+pub spelling_is : (pairs : List Pair) (i to : ℕ) (s : List ℕ) (t : Turn pairs i to) → Some s ≡ spelling_of pairs i → s ≡ t.pair.spelling
+spelling_is pairs i to s t h = let e = h ∙ ap (option_map (λ (p : Pair). p.spelling)) t.at in cc
+
+pub gap_is : (pairs : List Pair) (i to : ℕ) (g : List ℕ) (t : Turn pairs i to) → Some g ≡ gap_of pairs i → g ≡ t.pair.gap
+gap_is pairs i to g t h = let e = h ∙ ap (option_map (λ (p : Pair). p.gap)) t.at in cc
+
+-- ---- the first line
+
+-- the first line and those behind it
+IsSplit : ℕ → List Pair → Type 0
+IsSplit open_heredocs ps = lines_from open_heredocs ps ≡ record { frozen = nat_lt 0 open_heredocs; pairs = take (line_len open_heredocs ps) ps } ∷ lines_from (open_heredocs_after open_heredocs ps) (drop (line_len open_heredocs ps) ps)
+
+split_if : (open_heredocs : ℕ) (p : Pair) (ps : List Pair) (ends : Bool) → ends_line open_heredocs p.kind ≡ ends
+    → ((q : Pair) (qs : List Pair) → ps ≡ q ∷ qs → IsSplit (heredocs_after open_heredocs p.kind) ps) → IsSplit open_heredocs (p ∷ ps)
+unfolding IsSplit
+split_if open_heredocs p ps true is rest = rw is refl
+split_if open_heredocs p [] false is rest = rw is refl
+split_if open_heredocs p (q ∷ qs) false is rest = rw is (ap (prepend_to_first (nat_lt 0 open_heredocs) p) (rest q qs refl))
+
+pub first_line : (open_heredocs : ℕ) (p : Pair) (ps : List Pair) → lines_from open_heredocs (p ∷ ps) ≡ record { frozen = nat_lt 0 open_heredocs; pairs = take (line_len open_heredocs (p ∷ ps)) (p ∷ ps) } ∷ lines_from (open_heredocs_after open_heredocs (p ∷ ps)) (drop (line_len open_heredocs (p ∷ ps)) (p ∷ ps))
+unfolding IsSplit
+first_line open_heredocs p [] = split_if open_heredocs p [] (ends_line open_heredocs p.kind) refl (λ q qs e. absurd (cc))
+first_line open_heredocs p (r ∷ ps) = split_if open_heredocs p (r ∷ ps) (ends_line open_heredocs p.kind) refl (λ q qs e. first_line (heredocs_after open_heredocs p.kind) r ps)
+
+len_some : (open_heredocs : ℕ) (p : Pair) (ps : List Pair) → 0 < line_len open_heredocs (p ∷ ps)
+len_some open_heredocs p ps = elim (ends_line open_heredocs p.kind) as (λ b. 0 < (if b then 1 else suc (line_len (heredocs_after open_heredocs p.kind) ps))) [ true ↦ omega arith | false ↦ omega arith ]
+
+begins_held : (frozen : Bool) → nat_lt 0 (open_heredocs_of frozen) ≡ frozen
+begins_held true = refl
+begins_held false = refl
+
+-- the first line from token `at` on
+first_at : (pairs : List Pair) (at : ℕ) (frozen : Bool) → at < length pairs
+    → (0 < line_len (open_heredocs_of frozen) (drop at pairs))
+    × (lines_from (open_heredocs_of frozen) (drop at pairs) ≡ record { frozen = frozen; pairs = take (line_len (open_heredocs_of frozen) (drop at pairs)) (drop at pairs) } ∷ lines_from (open_heredocs_after (open_heredocs_of frozen) (drop at pairs)) (drop (line_len (open_heredocs_of frozen) (drop at pairs)) (drop at pairs)))
+first_at pairs at frozen inside =
+    let t = turn pairs at (length pairs) inside (omega arith) in
+    rw t.rest (
+      len_some (open_heredocs_of frozen) t.pair (drop (at + 1) pairs),
+      first_line (open_heredocs_of frozen) t.pair (drop (at + 1) pairs)
+          ∙ ap (λ f. record { frozen = f; pairs = take (line_len (open_heredocs_of frozen) (t.pair ∷ drop (at + 1) pairs)) (t.pair ∷ drop (at + 1) pairs) } ∷ lines_from (open_heredocs_after (open_heredocs_of frozen) (t.pair ∷ drop (at + 1) pairs)) (drop (line_len (open_heredocs_of frozen) (t.pair ∷ drop (at + 1) pairs)) (t.pair ∷ drop (at + 1) pairs))) (begins_held frozen),
+    )
+
+splits : (pairs : List Pair) (at : ℕ) (frozen : Bool) (past : ℕ) (next : Bool) → at < length pairs → past ≤ length pairs
+    → at + line_len (open_heredocs_of frozen) (drop at pairs) ≡ past
+    → lines_from (open_heredocs_after (open_heredocs_of frozen) (drop at pairs)) (drop past pairs) ≡ lines_from (open_heredocs_of next) (drop past pairs)
+    → SplitsLine pairs at frozen past next
+splits pairs at frozen past next inside within len behind =
+    let first = first_at pairs at frozen inside in
+    let n : ℕ = line_len (open_heredocs_of frozen) (drop at pairs) in
+    let count : n ≡ past - at = omega arith in
+    let rest : drop n (drop at pairs) ≡ drop past pairs = drop-drop n at pairs ∙ ap (λ k. drop k pairs) (omega arith) in
+    record {
+      more = omega (arith, first.0);
+      within = within;
+      line = first.1 ∙ ap₂ (λ (ps : List Pair) (ls : List Line). record { frozen = frozen; pairs = ps } ∷ ls) (ap (λ k. take k (drop at pairs)) count) (ap (λ ps. lines_from (open_heredocs_after (open_heredocs_of frozen) (drop at pairs)) ps) rest ∙ behind);
+    }
+
+-- a line that began at token `at` goes on at token i
+pub record IsInLine (pairs : List Pair) (at : ℕ) (frozen : Bool) (i open_heredocs : ℕ) : Type 0 where
+  pub len : at + line_len (open_heredocs_of frozen) (drop at pairs) ≡ i + line_len open_heredocs (drop i pairs)
+  pub behind : open_heredocs_after (open_heredocs_of frozen) (drop at pairs) ≡ open_heredocs_after open_heredocs (drop i pairs)
+  pub later : at ≤ i
+  pub small : open_heredocs + at ≤ i + 1
+
+pub in_line_begins : (pairs : List Pair) (at : ℕ) (frozen : Bool) → IsInLine pairs at frozen at (open_heredocs_of frozen)
+in_line_begins pairs at true = record { len = refl; behind = refl; later = omega arith; small = omega arith }
+in_line_begins pairs at false = record { len = refl; behind = refl; later = omega arith; small = omega arith }
+
+grows : (open_heredocs : ℕ) (k : Kind) → heredocs_after open_heredocs k ≤ open_heredocs + 1
+grows open_heredocs HereOpen = omega arith
+grows open_heredocs HereClose = omega arith
+grows open_heredocs k = omega arith
+
+pub in_line_goes : (pairs : List Pair) (at : ℕ) (frozen : Bool) (i open_heredocs : ℕ) (k : Kind) → IsInLine pairs at frozen i open_heredocs → i < length pairs → Some k ≡ kind_of pairs i → ends_line open_heredocs k ≡ false
+    → IsInLine pairs at frozen (i + 1) (heredocs_after open_heredocs k)
+in_line_goes pairs at frozen i open_heredocs k l inside is goes =
+    let t = turn pairs i (length pairs) inside (omega arith) in
+    let same = kind_is pairs i (length pairs) k t is in
+    let goes_on : ends_line open_heredocs t.pair.kind ≡ false = ap (ends_line open_heredocs) (sym same) ∙ goes in
+    let len : line_len open_heredocs (drop i pairs) ≡ suc (line_len (heredocs_after open_heredocs k) (drop (i + 1) pairs)) = rw (t.rest, goes_on, same) refl in
+    let behind : open_heredocs_after open_heredocs (drop i pairs) ≡ open_heredocs_after (heredocs_after open_heredocs k) (drop (i + 1) pairs) = rw (t.rest, goes_on, same) refl in
+    record { len = omega (arith, l.len, len); behind = l.behind ∙ behind; later = omega (arith, l.later); small = omega (arith, l.small, grows open_heredocs k) }
+
+next_held : (open_heredocs : ℕ) (k : Kind) → ends_line open_heredocs k ≡ true → heredocs_after open_heredocs k ≡ open_heredocs_of (is_here_open k)
+next_held zero LineEnd h = refl
+next_held zero HereOpen h = refl
+next_held zero k h = absurd (cc)
+next_held (suc open_heredocs) k h = absurd (cc)
+
+pub line_ends : (pairs : List Pair) (at : ℕ) (frozen : Bool) (i open_heredocs : ℕ) (k : Kind) → IsInLine pairs at frozen i open_heredocs → at < length pairs → i < length pairs → Some k ≡ kind_of pairs i → ends_line open_heredocs k ≡ true
+    → SplitsLine pairs at frozen (i + 1) (is_here_open k)
+line_ends pairs at frozen i open_heredocs k l begins inside is ends =
+    let t = turn pairs i (length pairs) inside (omega arith) in
+    let same = kind_is pairs i (length pairs) k t is in
+    let ends_here : ends_line open_heredocs t.pair.kind ≡ true = ap (ends_line open_heredocs) (sym same) ∙ ends in
+    let len : line_len open_heredocs (drop i pairs) ≡ 1 = rw (t.rest, ends_here) refl in
+    let behind : open_heredocs_after open_heredocs (drop i pairs) ≡ open_heredocs_of (is_here_open k) = rw (t.rest, ends_here) (ap (heredocs_after open_heredocs) (sym same) ∙ next_held open_heredocs k ends) in
+    splits pairs at frozen (i + 1) (is_here_open k) begins (omega arith) (l.len ∙ ap (λ n. i + n) len) (ap (λ h. lines_from h (drop (i + 1) pairs)) (l.behind ∙ behind))
+
+pub text_ends : (pairs : List Pair) (at : ℕ) (frozen : Bool) (i open_heredocs : ℕ) → IsInLine pairs at frozen i open_heredocs → at < length pairs → i ≡ length pairs → SplitsLine pairs at frozen (length pairs) false
+text_ends pairs at frozen i open_heredocs l begins e =
+    let none : drop i pairs ≡ [] = drop_all i pairs (omega arith) in
+    let gone : drop (length pairs) pairs ≡ [] = drop_all (length pairs) pairs (omega arith) in
+    let len : line_len open_heredocs (drop i pairs) ≡ 0 = rw none refl in
+    splits pairs at frozen (length pairs) false begins (omega arith) (omega (arith, l.len, len)) (rw gone refl)
+
+-- ---- counts, and the end of a stack
+
+-- a count of tokens, one token further
+pub counted : (f : Kind → Bool) (pairs : List Pair) (i to : ℕ) (k : Kind) → i < to → to ≤ length pairs → Some k ≡ kind_of pairs i
+    → count_by (λ (p : Pair). f p.kind) (slice_range pairs i to) ≡ (if f k then 1 else 0) + count_by (λ (p : Pair). f p.kind) (slice_range pairs (i + 1) to)
+counted f pairs i to k less within is =
+    let t = turn pairs i to less within in
+    let same : (if f t.pair.kind then 1 else 0) ≡ (if f k then 1 else 0) = ap (λ j. cond (f j) 1 0) (sym (kind_is pairs i to k t is)) in
+    ap (count_by (λ (p : Pair). f p.kind)) t.range
+    ∙ sum_by-cons (λ (p : Pair). cond (f p.kind) 1 0) t.pair (slice_range pairs (i + 1) to)
+    ∙ ap (λ n. n + count_by (λ (p : Pair). f p.kind) (slice_range pairs (i + 1) to)) same
+
+pub record IsEnd (xs : List ℕ) (n top : ℕ) : Type 0 where
+  pub last : reverse xs ≡ top ∷ reverse (take n xs)
+  pub changed : (v : ℕ) → reverse (set xs n v) ≡ v ∷ reverse (take n xs)
+
+pub end_of : (xs : List ℕ) (n top : ℕ) → n + 1 ≡ length xs → top ≡ get_or xs n top → IsEnd xs n top
+end_of xs n top len is =
+    let split : xs ≡ take n xs ++ top ∷ [] = sym (take_all (n + 1) xs (omega arith)) ∙ take_more xs n top (omega arith) ∙ ap (λ v. take n xs ++ v ∷ []) (sym is) in
+    let size : length (take n xs) ≡ n = length-take-le n xs (omega arith) in
+    record {
+      last = ap reverse split ∙ reverse-append (take n xs) (top ∷ []);
+      changed = λ v. ap (λ ys. reverse (set ys n v)) split ∙ ap (λ k. reverse (set (take n xs ++ top ∷ []) k v)) (sym size) ∙ ap reverse (set-append_seam (take n xs) top [] v) ∙ reverse-append (take n xs) (v ∷ []);
+    }
+
+-- one step of closing brackets on a stack that is kept with its top at the end
+pub close_ends : (xs : List ℕ) (n left top : ℕ) → n + 1 ≡ length xs → top ≡ get_or xs n top → left < top → close_brackets left (reverse xs) ≡ reverse (set xs n (top - left))
+close_ends xs n left top len is less =
+    let e = end_of xs n top len is in
+    let test : nat_lt left top ≡ true = grind (arith, nat_tests) in
+    let head : close_brackets left (top ∷ reverse (take n xs)) ≡ (top - left) ∷ reverse (take n xs) = rw test refl in
+    ap (close_brackets left) e.last ∙ head ∙ sym (e.changed (top - left))
+
+pub close_goes : (xs : List ℕ) (n left top : ℕ) → n + 1 ≡ length xs → top ≡ get_or xs n top → top ≤ left → close_brackets left (reverse xs) ≡ close_brackets (left - top) (reverse (take n xs))
+close_goes xs n left top len is less =
+    let e = end_of xs n top len is in
+    let test : nat_lt left top ≡ false = grind (arith, nat_tests) in
+    let head : close_brackets left (top ∷ reverse (take n xs)) ≡ close_brackets (left - top) (reverse (take n xs)) = rw test refl in
+    ap (close_brackets left) e.last ∙ head
+
+pub no_items : (xs : List ℕ) → length xs ≡ 0 → xs ≡ []
+no_items [] h = refl
+no_items (x ∷ xs) h = absurd (omega arith)
+
+-- ---- what a line tells of its tokens
+
+pub range_split : (ps : List Pair) (a b c : ℕ) → a ≤ b → b ≤ c → slice_range ps a c ≡ slice_range ps a b ++ slice_range ps b c
+range_split ps a b c h g =
+    let count : c - a ≡ (b - a) + (c - b) = omega arith in
+    let rest : drop (b - a) (drop a ps) ≡ drop b ps = drop-drop (b - a) a ps ∙ ap (λ n. drop n ps) (omega arith) in
+    ap (λ n. take n (drop a ps)) count ∙ take-add (b - a) (c - b) (drop a ps) ∙ ap (λ (xs : List Pair). slice_range ps a b ++ take (c - b) xs) rest
+
+pub none_there : (ps : List Pair) (a : ℕ) → slice_range ps a a ≡ []
+none_there ps a = let none : a - a ≡ 0 = omega arith in ap (λ n. take n (drop a ps)) none
+
+some_if : (f : Kind → Bool) (p : Pair) (ps : List Pair) (b : Bool) → f p.kind ≡ b → are_some f (p ∷ ps) ≡ (b || are_some f ps)
+some_if f p ps true h = rw h refl
+some_if f p ps false h = rw h refl
+
+or_group : (a b c : Bool) → (a || (b || c)) ≡ ((a || b) || c)
+or_group true b c = refl
+or_group false b c = refl
+
+or_false : (a : Bool) → (a || false) ≡ a
+or_false true = refl
+or_false false = refl
+
+some_append : (f : Kind → Bool) (ps qs : List Pair) → are_some f (ps ++ qs) ≡ (are_some f ps || are_some f qs)
+some_append f [] qs = refl
+some_append f (p ∷ ps) qs =
+    some_if f p (ps ++ qs) (f p.kind) refl
+    ∙ ap (λ b. f p.kind || b) (some_append f ps qs)
+    ∙ or_group (f p.kind) (are_some f ps) (are_some f qs)
+    ∙ ap (λ b. b || are_some f qs) (sym (some_if f p ps (f p.kind) refl))
+
+-- one more token
+pub some_more : (f : Kind → Bool) (pairs : List Pair) (at i : ℕ) (k : Kind) (b : Bool) → at ≤ i → i < length pairs → Some k ≡ kind_of pairs i → b ≡ are_some f (slice_range pairs at i)
+    → (b || f k) ≡ are_some f (slice_range pairs at (i + 1))
+some_more f pairs at i k b later inside is b_is =
+    let t = turn pairs i (i + 1) (omega arith) (omega arith) in
+    let one : slice_range pairs i (i + 1) ≡ t.pair ∷ [] = t.range ∙ ap (λ (qs : List Pair). t.pair ∷ qs) (none_there pairs (i + 1)) in
+    let last : are_some f (slice_range pairs i (i + 1)) ≡ f k =
+    ap (are_some f) one ∙ some_if f t.pair [] (f t.pair.kind) refl ∙ or_false (f t.pair.kind) ∙ ap f (sym (kind_is pairs i (i + 1) k t is)) in
+    sym (ap (are_some f) (range_split pairs at i (i + 1) later (omega arith)) ∙ some_append f (slice_range pairs at i) (slice_range pairs i (i + 1)) ∙ ap₂ (λ x y. x || y) (sym b_is) last)
+
+-- a flag of a line, one token further
+pub flag_on : (f : Kind → Bool) (pairs : List Pair) (at i : ℕ) (k : Kind) (b m : Bool) → at ≤ i → i < length pairs → Some k ≡ kind_of pairs i → m ≡ f k → b ≡ are_some f (slice_range pairs at i)
+    → (b || m) ≡ are_some f (slice_range pairs at (i + 1))
+flag_on f pairs at i k b m later inside is m_is b_is = ap (λ x. b || x) m_is ∙ some_more f pairs at i k b later inside is b_is
+
+-- a flag of a line, past a token that does not raise it, and past one that does
+pub flag_stays : (f : Kind → Bool) (pairs : List Pair) (at i : ℕ) (k : Kind) (b : Bool) → at ≤ i → i < length pairs → Some k ≡ kind_of pairs i → f k ≡ false → b ≡ are_some f (slice_range pairs at i)
+    → b ≡ are_some f (slice_range pairs at (i + 1))
+flag_stays f pairs at i k b later inside is none b_is = sym (or_false b) ∙ flag_on f pairs at i k b false later inside is (sym none) b_is
+
+or_true : (a : Bool) → (a || true) ≡ true
+or_true true = refl
+or_true false = refl
+
+pub flag_raised : (f : Kind → Bool) (pairs : List Pair) (at i : ℕ) (k : Kind) (b : Bool) → at ≤ i → i < length pairs → Some k ≡ kind_of pairs i → f k ≡ true → b ≡ are_some f (slice_range pairs at i)
+    → true ≡ are_some f (slice_range pairs at (i + 1))
+flag_raised f pairs at i k b later inside is some b_is = sym (or_true b) ∙ flag_on f pairs at i k b true later inside is (sym some) b_is
+
+-- what a token does not do to a line: it raises no flag
+pub record RaisesNone (k : Kind) : Type 0 where
+  pub has_bracket : is_bracket k ≡ false
+  pub has_comment : is_comment k ≡ false
+  pub has_equals : is_equal k ≡ false
+
+pub ends_alone : (open_heredocs : ℕ) (k : Kind) → ends_line open_heredocs k ≡ true → RaisesNone k
+ends_alone zero LineEnd h = record { has_bracket = refl; has_comment = refl; has_equals = refl }
+ends_alone zero HereOpen h = record { has_bracket = refl; has_comment = refl; has_equals = refl }
+ends_alone zero k h = absurd (cc)
+ends_alone (suc open_heredocs) k h = absurd (cc)
+
+pub plain_raises : (k : Kind) → has_no_line_effect k ≡ true → RaisesNone k
+plain_raises LineComment h = absurd (cc)
+plain_raises InlineComment h = absurd (cc)
+plain_raises Equal h = absurd (cc)
+plain_raises OpenBrace h = absurd (cc)
+plain_raises CloseBrace h = absurd (cc)
+plain_raises OpenBracket h = absurd (cc)
+plain_raises CloseBracket h = absurd (cc)
+plain_raises OpenParen h = absurd (cc)
+plain_raises CloseParen h = absurd (cc)
+plain_raises SeqClose h = absurd (cc)
+plain_raises InterpOpen h = absurd (cc)
+plain_raises DirectiveOpen h = absurd (cc)
+plain_raises k h = record { has_bracket = refl; has_comment = refl; has_equals = refl }
+
+-- it ends none, and turns no heredoc
+pub plain_ends : (open_heredocs : ℕ) (k : Kind) → has_no_line_effect k ≡ true → ends_line open_heredocs k ≡ false
+plain_ends zero LineEnd h = absurd (cc)
+plain_ends zero HereOpen h = absurd (cc)
+plain_ends zero k h = refl
+plain_ends (suc open_heredocs) k h = refl
+
+pub plain_holds : (open_heredocs : ℕ) (k : Kind) → has_no_line_effect k ≡ true → heredocs_after open_heredocs k ≡ open_heredocs
+plain_holds open_heredocs HereOpen h = absurd (cc)
+plain_holds open_heredocs HereClose h = absurd (cc)
+plain_holds open_heredocs k h = refl
+
+pub busy_holds : (open_heredocs : ℕ) (k : Kind) → is_bracket k ≡ true → heredocs_after open_heredocs k ≡ open_heredocs
+busy_holds open_heredocs HereOpen h = absurd (cc)
+busy_holds open_heredocs HereClose h = absurd (cc)
+busy_holds open_heredocs k h = refl
+
+pub equal_holds : (open_heredocs : ℕ) (k : Kind) → is_equal k ≡ true → heredocs_after open_heredocs k ≡ open_heredocs
+equal_holds open_heredocs HereOpen h = absurd (cc)
+equal_holds open_heredocs HereClose h = absurd (cc)
+equal_holds open_heredocs k h = refl
+
+-- it raises one flag alone
+pub busy_alone : (k : Kind) → is_bracket k ≡ true → (is_comment k ≡ false) × (is_equal k ≡ false)
+busy_alone LineComment h = absurd (cc)
+busy_alone InlineComment h = absurd (cc)
+busy_alone Equal h = absurd (cc)
+busy_alone k h = (refl, refl)
+
+pub equal_alone : (k : Kind) → is_equal k ≡ true → is_comment k ≡ false
+equal_alone LineComment h = absurd (cc)
+equal_alone InlineComment h = absurd (cc)
+equal_alone k h = refl
+
+or_none : (a b : Bool) → (a || b) ≡ false → b ≡ false
+or_none true b h = absurd (cc)
+or_none false b h = h
+
+-- from a later token on
+pub quiet_later : (f : Kind → Bool) (pairs : List Pair) (at i past : ℕ) → at ≤ i → i ≤ past → are_some f (slice_range pairs at past) ≡ false → are_some f (slice_range pairs i past) ≡ false
+quiet_later f pairs at i past later less h =
+    or_none (are_some f (slice_range pairs at i)) (are_some f (slice_range pairs i past))
+    (sym (ap (are_some f) (range_split pairs at i past later less) ∙ some_append f (slice_range pairs at i) (slice_range pairs i past)) ∙ h)
+
+or_first : (a b : Bool) → (a || b) ≡ false → (a ≡ false) × (b ≡ false)
+or_first true b h = absurd (cc)
+or_first false b h = (refl, h)
+
+quiet_two : (f : Kind → Bool) (p : Pair) (ps : List Pair) → are_some f (p ∷ ps) ≡ false → (f p.kind ≡ false) × (are_some f ps ≡ false)
+quiet_two f p ps h = or_first (f p.kind) (are_some f ps) (sym (some_if f p ps (f p.kind) refl) ∙ h)
+
+-- what is not among tokens where none makes a line busy
+quiet : (k : Kind) → is_bracket k ≡ false → (is_opening k ≡ false) × (is_closing k ≡ false)
+quiet OpenBrace h = absurd (cc)
+quiet CloseBrace h = absurd (cc)
+quiet OpenBracket h = absurd (cc)
+quiet CloseBracket h = absurd (cc)
+quiet OpenParen h = absurd (cc)
+quiet CloseParen h = absurd (cc)
+quiet SeqClose h = absurd (cc)
+quiet InterpOpen h = absurd (cc)
+quiet DirectiveOpen h = absurd (cc)
+quiet k h = (refl, refl)
+
+pub quiet_openings : (ps : List Pair) → are_some is_bracket ps ≡ false → 0 ≡ openings ps
+quiet_openings [] h = refl
+quiet_openings (p ∷ ps) h =
+    let (none, rest) = quiet_two is_bracket p ps h in
+    let head : cond {A = ℕ} (is_opening p.kind) 1 0 ≡ 0 = ap {B = ℕ} (λ b. cond b 1 0) (quiet p.kind none).0 in
+    let more : openings (p ∷ ps) ≡ cond (is_opening p.kind) 1 0 + openings ps = sum_by-cons (λ (r : Pair). cond (is_opening r.kind) 1 0) p ps in
+    omega (arith, head, more, quiet_openings ps rest)
+
+pub quiet_closings : (ps : List Pair) → are_some is_bracket ps ≡ false → 0 ≡ closings ps
+quiet_closings [] h = refl
+quiet_closings (p ∷ ps) h =
+    let (none, rest) = quiet_two is_bracket p ps h in
+    let head : cond {A = ℕ} (is_closing p.kind) 1 0 ≡ 0 = ap {B = ℕ} (λ b. cond b 1 0) (quiet p.kind none).1 in
+    let more : closings (p ∷ ps) ≡ cond (is_closing p.kind) 1 0 + closings ps = sum_by-cons (λ (r : Pair). cond (is_closing r.kind) 1 0) p ps in
+    omega (arith, head, more, quiet_closings ps rest)
+
+no_inline : (k : Kind) → is_comment k ≡ false → is_inline_comment k ≡ false
+no_inline InlineComment h = absurd (cc)
+no_inline k h = refl
+
+no_closing : (k : Kind) → is_comment k ≡ false → is_line_comment k ≡ false
+no_closing LineComment h = absurd (cc)
+no_closing k h = refl
+
+pub quiet_breaks : (ps : List Pair) → are_some is_comment ps ≡ false → false ≡ list_any (λ (p : Pair). is_inline_comment p.kind && list_any is_lf p.spelling) ps
+quiet_breaks [] h = refl
+quiet_breaks (p ∷ ps) h = let (none, rest) = quiet_two is_comment p ps h in rw (no_inline p.kind none) (quiet_breaks ps rest)
+
+pub quiet_comments : (ps : List Pair) → are_some is_comment ps ≡ false → are_some is_line_comment ps ≡ false
+quiet_comments [] h = refl
+quiet_comments (p ∷ ps) h =
+    let (none, rest) = quiet_two is_comment p ps h in
+    some_if is_line_comment p ps false (no_closing p.kind none) ∙ quiet_comments ps rest
+
+quiet_first : (f : Kind → Bool) (ps : List Pair) → are_some f ps ≡ false → index_of_first (λ (p : Pair). f p.kind) ps ≡ None
+quiet_first f [] h = refl
+quiet_first f (p ∷ ps) h = let (none, rest) = quiet_two f p ps h in rw (none, quiet_first f ps rest) refl
+
+pub none_later : (f : Kind → Bool) (at : ℕ) (ps : List Pair) → are_some f ps ≡ false → None ≡ option_map (λ n. at + n) (index_after_first (λ (p : Pair). f p.kind) ps)
+none_later f at [] h = refl
+none_later f at (p ∷ ps) h = let (none, rest) = quiet_two f p ps h in rw (quiet_first f ps rest) refl
+
+-- ---- lines as spans
+
+-- lines from one token up to another
+abbrev pub LinesTo : List Pair → ℕ → Bool → List LineSpan → ℕ → Bool → Type 0
+LinesTo pairs at frozen [] to next = (at ≡ to) × (frozen ≡ next)
+LinesTo pairs at frozen (line ∷ lines) to next = IsLine pairs at frozen line × LinesTo pairs line.past line.next_frozen lines to next
+
+-- one more
+pub lines_push : (pairs : List Pair) (at : ℕ) (frozen : Bool) (lines : List LineSpan) (to : ℕ) (next : Bool) (line : LineSpan)
+    → LinesTo pairs at frozen lines to next → IsLine pairs to next line
+    → LinesTo pairs at frozen (lines ++ line ∷ []) line.past line.next_frozen
+lines_push pairs at frozen [] to next line (e, f) one =
+    (subst (λ a. IsLine pairs a frozen line) (sym e) (subst (λ b. IsLine pairs to b line) (sym f) one), (refl, refl))
+lines_push pairs at frozen (l ∷ lines) to next line (first, rest) one = (first, lines_push pairs l.past l.next_frozen lines to next line rest one)
+
+-- up to the end of the text
+pub lines_whole : (pairs : List Pair) (at : ℕ) (frozen : Bool) (lines : List LineSpan) (to : ℕ) (next : Bool)
+    → LinesTo pairs at frozen lines to next → to ≡ length pairs → AreLines pairs at frozen lines
+lines_whole pairs at frozen [] to next (e, f) end = e ∙ end
+lines_whole pairs at frozen (l ∷ lines) to next (first, rest) end = (first, lines_whole pairs l.past l.next_frozen lines to next rest end)
+
+-- what a list of spans answers past its end
+abbrev pub no_span : LineSpan
+no_span = record { past = 0; next_frozen = false; has_bracket = false; has_comment = false; has_equals = false }
+
+-- the line of number i, and those behind it
+pub line_at : (pairs : List Pair) (at : ℕ) (frozen : Bool) (lines : List LineSpan) (i : ℕ) → i < length lines
+    → AreLines pairs at frozen (drop i lines)
+    → IsLine pairs at frozen (get_or lines i no_span)
+    × AreLines pairs (get_or lines i no_span).past (get_or lines i no_span).next_frozen (drop (i + 1) lines)
+line_at pairs at frozen lines i h are = subst (AreLines pairs at frozen) (drop_more lines i no_span h) are
+
+-- behind the last
+pub no_line : (pairs : List Pair) (at : ℕ) (frozen : Bool) (lines : List LineSpan) (i : ℕ) → length lines ≤ i
+    → AreLines pairs at frozen (drop i lines) → at ≡ length pairs
+no_line pairs at frozen lines i h are = subst (AreLines pairs at frozen) (drop_all i lines h) are

@@ -1,0 +1,115 @@
+-- What the code keeps of tokens and cells, as lists. For proofs: nothing here has to be believed.
+use Rattle.std.specs.Prelude.{◌≡◌, ℕ, Bool, true, false, slice_range, List, [], ◌∷◌, length, map, ◌<◌, Option, Some, None, ⊤}
+use Rattle.std.specs.List.{list_any}
+use Rattle.hcl_token.specs.declared.kind.Kind.{Kind}
+use Rattle.hcl_token.specs.declared.kind.Kind.TheVariants.{LineEnd, HereOpen, HereClose, HereLit, Equal, LineComment, InlineComment, OpenBrace, CloseBrace, OpenBracket, CloseBracket, OpenParen, CloseParen, SeqClose, InterpOpen, DirectiveOpen}
+use Rattle.hcl_layout.specs.Gaps.Kinds.{is_equal, is_line_comment}
+use Rattle.hcl_layout.specs.Gaps.Lines.{Line}
+use Rattle.hcl_token.specs.Tokens.{Pair}
+use Rattle.hcl_layout.specs.Gaps.Cells.{is_balanced, assignment, closing_comment}
+use Rattle.hcl_layout.specs.Gaps.Inner.Stages.{prev_kinds_of, SplitsLine}
+use Rattle.hcl_layout.specs.declared.gaps.lines.LineSpan.{LineSpan}
+use Rattle.hcl_layout.specs.declared.gaps.space.PrevKinds.{PrevKinds}
+use Rattle.hcl_layout.specs.declared.gaps.cells.Cell.{Cell}
+use Rattle.hcl_layout.specs.declared.gaps.cells.Cell.TheVariants.{Assignment, ClosingComment}
+use Rattle.hcl_layout.specs.declared.gaps.cells.CellStart.{CellStart}
+
+abbrev pub prev_kinds : PrevKinds → List Kind
+prev_kinds before = prev_kinds_of before.nearest before.second
+
+abbrev pub starts_cell : Cell → Kind → Bool
+starts_cell Assignment kind = is_equal kind
+starts_cell ClosingComment kind = is_line_comment kind
+
+abbrev pub cell_of : Cell → Line → Option ℕ
+cell_of Assignment line = assignment line
+cell_of ClosingComment line = closing_comment line
+
+-- whether a cell that begins with these tokens counts
+abbrev pub is_valid_cell : Cell → List Pair → Bool
+is_valid_cell Assignment ps = is_balanced ps
+is_valid_cell ClosingComment ps = true
+
+abbrev pub width_in : Option CellStart → Option ℕ
+width_in None = None
+width_in (Some p) = Some p.width
+
+abbrev pub token_in : Option CellStart → Option ℕ
+token_in None = None
+token_in (Some p) = Some p.token
+
+abbrev pub widths_of : List (Option CellStart) → List (Option ℕ)
+widths_of starts = map width_in starts
+
+abbrev pub tokens_in : List (Option CellStart) → List (Option ℕ)
+tokens_in starts = map token_in starts
+
+-- each cell begins at a token of so many
+abbrev pub AreInside : ℕ → List (Option CellStart) → Type 0
+AreInside count [] = ⊤
+AreInside count (None ∷ starts) = AreInside count starts
+AreInside count (Some p ∷ starts) = (p.token < count) × AreInside count starts
+
+-- brackets and template sequences
+abbrev pub is_bracket : Kind → Bool
+is_bracket OpenBrace = true
+is_bracket CloseBrace = true
+is_bracket OpenBracket = true
+is_bracket CloseBracket = true
+is_bracket OpenParen = true
+is_bracket CloseParen = true
+is_bracket SeqClose = true
+is_bracket InterpOpen = true
+is_bracket DirectiveOpen = true
+is_bracket kind = false
+
+abbrev pub is_comment : Kind → Bool
+is_comment LineComment = true
+is_comment InlineComment = true
+is_comment kind = false
+
+-- a token of this kind neither ends a line nor raises a flag of it, and is none of a heredoc's
+abbrev pub has_no_line_effect : Kind → Bool
+has_no_line_effect LineEnd = false
+has_no_line_effect HereOpen = false
+has_no_line_effect HereClose = false
+has_no_line_effect HereLit = false
+has_no_line_effect LineComment = false
+has_no_line_effect InlineComment = false
+has_no_line_effect Equal = false
+has_no_line_effect OpenBrace = false
+has_no_line_effect CloseBrace = false
+has_no_line_effect OpenBracket = false
+has_no_line_effect CloseBracket = false
+has_no_line_effect OpenParen = false
+has_no_line_effect CloseParen = false
+has_no_line_effect SeqClose = false
+has_no_line_effect InterpOpen = false
+has_no_line_effect DirectiveOpen = false
+has_no_line_effect kind = true
+
+-- a token that meets the test is among these
+abbrev pub are_some : (Kind → Bool) → List Pair → Bool
+are_some test pairs = list_any (λ (p : Pair). test p.kind) pairs
+
+-- what a line that begins at a token tells of its tokens
+pub record HasFlags (pairs : List Pair) (at : ℕ) (line : LineSpan) : Type 0 where
+  pub has_bracket : line.has_bracket ≡ are_some is_bracket (slice_range pairs at line.past)
+  pub has_comment : line.has_comment ≡ are_some is_comment (slice_range pairs at line.past)
+  pub has_equals : line.has_equals ≡ are_some is_equal (slice_range pairs at line.past)
+
+-- a token that begins such a cell may stand in a line
+abbrev pub can_have_cell : Cell → LineSpan → Bool
+can_have_cell Assignment line = line.has_equals
+can_have_cell ClosingComment line = line.has_comment
+
+-- a line that begins at a token, in a heredoc or not
+pub record IsLine (pairs : List Pair) (at : ℕ) (frozen : Bool) (line : LineSpan) : Type 0 where
+  pub split : SplitsLine pairs at frozen line.past line.next_frozen
+  pub flags : HasFlags pairs at line
+
+-- the lines of a text from a token on, where that begins in a heredoc or not
+abbrev pub AreLines : List Pair → ℕ → Bool → List LineSpan → Type 0
+AreLines pairs at frozen [] = at ≡ length pairs
+AreLines pairs at frozen (line ∷ lines) =
+    IsLine pairs at frozen line × AreLines pairs line.past line.next_frozen lines

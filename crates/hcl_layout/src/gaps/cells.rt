@@ -1,0 +1,397 @@
+//! Cells that stand in columns.
+
+ghost use Rattle.std.specs.Prelude.{take, false, [], ◌∷◌, Some, slice_get, ◌≡◌, ◌==◌, ◌&&◌, ◌+◌, ◌-◌, ◌*◌, ◌<◌, ◌≤◌, ◌^◌, length, drop, slice_range, option_map, OnOk, IfOk, IfSome};
+ghost use Rattle.hcl_scan.specs.Tokenization.{MAX_TEXT};
+ghost use Rattle.std.specs.List.{list_any};
+ghost use Rattle.hcl_token.specs.Place.{is_lf};
+ghost use Rattle.hcl_token.specs.Tokens.{Pair};
+ghost use Rattle.hcl_token.specs.TokenizedText.{AreUtf8};
+ghost use Rattle.hcl_layout.specs.Gaps.Kinds.{is_inline_comment};
+ghost use Rattle.hcl_layout.specs.Gaps.Lines.{lines_from, pairs_in};
+ghost use Rattle.hcl_layout.specs.Gaps.Cells.{index_after_first, is_balanced, width, width_before, widths, greatest, aligned};
+ghost use Rattle.hcl_layout.specs.Gaps.Inner.Stages.{with_gaps, AreAtMost, cell_tokens, set_cell_gaps, cell_gaps_from_width};
+ghost use Rattle.hcl_layout.specs.Gaps.Inner.CodeViews.{starts_cell, cell_of, is_valid_cell, widths_of, tokens_in, width_in, token_in, can_have_cell, is_bracket, is_comment, are_some, HasFlags, AreInside, AreLines};
+
+use crate::gaps::base_gaps::KEEP_GAP;
+use crate::gaps::indent::count_brackets;
+use crate::gaps::kinds::{is_equal, is_inline_comment, is_line_comment};
+use crate::gaps::lines::LineSpan;
+use hcl_scan::Scanned;
+use hcl_token::Kind;
+use std::alloc::{AllocError, Global};
+
+/// Which cells are moved.
+#[derive(Clone, Copy)]
+pub(crate) enum Cell {
+    /// What begins with the first `=` of a line.
+    Assignment,
+    /// The comment that closes a line.
+    ClosingComment,
+}
+
+/// The first token of a line's cell, and the width of what stands before it.
+#[derive(Clone, Copy)]
+pub(crate) struct CellStart {
+    pub token: u32,
+    pub width: u32,
+}
+
+fn has_lf(bytes: &[u8]) -> bool
+    ensures { result ≡ list_any is_lf bytes.now }
+{
+    bytes.iter().any(|b| *b == 10)
+}
+
+/// Whether token `i` is an inline comment with a line end. Only such a comment is searched.
+fn is_multiline_comment_at(scanned: &Scanned<'_>, i: usize) -> bool
+    requires { i < length scanned.now.pairs }
+    ensures { Some result ≡ option_map (λ (p : Pair).
+        is_inline_comment p.kind && list_any is_lf p.spelling) (slice_get scanned.now.pairs i) }
+{
+    if is_inline_comment(scanned.kind(i)) {
+        return has_lf(scanned.spelling(i));
+    }
+    false
+}
+
+/// Whether an inline comment with a line end stands in a line; none does where no comment stands in
+/// it.
+fn has_multiline_comment(scanned: &Scanned<'_>, at: usize, past: usize, has_comment: bool) -> bool
+    requires ordered { at ≤ past }
+    requires within { past ≤ length scanned.now.pairs }
+    requires has_comment { has_comment ≡ false
+        → are_some is_comment (slice_range scanned.now.pairs at past) ≡ false }
+    ensures { result ≡ list_any
+        (λ (p : Pair). is_inline_comment p.kind && list_any is_lf p.spelling)
+        (slice_range scanned.now.pairs at past) }
+{
+    if !has_comment {
+        return false;
+    }
+    for i in at..past {
+        if is_multiline_comment_at(scanned, i) {
+            return true;
+        }
+    }
+    false
+}
+
+fn starts_cell(cell: Cell, kind: Kind) -> bool
+    ensures { result ≡ starts_cell cell kind }
+{
+    match cell {
+        Cell::Assignment => is_equal(kind),
+        Cell::ClosingComment => is_line_comment(kind),
+    }
+}
+
+/// Whether a token that begins such a cell may stand in a line.
+fn can_have_cell(cell: Cell, line: LineSpan) -> bool
+    ensures { result ≡ can_have_cell cell line }
+{
+    match cell {
+        Cell::Assignment => line.has_equals,
+        Cell::ClosingComment => line.has_comment,
+    }
+}
+
+/// The first token behind token `at` that begins such a cell, if one of these may.
+fn cell_token_after_first(
+    scanned: &Scanned<'_>,
+    cell: Cell,
+    at: usize,
+    past: usize,
+    can_have_cell: bool,
+) -> Option<usize>
+    requires ordered { at < past }
+    requires within { past ≤ length scanned.now.pairs }
+    requires none { can_have_cell ≡ false
+        → are_some (starts_cell cell) (slice_range scanned.now.pairs at past) ≡ false }
+    ensures found { result
+        ≡ option_map (λ n. at + n)
+        (index_after_first (λ (p : Pair). starts_cell cell p.kind) (slice_range scanned.now.pairs at past)) }
+    ensures inside { IfSome result (λ i. (at < i) × (i < past)) }
+{
+    if !can_have_cell {
+        return None;
+    }
+    for i in at + 1..past {
+        if starts_cell(cell, scanned.kind(i)) {
+            return Some(i);
+        }
+    }
+    None
+}
+
+fn is_balanced(scanned: &Scanned<'_>, at: usize, past: usize, has_bracket: bool) -> bool
+    requires ordered { at ≤ past }
+    requires within { past ≤ length scanned.now.pairs }
+    requires has_bracket { has_bracket ≡ false
+        → are_some is_bracket (slice_range scanned.now.pairs at past) ≡ false }
+    requires within_limit { length scanned.now.pairs ≤ MAX_TEXT }
+    ensures { result ≡ is_balanced (slice_range scanned.now.pairs at past) }
+{
+    let (opened, closed) = count_brackets(scanned, at, past, has_bracket);
+    opened == closed
+}
+
+/// Whether a cell that begins at token `i` of a line counts.
+fn is_valid_cell(
+    scanned: &Scanned<'_>,
+    cell: Cell,
+    i: usize,
+    past: usize,
+    has_bracket: bool,
+) -> bool
+    requires ordered { i ≤ past }
+    requires within { past ≤ length scanned.now.pairs }
+    requires has_bracket { has_bracket ≡ false
+        → are_some is_bracket (slice_range scanned.now.pairs i past) ≡ false }
+    requires within_limit { length scanned.now.pairs ≤ MAX_TEXT }
+    ensures { result ≡ is_valid_cell cell (slice_range scanned.now.pairs i past) }
+{
+    match cell {
+        Cell::Assignment => is_balanced(scanned, i, past, has_bracket),
+        Cell::ClosingComment => true,
+    }
+}
+
+/// The first token of the line's cell, if it has one.
+fn cell_of(
+    scanned: &Scanned<'_>,
+    cell: Cell,
+    at: usize,
+    frozen: bool,
+    line: LineSpan,
+) -> Option<usize>
+    requires ordered { at < line.past }
+    requires within { line.past ≤ length scanned.now.pairs }
+    requires flags { HasFlags scanned.now.pairs at line }
+    requires within_limit { length scanned.now.pairs ≤ MAX_TEXT }
+    ensures cell { result
+        ≡ option_map (λ n. at + n)
+        (cell_of cell (record {
+          frozen = frozen;
+          pairs = slice_range scanned.now.pairs at line.past;
+        })) }
+    ensures inside { IfSome result (λ i. (at < i) × (i < line.past)) }
+{
+    if frozen {
+        return None;
+    }
+    let past = line.past as usize;
+    let i = cell_token_after_first(scanned, cell, at, past, can_have_cell(cell, line))?;
+    if has_multiline_comment(scanned, at, past, line.has_comment) {
+        return None;
+    }
+    if is_valid_cell(scanned, cell, i, past, line.has_bracket) {
+        return Some(i);
+    }
+    None
+}
+
+/// How long the gap before token `i` is.
+fn current_gap_len(scanned: &Scanned<'_>, gaps: &[u32], i: usize) -> usize
+    requires same { length gaps.now ≡ length scanned.now.pairs }
+    requires within { i < length scanned.now.pairs }
+    ensures { Some result
+        ≡ option_map (λ (p : Pair). length p.gap)
+        (slice_get (with_gaps gaps.now scanned.now.pairs) i) }
+{
+    let len = gaps[i];
+    if len == KEEP_GAP {
+        return scanned.gap(i).len();
+    }
+    len as usize
+}
+
+/// The width of the tokens from one to another.
+fn width(scanned: &Scanned<'_>, gaps: &[u32], at: usize, to: usize) -> u32
+    requires same { length gaps.now ≡ length scanned.now.pairs }
+    requires ordered { at ≤ to }
+    requires within { to ≤ length scanned.now.pairs }
+    requires bounded { width (slice_range (with_gaps gaps.now scanned.now.pairs) at to) < 2 ^ 31 }
+    ensures { result ≡ width (slice_range (with_gaps gaps.now scanned.now.pairs) at to) }
+{
+    let mut width = 0;
+    for i in at..to {
+        width += current_gap_len(scanned, gaps, i) + scanned.clusters(i);
+    }
+    width as u32
+}
+
+/// The cell of a line, if it has one.
+fn cell_start(
+    scanned: &Scanned<'_>,
+    cell: Cell,
+    gaps: &[u32],
+    at: usize,
+    frozen: bool,
+    line: LineSpan,
+) -> Option<CellStart>
+    requires same { length gaps.now ≡ length scanned.now.pairs }
+    requires ordered { at < line.past }
+    requires within { line.past ≤ length scanned.now.pairs }
+    requires flags { HasFlags scanned.now.pairs at line }
+    requires within_limit { length scanned.now.pairs ≤ MAX_TEXT }
+    requires bounded { AreAtMost 1073741824
+        (width_before (cell_of cell)
+        (record {
+          frozen = frozen;
+          pairs = slice_range (with_gaps gaps.now scanned.now.pairs) at line.past;
+        }) ∷ []) }
+    ensures width { width_in result
+        ≡ width_before (cell_of cell)
+        (record {
+          frozen = frozen;
+          pairs = slice_range (with_gaps gaps.now scanned.now.pairs) at line.past;
+        }) }
+    ensures token { token_in result
+        ≡ option_map (λ n. at + n)
+        (cell_of cell (record {
+          frozen = frozen;
+          pairs = slice_range (with_gaps gaps.now scanned.now.pairs) at line.past;
+        })) }
+    ensures inside { IfSome result (λ p. p.token < length scanned.now.pairs) }
+{
+    match cell_of(scanned, cell, at, frozen, line) {
+        None => None,
+        Some(i) => Some(CellStart {
+            token: i as u32,
+            width: width(scanned, gaps, at, i),
+        }),
+    }
+}
+
+/// The cells of a text, one for each of these lines, the first of which begins at token `first`.
+fn cell_starts(
+    alloc: Global,
+    scanned: &Scanned<'_>,
+    cell: Cell,
+    gaps: &[u32],
+    lines: &[LineSpan],
+    first: usize,
+) -> Result<Vec<Option<CellStart>>, AllocError>
+    requires same { length gaps.now ≡ length scanned.now.pairs }
+    requires within_limit { length scanned.now.pairs ≤ MAX_TEXT }
+    requires within { first ≤ length scanned.now.pairs }
+    requires lines { AreLines scanned.now.pairs first false lines.now }
+    requires bounded { AreAtMost 1073741824
+        (widths (cell_of cell) (lines_from 0 (drop first (with_gaps gaps.now scanned.now.pairs)))) }
+    ensures widths { IfOk result
+        (λ starts. widths_of starts.items
+        ≡ widths (cell_of cell)
+        (lines_from 0 (drop first (with_gaps gaps.now scanned.now.pairs)))) }
+    ensures tokens { IfOk result
+        (λ starts. tokens_in starts.items
+        ≡ cell_tokens first (cell_of cell)
+        (lines_from 0 (drop first (with_gaps gaps.now scanned.now.pairs)))) }
+    ensures inside { IfOk result (λ starts. AreInside (length scanned.now.pairs) starts.items) }
+{
+    let mut starts = Vec::with_capacity(alloc, lines.len())?;
+    let mut frozen = false;
+    let mut at = first;
+    for line in lines {
+        let start = cell_start(scanned, cell, gaps, at, frozen, *line);
+        starts.push(start)?;
+        frozen = line.next_frozen;
+        at = line.past as usize;
+    }
+    Ok(starts)
+}
+
+/// The greatest width up to the first line without a cell.
+fn greatest(starts: &[Option<CellStart>]) -> u32
+    ensures { result ≡ greatest (widths_of starts.now) }
+{
+    let mut greatest = 0;
+    for start in starts {
+        match start {
+            Some(start) => greatest = greatest.max(start.width),
+            None => return greatest,
+        }
+    }
+    greatest
+}
+
+fn start_at(starts: &[Option<CellStart>], i: usize) -> Option<CellStart>
+    requires { i < length starts.now }
+    ensures { Some result ≡ slice_get starts.now i }
+{
+    starts[i]
+}
+
+fn starts_from(starts: &[Option<CellStart>], i: usize) -> &[Option<CellStart>]
+    requires { i ≤ length starts.now }
+    ensures { result.now ≡ drop i starts.now }
+{
+    &starts[i..]
+}
+
+/// Sets the gap before a cell, if there is one, and answers the greatest width of the run that the
+/// next line is in.
+fn set_cell_gap(gaps: &mut Vec<u32>, starts: &[Option<CellStart>], i: usize, run_width: u32) -> u32
+    requires within { i < length starts.now }
+    requires inside { AreInside (length gaps.old.items) starts.now }
+    requires bounded { AreAtMost 1073741824 (widths_of starts.now) }
+    requires run_width { run_width ≤ 1073741824 }
+    ensures filled { set_cell_gaps gaps.new.items (tokens_in (drop (i + 1) starts.now))
+        (cell_gaps_from_width result (widths_of (drop (i + 1) starts.now)))
+        ≡ set_cell_gaps gaps.old.items (tokens_in (drop i starts.now))
+        (cell_gaps_from_width run_width (widths_of (drop i starts.now))) }
+    ensures run_width { result ≤ 1073741824 }
+    ensures same { length gaps.new.items ≡ length gaps.old.items }
+{
+    match start_at(starts, i) {
+        Some(start) => {
+            gaps[start.token as usize] = 1 + run_width.saturating_sub(start.width);
+            run_width
+        }
+        None => greatest(starts_from(starts, i + 1)),
+    }
+}
+
+/// Sets the gaps before cells, from the greatest width of each run.
+fn set_cell_gaps(gaps: &mut Vec<u32>, starts: &[Option<CellStart>])
+    requires inside { AreInside (length gaps.old.items) starts.now }
+    requires bounded { AreAtMost 1073741824 (widths_of starts.now) }
+    ensures filled { gaps.new.items
+        ≡ set_cell_gaps gaps.old.items (tokens_in starts.now)
+        (cell_gaps_from_width (greatest (widths_of starts.now)) (widths_of starts.now)) }
+    ensures same { length gaps.new.items ≡ length gaps.old.items }
+{
+    let mut run_width = greatest(starts);
+    for i in 0..starts.len() {
+        run_width = set_cell_gap(gaps, starts, i, run_width);
+    }
+}
+
+/// Moves the cells of a text into columns, from token `first` on.
+pub(crate) fn align(
+    alloc: Global,
+    scanned: &Scanned<'_>,
+    cell: Cell,
+    lines: &[LineSpan],
+    gaps: &mut Vec<u32>,
+    first: usize,
+) -> Result<(), AllocError>
+    requires same { length gaps.old.items ≡ length scanned.now.pairs }
+    requires within_limit { length scanned.now.pairs ≤ MAX_TEXT }
+    requires within { first ≤ length scanned.now.pairs }
+    requires lines { AreLines scanned.now.pairs first false lines.now }
+    requires bounded { AreAtMost 1073741824
+        (widths (cell_of cell)
+        (lines_from 0 (drop first (with_gaps gaps.old.items scanned.now.pairs)))) }
+    ensures aligned { OnOk result
+        (drop first (with_gaps gaps.new.items scanned.now.pairs)
+        ≡ pairs_in (aligned (cell_of cell)
+        (lines_from 0 (drop first (with_gaps gaps.old.items scanned.now.pairs))))) }
+    ensures prefix { OnOk result
+        (take first (with_gaps gaps.new.items scanned.now.pairs)
+        ≡ take first (with_gaps gaps.old.items scanned.now.pairs)) }
+    ensures same { OnOk result (length gaps.new.items ≡ length scanned.now.pairs) }
+{
+    let starts = cell_starts(alloc, scanned, cell, gaps, lines, first)?;
+    set_cell_gaps(gaps, &starts);
+    Ok(())
+}

@@ -1,0 +1,120 @@
+//! The edits that give a text its new gaps.
+
+ghost use Rattle.std.specs.Prelude.{◌≡◌, ◌+◌, ◌*◌, ◌<◌, ◌≤◌, ◌++◌, [], ◌∷◌, Some, length, take, replicate, slice_get, slice_index, slice_index_or, nat_lt, IfOk, OnOk};
+ghost use Rattle.hcl_scan.specs.Tokenization.{MAX_TEXT};
+ghost use Rattle.std.specs.Str.{bytes_eq};
+ghost use Rattle.std.specs.Option.{option_map};
+ghost use Rattle.hcl_token.specs.Tokens.{Pair, whole_text};
+ghost use Rattle.edit_list.specs.Pieces.{changed_entries};
+ghost use Rattle.hcl_layout.specs.Gaps.Space.{spaces};
+ghost use Rattle.hcl_layout.specs.Gaps.Layout.{gap_piece, pieces};
+ghost use Rattle.hcl_layout.specs.Gaps.Inner.Stages.{unchanged, resolved_gap, with_gaps};
+
+use crate::gaps::base_gaps::KEEP_GAP;
+use edit_list::Edit;
+use hcl_scan::Scanned;
+use std::alloc::{AllocError, Global};
+
+/// Whether a gap is that many spaces.
+fn is_spaces(gap: &[u8], len: u32) -> bool
+    ensures { result ≡ bytes_eq gap.now (spaces len) }
+{
+    if gap.len() != len as usize {
+        return false;
+    }
+    for b in gap {
+        if *b != b' ' {
+            return false;
+        }
+    }
+    true
+}
+
+/// Whether a gap stays.
+pub(crate) fn is_unchanged(gap: &[u8], new: u32) -> bool
+    ensures { result ≡ bytes_eq gap.now (resolved_gap new gap.now) }
+{
+    if new == KEEP_GAP {
+        return true;
+    }
+    is_spaces(gap, new)
+}
+
+fn spaces(alloc: Global, len: u32) -> Result<Vec<u8>, AllocError>
+    ensures { IfOk result (λ gap. gap.items ≡ spaces len) }
+{
+    let mut gap = Vec::with_capacity(alloc, len as usize)?;
+    for _ in 0..len {
+        gap.push(b' ')?;
+    }
+    Ok(gap)
+}
+
+/// A gap that becomes another, as an edit, unless it stays.
+fn push_gap(
+    alloc: Global,
+    edits: &mut Vec<Edit>,
+    at: usize,
+    gap: &[u8],
+    new: u32,
+) -> Result<(), AllocError>
+    ensures { OnOk result
+        (edits.new.items
+        ≡ edits.old.items
+        ++ changed_entries at (gap_piece gap.now (resolved_gap new gap.now) ∷ [])) }
+{
+    if is_unchanged(gap, new) {
+        return Ok(());
+    }
+    let spaces = spaces(alloc, new)?;
+    edits.push(Edit::new(alloc, at, gap, &spaces)?)?;
+    Ok(())
+}
+
+/// The gaps that differ, as edits.
+pub(crate) fn gap_edits(
+    alloc: Global,
+    scanned: &Scanned<'_>,
+    gaps: &[u32],
+) -> Result<Vec<Edit>, AllocError>
+    requires { length gaps.now ≡ length scanned.now.pairs }
+    ensures { IfOk result
+        (λ edits. edits.items
+        ≡ changed_entries 0 (pieces scanned.now.pairs
+        (with_gaps gaps.now scanned.now.pairs) scanned.now.last)) }
+{
+    let mut edits = Vec::new(alloc);
+    for i in 0..scanned.len() {
+        let item = scanned.item(i);
+        push_gap(
+            alloc,
+            &mut edits,
+            item.gap_at as usize,
+            scanned.gap(i),
+            gaps[i],
+        )?;
+    }
+    let last = scanned.last_gap();
+    push_gap(
+        alloc,
+        &mut edits,
+        scanned.text().len() - last.len(),
+        last,
+        0,
+    )?;
+    Ok(edits)
+}
+
+/// Whether no gap differs.
+pub(crate) fn all_unchanged(scanned: &Scanned<'_>, gaps: &[u32]) -> bool
+    requires { length gaps.now ≡ length scanned.now.pairs }
+    ensures { result ≡ unchanged scanned.now.pairs
+        (with_gaps gaps.now scanned.now.pairs) scanned.now.last }
+{
+    for i in 0..scanned.len() {
+        if !is_unchanged(scanned.gap(i), gaps[i]) {
+            return false;
+        }
+    }
+    scanned.last_gap().is_empty()
+}

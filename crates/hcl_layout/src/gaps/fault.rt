@@ -1,0 +1,34 @@
+//! Why a text is not laid out.
+
+ghost use Rattle.std.specs.Prelude.{◌≡◌};
+ghost use Rattle.hcl_layout.specs.declared.gaps.fault.LayoutFault.TheVariants.{Memory};
+
+use std::alloc::{AllocError, AllocFailed};
+use thiserror::Error;
+
+/// Why a text is not laid out.
+#[derive(Clone, Copy, Debug, PartialEq, Eq, Error)]
+pub enum LayoutFault {
+    /// The layout has more than 16,777,216 bytes.
+    #[error("the text has more than 16777216 bytes")]
+    TooLong,
+    /// The memory ran out.
+    #[error("out of memory")]
+    Memory,
+}
+
+impl From<AllocError> for LayoutFault {
+    ghost from_gives = { λ _ e. e ≡ Memory };
+
+    fn from(_: AllocError) -> Self {
+        LayoutFault::Memory
+    }
+}
+
+impl<T: Drop> From<AllocFailed<T>> for LayoutFault {
+    ghost from_gives = { λ _ e. e ≡ Memory };
+
+    fn from(_: AllocFailed<T>) -> Self {
+        LayoutFault::Memory
+    }
+}

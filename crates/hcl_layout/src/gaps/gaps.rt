@@ -1,0 +1,51 @@
+//! The gaps of the layout.
+
+ghost use Rattle.std.specs.Prelude.{◌≡◌, ◌≤◌, length, IfOk};
+ghost use Rattle.hcl_token.specs.TokenizedText.{AreUtf8};
+ghost use Rattle.hcl_scan.specs.Tokenization.{IsTokenization};
+ghost use Rattle.hcl_layout.specs.Gaps.Layout.{layout_pairs};
+ghost use Rattle.hcl_layout.specs.Gaps.Inner.Stages.{with_gaps, mark_count};
+
+use crate::gaps::base_gaps::base_gaps;
+use crate::gaps::cells::{Cell, align};
+use crate::gaps::lines::line_spans;
+use hcl_scan::Scanned;
+use hcl_token::Kind;
+use std::alloc::{AllocError, Global};
+
+/// How many tokens belong to no line: the byte order mark.
+fn mark_count(scanned: &Scanned<'_>) -> usize
+    ensures value { result ≡ mark_count scanned.now.pairs }
+    ensures within { result ≤ length scanned.now.pairs }
+{
+    if scanned.is_empty() {
+        return 0;
+    }
+    match scanned.kind(0) {
+        Kind::Mark => 1,
+        _ => 0,
+    }
+}
+
+/// The gaps of the layout of a text.
+pub(crate) fn layout_gaps(alloc: Global, scanned: &Scanned<'_>) -> Result<Vec<u32>, AllocError>
+    requires tokenization { IsTokenization scanned.now.text scanned.now.pairs scanned.now.last }
+    requires utf8 { AreUtf8 scanned.now.pairs }
+    ensures layout { IfOk result
+        (λ gaps. with_gaps gaps.items scanned.now.pairs ≡ layout_pairs scanned.now.pairs) }
+    ensures same { IfOk result (λ gaps. length gaps.items ≡ length scanned.now.pairs) }
+{
+    let first = mark_count(scanned);
+    let lines = line_spans(alloc, scanned, first)?;
+    let mut gaps = base_gaps(alloc, scanned, &lines, first)?;
+    align(alloc, scanned, Cell::Assignment, &lines, &mut gaps, first)?;
+    align(
+        alloc,
+        scanned,
+        Cell::ClosingComment,
+        &lines,
+        &mut gaps,
+        first,
+    )?;
+    Ok(gaps)
+}

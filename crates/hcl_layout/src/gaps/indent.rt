@@ -1,0 +1,109 @@
+//! How far lines are indented.
+
+ghost use Rattle.std.specs.Prelude.{◌≡◌, false, ◌∷◌, ◌+◌, ◌-◌, nat_lt, if◌then◌else◌, OnOk, ◌<◌, ◌≤◌, length, reverse, slice_range};
+ghost use Rattle.hcl_scan.specs.Tokenization.{MAX_TEXT};
+ghost use Rattle.hcl_layout.specs.Gaps.Indent.{is_opening, is_closing, openings, closings};
+ghost use Rattle.hcl_layout.specs.Gaps.Inner.CodeViews.{is_bracket, are_some};
+ghost use Rattle.hcl_layout.specs.Gaps.Inner.Stages.{close_brackets, close_earlier};
+
+use hcl_scan::Scanned;
+use hcl_token::Kind;
+use std::alloc::AllocError;
+
+fn is_opening(kind: Kind) -> bool
+    ensures { result ≡ is_opening kind }
+{
+    matches!(
+        kind,
+        Kind::OpenParen
+            | Kind::OpenBracket
+            | Kind::OpenBrace
+            | Kind::InterpOpen
+            | Kind::DirectiveOpen
+    )
+}
+
+fn is_closing(kind: Kind) -> bool
+    ensures { result ≡ is_closing kind }
+{
+    matches!(
+        kind,
+        Kind::CloseParen | Kind::CloseBracket | Kind::CloseBrace | Kind::SeqClose
+    )
+}
+
+/// How many brackets and sequences open among the tokens from one to another, and how many close.
+/// They are not looked at where the line is not busy.
+pub(crate) fn count_brackets(
+    scanned: &Scanned<'_>,
+    from: usize,
+    to: usize,
+    has_bracket: bool,
+) -> (u32, u32)
+    requires ordered { from ≤ to }
+    requires within { to ≤ length scanned.now.pairs }
+    requires within_limit { length scanned.now.pairs ≤ MAX_TEXT }
+    requires has_bracket { has_bracket ≡ false → are_some is_bracket (slice_range scanned.now.pairs from to) ≡ false }
+    ensures opened { result.0 ≡ openings (slice_range scanned.now.pairs from to) }
+    ensures closed { result.1 ≡ closings (slice_range scanned.now.pairs from to) }
+{
+    if !has_bracket {
+        return (0, 0);
+    }
+    let mut opened: u32 = 0;
+    let mut closed: u32 = 0;
+    for i in from..to {
+        let kind = scanned.kind(i);
+        opened += u32::from(is_opening(kind));
+        closed += u32::from(is_closing(kind));
+    }
+    (opened, closed)
+}
+
+/// Brackets close: of each line that is still open, `surplus` has how many openings it has beyond
+/// those of the open line before it, the last line's at the end; as many are taken off from the end
+/// as close.
+pub(crate) fn close_brackets(surplus: &mut Vec<u32>, closed: u32)
+    ensures remaining { reverse surplus.new.items ≡ close_brackets closed (reverse surplus.old.items) }
+    ensures shorter { length surplus.new.items ≤ length surplus.old.items }
+{
+    let mut remaining = closed;
+    while !surplus.is_empty() {
+        let end = surplus.len() - 1;
+        let top = surplus[end];
+        if remaining < top {
+            surplus[end] = top - remaining;
+            return;
+        }
+        remaining -= top;
+        surplus.pop();
+    }
+}
+
+/// A line opens and closes so many brackets: what it closes of earlier lines is taken off.
+pub(crate) fn close_earlier(surplus: &mut Vec<u32>, opened: u32, closed: u32)
+    ensures open { reverse surplus.new.items ≡ close_earlier opened closed (reverse surplus.old.items) }
+    ensures shorter { length surplus.new.items ≤ length surplus.old.items }
+{
+    if opened < closed {
+        close_brackets(surplus, closed - opened);
+    }
+}
+
+/// What it leaves open is put on.
+pub(crate) fn push_opened(
+    surplus: &mut Vec<u32>,
+    opened: u32,
+    closed: u32,
+) -> Result<(), AllocError>
+    ensures open { OnOk result
+        (reverse surplus.new.items
+        ≡ (if nat_lt closed opened then (opened - closed) ∷ reverse surplus.old.items
+        else reverse surplus.old.items)) }
+    ensures longer { OnOk result (length surplus.new.items ≤ length surplus.old.items + 1) }
+{
+    if closed < opened {
+        surplus.push(opened - closed)?;
+    }
+    Ok(())
+}

@@ -1,0 +1,162 @@
+//! Lines.
+
+ghost use Rattle.std.specs.Prelude.{◌≡◌, ◌+◌, ◌<◌, ◌≤◌, false, length, IfOk};
+ghost use Rattle.hcl_scan.specs.Tokenization.{MAX_TEXT};
+ghost use Rattle.hcl_layout.specs.Gaps.Lines.{heredocs_after, ends_line};
+ghost use Rattle.hcl_layout.specs.Gaps.Inner.CodeViews.{is_bracket, is_comment, has_no_line_effect, IsLine, AreLines};
+
+use crate::gaps::kinds::{is_equal, is_here_open};
+use hcl_scan::Scanned;
+use hcl_token::Kind;
+use std::alloc::{AllocError, Global};
+
+/// A line that stands behind another, or at the front.
+#[derive(Clone, Copy)]
+pub(crate) struct LineSpan {
+    /// The number past its last token.
+    pub past: u32,
+    /// Whether the next line begins in a heredoc.
+    pub next_frozen: bool,
+    /// Whether a bracket or a template sequence stands in it.
+    pub has_bracket: bool,
+    /// Whether a comment stands in it.
+    pub has_comment: bool,
+    /// Whether a `=` stands in it.
+    pub has_equals: bool,
+}
+
+fn is_bracket(kind: Kind) -> bool
+    ensures { result ≡ is_bracket kind }
+{
+    matches!(
+        kind,
+        Kind::OpenBrace
+            | Kind::CloseBrace
+            | Kind::OpenBracket
+            | Kind::CloseBracket
+            | Kind::OpenParen
+            | Kind::CloseParen
+            | Kind::SeqClose
+            | Kind::InterpOpen
+            | Kind::DirectiveOpen
+    )
+}
+
+fn is_comment(kind: Kind) -> bool
+    ensures { result ≡ is_comment kind }
+{
+    matches!(kind, Kind::LineComment | Kind::InlineComment)
+}
+
+/// Whether a token of this kind neither ends a line nor raises a flag of it, and is none of a
+/// heredoc's.
+fn has_no_line_effect(kind: Kind) -> bool
+    ensures { result ≡ has_no_line_effect kind }
+{
+    match kind {
+        Kind::LineEnd
+        | Kind::HereOpen
+        | Kind::HereClose
+        | Kind::HereLit
+        | Kind::LineComment
+        | Kind::InlineComment
+        | Kind::Equal
+        | Kind::OpenBrace
+        | Kind::CloseBrace
+        | Kind::OpenBracket
+        | Kind::CloseBracket
+        | Kind::OpenParen
+        | Kind::CloseParen
+        | Kind::SeqClose
+        | Kind::InterpOpen
+        | Kind::DirectiveOpen => false,
+        _ => true,
+    }
+}
+
+fn heredocs_after(open_heredocs: usize, kind: Kind) -> usize
+    requires { open_heredocs < 16777217 }
+    ensures { result ≡ heredocs_after open_heredocs kind }
+{
+    match kind {
+        Kind::HereOpen => open_heredocs + 1,
+        Kind::HereClose => open_heredocs.saturating_sub(1),
+        _ => open_heredocs,
+    }
+}
+
+fn ends_line(open_heredocs: usize, kind: Kind) -> bool
+    ensures { result ≡ ends_line open_heredocs kind }
+{
+    match kind {
+        Kind::LineEnd => open_heredocs == 0,
+        Kind::HereOpen => open_heredocs == 0,
+        _ => false,
+    }
+}
+
+/// The line that begins at token `at`, in a heredoc or not.
+fn line_at(scanned: &Scanned<'_>, at: usize, frozen: bool) -> LineSpan
+    requires within { at < length scanned.now.pairs }
+    requires within_limit { length scanned.now.pairs ≤ MAX_TEXT }
+    ensures { IsLine scanned.now.pairs at frozen result }
+{
+    let mut open_heredocs = usize::from(frozen);
+    let mut has_bracket = false;
+    let mut has_comment = false;
+    let mut has_equals = false;
+    for i in at..scanned.len() {
+        let kind = scanned.kind(i);
+        if has_no_line_effect(kind) {
+            continue;
+        }
+        if ends_line(open_heredocs, kind) {
+            return LineSpan {
+                past: (i + 1) as u32,
+                next_frozen: is_here_open(kind),
+                has_bracket,
+                has_comment,
+                has_equals,
+            };
+        }
+        if is_bracket(kind) {
+            has_bracket = true;
+            continue;
+        }
+        if is_equal(kind) {
+            has_equals = true;
+            continue;
+        }
+        has_comment = has_comment | is_comment(kind);
+        open_heredocs = heredocs_after(open_heredocs, kind);
+    }
+    LineSpan {
+        past: scanned.len() as u32,
+        next_frozen: false,
+        has_bracket,
+        has_comment,
+        has_equals,
+    }
+}
+
+/// The lines from token `first` on, one behind the other.
+pub(crate) fn line_spans(
+    alloc: Global,
+    scanned: &Scanned<'_>,
+    first: usize,
+) -> Result<Vec<LineSpan>, AllocError>
+    requires within_limit { length scanned.now.pairs ≤ MAX_TEXT }
+    requires within { first ≤ length scanned.now.pairs }
+    ensures { IfOk result (λ lines. AreLines scanned.now.pairs first false lines.items) }
+{
+    let mut lines = Vec::new(alloc);
+    let mut frozen = false;
+    let mut at = first;
+    while at < scanned.len() {
+        let line = line_at(scanned, at, frozen);
+        lines.push(line)?;
+        frozen = line.next_frozen;
+        at = line.past as usize;
+    }
+    Ok(lines)
+}

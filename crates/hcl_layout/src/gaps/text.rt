@@ -1,0 +1,158 @@
+//! The text of a layout, written from its gaps.
+
+ghost use Rattle.std.specs.Prelude.{◌≡◌, ◌≤◌, ◌<◌, ◌*◌, ◌++◌, [], length, sum_by, slice_range, OnOk, IfOk, IfSome, IfNone};
+ghost use Rattle.hcl_scan.specs.Tokenization.{MAX_TEXT};
+ghost use Rattle.hcl_token.specs.Tokens.{whole_text};
+ghost use Rattle.hcl_layout.specs.Gaps.Space.{spaces};
+ghost use Rattle.hcl_layout.specs.Gaps.Inner.Stages.{resolved_gap, resolved_len, space_count, with_gaps, AreUnchanged};
+
+use crate::gaps::base_gaps::KEEP_GAP;
+use crate::gaps::edits::is_unchanged;
+use hcl_scan::{MAX_TEXT, Scanned};
+use hcl_token::Item;
+use std::alloc::{AllocError, Global};
+
+/// How long a token is with the gap before it that a number stands for.
+fn token_len(item: Item, new: u32) -> usize
+    requires gap { item.gap_at ≤ item.start }
+    requires token { item.start ≤ item.stop }
+    ensures value { result ≡ resolved_len new item }
+    ensures bounded { result ≤ 8589934592 }
+{
+    if new == KEEP_GAP {
+        return (item.stop - item.gap_at) as usize;
+    }
+    new as usize + (item.stop - item.start) as usize
+}
+
+/// The number of bytes of the text with its new gaps, unless it is more than 16,777,216.
+fn len_within_limit(scanned: &Scanned<'_>, gaps: &[u32]) -> Option<usize>
+    requires { length gaps.now ≡ length scanned.now.pairs }
+    ensures len { IfSome result (λ len.
+        len ≡ length (whole_text (with_gaps gaps.now scanned.now.pairs) [])) }
+    ensures short { IfSome result (λ len. len ≤ MAX_TEXT) }
+    ensures long { IfNone result
+        (MAX_TEXT < length (whole_text (with_gaps gaps.now scanned.now.pairs) [])) }
+{
+    let mut total = 0;
+    for i in 0..scanned.len() {
+        total += token_len(scanned.item(i), gaps[i]);
+    }
+    if total > MAX_TEXT {
+        return None;
+    }
+    Some(total)
+}
+
+/// How many spaces a number stands for; none where the gap stays.
+fn space_count(new: u32) -> u32
+    ensures { result ≡ space_count new }
+{
+    if new == KEEP_GAP { 0 } else { new }
+}
+
+/// How many spaces numbers stand for, those of gaps that stay aside.
+fn total_space_count(gaps: &[u32]) -> usize
+    requires { length gaps.now ≤ MAX_TEXT }
+    ensures value { result ≡ sum_by space_count gaps.now }
+    ensures bounded { result ≤ 4294967295 * MAX_TEXT }
+{
+    let mut total = 0;
+    for new in gaps {
+        total += space_count(*new) as usize;
+    }
+    total
+}
+
+/// Room for the text with its new gaps, unless that has more than 16,777,216 bytes. The old gaps
+/// are counted too where there is room for all, so that no token is looked at.
+pub(crate) fn capacity_within_limit(scanned: &Scanned<'_>, gaps: &[u32]) -> Option<usize>
+    requires { length gaps.now ≡ length scanned.now.pairs }
+    ensures short { IfSome result (λ capacity.
+        length (whole_text (with_gaps gaps.now scanned.now.pairs) []) ≤ MAX_TEXT) }
+    ensures long { IfNone result
+        (MAX_TEXT < length (whole_text (with_gaps gaps.now scanned.now.pairs) [])) }
+{
+    let text = scanned.text();
+    let most = text.len() + total_space_count(gaps);
+    if most <= MAX_TEXT {
+        return Some(most);
+    }
+    len_within_limit(scanned, gaps)
+}
+
+fn push_spaces(out: &mut Vec<u8>, len: u32) -> Result<(), AllocError>
+    ensures { OnOk result (out.new.items ≡ out.old.items ++ spaces len) }
+{
+    for _ in 0..len {
+        out.push(b' ')?;
+    }
+    Ok(())
+}
+
+/// The gap that a number stands for, where this one stands now.
+fn push_gap(out: &mut Vec<u8>, gap: &[u8], new: u32) -> Result<(), AllocError>
+    ensures { OnOk result (out.new.items ≡ out.old.items ++ resolved_gap new gap.now) }
+{
+    if new == KEEP_GAP {
+        out.extend_from_slice(gap)
+    } else {
+        push_spaces(out, new)
+    }
+}
+
+/// The bytes of a text from one place to another.
+fn slice(text: &[u8], from: usize, to: usize) -> &[u8]
+    requires ordered { from ≤ to }
+    requires within { to ≤ length text.now }
+    ensures { result.now ≡ slice_range text.now from to }
+{
+    &text[from..to]
+}
+
+/// The first token from number `from` on whose gap changes, or the number past the last token.
+#[inline(never)]
+fn next_change(scanned: &Scanned<'_>, gaps: &[u32], from: usize) -> usize
+    requires same { length gaps.now ≡ length scanned.now.pairs }
+    requires within { from ≤ length scanned.now.pairs }
+    ensures later { from ≤ result }
+    ensures within { result ≤ length scanned.now.pairs }
+    ensures stay { AreUnchanged scanned.now.pairs gaps.now from result }
+{
+    for i in from..scanned.len() {
+        if !is_unchanged(scanned.gap(i), gaps[i]) {
+            return i;
+        }
+    }
+    scanned.len()
+}
+
+/// The text with its new gaps, for which there is to be so much room. What stands between two gaps
+/// that change is copied at once.
+pub(crate) fn text_with_gaps(
+    alloc: Global,
+    scanned: &Scanned<'_>,
+    gaps: &[u32],
+    capacity: usize,
+) -> Result<Vec<u8>, AllocError>
+    requires { length gaps.now ≡ length scanned.now.pairs }
+    ensures { IfOk result (λ text.
+        text.items ≡ whole_text (with_gaps gaps.now scanned.now.pairs) []) }
+{
+    let source = scanned.text();
+    let mut text = Vec::with_capacity(alloc, capacity)?;
+    let mut from = 0;
+    let mut i = next_change(scanned, gaps, 0);
+    while i < scanned.len() {
+        let gap = scanned.gap(i);
+        let item = scanned.item(i);
+        text.extend_from_slice(slice(source, from, item.gap_at as usize))?;
+        push_gap(&mut text, gap, gaps[i])?;
+        from = item.start as usize;
+        let next = next_change(scanned, gaps, i + 1);
+        i = next;
+    }
+    let end = source.len() - scanned.last_gap().len();
+    text.extend_from_slice(slice(source, from, end))?;
+    Ok(text)
+}
