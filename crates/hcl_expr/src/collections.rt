@@ -7,9 +7,8 @@ use crate::reader::Reader;
 use hcl_grammar::fault::TokenFault;
 use hcl_grammar::goal::Goal;
 use hcl_grammar::tree::{Elem, Expr, Intro, Primary, Term};
-use hcl_nodes::nodes;
+use hcl_grammar::{Boxed, Items, nodes};
 use hcl_token::Kind;
-use plain_tree::{Boxed, Items};
 
 impl<'s, 't> Reader<'s, 't> {
     /// The arguments of a call and the parenthesis behind them; whether `...` stands behind the

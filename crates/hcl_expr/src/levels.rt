@@ -13,11 +13,10 @@ use crate::lookahead::same_kind;
 use crate::reader::Reader;
 use hcl_grammar::fault::TokenFault;
 use hcl_grammar::goal::Goal;
+use hcl_grammar::operators::{binary_operator, unary_operator};
 use hcl_grammar::tree::{BinaryOperator, Expr, ExprKind, Operation, UnaryOperator};
-use hcl_nodes::nodes;
-use hcl_nodes::operators::{binary_operator, unary_operator};
+use hcl_grammar::{Boxed, Items, nodes};
 use hcl_token::Kind;
-use plain_tree::{Boxed, Items};
 
 /// How many levels of operators there are.
 const LEVELS: usize = 6;

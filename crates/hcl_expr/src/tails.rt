@@ -11,9 +11,8 @@ use crate::reader::Reader;
 use hcl_grammar::fault::TokenFault;
 use hcl_grammar::goal::Goal;
 use hcl_grammar::tree::{Expr, Tail, Term};
-use hcl_nodes::nodes;
+use hcl_grammar::{Boxed, Items, nodes};
 use hcl_token::Kind;
-use plain_tree::{Boxed, Items};
 
 impl<'s, 't> Reader<'s, 't> {
     /// What stands behind `.`: a name, or `*`.

@@ -9,9 +9,8 @@ use crate::reader::Reader;
 use hcl_grammar::fault::TokenFault;
 use hcl_grammar::goal::Goal;
 use hcl_grammar::tree::{Part, Template};
-use hcl_nodes::nodes;
+use hcl_grammar::{Items, nodes};
 use hcl_token::Kind;
-use plain_tree::Items;
 
 impl<'s, 't> Reader<'s, 't> {
     /// Takes a whole directive that has one word and nothing else.

@@ -12,9 +12,8 @@ use crate::reader::Reader;
 use hcl_grammar::fault::TokenFault;
 use hcl_grammar::goal::Goal;
 use hcl_grammar::tree::{Primary, Term};
-use hcl_nodes::nodes;
+use hcl_grammar::{Boxed, nodes};
 use hcl_token::Kind;
-use plain_tree::Boxed;
 
 impl<'s, 't> Reader<'s, 't> {
     /// Whether `(` or `::` comes next, so that the identifier before it is a function's name.

@@ -6,9 +6,9 @@ ghost use Rattle.hcl_expr.specs.ReaderRules as spec;
 ghost use Rattle.hcl_grammar.specs.Pure.Reading.{ReadsExactly, Reads};
 
 use crate::reader::Reader;
+use hcl_grammar::Items;
 use hcl_grammar::fault::TokenFault;
 use hcl_token::Kind;
-use plain_tree::Items;
 
 impl<'s, 't> Reader<'s, 't> {
     /// Whether this word comes next.

@@ -6,3 +6,4 @@ pub mod Lookahead
 pub mod Grammar
 pub mod Bodies
 pub mod Pure
+pub mod formers

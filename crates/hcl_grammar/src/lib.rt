@@ -3,14 +3,19 @@
 #![tactic(auto)]
 
 pub mod bounds;
+mod boxed;
 pub mod fault;
 pub mod goal;
+mod items;
+pub mod nodes;
+pub mod operators;
 pub mod tree;
 
 pub use bounds::MAX_NESTING;
+pub use boxed::Boxed;
 pub use fault::TokenFault;
 pub use goal::Goal;
-pub use plain_tree::{Boxed, Items};
+pub use items::Items;
 pub use tree::{
     Attribute, BinaryOperator, Block, Body, Call, Content, Elem, Expr, ExprKind, ForDirective,
     ForObject, ForTuple, IfDirective, Intro, Label, Member, Operation, Part, Primary, Tail,

@@ -7,7 +7,7 @@
 //!
 //! HCL native syntax specification, Structural Elements, Expressions and Templates.
 
-use plain_tree::{Boxed, Items};
+use crate::{Boxed, Items};
 
 /// An operator before its operand.
 #[derive(Clone, Copy)]

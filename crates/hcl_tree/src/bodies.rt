@@ -12,9 +12,8 @@ use hcl_expr::Reader;
 use hcl_grammar::fault::TokenFault;
 use hcl_grammar::goal::Goal;
 use hcl_grammar::tree::{Content, Member};
-use hcl_nodes::nodes;
+use hcl_grammar::{Items, nodes};
 use hcl_token::Kind;
-use plain_tree::Items;
 
 /// At most one attribute, of a block on one line.
 #[tactic(auto, unfolding(hcl_grammar::specs::Pure::BodyParser::one_line_body))]

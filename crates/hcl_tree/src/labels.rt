@@ -8,9 +8,8 @@ ghost use Rattle.hcl_tree.specs.BodyRules as spec;
 use hcl_expr::Reader;
 use hcl_grammar::fault::TokenFault;
 use hcl_grammar::tree::Label;
-use hcl_nodes::nodes;
+use hcl_grammar::{Items, nodes};
 use hcl_token::Kind;
-use plain_tree::Items;
 
 /// A label in quotes, behind the opening quote, which is token `first`. It has no interpolation.
 #[tactic(auto, unfolding(hcl_grammar::specs::Pure::BodyParser::quoted_label))]

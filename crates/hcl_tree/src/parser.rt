@@ -13,10 +13,9 @@ ghost use Rattle.hcl_tree.specs.BodyRules as spec;
 
 use crate::bodies::members;
 use hcl_expr::Reader;
-use hcl_grammar::MAX_NESTING;
 use hcl_grammar::fault::TokenFault;
 use hcl_grammar::tree::Tree;
-use hcl_nodes::nodes;
+use hcl_grammar::{MAX_NESTING, nodes};
 use hcl_scan::Scanned;
 use hcl_text_laws::{ParseFault, to_parse_fault};
 use hcl_token::Kind;

@@ -9,8 +9,8 @@ ghost use Rattle.tf_rules.specs.Preorder.{member, member_children, content_child
 
 use crate::expressions::walk_expr;
 use hcl_grammar::tree::{Attribute, Content, Member, Tree};
+use hcl_grammar::{Boxed, Items};
 use hcl_scan::Scanned;
-use plain_tree::{Boxed, Items};
 use std::alloc::{AllocError, Global};
 use tf_rule::{Finding, RuleSet};
 use tf_rules::{LintContext, Role};

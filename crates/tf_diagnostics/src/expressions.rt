@@ -15,7 +15,7 @@ use hcl_grammar::tree::{
     Elem, Expr, ExprKind, ForDirective, ForObject, ForTuple, IfDirective, Operation, Part, Primary,
     Tail, Template, Term,
 };
-use plain_tree::{Boxed, Items};
+use hcl_grammar::{Boxed, Items};
 use std::alloc::AllocError;
 use tf_rule::Finding;
 use tf_rules::{LintContext, Role, check_expr, check_tail, check_term};

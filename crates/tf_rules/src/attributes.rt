@@ -5,9 +5,9 @@ ghost use Rattle.std.specs.List.{flat_map};
 ghost use Rattle.tf_rules.specs.Attributes.{is_empty_string, is_attribute, has_attribute, member_attributes, optional_attribute, attributes};
 
 use crate::spelling::{is_spelled, token_text};
+use hcl_grammar::Boxed;
 use hcl_grammar::tree::{Attribute, Block, Content, Expr, ExprKind, Member, Primary};
 use hcl_scan::Scanned;
-use plain_tree::Boxed;
 
 fn is_empty_string(e: &Expr) -> bool
     ensures { result ≡ is_empty_string e.now }

@@ -7,8 +7,8 @@ use hcl_grammar::tree::{
     ForTuple, IfDirective, Intro, Label, Member, Operation, Part, Primary, Tail, Template, Tree,
     UnaryOperator,
 };
+use hcl_grammar::{Boxed, Items};
 use hcl_scan::{Kind, Scanned};
-use plain_tree::{Boxed, Items};
 
 /// More nodes than the tree of any of the texts has.
 const NODES: usize = 1_000_000;

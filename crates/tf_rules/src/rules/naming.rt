@@ -12,8 +12,8 @@ ghost use Rattle.tf_rule.specs.Findings.{valid_findings};
 use crate::context::LintContext;
 use crate::snake_case::is_snake_case;
 use crate::spelling::{is_spelled, name_text, token_text};
+use hcl_grammar::Boxed;
 use hcl_grammar::tree::{Attribute, Block, Content, Label, Member};
-use plain_tree::Boxed;
 use std::alloc::AllocError;
 use tf_rule::{Finding, Message, NameKind, Rule};
 

@@ -1,7 +1,7 @@
 -- What the check tries anyway: with an answer here, a wrong body is refused without a second search.
 use Rattle.std.proofs.Common.{rules, arith}
 use Rattle.std.proofs.lemmas.Grind.{common_steps}
-use Rattle.hcl_nodes.proofs.operators.binary_operator.Goals as goal
+use Rattle.hcl_grammar.proofs.items.Items.push.Goals as goal
 
-pub returns-in-NotEqual : goal.returns-in-NotEqual
-returns-in-NotEqual c = first_of (search rules, grind (arith, common_steps))
+pub returns-clause-ok : goal.returns-clause-ok
+returns-clause-ok g c = first_of (search rules, grind (arith, common_steps))

@@ -5,7 +5,7 @@
 ghost use Rattle.std.specs.Prelude.{◌≡◌};
 ghost use Rattle.hcl_grammar.specs.Operators as operators;
 
-use hcl_grammar::tree::{BinaryOperator, UnaryOperator};
+use crate::tree::{BinaryOperator, UnaryOperator};
 use hcl_token::Kind;
 
 /// The operator before an operand that a token is, if it is one.

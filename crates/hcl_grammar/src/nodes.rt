@@ -9,13 +9,13 @@ ghost use Rattle.hcl_grammar.specs.declared.tree.Content.TheVariants as content;
 ghost use Rattle.hcl_grammar.specs.Nodes as nodes;
 ghost use Rattle.hcl_grammar.specs.Pure.Reading.{Reads};
 
-use hcl_grammar::fault::TokenFault;
-use hcl_grammar::tree::{
+use crate::fault::TokenFault;
+use crate::tree::{
     Attribute, BinaryOperator, Block, Body, Call, Content, Elem, Expr, ExprKind, ForDirective,
     ForObject, ForTuple, IfDirective, Intro, Label, Member, Operation, Part, Primary, Tail,
     Template, Term, Tree,
 };
-use plain_tree::{Boxed, Items};
+use crate::{Boxed, Items};
 use std::alloc::{AllocError, Global};
 
 /// The numbers of a node's first token and past its last, in 32 bits; `AllocError` past them.
@@ -33,7 +33,7 @@ fn to_u32_pair(first: usize, past: usize) -> Result<(u32, u32), AllocError>
 
 /// An expression.
 #[inline(always)]
-#[tactic(auto, unfolding(hcl_grammar::specs::Nodes::expr))]
+#[tactic(auto, unfolding(crate::specs::Nodes::expr))]
 pub fn expr(first: usize, past: usize, form: ExprKind) -> Result<Expr, TokenFault>
     ensures node { Reads (Ok (nodes.expr first past form, past)) result past }
     ensures err { IfErr result (λ _. (2 ^ 32 ≤ first) ⊎ (2 ^ 32 ≤ past)) }
@@ -48,7 +48,7 @@ pub fn expr(first: usize, past: usize, form: ExprKind) -> Result<Expr, TokenFaul
 
 /// A term.
 #[inline(always)]
-#[tactic(auto, unfolding(hcl_grammar::specs::Nodes::term))]
+#[tactic(auto, unfolding(crate::specs::Nodes::term))]
 pub fn term(first: usize, past: usize, shape: Primary) -> Result<Term, TokenFault>
     ensures node { Reads (Ok (nodes.term first past shape, past)) result past }
     ensures err { IfErr result (λ _. (2 ^ 32 ≤ first) ⊎ (2 ^ 32 ≤ past)) }
@@ -62,7 +62,7 @@ pub fn term(first: usize, past: usize, shape: Primary) -> Result<Term, TokenFaul
 }
 
 /// An operator, and the operand behind it.
-#[tactic(auto, unfolding(hcl_grammar::specs::Nodes::operation))]
+#[tactic(auto, unfolding(crate::specs::Nodes::operation))]
 pub fn operation(operator: BinaryOperator, operand: Expr) -> Operation
     ensures { result ≡ nodes.operation operator operand }
 {
@@ -70,7 +70,7 @@ pub fn operation(operator: BinaryOperator, operand: Expr) -> Operation
 }
 
 /// A key of an object and its value.
-#[tactic(auto, unfolding(hcl_grammar::specs::Nodes::elem))]
+#[tactic(auto, unfolding(crate::specs::Nodes::elem))]
 pub fn elem(key: Expr, value: Expr) -> Elem
     ensures { result ≡ nodes.elem key value }
 {
@@ -124,7 +124,7 @@ pub fn postfix(
 }
 
 /// A call of a function.
-#[tactic(auto, unfolding(hcl_grammar::specs::Nodes::call))]
+#[tactic(auto, unfolding(crate::specs::Nodes::call))]
 pub fn call(
     alloc: Global,
     names: Items<usize>,
@@ -142,7 +142,7 @@ pub fn call(
 }
 
 /// What a `for` begins with.
-#[tactic(auto, unfolding(hcl_grammar::specs::Nodes::intro))]
+#[tactic(auto, unfolding(crate::specs::Nodes::intro))]
 pub fn intro(
     first: usize,
     past: usize,
@@ -162,7 +162,7 @@ pub fn intro(
 }
 
 /// A `for` in brackets.
-#[tactic(auto, unfolding(hcl_grammar::specs::Nodes::for_tuple))]
+#[tactic(auto, unfolding(crate::specs::Nodes::for_tuple))]
 pub fn for_tuple(
     alloc: Global,
     intro: Intro,
@@ -180,7 +180,7 @@ pub fn for_tuple(
 }
 
 /// A `for` in braces.
-#[tactic(auto, unfolding(hcl_grammar::specs::Nodes::for_object))]
+#[tactic(auto, unfolding(crate::specs::Nodes::for_object))]
 pub fn for_object(
     alloc: Global,
     intro: Intro,
@@ -202,7 +202,7 @@ pub fn for_object(
 }
 
 /// The parts of a template.
-#[tactic(auto, unfolding(hcl_grammar::specs::Nodes::template))]
+#[tactic(auto, unfolding(crate::specs::Nodes::template))]
 pub fn template(first: usize, past: usize, parts: Items<Part>) -> Result<Template, AllocError>
     ensures ok { IfOk result (λ t. t ≡ nodes.template first past parts) }
     ensures err { IfErr result (λ _. (2 ^ 32 ≤ first) ⊎ (2 ^ 32 ≤ past)) }
@@ -212,7 +212,7 @@ pub fn template(first: usize, past: usize, parts: Items<Part>) -> Result<Templat
 }
 
 /// An `if` directive.
-#[tactic(auto, unfolding(hcl_grammar::specs::Nodes::if_part))]
+#[tactic(auto, unfolding(crate::specs::Nodes::if_part))]
 pub fn if_part(
     alloc: Global,
     first: usize,
@@ -234,7 +234,7 @@ pub fn if_part(
 }
 
 /// A `for` directive.
-#[tactic(auto, unfolding(hcl_grammar::specs::Nodes::for_part))]
+#[tactic(auto, unfolding(crate::specs::Nodes::for_part))]
 pub fn for_part(
     alloc: Global,
     first: usize,
@@ -254,7 +254,7 @@ pub fn for_part(
 }
 
 /// An attribute, whose first token is its name.
-#[tactic(auto, unfolding(hcl_grammar::specs::Nodes::attribute))]
+#[tactic(auto, unfolding(crate::specs::Nodes::attribute))]
 pub fn attribute(first: usize, past: usize, value: Boxed<Expr>) -> Attribute
     ensures { result ≡ nodes.attribute first past value }
 {
@@ -281,7 +281,7 @@ pub fn block_body(alloc: Global, body: Body) -> Result<Content, AllocError>
 }
 
 /// A label of a block.
-#[tactic(auto, unfolding(hcl_grammar::specs::Nodes::label))]
+#[tactic(auto, unfolding(crate::specs::Nodes::label))]
 pub fn label(first: usize, past: usize, name: Option<usize>) -> Label
     ensures { result ≡ nodes.label first past name }
 {
@@ -289,7 +289,7 @@ pub fn label(first: usize, past: usize, name: Option<usize>) -> Label
 }
 
 /// A block, whose first token is its word.
-#[tactic(auto, unfolding(hcl_grammar::specs::Nodes::block))]
+#[tactic(auto, unfolding(crate::specs::Nodes::block))]
 pub fn block(
     first: usize,
     past: usize,
@@ -310,7 +310,7 @@ pub fn block(
 }
 
 /// The members of a body.
-#[tactic(auto, unfolding(hcl_grammar::specs::Nodes::body))]
+#[tactic(auto, unfolding(crate::specs::Nodes::body))]
 pub fn body(first: usize, past: usize, members: Items<Member>) -> Body
     ensures { result ≡ nodes.body first past members }
 {
@@ -322,7 +322,7 @@ pub fn body(first: usize, past: usize, members: Items<Member>) -> Body
 }
 
 /// The tree of a whole text of so many tokens.
-#[tactic(auto, unfolding(hcl_grammar::specs::Nodes::tree))]
+#[tactic(auto, unfolding(crate::specs::Nodes::tree))]
 pub fn tree(past: usize, body: Body) -> Tree
     ensures { result ≡ nodes.tree past body }
 {

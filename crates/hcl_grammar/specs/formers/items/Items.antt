@@ -13,10 +13,10 @@ use denote.Param.Weighed.{Weighed, w_list}
 use denote.Model.Placed.{view_places}
 use Rattle.std.specs.formers.vec.Vec as vec
 use Rattle.std.specs.declared.alloc.Allocator.{Ghosts}
-use Rattle.plain_tree.specs.declared.items.Items.TheInside.{Inside}
-use Rattle.plain_tree.specs.declared.items.Items.TheView.{view, invariant}
-use Rattle.plain_tree.specs.contracts.items.Items as C
-use Rattle.plain_tree.specs.contracts.items.Items.TheInside as I
+use Rattle.hcl_grammar.specs.declared.items.Items.TheInside.{Inside}
+use Rattle.hcl_grammar.specs.declared.items.Items.TheView.{view, invariant}
+use Rattle.hcl_grammar.specs.contracts.items.Items as C
+use Rattle.hcl_grammar.specs.contracts.items.Items.TheInside as I
 
 abbrev pub the_former : Former {0} → Type 0 → Former {0}
 the_former g Z = list g
