@@ -3,8 +3,8 @@ use Rattle.std.proofs.Common.{◌≡◌, ℕ, zero, suc, ◌-◌, ◌<◌, ◌�
 use Rattle.std.specs.Prelude.{codes, is_some, ◌||◌}
 use Rattle.std.specs.List.{flat_map, AllByRecursion}
 use Rattle.std.proofs.lemmas.List.Concat.{flat_map-cons}
-use Rattle.edit_list.specs.Pieces.{EditEntry, EditList}
-use Rattle.edit_list.specs.Journal.{JournalEntry}
+use Rattle.edit_record.specs.Lists.Pieces.{EditEntry, EditList}
+use Rattle.edit_record.specs.Lists.Journal.{JournalEntry}
 use Rattle.edit_record.specs.Text.{space, newline, number_text, edit_text, list_text, word_text, IsValidList, steps, step_text}
 use Rattle.edit_record.specs.Decoding.{NumbersFit, FollowsHead, mark_after, ReachesFirstEdit, OldReachesFirstEdit, MayAllocate}
 use Rattle.edit_record.specs.Inner.Reading.{strip, max_number, number_at, edit_at, word_at, step_at, OldHead, old_head_at}

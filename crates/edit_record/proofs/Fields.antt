@@ -6,7 +6,7 @@ use Rattle.std.specs.List.{flat_map, AllByRecursion}
 use Rattle.std.proofs.lemmas.Bool.{eqb-true, ltb-false, le-ltb}
 use Rattle.std.proofs.lemmas.List.{take-append-drop, length-take}
 use Rattle.std.proofs.Math.Seq.{take-append_seam, drop-append_seam}
-use Rattle.edit_list.specs.Pieces.{EditEntry}
+use Rattle.edit_record.specs.Lists.Pieces.{EditEntry}
 use Rattle.edit_record.specs.Text.{space, newline, number_text, edit_text}
 use Rattle.edit_record.specs.Inner.Reading.{strip, max_number, number_at, bytes_at, edit_at, edits_at}
 use Rattle.edit_record.proofs.Choices.{none_else, some_if, some_is, through, through_one, goes_on, part}

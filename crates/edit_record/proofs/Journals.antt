@@ -5,9 +5,9 @@ use Rattle.std.proofs.lemmas.Bool.{eqb-true}
 use Rattle.std.specs.List.{flat_map, AllByRecursion}
 use Rattle.std.proofs.lemmas.List.{append-nil, nil_from_length}
 use Rattle.std.proofs.lemmas.List.Concat.{flat_map-cons}
-use Rattle.edit_list.specs.Journal.{JournalEntry}
-use Rattle.edit_squash.specs.SquashLists.{SquashAll}
-use Rattle.edit_squash.proofs.Groupings.{squash_as_one}
+use Rattle.edit_record.specs.Lists.Journal.{JournalEntry}
+use Rattle.edit_record.specs.Squashes.SquashLists.{SquashAll}
+use Rattle.edit_record.proofs.SquashesLemmas.Groupings.{squash_as_one}
 use Rattle.edit_record.specs.declared.fault.DecodeStop.{DecodeStop}
 use Rattle.edit_record.specs.declared.fault.DecodeStop.TheVariants as stops
 use Rattle.edit_record.specs.Text.{IsValidList, word_text, list_text, number_text, newline, record_text, journal_text, IsCurrentText, OldRecord, steps, step_text, old_record_text, MigrateAllTo, IsOldText, IsJournalText}

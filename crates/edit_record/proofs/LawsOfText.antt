@@ -3,10 +3,10 @@ use Rattle.std.proofs.Common.{◌≡◌, ◌↔◌, ℕ, List, [], ◌∷◌, �
 use Rattle.std.specs.Prelude.{codes}
 use Rattle.std.specs.List.{AllByRecursion}
 use Rattle.std.proofs.lemmas.List.Concat.{flat_map-cons}
-use Rattle.edit_list.specs.Pieces.{Transforms}
-use Rattle.edit_list.specs.Sequence.{TransformsInOrder}
-use Rattle.edit_list.specs.Journal.{JournalEntry, journal_transforms}
-use Rattle.edit_squash.proofs.Groupings.{squash_as_one}
+use Rattle.edit_record.specs.Lists.Pieces.{Transforms}
+use Rattle.edit_record.specs.Lists.Sequence.{TransformsInOrder}
+use Rattle.edit_record.specs.Lists.Journal.{JournalEntry, journal_transforms}
+use Rattle.edit_record.proofs.SquashesLemmas.Groupings.{squash_as_one}
 use Rattle.edit_record.specs.Text.{IsValidList, record_text, journal_text, IsCurrentText, OldRecord, MigratesTo, MigrateAllTo, old_transforms, IsJournalText}
 use Rattle.edit_record.specs.Inner.Reading.{strip}
 use Rattle.edit_record.specs.Inner.ParseResults.{RecordsAt}

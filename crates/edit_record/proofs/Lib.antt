@@ -9,3 +9,6 @@ pub mod Steps
 pub mod Journals
 pub mod LawsOfText
 pub mod Writing
+pub mod ListsLemmas
+pub mod SquashesLemmas
+pub mod SwapsLemmas

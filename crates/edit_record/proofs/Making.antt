@@ -1,10 +1,10 @@
 -- Which lists of edits can be made, and that their numbers can be written.
 use Rattle.std.proofs.Common.{◌≡◌, ℕ, ◌+◌, ◌≤◌, List, [], ◌∷◌, length, Ok, refl, sym, subst, arith}
 use Rattle.std.specs.List.{AllByRecursion}
-use Rattle.edit_list.specs.Pieces.{EditEntry, EditList, as_list, removed_len, added_len}
-use Rattle.edit_list.specs.Validity.{make_edits, new_len, AreValidEdits, AreDisjoint}
-use Rattle.edit_list.specs.declared.edits.TheConstants.{MAX_TEXT}
-use Rattle.edit_list.proofs.ListLemmas.{make_is_exact}
+use Rattle.edit_record.specs.Lists.Pieces.{EditEntry, EditList, as_list, removed_len, added_len}
+use Rattle.edit_record.specs.Lists.Validity.{make_edits, new_len, AreValidEdits, AreDisjoint}
+use Rattle.edit_record.specs.declared.lists.edits.TheConstants.{MAX_TEXT}
+use Rattle.edit_record.proofs.ListsLemmas.ListLemmas.{make_is_exact}
 use Rattle.edit_record.specs.Text.{IsValidList}
 use Rattle.edit_record.specs.Inner.Reading.{max_number}
 use Rattle.edit_record.proofs.Fields.{HasText}

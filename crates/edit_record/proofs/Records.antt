@@ -3,12 +3,12 @@ use Rattle.std.proofs.Common.{◌≡◌, ℕ, ◌-◌, ◌≤◌, List, [], ◌�
 use Rattle.std.specs.Prelude.{codes}
 use Rattle.std.specs.List.{flat_map, AllByRecursion}
 use Rattle.std.proofs.lemmas.List.Concat.{flat_map-cons}
-use Rattle.edit_list.specs.declared.edit.BadEdits.{BadEdits}
-use Rattle.edit_list.specs.declared.record.Word.{Word}
-use Rattle.edit_list.specs.declared.record.Word.TheVariants.{Fmt, Fix}
-use Rattle.edit_list.specs.Pieces.{EditList, as_list}
-use Rattle.edit_list.specs.Validity.{make_edits}
-use Rattle.edit_list.specs.Journal.{JournalEntry}
+use Rattle.edit_record.specs.declared.lists.edit.BadEdits.{BadEdits}
+use Rattle.edit_record.specs.declared.lists.record.Word.{Word}
+use Rattle.edit_record.specs.declared.lists.record.Word.TheVariants.{Fmt, Fix}
+use Rattle.edit_record.specs.Lists.Pieces.{EditList, as_list}
+use Rattle.edit_record.specs.Lists.Validity.{make_edits}
+use Rattle.edit_record.specs.Lists.Journal.{JournalEntry}
 use Rattle.edit_record.specs.Text.{space, newline, number_text, edit_text, list_text, word_text, record_text, IsValidList, OldRecord, steps, step_text, old_record_text}
 use Rattle.edit_record.specs.Inner.Reading.{strip, max_number, number_at, edits_at, if_valid, edit_list_at, word_of, word_at, record_at, step_at, steps_at, OldHead, old_head_at, old_record_at}
 use Rattle.edit_record.proofs.Choices.{some_is, through, through_one, goes_on, part}

@@ -2,11 +2,11 @@
 use Rattle.std.proofs.Common.{◌≡◌, ◌↔◌, ℕ, suc, ◌+◌, ◌-◌, ◌≤◌, ◌<◌, List, [], ◌∷◌, Bool, true, false, Err, None, Some, refl, sym, ap, subst, ◌∙◌, arith}
 use Rattle.std.specs.Prelude.{codes, ◌||◌}
 use Rattle.std.proofs.lemmas.Bool.{false≢true}
-use Rattle.edit_list.specs.Pieces.{EditList}
-use Rattle.edit_list.specs.Journal.{JournalEntry}
-use Rattle.edit_squash.specs.Squash.{IsSquash}
-use Rattle.edit_squash.specs.SquashLists.{SquashAll}
-use Rattle.edit_squash.proofs.Groupings.{squash_as_one}
+use Rattle.edit_record.specs.Lists.Pieces.{EditList}
+use Rattle.edit_record.specs.Lists.Journal.{JournalEntry}
+use Rattle.edit_record.specs.Squashes.Squash.{IsSquash}
+use Rattle.edit_record.specs.Squashes.SquashLists.{SquashAll}
+use Rattle.edit_record.proofs.SquashesLemmas.Groupings.{squash_as_one}
 use Rattle.edit_record.specs.declared.fault.DecodeStop.{DecodeStop}
 use Rattle.edit_record.specs.declared.fault.DecodeStop.TheVariants as stops
 use Rattle.edit_record.specs.Text.{OldRecord}

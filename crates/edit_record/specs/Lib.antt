@@ -1,3 +1,6 @@
 pub mod Text
 pub mod Decoding
 pub mod Inner
+pub mod Lists
+pub mod Squashes
+pub mod Swaps

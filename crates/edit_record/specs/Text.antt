@@ -3,13 +3,13 @@
 -- defined here.
 use Rattle.std.specs.Prelude.{◌≡◌, ℕ, ◌≤◌, ◌⊎◌, List, [], ◌∷◌, ◌++◌, length, codes, decimal}
 use Rattle.std.specs.List.{flat_map, AllByRecursion}
-use Rattle.edit_list.specs.declared.record.Word.{Word}
-use Rattle.edit_list.specs.declared.record.Word.TheVariants.{Fmt, Fix}
-use Rattle.edit_list.specs.Pieces.{EditEntry, EditList, Transforms}
-use Rattle.edit_list.specs.Validity.{AreValidEdits, new_len}
-use Rattle.edit_list.specs.Sequence.{TransformsInOrder}
-use Rattle.edit_list.specs.Journal.{JournalEntry}
-use Rattle.edit_squash.specs.SquashLists.{SquashAll}
+use Rattle.edit_record.specs.declared.lists.record.Word.{Word}
+use Rattle.edit_record.specs.declared.lists.record.Word.TheVariants.{Fmt, Fix}
+use Rattle.edit_record.specs.Lists.Pieces.{EditEntry, EditList, Transforms}
+use Rattle.edit_record.specs.Lists.Validity.{AreValidEdits, new_len}
+use Rattle.edit_record.specs.Lists.Sequence.{TransformsInOrder}
+use Rattle.edit_record.specs.Lists.Journal.{JournalEntry}
+use Rattle.edit_record.specs.Squashes.SquashLists.{SquashAll}
 
 -- ---- what both versions have
 

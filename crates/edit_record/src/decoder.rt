@@ -8,9 +8,9 @@ ghost use Rattle.edit_record.specs.Inner.OldHead.{head_view};
 
 use crate::RecordFault;
 use crate::fault::{DecodeStop, FaultKind};
+use crate::lists::{Edits, Journal, Record, Word};
 use crate::readers::{expect, list_of_edits, number, word};
-use edit_list::{Edits, Journal, Record, Word};
-use edit_squash::{Unmet, squash};
+use crate::squashes::{Unmet, squash};
 use std::alloc::Global;
 
 /// The most steps of a record of version 1.

@@ -2,7 +2,7 @@
 ghost use Rattle.std.specs.Prelude.{◌≡◌, ◌+◌, ◌-◌, ◌^◌, ◌≤◌, ◌++◌, List, length, min, decimal, codes, OnOk, IfOk, IfErr, ◌<◌};
 ghost use Rattle.edit_record.specs.Text.{IsValidList, word_text, number_text, edit_text, record_text, journal_text, IsCurrentText};
 
-use edit_list::{Edit, Journal, Record, Word};
+use crate::lists::{Edit, Journal, Record, Word};
 use itoa::Buffer;
 use std::alloc::{AllocError, Global};
 

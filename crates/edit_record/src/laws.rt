@@ -1,8 +1,8 @@
 //! Laws of the text of journals: functions that do nothing, for callers whose proofs want what
 //! their clauses say.
 ghost use Rattle.std.specs.Prelude.{◌≡◌, ◌↔◌, ◌++◌, List, ℕ};
-ghost use Rattle.edit_list.specs.Journal.{JournalEntry, journal_transforms};
-ghost use Rattle.edit_list.specs.Sequence.{TransformsInOrder};
+ghost use Rattle.edit_record.specs.Lists.Journal.{JournalEntry, journal_transforms};
+ghost use Rattle.edit_record.specs.Lists.Sequence.{TransformsInOrder};
 ghost use Rattle.edit_record.specs.Text.{IsCurrentText, IsJournalText, OldRecord, MigrateAllTo, old_transforms};
 
 /// A text is that of one journal at most, in whichever version it is.

@@ -8,13 +8,16 @@ mod decoder;
 mod encoder;
 mod fault;
 pub mod laws;
+pub mod lists;
 mod readers;
+pub mod squashes;
+pub mod swaps;
 
 pub use decoder::decode;
-pub use edit_list::{
-    BadEdits, Change, Edit, Edits, Journal, Record, Refused, Word, apply_all, undo_all,
-};
-pub use edit_squash::{Unmet, squash};
-pub use edit_swap::{MoveFault, SwapFault, move_to_end, swap};
 pub use encoder::{encode, encoded_len};
 pub use fault::RecordFault;
+pub use lists::{
+    BadEdits, Change, Edit, Edits, Journal, Record, Refused, Word, apply_all, undo_all,
+};
+pub use squashes::{Unmet, squash};
+pub use swaps::{MoveFault, SwapFault, move_to_end, swap};

@@ -6,7 +6,7 @@ ghost use Rattle.edit_record.specs.Inner.Allocating.{edits_allocate, edit_list_a
 ghost use Rattle.edit_record.specs.Inner.Reading.{strip, number_at, bytes_at, edit_at, edits_at, edit_list_at, word_of, word_at};
 
 use crate::fault::{DecodeStop, FaultKind};
-use edit_list::{Edit, Edits, Word};
+use crate::lists::{Edit, Edits, Word};
 use std::alloc::Global;
 
 /// The greatest number of a text: twice the most bytes of a text, since the edits of a list are no

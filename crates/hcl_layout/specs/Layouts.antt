@@ -1,6 +1,6 @@
 -- Texts and their layouts. Terraform style conventions, in this project's own profile.
 use Rattle.std.specs.Prelude.{◌≡◌, ℕ, ◌<◌, List, [], length}
-use Rattle.edit_list.specs.Pieces.{EditList, Transforms}
+use Rattle.edit_record.specs.Lists.Pieces.{EditList, Transforms}
 use Rattle.hcl_token.specs.Tokens.{Pair, whole_text}
 use Rattle.hcl_scan.specs.Tokenization.{MAX_TEXT, IsTokenization}
 use Rattle.hcl_scan.specs.Follows.{tokens_of}

@@ -3,7 +3,7 @@
 //! No tree is looked at: that there is one is what the laws ask for.
 
 ghost use Rattle.std.specs.Prelude.{◌≡◌, ◌≤◌, ◌⊎◌, ◌↔◌, length, IsTrue, IfOk, IfErr, OnOk};
-ghost use Rattle.edit_list.specs.Pieces.{Transforms};
+ghost use Rattle.edit_record.specs.Lists.Pieces.{Transforms};
 ghost use Rattle.hcl_scan.specs.Tokenization.{MAX_TEXT};
 ghost use Rattle.hcl_text_laws.specs.Parses.{Parses};
 ghost use Rattle.hcl_scan.specs.Follows.{tokens_of};
@@ -16,7 +16,7 @@ ghost use Rattle.hcl_layout.specs.Layouts.{IsLayout, IsTooLong, IsLayoutEdits};
 
 use crate::gaps::LayoutFault;
 use crate::laws;
-use edit_list::Edits;
+use edit_record::lists::Edits;
 use hcl_grammar::tree::Tree;
 use hcl_scan::Scanned;
 use std::alloc::Global;

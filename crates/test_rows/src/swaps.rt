@@ -3,8 +3,8 @@
 use crate::actual::Answer;
 use crate::edit_syntax::{journal_of, list_of, name_of, spell};
 use crate::row::Row;
+use edit_record::swaps::laws::{move_to_end_is_unique, swap_is_unique};
 use edit_record::{Edits, MoveFault, Record, SwapFault, move_to_end, swap};
-use edit_swap::laws::{move_to_end_is_unique, swap_is_unique};
 use std::fmt::Write;
 
 pub fn answer(row: &Row, out: &mut Answer) {

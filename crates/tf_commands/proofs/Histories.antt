@@ -1,15 +1,15 @@
 -- What a session does is a step of the machine that keeps the edits between its texts.
 use Rattle.std.proofs.Common.{◌≡◌, ◌∙◌, ◌+◌, ℕ, zero, suc, List, [], ◌∷◌, ◌++◌, length, take, Bool, true, false, MatchBool, IfOk, IfErr, OnErr, Result, Ok, Err, ap, sym, refl, subst, inl, inr}
 use Rattle.std.proofs.lemmas.List.{length-map}
-use Rattle.edit_list.specs.declared.change.Refused.{Refused}
-use Rattle.edit_list.specs.declared.change.Refused.TheVariants.{Length, Differs}
-use Rattle.edit_list.specs.declared.record.Word.{Word}
-use Rattle.edit_list.specs.Journal.{JournalEntry, record_transforms}
-use Rattle.edit_list.specs.Sequence.{TransformsInOrder}
-use Rattle.edit_list.specs.Pieces.{EditList, Transforms}
-use Rattle.edit_swap.specs.Swap.{IsItem}
-use Rattle.edit_swap.specs.MoveToEnd.{IsMovedToEnd, MoveToEndIsUnique}
-use Rattle.edit_swap.specs.MoveToEndResult.{edits_of, words_of, LengthMismatch, FailsAt}
+use Rattle.edit_record.specs.declared.lists.change.Refused.{Refused}
+use Rattle.edit_record.specs.declared.lists.change.Refused.TheVariants.{Length, Differs}
+use Rattle.edit_record.specs.declared.lists.record.Word.{Word}
+use Rattle.edit_record.specs.Lists.Journal.{JournalEntry, record_transforms}
+use Rattle.edit_record.specs.Lists.Sequence.{TransformsInOrder}
+use Rattle.edit_record.specs.Lists.Pieces.{EditList, Transforms}
+use Rattle.edit_record.specs.Swaps.Swap.{IsItem}
+use Rattle.edit_record.specs.Swaps.MoveToEnd.{IsMovedToEnd, MoveToEndIsUnique}
+use Rattle.edit_record.specs.Swaps.MoveToEndResult.{edits_of, words_of, LengthMismatch, FailsAt}
 use Rattle.tf_commands.specs.declared.command.Command.{Command}
 use Rattle.tf_commands.specs.declared.command.Command.TheVariants.{Fmt, Fix, Revert, Take}
 use Rattle.tf_commands.specs.declared.command.Done.{Done}

@@ -1,11 +1,11 @@
 -- The records of a journal, one after another, turn the text at the bottom of the stack into its top; so squashed they are one list that does.
 use Rattle.std.proofs.Common.{◌≡◌, ◌∙◌, ℕ, List, [], ◌∷◌, ◌++◌, refl, sym, ap, subst}
 use Rattle.std.proofs.lemmas.List.{map_push}
-use Rattle.edit_list.specs.Journal.{JournalEntry}
-use Rattle.edit_list.specs.Validity.{LengthsMatch}
-use Rattle.edit_list.specs.Sequence.{TransformsInOrder}
-use Rattle.edit_list.specs.Pieces.{EditList, Transforms}
-use Rattle.edit_squash.specs.SquashLists.{SquashAllIsUnique}
+use Rattle.edit_record.specs.Lists.Journal.{JournalEntry}
+use Rattle.edit_record.specs.Lists.Validity.{LengthsMatch}
+use Rattle.edit_record.specs.Lists.Sequence.{TransformsInOrder}
+use Rattle.edit_record.specs.Lists.Pieces.{EditList, Transforms}
+use Rattle.edit_record.specs.Squashes.SquashLists.{SquashAllIsUnique}
 use Rattle.tf_commands.specs.JournalLaws.{edit_lists_of, SquashToOne, JournalSquashesToOne}
 use Rattle.tf_commands.specs.Machine.{StackEntry, initial_stack}
 use Rattle.tf_commands.specs.Records.{IsJournalOfStack}

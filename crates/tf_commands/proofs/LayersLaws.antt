@@ -1,9 +1,9 @@
 -- Laws of the machine that keeps the edits, over all its commands: each has one answer, and those that were refused for want of memory do not count.
 use Rattle.std.proofs.Common.{◌≡◌, ◌∙◌, ℕ, List, [], ◌∷◌, Bool, true, false, MatchBool, Result, Ok, Err, refl, sym, ap, subst, inl, inr}
-use Rattle.edit_list.specs.Validity.{ApplyIsDeterministic}
-use Rattle.edit_list.specs.declared.record.Word.{Word}
-use Rattle.edit_swap.specs.Swap.{SwapIsUnique}
-use Rattle.edit_swap.specs.MoveToEnd.{MoveToEndIsUnique}
+use Rattle.edit_record.specs.Lists.Validity.{ApplyIsDeterministic}
+use Rattle.edit_record.specs.declared.lists.record.Word.{Word}
+use Rattle.edit_record.specs.Swaps.Swap.{SwapIsUnique}
+use Rattle.edit_record.specs.Swaps.MoveToEnd.{MoveToEndIsUnique}
 use Rattle.hcl_layout.specs.LayoutLaws.{OneLayout}
 use Rattle.tf_commands.specs.declared.command.Command.{Command}
 use Rattle.tf_commands.specs.declared.command.Command.TheVariants.{Fmt, Fix, Revert, Take}

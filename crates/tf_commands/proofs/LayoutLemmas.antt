@@ -10,10 +10,10 @@ use Rattle.hcl_text_laws.specs.Parses.{ParsedTokensAreApart}
 use Rattle.hcl_layout.specs.Gaps.Layout.{layout_text, layout_edits, gap_piece, pieces, IsLaidOut}
 use Rattle.hcl_layout.specs.Layouts.{IsLayout, IsLayoutEdits}
 use Rattle.hcl_layout.specs.LayoutLaws.{LaidOutIsText, OneLayout}
-use Rattle.edit_list.specs.declared.change.Refused.{Refused}
-use Rattle.edit_list.specs.ChangeResults.{AgreesWith}
-use Rattle.edit_list.specs.Pieces.{EditEntry, EditList, Transforms, changed_entries}
-use Rattle.edit_list.specs.Pieces.Piece.{Kept}
+use Rattle.edit_record.specs.declared.lists.change.Refused.{Refused}
+use Rattle.edit_record.specs.Lists.ChangeResults.{AgreesWith}
+use Rattle.edit_record.specs.Lists.Pieces.{EditEntry, EditList, Transforms, changed_entries}
+use Rattle.edit_record.specs.Lists.Pieces.Piece.{Kept}
 use Rattle.tf_fix.specs.declared.parsed.Parsed.{Parsed}
 use Rattle.tf_fix.specs.ParsedTexts.{IsParseOf}
 use Rattle.tf_commands.specs.Formatting.{Formats}

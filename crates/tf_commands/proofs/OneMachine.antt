@@ -1,6 +1,6 @@
 -- Without take: step by step.
 use Rattle.std.proofs.Common.{◌≡◌, ◌∙◌, ℕ, List, [], ◌∷◌, ◌++◌, Bool, true, false, MatchBool, Result, Ok, Err, refl, sym, ap, subst}
-use Rattle.edit_list.specs.declared.record.Word.{Word}
+use Rattle.edit_record.specs.declared.lists.record.Word.{Word}
 use Rattle.tf_commands.specs.declared.command.Command.{Command}
 use Rattle.tf_commands.specs.declared.command.Command.TheVariants.{Fmt, Fix, Revert, Take}
 use Rattle.tf_commands.specs.declared.command.Done.{Done}

@@ -1,9 +1,9 @@
 -- What a fmt or a fix made is put on: a step of the session.
 use Rattle.std.proofs.Common.{◌≡◌, ◌≤◌, ℕ, List, [], ◌∷◌, length, Bool, true, false, not, Option, None, Some, IfSome, IfOk, Result, Ok, Err, refl, subst}
 use Rattle.std.proofs.lemmas.Slice.Eq.{bytes_eq-Decides}
-use Rattle.edit_list.specs.declared.record.Word.{Word}
-use Rattle.edit_list.specs.Journal.{JournalEntry}
-use Rattle.edit_list.specs.Pieces.{EditList, Transforms}
+use Rattle.edit_record.specs.declared.lists.record.Word.{Word}
+use Rattle.edit_record.specs.Lists.Journal.{JournalEntry}
+use Rattle.edit_record.specs.Lists.Pieces.{EditList, Transforms}
 use Rattle.hcl_scan.specs.Tokenization.{MAX_TEXT}
 use Rattle.hcl_layout.specs.Gaps.Layout.{layout_edits}
 use Rattle.hcl_layout.specs.Layouts.{IsLayout}

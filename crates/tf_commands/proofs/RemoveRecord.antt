@@ -2,17 +2,17 @@
 use Rattle.std.proofs.Common.{◌≡◌, ◌∙◌, ◌↔◌, ◌≤◌, ◌<◌, ◌+◌, ◌-◌, ℕ, zero, suc, List, [], ◌∷◌, ◌++◌, length, take, drop, get_or, Result, Ok, Err, IfOk, IfErr, refl, sym, ap, subst, arith, append_assoc, inl, inr}
 use Rattle.std.proofs.lemmas.List.{take_more, take-append-drop, length-take-le, length-map, length-drop, take_all}
 use Rattle.std.specs.Global.{Vec}
-use Rattle.edit_list.specs.Journal.{JournalEntry}
-use Rattle.edit_list.specs.Inner.Walk.{apply_edits}
-use Rattle.edit_list.specs.Pieces.{EditList, Transforms}
-use Rattle.edit_list.specs.ChangeResults.{IsChangeResult, AgreesWith, HasExpectedLen}
-use Rattle.edit_list.specs.declared.change.Refused.{Refused}
-use Rattle.edit_list.specs.declared.direction.Direction.TheVariants.{Backward}
-use Rattle.edit_swap.specs.declared.reorder.MoveFault.{MoveFault}
-use Rattle.edit_swap.specs.declared.reorder.MoveFault.TheVariants.{Length, Blocked, TooLong, Memory}
-use Rattle.edit_swap.specs.Swap.{IsItem}
-use Rattle.edit_swap.specs.MoveToEnd.{IsMovedToEnd}
-use Rattle.edit_swap.specs.MoveToEndResult.{edits_of, words_of, IsMoveToEndResult}
+use Rattle.edit_record.specs.Lists.Journal.{JournalEntry}
+use Rattle.edit_record.specs.Lists.Inner.Walk.{apply_edits}
+use Rattle.edit_record.specs.Lists.Pieces.{EditList, Transforms}
+use Rattle.edit_record.specs.Lists.ChangeResults.{IsChangeResult, AgreesWith, HasExpectedLen}
+use Rattle.edit_record.specs.declared.lists.change.Refused.{Refused}
+use Rattle.edit_record.specs.declared.lists.direction.Direction.TheVariants.{Backward}
+use Rattle.edit_record.specs.declared.swaps.reorder.MoveFault.{MoveFault}
+use Rattle.edit_record.specs.declared.swaps.reorder.MoveFault.TheVariants.{Length, Blocked, TooLong, Memory}
+use Rattle.edit_record.specs.Swaps.Swap.{IsItem}
+use Rattle.edit_record.specs.Swaps.MoveToEnd.{IsMovedToEnd}
+use Rattle.edit_record.specs.Swaps.MoveToEndResult.{edits_of, words_of, IsMoveToEndResult}
 use Rattle.tf_commands.specs.Faults.{fault_of_refused}
 use Rattle.tf_lint.specs.Steps.{texts_differ}
 use Rattle.tf_commands.specs.Machine.{done}

@@ -6,7 +6,7 @@ use Rattle.hcl_text_laws.specs.declared.fault.ParseFault.TheVariants.{Syntax, To
 use Rattle.hcl_scan.specs.declared.fault.ScanFault.{ScanFault}
 use Rattle.hcl_scan.specs.Tokenization.{IsTokenization, MAX_TEXT}
 use Rattle.hcl_scan.specs.Fault.{IsFault}
-use Rattle.edit_list.specs.Pieces.{EditList}
+use Rattle.edit_record.specs.Lists.Pieces.{EditList}
 use Rattle.tf_rule.specs.declared.rule_set.RuleSet.{RuleSet}
 use Rattle.tf_commands.specs.declared.command.Command.{Command}
 use Rattle.tf_commands.specs.declared.command.Command.TheVariants.{Fmt, Fix, Revert, Take}

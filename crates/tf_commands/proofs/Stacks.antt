@@ -2,7 +2,7 @@
 use Rattle.std.proofs.Common.{◌≡◌, ◌∙◌, ℕ, List, [], ◌∷◌, ◌++◌, Bool, true, false, MatchBool, IfOk, IfErr, OnErr, Result, Ok, Err, ap, sym, refl, subst}
 use Rattle.std.proofs.lemmas.Slice.Eq.{bytes_eq-Decides}
 use Rattle.std.proofs.lemmas.Bool.{not-false}
-use Rattle.edit_list.specs.Journal.{JournalEntry, record_transforms}
+use Rattle.edit_record.specs.Lists.Journal.{JournalEntry, record_transforms}
 use Rattle.tf_commands.specs.declared.command.Command.{Command}
 use Rattle.tf_commands.specs.declared.command.Command.TheVariants.{Fmt, Fix, Revert, Take}
 use Rattle.tf_commands.specs.declared.command.Done.{Done}

@@ -1,7 +1,7 @@
 -- Faults of the layers below as those of a command and of a stream: want of memory is always one of
 -- their own.
 use Rattle.hcl_layout.specs.declared.gaps.fault.LayoutFault.{LayoutFault}
-use Rattle.edit_list.specs.declared.change.Refused.{Refused}
+use Rattle.edit_record.specs.declared.lists.change.Refused.{Refused}
 use Rattle.edit_record.specs.declared.fault.RecordFault.{RecordFault}
 use Rattle.edit_record.specs.declared.fault.RecordFault.TheVariants.{BadHead, BadNumber, CutShort, BadEdits, BadEnd, BadSteps}
 use Rattle.tf_fix.specs.declared.fault.LintFault.{LintFault}

@@ -1,10 +1,10 @@
 -- The records of a journal as one list of edits.
 use Rattle.std.specs.Prelude.{◌≡◌, ℕ, List, ◌∷◌, ◌++◌, map, Result}
-use Rattle.edit_list.specs.Journal.{JournalEntry}
-use Rattle.edit_list.specs.Validity.{new_len}
-use Rattle.edit_list.specs.Pieces.{EditList, Transforms}
-use Rattle.edit_squash.specs.SquashLists.{SquashAll}
-use Rattle.edit_squash.specs.Squash.{AreComposable}
+use Rattle.edit_record.specs.Lists.Journal.{JournalEntry}
+use Rattle.edit_record.specs.Lists.Validity.{new_len}
+use Rattle.edit_record.specs.Lists.Pieces.{EditList, Transforms}
+use Rattle.edit_record.specs.Squashes.SquashLists.{SquashAll}
+use Rattle.edit_record.specs.Squashes.Squash.{AreComposable}
 use Rattle.tf_commands.specs.declared.command.Command.{Command}
 use Rattle.tf_commands.specs.declared.command.Done.{Done}
 use Rattle.tf_commands.specs.declared.command.Fault.{Fault}

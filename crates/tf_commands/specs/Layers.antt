@@ -2,11 +2,11 @@
 -- last one off, and take takes any one out, as if the command that put it on had not been given.
 -- Without take it is the machine of whole texts.
 use Rattle.std.specs.Prelude.{◌≡◌, ◌≢◌, ℕ, List, [], ◌∷◌, ◌++◌, map, Result, Ok, Err, if◌then◌else◌, MatchBool}
-use Rattle.edit_list.specs.declared.record.Word.{Word}
-use Rattle.edit_list.specs.Pieces.{EditList, Transforms}
-use Rattle.edit_list.specs.Journal.{JournalEntry}
-use Rattle.edit_swap.specs.MoveToEnd.{IsMovedToEnd}
-use Rattle.edit_swap.specs.MoveToEndResult.{edits_of, words_of}
+use Rattle.edit_record.specs.declared.lists.record.Word.{Word}
+use Rattle.edit_record.specs.Lists.Pieces.{EditList, Transforms}
+use Rattle.edit_record.specs.Lists.Journal.{JournalEntry}
+use Rattle.edit_record.specs.Swaps.MoveToEnd.{IsMovedToEnd}
+use Rattle.edit_record.specs.Swaps.MoveToEndResult.{edits_of, words_of}
 use Rattle.tf_commands.specs.declared.command.Command.{Command}
 use Rattle.tf_commands.specs.declared.command.Command.TheVariants.{Fmt, Fix, Revert, Take}
 use Rattle.tf_commands.specs.declared.command.Done.{Done}

@@ -1,10 +1,10 @@
 -- What the journal of a session says, in terms of the stack of whole texts.
 use Rattle.std.specs.Prelude.{◌≡◌, ℕ, Bool, true, false, List, [], ◌∷◌, ◌++◌, Ok, Err}
-use Rattle.edit_list.specs.declared.record.Word.{Word}
-use Rattle.edit_list.specs.Pieces.{EditList}
-use Rattle.edit_list.specs.ChangeResults.{HasExpectedLen}
-use Rattle.edit_list.specs.declared.direction.Direction.TheVariants.{Backward}
-use Rattle.edit_list.specs.Journal.{JournalEntry, record_transforms, record_backward}
+use Rattle.edit_record.specs.declared.lists.record.Word.{Word}
+use Rattle.edit_record.specs.Lists.Pieces.{EditList}
+use Rattle.edit_record.specs.Lists.ChangeResults.{HasExpectedLen}
+use Rattle.edit_record.specs.declared.lists.direction.Direction.TheVariants.{Backward}
+use Rattle.edit_record.specs.Lists.Journal.{JournalEntry, record_transforms, record_backward}
 use Rattle.tf_commands.specs.declared.command.Command.{Command}
 use Rattle.tf_commands.specs.declared.command.Command.TheVariants.{Fmt, Fix, Revert, Take}
 use Rattle.tf_commands.specs.declared.command.Done.{Done}

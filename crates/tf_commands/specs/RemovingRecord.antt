@@ -2,14 +2,14 @@
 -- and ks after. What it means to take one change out of a row of exact changes is this project's
 -- own, and is defined here and in edit_swap.
 use Rattle.std.specs.Prelude.{◌≡◌, ◌+◌, ◌<◌, ◌⊎◌, ℕ, List, ◌++◌, length, Err}
-use Rattle.edit_list.specs.Pieces.{EditList, Transforms}
-use Rattle.edit_list.specs.ChangeResults.{IsChangeResult, HasExpectedLen}
-use Rattle.edit_list.specs.Journal.{JournalEntry}
-use Rattle.edit_list.specs.declared.change.Refused.{Refused}
-use Rattle.edit_list.specs.declared.direction.Direction.TheVariants.{Backward}
-use Rattle.edit_swap.specs.declared.reorder.MoveFault.{MoveFault}
-use Rattle.edit_swap.specs.MoveToEnd.{IsMovedToEnd}
-use Rattle.edit_swap.specs.MoveToEndResult.{edits_of, words_of, LengthMismatch, SomeMeet, SwapIsTooLong, FailsAt, MoveMayAllocate}
+use Rattle.edit_record.specs.Lists.Pieces.{EditList, Transforms}
+use Rattle.edit_record.specs.Lists.ChangeResults.{IsChangeResult, HasExpectedLen}
+use Rattle.edit_record.specs.Lists.Journal.{JournalEntry}
+use Rattle.edit_record.specs.declared.lists.change.Refused.{Refused}
+use Rattle.edit_record.specs.declared.lists.direction.Direction.TheVariants.{Backward}
+use Rattle.edit_record.specs.declared.swaps.reorder.MoveFault.{MoveFault}
+use Rattle.edit_record.specs.Swaps.MoveToEnd.{IsMovedToEnd}
+use Rattle.edit_record.specs.Swaps.MoveToEndResult.{edits_of, words_of, LengthMismatch, SomeMeet, SwapIsTooLong, FailsAt, MoveMayAllocate}
 use Rattle.tf_commands.specs.declared.command.Done.{Done}
 use Rattle.tf_commands.specs.declared.command.Fault.{Fault}
 use Rattle.tf_lint.specs.Steps.{texts_differ}

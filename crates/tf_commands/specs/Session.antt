@@ -1,6 +1,6 @@
 -- What a clause reads of a session.
 use Rattle.std.specs.Prelude.{ℕ, List}
-use Rattle.edit_list.specs.Journal.{JournalEntry}
+use Rattle.edit_record.specs.Lists.Journal.{JournalEntry}
 use Rattle.tf_commands.specs.declared.session.Session.{Session}
 
 abbrev pub text_of : Session → List ℕ

@@ -1,7 +1,7 @@
 -- One command over a whole text, from a reader to a writer, with no journal before it; and whether
 -- a whole text is laid out.
 use Rattle.std.specs.Prelude.{◌↔◌, ◌⊎◌, ℕ, Bool, List, [], IsTrue}
-use Rattle.edit_list.specs.Journal.{JournalEntry}
+use Rattle.edit_record.specs.Lists.Journal.{JournalEntry}
 use Rattle.hcl_layout.specs.Layouts.{IsLayout, IsTooLong}
 use Rattle.tf_stream.specs.Streams.{Source, Target, WritesBytes}
 use Rattle.tf_commands.specs.declared.command.Command.{Command}

@@ -2,7 +2,7 @@
 
 ghost use Rattle.std.specs.Prelude.{◌≡◌};
 
-use edit_list::Refused;
+use edit_record::lists::Refused;
 use hcl_layout::LayoutFault;
 use hcl_scan::ScanFault;
 use hcl_tree::ParseFault;

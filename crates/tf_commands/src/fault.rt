@@ -3,8 +3,8 @@
 ghost use Rattle.std.specs.Prelude.{◌≡◌};
 
 use crate::command::Fault;
-use edit_list::Refused;
 use edit_record::RecordFault;
+use edit_record::lists::Refused;
 use hcl_scan::ScanFault;
 use hcl_tree::ParseFault;
 use std::alloc::{AllocError, AllocFailed};

@@ -1,8 +1,8 @@
 //! What a fix makes of a text.
 
 ghost use Rattle.std.specs.Prelude.{◌≡◌, List, [], Ok, IfOk, IfErr, IfSome};
-ghost use Rattle.edit_list.specs.Journal.{JournalEntry};
-ghost use Rattle.edit_list.specs.Pieces.{Transforms};
+ghost use Rattle.edit_record.specs.Lists.Journal.{JournalEntry};
+ghost use Rattle.edit_record.specs.Lists.Pieces.{Transforms};
 ghost use Rattle.tf_commands.specs.Machine.{done};
 ghost use Rattle.tf_commands.specs.Rewrites.{Rewrites, RefusesText};
 ghost use Rattle.tf_commands.specs.Records.{DoesStep, RefusesStep};

@@ -1,7 +1,7 @@
 //! What a fmt makes of a text.
 
 ghost use Rattle.std.specs.Prelude.{◌≡◌, ◌≤◌, ◌⊎◌, ◌↔◌, true, Ok, length, IsTrue, IfOk, IfErr, OnOk, IfSome};
-ghost use Rattle.edit_list.specs.Pieces.{Transforms};
+ghost use Rattle.edit_record.specs.Lists.Pieces.{Transforms};
 ghost use Rattle.hcl_layout.specs.Layouts.{IsLayout, IsTooLong};
 ghost use Rattle.hcl_grammar.specs.Bodies.{IsFile};
 ghost use Rattle.hcl_grammar.specs.declared.tree.Tree as tree;
@@ -18,8 +18,8 @@ ghost use Rattle.tf_commands.specs.declared.command.Fault.TheVariants.{TooLong, 
 
 use crate::command::Fault;
 use crate::reading::check_syntax;
-use edit_list::Change as _;
-use edit_list::laws::{apply_is_exact, change_is_one_to_one};
+use edit_record::lists::Change as _;
+use edit_record::lists::laws::{apply_is_exact, change_is_one_to_one};
 use hcl_layout::{formatted_text, is_parsed_laid_out, laws, layout_of_parsed};
 use hcl_scan::Scanned;
 use hcl_text_laws::laws::parsed_tokens_are_apart;

@@ -8,9 +8,9 @@ ghost use Rattle.tf_commands.specs.TakeLaws.{CommandResultIsUniqueOverLayers, Ta
 ghost use Rattle.tf_commands.specs.MachinesAgree.{MachinesAgreeWithoutTake};
 ghost use Rattle.tf_commands.specs.RunLaws.{OutOfMemoryChangesNothing, RevertsPop, RevertsRestoreTheFirst};
 
-use edit_list::laws::{apply_is_deterministic, transformed_lengths_match};
-use edit_squash::laws::squash_all_is_unique;
-use edit_swap::laws::{move_to_end_is_unique, swap_is_unique};
+use edit_record::lists::laws::{apply_is_deterministic, transformed_lengths_match};
+use edit_record::squashes::laws::squash_all_is_unique;
+use edit_record::swaps::laws::{move_to_end_is_unique, swap_is_unique};
 use hcl_layout::laws::{layout_keeps_tokens, layout_of_layout, one_layout};
 use hcl_scan::laws::{no_tokenization_with_fault, one_fault, one_tokenization};
 use tf_lint::laws::fix_is_unique;

@@ -19,7 +19,7 @@ mod streaming;
 mod text_io;
 
 pub use command::{Command, Done, Fault, Reply};
-pub use edit_list::{Journal, Refused};
+pub use edit_record::lists::{Journal, Refused};
 pub use fault::{Part, RunFault};
 pub use fixing::fix_without_session;
 pub use hcl_scan::ScanFault;

@@ -1,16 +1,16 @@
 //! A text and its records without one of the records.
 
 ghost use Rattle.std.specs.Prelude.{◌≡◌, ◌≤◌, ◌<◌, ◌+◌, ◌^◌, ◌++◌, List, ℕ, length, take, IfOk, IfErr};
-ghost use Rattle.edit_list.specs.Pieces.{Transforms};
-ghost use Rattle.edit_swap.specs.MoveToEndResult.{moved_or};
+ghost use Rattle.edit_record.specs.Lists.Pieces.{Transforms};
+ghost use Rattle.edit_record.specs.Swaps.MoveToEndResult.{moved_or};
 ghost use Rattle.tf_lint.specs.Steps.{texts_differ};
 ghost use Rattle.tf_commands.specs.Machine.{done};
 ghost use Rattle.tf_commands.specs.RemovingRecord.{RemovesRecord, RefusesRemoval, CannotUndo, removal_fault, counted_records};
 
 use crate::command::Fault;
-use edit_list::laws::{edit_results_are_exact, undo_is_exact};
-use edit_list::{Change as _, Edits, Record, Refused};
-use edit_swap::{MoveFault, move_to_end};
+use edit_record::lists::laws::{edit_results_are_exact, undo_is_exact};
+use edit_record::lists::{Change as _, Edits, Record, Refused};
+use edit_record::swaps::{MoveFault, move_to_end};
 use std::alloc::Global;
 
 /// The text without a record, and the records that come in the place of those from number `from`

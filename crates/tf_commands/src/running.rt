@@ -8,9 +8,9 @@ ghost use Rattle.tf_commands.specs.Records.{IsJournalOfStack};
 
 use crate::command::{Command, Reply};
 use crate::session::Session;
-use edit_list::Journal;
-use edit_list::laws::transformed_lengths_match;
-use edit_swap::laws::move_to_end_is_unique;
+use edit_record::lists::Journal;
+use edit_record::lists::laws::transformed_lengths_match;
+use edit_record::swaps::laws::move_to_end_is_unique;
 use std::alloc::{AllocError, Global};
 
 /// The commands in order, over a text with no journal, with one reply for each.

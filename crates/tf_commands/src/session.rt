@@ -14,8 +14,8 @@ use crate::command::{Command, Done, Fault, Reply};
 use crate::fixing::fix_text;
 use crate::formatting::fmt_text;
 use crate::removal::{Removal, without_record};
-use edit_list::laws::undo_is_exact;
-use edit_list::{Change as _, Journal, Record, Word};
+use edit_record::lists::laws::undo_is_exact;
+use edit_record::lists::{Change as _, Journal, Record, Word};
 use std::alloc::Global;
 use tf_lint::{FixResult, NewText, Remaining, RuleSet};
 

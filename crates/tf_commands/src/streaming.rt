@@ -14,7 +14,7 @@ use crate::fault::RunFault;
 use crate::formatting::{format_without_session, is_formatted};
 use crate::session::Session;
 use crate::text_io::{put_text, take_text};
-use edit_list::Journal;
+use edit_record::lists::Journal;
 use std::alloc::Global;
 use std::io::{Read, Write};
 use tf_lint::{Remaining, RuleSet};

@@ -6,9 +6,9 @@ use Rattle.std.specs.Prelude.{unwrap_or}
 use Rattle.std.proofs.lemmas.Bool.{false≢true}
 use Rattle.std.proofs.lemmas.List.{append-nil}
 use Rattle.std.proofs.lemmas.List.Folds.{drop_split}
-use Rattle.edit_list.specs.PieceEdits.{ChangesAreNonempty}
-use Rattle.edit_list.specs.Pieces.{Piece, old_text, new_text, changed_entries}
-use Rattle.edit_list.specs.Pieces.Piece.{Kept, Changed}
+use Rattle.edit_record.specs.Lists.PieceEdits.{ChangesAreNonempty}
+use Rattle.edit_record.specs.Lists.Pieces.{Piece, old_text, new_text, changed_entries}
+use Rattle.edit_record.specs.Lists.Pieces.Piece.{Kept, Changed}
 use Rattle.hcl_token.specs.declared.kind.Kind.{Kind}
 use Rattle.hcl_token.specs.declared.kind.Kind.TheVariants.{LineComment}
 use Rattle.hcl_token.specs.TokenizedText.{TokenizedText}

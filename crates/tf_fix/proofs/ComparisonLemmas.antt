@@ -1,7 +1,7 @@
 -- One turn of the loop over replacements.
 use Rattle.std.proofs.Common.{◌≡◌, ℕ, ◌+◌, ◌-◌, ◌*◌, ◌≤◌, List, [], ◌∷◌, ◌++◌, length, take, drop, slice_range, slice_index_or, sym, ap, ◌∙◌, arith, append_assoc}
 use Rattle.std.proofs.lemmas.List.{take_all}
-use Rattle.edit_list.specs.Pieces.{EditEntry, changed_entries}
+use Rattle.edit_record.specs.Lists.Pieces.{EditEntry, changed_entries}
 use Rattle.hcl_token.specs.Tokens.{Pair}
 use Rattle.tf_fix.specs.Parts.{Part, parts_of, text_of_parts}
 use Rattle.tf_fix.specs.SettledSpaces.{Prev, prev_after}

@@ -2,7 +2,7 @@
 use Rattle.std.proofs.Common.{◌≡◌, ◌⊎◌, ◌<◌, ◌≤◌, ℕ, List, true, length, refl, sym, ap, subst, ◌∙◌, inl, inr}
 use Rattle.hcl_scan.specs.Tokenization.{MAX_TEXT}
 use Rattle.hcl_token.specs.TokenizedText.{TokenizedText}
-use Rattle.edit_list.specs.Pieces.{EditList, Transforms}
+use Rattle.edit_record.specs.Lists.Pieces.{EditList, Transforms}
 use Rattle.tf_fix.specs.StepText.{fix_step_text}
 use Rattle.tf_fix.specs.StepEdits.{fix_step_edits}
 use Rattle.tf_rule.specs.SingleRule.{only}

@@ -7,7 +7,7 @@ use Rattle.std.specs.Option.{option_map}
 use Rattle.std.specs.Prelude.{unwrap_or}
 use Rattle.std.specs.Str.{chars}
 use Rattle.unicode_ident.proofs.IdentLemmas.{is_xid_start-ascii}
-use Rattle.edit_list.specs.PieceEdits.{ChangesAreNonempty}
+use Rattle.edit_record.specs.Lists.PieceEdits.{ChangesAreNonempty}
 use Rattle.hcl_token.specs.declared.kind.Kind.{Kind}
 use Rattle.hcl_token.specs.declared.kind.Kind.TheVariants.{Mark, LineEnd, LineComment, InlineComment, Identifier, Number, DotIndex, Slash, OpenBrace, CloseBrace, QuoteOpen, QuoteClose, QuoteLit, HereOpen, HereClose, HereLit, InterpOpen, DirectiveOpen, SeqClose}
 use Rattle.hcl_token.specs.Tokens.{Pair, whole_text}

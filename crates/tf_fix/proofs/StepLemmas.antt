@@ -1,12 +1,12 @@
 -- One step of a fix: what `make` answers about its edits, and which texts they turn into each other.
 use Rattle.std.proofs.Common.{◌≡◌, ℕ, ◌*◌, ◌≤◌, ◌<◌, Bool, true, false, List, [], ◌∷◌, length, map, None, Result, Ok, Err, if◌then◌else◌, refl, sym, ap, subst, ◌∙◌, arith, nat_lt}
 use Rattle.std.proofs.lemmas.Bool.{ltb-true, ltb-false}
-use Rattle.edit_list.specs.Validity.{make_edits}
-use Rattle.edit_list.specs.PieceEdits.{ChangesAreNonempty, PiecesTransform, PiecesMakeValidEdits}
-use Rattle.edit_list.specs.Pieces.{EditEntry, EditList, Piece, Transforms, as_list, old_text, new_text, changed_entries}
-use Rattle.edit_list.specs.declared.edit.BadEdits.{BadEdits}
-use Rattle.edit_list.specs.declared.edit.BadEdits.TheVariants.{TooLong}
-use Rattle.edit_list.specs.declared.edits.TheConstants.{MAX_TEXT}
+use Rattle.edit_record.specs.Lists.Validity.{make_edits}
+use Rattle.edit_record.specs.Lists.PieceEdits.{ChangesAreNonempty, PiecesTransform, PiecesMakeValidEdits}
+use Rattle.edit_record.specs.Lists.Pieces.{EditEntry, EditList, Piece, Transforms, as_list, old_text, new_text, changed_entries}
+use Rattle.edit_record.specs.declared.lists.edit.BadEdits.{BadEdits}
+use Rattle.edit_record.specs.declared.lists.edit.BadEdits.TheVariants.{TooLong}
+use Rattle.edit_record.specs.declared.lists.edits.TheConstants.{MAX_TEXT}
 use Rattle.hcl_scan.specs.Tokenization.{IsTokenization}
 use Rattle.hcl_scan.specs.Follows.{AreApart}
 use Rattle.hcl_token.specs.TokenizedText.{TokenizedText}

@@ -2,7 +2,7 @@
 use Rattle.std.specs.Prelude.{◌≡◌, ◌≤◌, ◌<◌, ℕ, List, length}
 use Rattle.hcl_scan.specs.Tokenization.{MAX_TEXT}
 use Rattle.hcl_token.specs.TokenizedText.{TokenizedText}
-use Rattle.edit_list.specs.Pieces.{EditList, Transforms}
+use Rattle.edit_record.specs.Lists.Pieces.{EditList, Transforms}
 use Rattle.tf_rule.specs.declared.finding.Finding.{Finding}
 use Rattle.tf_rule.specs.declared.rule.Rule.{Rule}
 use Rattle.tf_rule.specs.declared.rule_set.RuleSet.{RuleSet}

@@ -1,7 +1,7 @@
 -- What a step of a fix makes of a text: some parts go, and others come in their place.
 use Rattle.std.specs.Prelude.{ℕ, ◌≤◌, List, [], ◌∷◌, ◌++◌, drop, slice_range, None, if◌then◌else◌}
-use Rattle.edit_list.specs.Pieces.{Piece}
-use Rattle.edit_list.specs.Pieces.Piece.{Kept, Changed}
+use Rattle.edit_record.specs.Lists.Pieces.{Piece}
+use Rattle.edit_record.specs.Lists.Pieces.Piece.{Kept, Changed}
 use Rattle.tf_fix.specs.Parts.{Part, text_of_parts}
 use Rattle.tf_fix.specs.SettledSpaces.{Prev, prev_after, settled, is_glued, space}
 

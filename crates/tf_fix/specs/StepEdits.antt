@@ -1,6 +1,6 @@
 -- By which edits one step of a fix makes a text into another.
 use Rattle.std.specs.Prelude.{List, length, map, if◌then◌else◌}
-use Rattle.edit_list.specs.Pieces.{EditEntry, EditList, as_list, changed_entries}
+use Rattle.edit_record.specs.Lists.Pieces.{EditEntry, EditList, as_list, changed_entries}
 use Rattle.hcl_token.specs.TokenizedText.{TokenizedText}
 use Rattle.tf_rule.specs.declared.finding.Finding.{Finding}
 use Rattle.tf_rule.specs.declared.rule.Rule.{Rule}

@@ -7,7 +7,7 @@ ghost use Rattle.tf_rule.specs.Findings.{AreValidFindings};
 ghost use Rattle.tf_fix.specs.Selection.{selected};
 
 use crate::selection::is_selected;
-use edit_list::Edit;
+use edit_record::lists::Edit;
 use hcl_scan::Scanned;
 use std::alloc::{AllocError, Global};
 use tf_diagnostics::is_found_by;

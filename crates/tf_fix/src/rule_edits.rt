@@ -1,7 +1,7 @@
 //! One step of a fix.
 
 ghost use Rattle.std.specs.Prelude.{◌≡◌, ◌<◌, ◌≤◌, ◌⊎◌, length, filter, IfOk, IfErr};
-ghost use Rattle.edit_list.specs.Pieces.{Transforms};
+ghost use Rattle.edit_record.specs.Lists.Pieces.{Transforms};
 ghost use Rattle.hcl_scan.specs.Tokenization.{MAX_TEXT};
 ghost use Rattle.hcl_scan.specs.Follows.{AreApart};
 ghost use Rattle.tf_diagnostics.specs.RuleFilter.{is_found_by};
@@ -17,8 +17,8 @@ use crate::comment::comment_edits;
 use crate::fault::LintFault;
 use crate::replacement_list::selected_replacements;
 use crate::splice::replacement_edits;
-use edit_list::laws::{pieces_make_valid_edits, pieces_transform};
-use edit_list::{Edit, Edits};
+use edit_record::lists::laws::{pieces_make_valid_edits, pieces_transform};
+use edit_record::lists::{Edit, Edits};
 use hcl_scan::Scanned;
 use std::alloc::Global;
 use tf_rule::{Finding, Rule};

@@ -1,7 +1,7 @@
 //! The edits of replacements, in one pass over these.
 
 ghost use Rattle.std.specs.Prelude.{◌≡◌, ◌≤◌, ◌+◌, ◌*◌, length, take, slice_range, IfOk};
-ghost use Rattle.edit_list.specs.Pieces.{changed_entries};
+ghost use Rattle.edit_record.specs.Lists.Pieces.{changed_entries};
 ghost use Rattle.tf_fix.specs.Parts.{parts, text_of_parts};
 ghost use Rattle.tf_fix.specs.FindingReplacements.{pairs_parts, inserted};
 ghost use Rattle.tf_fix.specs.Replacements.{AreInOrder, added, replaced_pieces};
@@ -11,7 +11,7 @@ use crate::boundary::{Boundary, offset, text_between};
 use crate::insertion::{added_text, prev_after_insertion};
 use crate::packed::PackedReplacement;
 use crate::prev_token::{PrevToken, is_glued, prev_before};
-use edit_list::Edit;
+use edit_record::lists::Edit;
 use hcl_scan::Scanned;
 use std::alloc::{AllocError, Global};
 use tf_rule::Insertion;

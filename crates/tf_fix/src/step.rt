@@ -13,7 +13,7 @@ use crate::fault::LintFault;
 use crate::laws::selected_are_within_limit;
 use crate::rule_edits::fix_step_edits;
 use crate::selection::selected_count;
-use edit_list::Edits;
+use edit_record::lists::Edits;
 use hcl_grammar::tree::Tree;
 use hcl_scan::Scanned;
 use hcl_text_laws::laws::parsed_tokens_are_apart;

@@ -4,8 +4,8 @@ use Rattle.hcl_token.specs.TokenizedText.{TokenizedText}
 use Rattle.hcl_scan.specs.Tokenization.{MAX_TEXT}
 use Rattle.hcl_grammar.specs.declared.tree.Tree.{Tree}
 use Rattle.hcl_text_laws.specs.Parses.{OneParse}
-use Rattle.edit_list.specs.Pieces.{EditList}
-use Rattle.edit_squash.specs.SquashLists.{SquashAllIsUnique}
+use Rattle.edit_record.specs.Lists.Pieces.{EditList}
+use Rattle.edit_record.specs.Squashes.SquashLists.{SquashAllIsUnique}
 use Rattle.tf_rule.specs.declared.finding.Finding.{Finding}
 use Rattle.tf_rule.specs.declared.rule.Rule.{Rule}
 use Rattle.tf_rule.specs.declared.rule_set.RuleSet.{RuleSet}

@@ -1,10 +1,10 @@
 -- One step of a fix.
 use Rattle.std.proofs.Common.{◌≡◌, ℕ, List, true, refl, sym, subst, ◌∙◌}
-use Rattle.edit_list.specs.Validity.{LengthsMatch}
-use Rattle.edit_list.specs.Pieces.{EditList, Transforms}
-use Rattle.edit_squash.specs.Squash.{AreComposable, IsSquashResult}
-use Rattle.edit_squash.specs.declared.squash_lists.Unmet.{Unmet}
-use Rattle.edit_squash.specs.declared.squash_lists.Unmet.TheVariants.{LengthsDiffer, Contradicts, Memory}
+use Rattle.edit_record.specs.Lists.Validity.{LengthsMatch}
+use Rattle.edit_record.specs.Lists.Pieces.{EditList, Transforms}
+use Rattle.edit_record.specs.Squashes.Squash.{AreComposable, IsSquashResult}
+use Rattle.edit_record.specs.declared.squashes.squash_lists.Unmet.{Unmet}
+use Rattle.edit_record.specs.declared.squashes.squash_lists.Unmet.TheVariants.{LengthsDiffer, Contradicts, Memory}
 use Rattle.std.specs.Prelude.{Err}
 use Rattle.tf_rule.specs.declared.rule.Rule.{Rule}
 use Rattle.tf_fix.specs.declared.parsed.Parsed.{Parsed}

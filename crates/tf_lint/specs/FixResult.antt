@@ -1,7 +1,7 @@
 -- What a clause reads of a fixed text.
 use Rattle.std.specs.Prelude.{ℕ, List, [], length, Option, Some, None}
 use Rattle.std.specs.Global.{Vec}
-use Rattle.edit_list.specs.Pieces.{EditList, Transforms, as_list}
+use Rattle.edit_record.specs.Lists.Pieces.{EditList, Transforms, as_list}
 use Rattle.tf_rule.specs.declared.rule_set.RuleSet.{RuleSet}
 use Rattle.tf_lint.specs.declared.step.NewText.{NewText}
 use Rattle.tf_lint.specs.declared.steps.FixResult.{FixResult}

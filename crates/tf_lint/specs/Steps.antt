@@ -3,8 +3,8 @@
 use Rattle.std.specs.Prelude.{◌≡◌, ◌≤◌, ◌<◌, ◌+◌, ◌⊎◌, ℕ, Bool, List, [], ◌∷◌, length, Result, Ok, Err, filter, not, if◌then◌else◌, MatchBool}
 use Rattle.std.specs.Str.{bytes_eq}
 use Rattle.hcl_scan.specs.Tokenization.{MAX_TEXT}
-use Rattle.edit_list.specs.Pieces.{EditList, as_list}
-use Rattle.edit_squash.specs.SquashLists.{SquashAll}
+use Rattle.edit_record.specs.Lists.Pieces.{EditList, as_list}
+use Rattle.edit_record.specs.Squashes.SquashLists.{SquashAll}
 use Rattle.tf_rule.specs.declared.finding.Finding.{Finding}
 use Rattle.tf_rule.specs.declared.rule.Rule.{Rule}
 use Rattle.tf_rule.specs.declared.rule_set.RuleSet.{RuleSet}

@@ -6,7 +6,7 @@ ghost use Rattle.tf_rule.specs.declared.rule.Rule.TheVariants.{CommentSyntax, De
 ghost use Rattle.tf_rule.specs.declared.rule_set.RuleSet.{RuleSet};
 ghost use Rattle.tf_lint.specs.Steps.{FixIsUnique, fix_order};
 
-use edit_squash::laws::squash_all_is_unique;
+use edit_record::squashes::laws::squash_all_is_unique;
 use hcl_scan::laws::one_tokenization;
 use hcl_text_laws::laws::one_parse;
 use tf_diagnostics::laws::findings_are_unique;

@@ -13,7 +13,7 @@ use crate::fault::FixFault;
 use crate::linted_text::{LintedText, PreviousText};
 use crate::member::LintedMember;
 use crate::text_findings::lint_tokens;
-use edit_list::Edits;
+use edit_record::lists::Edits;
 use hcl_rescan::{ReplacedRange, rescan};
 use hcl_scan::laws::{no_tokenization_with_fault, one_tokenization};
 use hcl_scan::{Scanned, Token, scan};

@@ -2,7 +2,7 @@
 
 ghost use Rattle.std.specs.Prelude.{◌≡◌, ◌≤◌, ◌⊎◌, ℕ, true, List, IfOk, IfErr};
 ghost use Rattle.hcl_scan.specs.Tokenization.{MAX_TEXT};
-ghost use Rattle.edit_list.specs.Pieces.{Transforms};
+ghost use Rattle.edit_record.specs.Lists.Pieces.{Transforms};
 ghost use Rattle.tf_rule.specs.RuleSets.{has_rule};
 ghost use Rattle.tf_lint.specs.LintedText.{IsLintOf};
 ghost use Rattle.tf_fix.specs.declared.parsed.Parsed.{Parsed};
@@ -13,8 +13,8 @@ ghost use Rattle.tf_lint.specs.declared.fault.FixFault.{FixFault};
 
 use crate::fault::FixFault;
 use crate::linted_text::LintedText;
-use edit_list::laws::apply_is_exact;
-use edit_list::{Change as _, Edits};
+use edit_record::lists::laws::apply_is_exact;
+use edit_record::lists::{Change as _, Edits};
 use std::alloc::Global;
 use tf_fix::{StepEdits, fix_step_of_findings};
 use tf_rule::Rule;

@@ -2,8 +2,8 @@
 
 ghost use Rattle.std.specs.Prelude.{◌≡◌, ◌≤◌, ◌⊎◌, ◌+◌, ◌*◌, ℕ, List, Err, IfOk, IfErr, IfSome};
 ghost use Rattle.std.specs.Option.{is_some};
-ghost use Rattle.edit_list.specs.Pieces.{EditList, Transforms};
-ghost use Rattle.edit_squash.specs.Squash.{AreComposable, IsSquash};
+ghost use Rattle.edit_record.specs.Lists.Pieces.{EditList, Transforms};
+ghost use Rattle.edit_record.specs.Squashes.Squash.{AreComposable, IsSquash};
 ghost use Rattle.tf_lint.specs.FixResult.{rewrite_of, changed_text, fixed_text_or, FixesTo};
 ghost use Rattle.hcl_scan.specs.Tokenization.{MAX_TEXT};
 ghost use Rattle.tf_lint.specs.LintedText.{IsPreviousOf, IsLintOf};
@@ -20,10 +20,10 @@ use crate::linted_text::{LintedText, PreviousText};
 use crate::relint::{into_previous, lint_text, relint_step, replaced_ranges};
 use crate::remaining::Remaining;
 use crate::step::{NewText, Step, apply_step};
-use edit_list::Edits;
-use edit_list::laws::transformed_lengths_match;
-use edit_squash::laws::{composable_lists_squash, edits_are_valid};
-use edit_squash::{Unmet, squash};
+use edit_record::lists::Edits;
+use edit_record::lists::laws::transformed_lengths_match;
+use edit_record::squashes::laws::{composable_lists_squash, edits_are_valid};
+use edit_record::squashes::{Unmet, squash};
 use hcl_rescan::ReplacedRange;
 use hcl_scan::Token;
 use std::alloc::Global;

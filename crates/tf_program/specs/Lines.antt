@@ -1,8 +1,8 @@
 -- The lines of a journal's records.
 use Rattle.std.specs.Prelude.{ℕ, List, ◌++◌, ◌==◌, if◌then◌else◌, codes}
 use Rattle.std.specs.Fmt.{decimal}
-use Rattle.edit_list.specs.declared.record.Word.{Word}
-use Rattle.edit_list.specs.declared.record.Word.TheVariants.{Fmt, Fix}
+use Rattle.edit_record.specs.declared.lists.record.Word.{Word}
+use Rattle.edit_record.specs.declared.lists.record.Word.TheVariants.{Fmt, Fix}
 
 abbrev pub command_name : Word → List ℕ
 command_name Fmt = codes "fmt"

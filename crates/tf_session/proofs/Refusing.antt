@@ -1,6 +1,6 @@
 -- Why a stream is refused, from why one of its calls is.
 use Rattle.std.proofs.Common.{ℕ, List, refl, inl, inr}
-use Rattle.edit_list.specs.Journal.{JournalEntry}
+use Rattle.edit_record.specs.Lists.Journal.{JournalEntry}
 use Rattle.tf_stream.specs.Streams.{Source, Target, Untouched}
 use Rattle.tf_commands.specs.declared.command.Command.{Command}
 use Rattle.tf_commands.specs.declared.command.Fault.{Fault}

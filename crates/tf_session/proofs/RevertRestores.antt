@@ -2,7 +2,7 @@
 use Rattle.std.proofs.Common.{◌≡◌, ◌∙◌, ◌≤◌, ℕ, length, List, [], ◌∷◌, ◌++◌, Bool, true, Option, Some, None, ap, sym, refl, subst, inl}
 use Rattle.std.specs.Io.KnownBytes.{Appends, Consumes, IsAtEnd}
 use Rattle.hcl_scan.specs.Tokenization.{MAX_TEXT}
-use Rattle.edit_list.specs.Journal.{JournalEntry, record_transforms}
+use Rattle.edit_record.specs.Lists.Journal.{JournalEntry, record_transforms}
 use Rattle.edit_record.specs.Text.{IsJournalText}
 use Rattle.tf_stream.specs.Streams.{Source, Target, WritesBytes, ReadsAll}
 use Rattle.tf_commands.specs.declared.command.Command.{Command}

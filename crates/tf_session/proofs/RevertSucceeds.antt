@@ -2,7 +2,7 @@
 use Rattle.std.proofs.Common.{◌≡◌, ◌∙◌, ◌+◌, ◌≤◌, ℕ, List, [], ◌∷◌, ◌++◌, true, Option, Some, None, Err, length, length-append, arith, ap, sym, refl, subst, inl, inr}
 use Rattle.std.specs.Io.KnownBytes.{Consumes}
 use Rattle.hcl_scan.specs.Tokenization.{MAX_TEXT}
-use Rattle.edit_list.specs.Journal.{JournalEntry, record_transforms}
+use Rattle.edit_record.specs.Lists.Journal.{JournalEntry, record_transforms}
 use Rattle.edit_record.specs.Text.{record_text, journal_text, IsCurrentText, IsJournalText}
 use Rattle.edit_record.specs.Decoding.{IsDecodeResult}
 use Rattle.edit_record.specs.declared.fault.RecordFault.{RecordFault}

@@ -3,7 +3,7 @@
 use Rattle.std.specs.Prelude.{◌≡◌, ◌≤◌, ◌<◌, ◌⊎◌, ℕ, List, length, Err}
 use Rattle.std.specs.Io.KnownBytes.{Keeps}
 use Rattle.hcl_scan.specs.Tokenization.{MAX_TEXT}
-use Rattle.edit_list.specs.Journal.{JournalEntry}
+use Rattle.edit_record.specs.Lists.Journal.{JournalEntry}
 use Rattle.edit_record.specs.Text.{journal_text, IsCurrentText, IsJournalText}
 use Rattle.edit_record.specs.Decoding.{IsDecodeResult}
 use Rattle.edit_record.specs.declared.fault.RecordFault.{RecordFault}

@@ -1,9 +1,9 @@
 -- What a reader of the code answers.
 use Rattle.std.specs.Prelude.{◌≡◌, ℕ, List, [], ◌∷◌, ◌++◌, Option, Some, None, Result, Ok, Err, Bool, true, false}
-use Rattle.edit_list.specs.Pieces.{EditList}
-use Rattle.edit_list.specs.Journal.{JournalEntry}
-use Rattle.edit_squash.specs.Squash.{IsSquash}
-use Rattle.edit_squash.specs.SquashLists.{SquashAll}
+use Rattle.edit_record.specs.Lists.Pieces.{EditList}
+use Rattle.edit_record.specs.Lists.Journal.{JournalEntry}
+use Rattle.edit_record.specs.Squashes.Squash.{IsSquash}
+use Rattle.edit_record.specs.Squashes.SquashLists.{SquashAll}
 use Rattle.edit_record.specs.Text.{IsValidList, record_text, OldRecord, old_record_text, MigratesTo, IsJournalText}
 use Rattle.edit_record.specs.Decoding.{MayAllocate}
 use Rattle.edit_record.specs.Inner.Reading.{steps_at, old_record_at}

@@ -1,12 +1,12 @@
 -- How a text is read, as functions: what stands at its front, and the rest of it. Which fault there
 -- is needs no function: where nothing is read, the answer is None.
 use Rattle.std.specs.Prelude.{ℕ, zero, suc, ◌+◌, ◌-◌, ◌*◌, List, [], ◌∷◌, length, take, drop, Option, None, Some, Result, Ok, Err, Bool, true, false, codes, nat_lt, nat_le, ◌==◌, ◌&&◌, if◌then◌else◌}
-use Rattle.edit_list.specs.declared.edit.BadEdits.{BadEdits}
-use Rattle.edit_list.specs.declared.record.Word.{Word}
-use Rattle.edit_list.specs.declared.record.Word.TheVariants.{Fmt, Fix}
-use Rattle.edit_list.specs.Pieces.{EditEntry, EditList}
-use Rattle.edit_list.specs.Validity.{make_edits}
-use Rattle.edit_list.specs.Journal.{JournalEntry}
+use Rattle.edit_record.specs.declared.lists.edit.BadEdits.{BadEdits}
+use Rattle.edit_record.specs.declared.lists.record.Word.{Word}
+use Rattle.edit_record.specs.declared.lists.record.Word.TheVariants.{Fmt, Fix}
+use Rattle.edit_record.specs.Lists.Pieces.{EditEntry, EditList}
+use Rattle.edit_record.specs.Lists.Validity.{make_edits}
+use Rattle.edit_record.specs.Lists.Journal.{JournalEntry}
 use Rattle.edit_record.specs.Text.{OldRecord, space, newline}
 
 infixl 10 ◌>>=◌

@@ -8,11 +8,11 @@ use Rattle.std.proofs.lemmas.Bool.{and_right}
 use Rattle.std.proofs.lemmas.Bool.Decides.{nat_tests}
 use Rattle.hcl_token.specs.Tokens.{Pair, whole_text}
 use Rattle.hcl_token.specs.TokenizedText.{spelling_of, gap_of}
-use Rattle.edit_list.specs.Pieces.{EditEntry, Piece, changed_entries}
+use Rattle.edit_record.specs.Lists.Pieces.{EditEntry, Piece, changed_entries}
 use Rattle.hcl_token.specs.declared.item.Item.{Item}
 use Rattle.hcl_token.specs.TokenizedText.{item_of, item_after}
 use Rattle.hcl_layout.proofs.GapsLemmas.Narrow.{bytes_joining}
-use Rattle.edit_list.specs.Pieces.Piece.{Kept, Changed}
+use Rattle.edit_record.specs.Lists.Pieces.Piece.{Kept, Changed}
 use Rattle.hcl_layout.specs.Gaps.Space.{spaces}
 use Rattle.hcl_layout.specs.Gaps.Layout.{gap_piece, pieces}
 use Rattle.hcl_layout.specs.Gaps.Inner.Stages.{unchanged, KEEP_GAP, resolved_gap, with_gaps}

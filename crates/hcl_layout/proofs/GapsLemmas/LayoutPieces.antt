@@ -4,13 +4,13 @@ use Rattle.std.specs.Str.{bytes_eq}
 use Rattle.std.proofs.lemmas.Bool.{and_parts, ltb-true, false≢true}
 use Rattle.std.proofs.lemmas.List.{append-nil}
 use Rattle.std.proofs.lemmas.Slice.Eq.{bytes_eq-Decides}
-use Rattle.edit_list.specs.Pieces.{EditEntry, EditList, Piece, Transforms, old_text, new_text, changed_entries}
-use Rattle.edit_list.specs.Pieces.Piece.{Kept, Changed}
-use Rattle.edit_list.specs.Validity.{make_edits}
-use Rattle.edit_list.specs.PieceEdits.{ChangesAreNonempty, PiecesMakeValidEdits}
-use Rattle.edit_list.specs.declared.edits.TheConstants.{MAX_TEXT}
-use Rattle.edit_list.specs.declared.edit.BadEdits.{BadEdits}
-use Rattle.edit_list.specs.declared.edit.BadEdits.TheVariants.{TooLong}
+use Rattle.edit_record.specs.Lists.Pieces.{EditEntry, EditList, Piece, Transforms, old_text, new_text, changed_entries}
+use Rattle.edit_record.specs.Lists.Pieces.Piece.{Kept, Changed}
+use Rattle.edit_record.specs.Lists.Validity.{make_edits}
+use Rattle.edit_record.specs.Lists.PieceEdits.{ChangesAreNonempty, PiecesMakeValidEdits}
+use Rattle.edit_record.specs.declared.lists.edits.TheConstants.{MAX_TEXT}
+use Rattle.edit_record.specs.declared.lists.edit.BadEdits.{BadEdits}
+use Rattle.edit_record.specs.declared.lists.edit.BadEdits.TheVariants.{TooLong}
 use Rattle.hcl_scan.specs.Tokenization.{IsTokenization}
 use Rattle.hcl_token.specs.TokenizedText.{TokenizedText}
 use Rattle.hcl_token.specs.Tokens.{Pair, whole_text}

@@ -6,8 +6,8 @@ use Rattle.hcl_token.specs.declared.kind.Kind.{Kind}
 use Rattle.hcl_token.specs.Tokens.{Pair, whole_text}
 use Rattle.hcl_token.specs.TokenizedText.{TokenizedText}
 use Rattle.hcl_token.specs.Place.{is_mark}
-use Rattle.edit_list.specs.Pieces.{EditList, Piece, changed_entries}
-use Rattle.edit_list.specs.Pieces.Piece.{Kept, Changed}
+use Rattle.edit_record.specs.Lists.Pieces.{EditList, Piece, changed_entries}
+use Rattle.edit_record.specs.Lists.Pieces.Piece.{Kept, Changed}
 use Rattle.hcl_layout.specs.Gaps.Kinds.{is_line_end}
 use Rattle.hcl_layout.specs.Gaps.Lines.{Line, lines_of, pairs_in}
 use Rattle.hcl_layout.specs.Gaps.Indent.{level}

@@ -5,13 +5,13 @@ ghost use Rattle.hcl_scan.specs.Tokenization.{MAX_TEXT};
 ghost use Rattle.std.specs.Str.{bytes_eq};
 ghost use Rattle.std.specs.Option.{option_map};
 ghost use Rattle.hcl_token.specs.Tokens.{Pair, whole_text};
-ghost use Rattle.edit_list.specs.Pieces.{changed_entries};
+ghost use Rattle.edit_record.specs.Lists.Pieces.{changed_entries};
 ghost use Rattle.hcl_layout.specs.Gaps.Space.{spaces};
 ghost use Rattle.hcl_layout.specs.Gaps.Layout.{gap_piece, pieces};
 ghost use Rattle.hcl_layout.specs.Gaps.Inner.Stages.{unchanged, resolved_gap, with_gaps};
 
 use crate::gaps::base_gaps::KEEP_GAP;
-use edit_list::Edit;
+use edit_record::lists::Edit;
 use hcl_scan::Scanned;
 use std::alloc::{AllocError, Global};
 

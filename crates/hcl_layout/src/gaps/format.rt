@@ -1,7 +1,7 @@
 //! The layout of a text, as edits.
 
 ghost use Rattle.std.specs.Prelude.{◌≡◌, ◌<◌, ◌≤◌, ◌⊎◌, ◌↔◌, [], length, nat_lt, IsTrue, IfOk, IfErr, MatchBool};
-ghost use Rattle.edit_list.specs.Pieces.{Transforms};
+ghost use Rattle.edit_record.specs.Lists.Pieces.{Transforms};
 ghost use Rattle.hcl_token.specs.TokenizedText.{AreUtf8};
 ghost use Rattle.hcl_scan.specs.Tokenization.{IsTokenization, MAX_TEXT};
 ghost use Rattle.hcl_layout.specs.Gaps.Layout.{layout_pairs, layout_text, layout_edits, IsLaidOut};
@@ -12,7 +12,7 @@ use crate::gaps::edits::{all_unchanged, gap_edits};
 use crate::gaps::fault::LayoutFault;
 use crate::gaps::gaps::layout_gaps;
 use crate::gaps::text::{capacity_within_limit, text_with_gaps};
-use edit_list::{Edit, Edits};
+use edit_record::lists::{Edit, Edits};
 use hcl_scan::Scanned;
 use std::alloc::Global;
 
@@ -62,7 +62,7 @@ pub fn layout(alloc: Global, scanned: &Scanned<'_>) -> Result<Edits, LayoutFault
 {
     let text = scanned.text();
     let edits = edits_of(alloc, scanned)?;
-    edit_list::laws::pieces_make_valid_edits();
+    edit_record::lists::laws::pieces_make_valid_edits();
     match Edits::make(text.len(), edits) {
         Ok(edits) => Ok(edits),
         Err(_) => unreachable!(),

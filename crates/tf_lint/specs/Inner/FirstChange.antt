@@ -1,8 +1,8 @@
 -- For proofs: one step, and what is known from some steps on.
 use Rattle.std.specs.Prelude.{◌≡◌, ◌≤◌, ◌<◌, ◌+◌, ◌*◌, ◌⊎◌, ◌&&◌, ℕ, Bool, true, List, [], ◌∷◌, length, Option, Some, None, Result, Ok, Err, MatchBool}
 use Rattle.hcl_scan.specs.Tokenization.{MAX_TEXT}
-use Rattle.edit_list.specs.Pieces.{EditList, Transforms}
-use Rattle.edit_squash.specs.SquashLists.{SquashAll}
+use Rattle.edit_record.specs.Lists.Pieces.{EditList, Transforms}
+use Rattle.edit_record.specs.Squashes.SquashLists.{SquashAll}
 use Rattle.tf_rule.specs.declared.finding.Finding.{Finding}
 use Rattle.tf_rule.specs.declared.rule.Rule.{Rule}
 use Rattle.tf_rule.specs.declared.rule_set.RuleSet.{RuleSet}

@@ -1,8 +1,8 @@
 -- For proofs: the edits that lead from one text to another, where they were kept and where not.
 use Rattle.std.specs.Prelude.{◌≡◌, ℕ, Bool, List, [], length, Option, IfSome, ⊤}
 use Rattle.std.specs.Option.{is_some}
-use Rattle.edit_list.specs.Pieces.{EditList, Transforms, as_list}
-use Rattle.edit_squash.specs.Squash.{IsValidList}
+use Rattle.edit_record.specs.Lists.Pieces.{EditList, Transforms, as_list}
+use Rattle.edit_record.specs.Squashes.Squash.{IsValidList}
 use Rattle.tf_rule.specs.declared.rule_set.RuleSet.{RuleSet}
 use Rattle.tf_lint.specs.declared.steps.FixOutcome.{FixOutcome}
 use Rattle.tf_lint.specs.declared.steps.FixOutcome.TheVariants.{Unchanged, Edited}

@@ -1,4 +1,4 @@
-use Rattle.edit_list.specs.Pieces.{EditList}
+use Rattle.edit_record.specs.Lists.Pieces.{EditList}
 use Rattle.hcl_layout.proofs.LaidTexts.{lays_out, refused}
 use Rattle.hcl_layout.proofs.format.layout_of_parsed.Goals as goal
 

@@ -1,6 +1,6 @@
 -- The edits of the layout stand in the text, and make it.
 use Rattle.std.proofs.Common.{◌∙◌, rules, ap, inl}
-use Rattle.edit_list.specs.Pieces.{Transforms}
+use Rattle.edit_record.specs.Lists.Pieces.{Transforms}
 use Rattle.tf_commands.specs.Faults.{fault_of_refused}
 use Rattle.tf_commands.proofs.LayoutLemmas.{made, only_memory}
 use Rattle.tf_commands.proofs.formatting.layout_change.Goals as goal

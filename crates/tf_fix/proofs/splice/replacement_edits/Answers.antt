@@ -1,5 +1,5 @@
 use Rattle.std.proofs.Common.{◌≡◌, ◌≤◌, ◌-◌, ◌*◌, ◌∷◌, ◌++◌, [], List, length, take, drop, slice_index_or, subst, arith, refl, sym, ◌∙◌}
-use Rattle.edit_list.specs.Pieces.{EditEntry, changed_entries}
+use Rattle.edit_record.specs.Lists.Pieces.{EditEntry, changed_entries}
 use Rattle.tf_fix.specs.Replacements.{replaced_pieces}
 use Rattle.tf_fix.specs.SettledSpaces.{Prev}
 use Rattle.tf_fix.specs.Parts.{parts}

@@ -1,5 +1,5 @@
 use Rattle.std.proofs.Common.{length}
-use Rattle.edit_list.specs.Pieces.{changed_entries}
+use Rattle.edit_record.specs.Lists.Pieces.{changed_entries}
 use Rattle.tf_fix.specs.Replacements.{replaced_pieces}
 use Rattle.tf_fix.specs.Parts.{parts}
 use Rattle.tf_fix.specs.Inner.Views.{boundary_index, prev_view, replacements}

@@ -1,5 +1,5 @@
 -- Where no edits are kept there are some all the same.
-use Rattle.edit_squash.specs.Squash.{AreComposable}
+use Rattle.edit_record.specs.Squashes.Squash.{AreComposable}
 use Rattle.tf_lint.proofs.steps.compose.Goals as goal
 
 pub returns-in-None-clause-composed : goal.returns-in-None-clause-composed

@@ -1,8 +1,8 @@
 -- Steps of which no edits were kept.
 use Rattle.std.proofs.Common.{List, [], ◌∷◌, ℕ, length, refl, subst}
 use Rattle.std.proofs.lemmas.List.{append-nil}
-use Rattle.edit_list.specs.Pieces.{Transforms, as_list}
-use Rattle.edit_list.specs.Pieces.Piece.{Kept}
+use Rattle.edit_record.specs.Lists.Pieces.{Transforms, as_list}
+use Rattle.edit_record.specs.Lists.Pieces.Piece.{Kept}
 use Rattle.tf_lint.specs.Inner.LeadsTo.{IsFixOutcome}
 use Rattle.tf_lint.proofs.steps.fix_without_edits.Goals as goal
 

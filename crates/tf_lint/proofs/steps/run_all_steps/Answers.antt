@@ -1,6 +1,6 @@
 use Rattle.std.proofs.Common.{◌≡◌, ◌⊎◌, ◌∙◌, ℕ, List, Err, Bor, length, sym, subst}
 use Rattle.std.specs.Global.{Vec}
-use Rattle.edit_list.specs.Pieces.{Transforms}
+use Rattle.edit_record.specs.Lists.Pieces.{Transforms}
 use Rattle.tf_fix.specs.OneStep.{RulesFind}
 use Rattle.tf_fix.specs.ParsedTexts.{IsParseOf}
 use Rattle.tf_fix.specs.declared.parsed.Parsed.{Parsed}

@@ -1,5 +1,5 @@
 use Rattle.std.proofs.Common.{◌≡◌, ℕ, ◌-◌, ◌++◌, List, [], ◌∷◌, length, sym, ap, ap₂, ◌∙◌, arith}
-use Rattle.edit_list.specs.Pieces.{EditEntry, changed_entries}
+use Rattle.edit_record.specs.Lists.Pieces.{EditEntry, changed_entries}
 use Rattle.hcl_token.specs.Tokens.{whole_text}
 use Rattle.hcl_layout.specs.Gaps.Layout.{gap_piece}
 use Rattle.hcl_layout.specs.Gaps.Inner.Stages.{with_gaps}

@@ -1,5 +1,5 @@
 use Rattle.std.proofs.Common.{◌≡◌, ℕ, List, sym, subst, rules}
-use Rattle.edit_list.specs.Pieces.{Transforms}
+use Rattle.edit_record.specs.Lists.Pieces.{Transforms}
 use Rattle.hcl_layout.specs.Gaps.Layout.{layout_edits, layout_text}
 use Rattle.hcl_layout.proofs.GapsLemmas.LayoutPieces.{layout_turns}
 use Rattle.hcl_layout.proofs.gaps.format.formatted_text.Goals as goal

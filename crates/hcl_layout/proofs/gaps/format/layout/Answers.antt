@@ -1,5 +1,5 @@
 use Rattle.std.proofs.Common.{sym, subst, arith}
-use Rattle.edit_list.specs.Pieces.{EditList, Transforms}
+use Rattle.edit_record.specs.Lists.Pieces.{EditList, Transforms}
 use Rattle.hcl_layout.specs.Gaps.Layout.{layout_edits, layout_text}
 use Rattle.hcl_layout.proofs.GapsLemmas.LayoutPieces.{layout_turns, made_list, read_made}
 use Rattle.hcl_layout.proofs.gaps.format.layout.Goals as goal

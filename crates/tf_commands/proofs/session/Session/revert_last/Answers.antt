@@ -1,11 +1,11 @@
 -- What `last` lent is what `pop` takes, and it turns just one text into this one, or none.
 use Rattle.std.proofs.Common.{◌≡◌, ◌-◌, ◌↔◌, List, ℕ, length, take, slice_get, Some, Ok, Err, refl, rules, arith, subst, sym}
 use Rattle.std.proofs.lemmas.Grind.{common_steps}
-use Rattle.edit_list.specs.Journal.{JournalEntry, record_backward, record_transforms}
-use Rattle.edit_list.specs.ChangeResults.{AgreesWith, HasExpectedLen}
-use Rattle.edit_list.specs.declared.change.Refused.{Refused}
-use Rattle.edit_list.specs.declared.change.Refused.TheVariants.{Length, Differs, Memory}
-use Rattle.edit_list.specs.declared.direction.Direction.TheVariants.{Backward}
+use Rattle.edit_record.specs.Lists.Journal.{JournalEntry, record_backward, record_transforms}
+use Rattle.edit_record.specs.Lists.ChangeResults.{AgreesWith, HasExpectedLen}
+use Rattle.edit_record.specs.declared.lists.change.Refused.{Refused}
+use Rattle.edit_record.specs.declared.lists.change.Refused.TheVariants.{Length, Differs, Memory}
+use Rattle.edit_record.specs.declared.lists.direction.Direction.TheVariants.{Backward}
 use Rattle.tf_commands.specs.declared.command.Fault.{Fault}
 use Rattle.tf_commands.specs.Faults.{fault_of_refused}
 use Rattle.tf_commands.specs.Records.{IsLast, IsUniqueOld, RefusesRevert}

@@ -1,0 +1,9 @@
+pub mod Means
+pub mod Soundness
+pub mod Preparing
+pub mod MergesGroups
+pub mod Merged
+pub mod Groupings
+pub mod Uniqueness
+pub mod Existence
+pub mod Examples

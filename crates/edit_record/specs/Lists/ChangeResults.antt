@@ -1,0 +1,66 @@
+-- What applying and undoing edits answers about a text, in terms of pieces.
+use Rattle.std.specs.Prelude.{◌≡◌, ℕ, ◌+◌, ◌<◌, List, length, take, ⊤, Result, Ok, Err}
+use Rattle.std.specs.Global.{Vec}
+use Rattle.edit_record.specs.declared.lists.change.Refused.{Refused}
+use Rattle.edit_record.specs.declared.lists.change.Refused.TheVariants.{Length, Differs, Memory}
+use Rattle.edit_record.specs.declared.lists.direction.Direction.{Direction}
+use Rattle.edit_record.specs.declared.lists.direction.Direction.TheVariants.{Forward, Backward}
+use Rattle.edit_record.specs.Lists.Pieces.{EditEntry, EditList, Piece, old_text, new_text, changed_entries, Transforms, removed_len, added_len}
+use Rattle.edit_record.specs.Lists.Validity.{new_len}
+
+-- the side of pieces that is read
+abbrev pub side_of : Direction → List Piece → List ℕ
+side_of Forward = old_text
+side_of Backward = new_text
+
+-- the edits stand in a text: it is that side of pieces that change as they say
+pub record AppliesTo (direction : Direction) (es : List EditEntry) (text : List ℕ) : Type 0 where
+  pub pieces : List Piece
+  pub side_is : side_of direction pieces ≡ text
+  pub edits_are : changed_entries 0 pieces ≡ es
+
+-- this is the first edit that does not match: the edits before it apply to the text, and together
+-- with it they do not
+pub record IsFirstMismatch (direction : Direction) (es : List EditEntry) (text : List ℕ)
+    (edit : ℕ) : Type 0 where
+  pub in_range : edit < length es
+  pub before : AppliesTo direction (take edit es) text
+  pub with_it : ¬ (AppliesTo direction (take (edit + 1) es) text)
+
+-- the length that a text must have, and that it has it; the second is said by a sum, as edits could
+-- remove more than there is
+abbrev pub expected_len : Direction → EditList → ℕ
+expected_len Forward e = e.old_len
+expected_len Backward e = new_len e
+
+abbrev pub HasExpectedLen : Direction → EditList → List ℕ → Type 0
+HasExpectedLen Forward e t = length t ≡ e.old_len
+HasExpectedLen Backward e u = length u + removed_len e.entries ≡ e.old_len + added_len e.entries
+
+-- the text on the other side, or else that the length differs, or else the lowest edit that does
+-- not stand
+abbrev pub IsChangeResult : Direction → EditList → List ℕ → Result (List ℕ) Refused → Type 0
+IsChangeResult Forward e t (Ok u) = Transforms e t u
+IsChangeResult Backward e u (Ok t) = Transforms e t u
+IsChangeResult direction e t (Err (Length expected found)) =
+    (expected ≡ expected_len direction e) × (found ≡ length t) × ¬ (HasExpectedLen direction e t)
+IsChangeResult direction e t (Err (Differs step edit)) =
+    (step ≡ 0) × HasExpectedLen direction e t × IsFirstMismatch direction e.entries t edit
+IsChangeResult direction e t (Err Memory) = ⊥
+
+-- What a call on edits answered: the text on the other side, or why there is none; or memory ran
+-- out, and that only over a text of the right length.
+abbrev pub IsChangeCallResult : Direction → EditList → List ℕ → Result (Vec ℕ) Refused → Type 0
+IsChangeCallResult direction e t (Ok v) = IsChangeResult direction e t (Ok v.items)
+IsChangeCallResult direction e t (Err (Length expected found)) =
+    IsChangeResult direction e t (Err (Length expected found))
+IsChangeCallResult direction e t (Err (Differs step edit)) =
+    IsChangeResult direction e t (Err (Differs step edit))
+IsChangeCallResult direction e t (Err Memory) = HasExpectedLen direction e t
+
+-- a call answered this, unless memory ran out
+abbrev pub AgreesWith : Result (Vec ℕ) Refused → Result (List ℕ) Refused → Type 0
+AgreesWith (Ok v) answer = answer ≡ Ok v.items
+AgreesWith (Err Memory) answer = ⊤
+AgreesWith (Err (Length m n)) answer = answer ≡ Err (Length m n)
+AgreesWith (Err (Differs m n)) answer = answer ≡ Err (Differs m n)

@@ -1,0 +1,50 @@
+-- The answer as a function of the text: one walk over a text and the edits, from either side.
+use Rattle.std.specs.Prelude.{ℕ, ◌+◌, ◌-◌, List, [], ◌∷◌, ◌++◌, length, take, drop, Bool, Result, Ok, Err, nat_le, ◌==◌, ◌&&◌, if◌then◌else◌}
+use Rattle.std.specs.Str.{bytes_eq}
+use Rattle.edit_record.specs.declared.lists.change.Refused.{Refused}
+use Rattle.edit_record.specs.declared.lists.change.Refused.TheVariants.{Length, Differs}
+use Rattle.edit_record.specs.declared.lists.direction.Direction.{Direction}
+use Rattle.edit_record.specs.declared.lists.direction.Direction.TheVariants.{Forward, Backward}
+use Rattle.edit_record.specs.Lists.Pieces.{EditEntry, EditList, removed_len, added_len}
+use Rattle.edit_record.specs.Lists.Validity.{new_len}
+
+-- the bytes of an edit on the side that is read, and on the other
+abbrev pub read_bytes : Direction → EditEntry → List ℕ
+read_bytes Forward e = e.removed
+read_bytes Backward e = e.added
+
+abbrev pub written_bytes : Direction → EditEntry → List ℕ
+written_bytes Forward e = e.added
+written_bytes Backward e = e.removed
+
+-- the answer with these bytes in front
+abbrev pub prepend : List ℕ → Result (List ℕ) Refused → Result (List ℕ) Refused
+prepend front (Ok rest) = Ok (front ++ rest)
+prepend front (Err r) = Err r
+
+-- the gap is there, and the bytes stand behind it
+abbrev pub matches_at : ℕ → ℕ → List ℕ → List ℕ → Bool
+matches_at from at bytes t =
+    nat_le from at && (nat_le (at - from) (length t)
+    && bytes_eq bytes (take (length bytes) (drop (at - from) t)))
+
+-- The text on the other side of t, of which the first byte has the old place from. Or the first
+-- edit whose bytes don't stand; the first of these has the number i.
+abbrev pub walk : Direction → ℕ → ℕ → List EditEntry → List ℕ → Result (List ℕ) Refused
+walk direction i from [] t = Ok t
+walk direction i from (e ∷ es) t =
+    if matches_at from e.at (read_bytes direction e) t
+    then prepend (take (e.at - from) t ++ written_bytes direction e)
+    (walk direction (i + 1) (e.at + length e.removed) es
+    (drop (length (read_bytes direction e)) (drop (e.at - from) t)))
+    else Err (Differs 0 i)
+
+-- what becomes of a text; backwards, what it came from
+abbrev pub apply_edits : Direction → EditList → List ℕ → Result (List ℕ) Refused
+apply_edits Forward e t =
+    if length t == e.old_len then walk Forward 0 0 e.entries t
+    else Err (Length e.old_len (length t))
+apply_edits Backward e u =
+    if (length u + removed_len e.entries) == (e.old_len + added_len e.entries)
+    then walk Backward 0 0 e.entries u
+    else Err (Length (new_len e) (length u))

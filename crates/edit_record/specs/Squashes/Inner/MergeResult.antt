@@ -1,0 +1,17 @@
+-- What the merge of two lists answers.
+use Rattle.std.specs.Prelude.{Result, Ok, Err, ⊤}
+use Rattle.std.specs.Global.{Vec}
+use Rattle.edit_record.specs.Lists.Pieces.{EditEntry, EditList, as_list}
+use Rattle.edit_record.specs.Lists.Validity.{AreValidEdits, new_len}
+use Rattle.edit_record.specs.Squashes.Squash.{IsSquash, IsContradiction}
+use Rattle.edit_record.specs.declared.squashes.squash_lists.Unmet.{Unmet}
+use Rattle.edit_record.specs.declared.squashes.squash_lists.Unmet.TheVariants.{LengthsDiffer, Contradicts, Memory}
+
+-- where the lengths follow it answers what squash does, and that the edits are a list of edits
+abbrev pub IsMergeResult : EditList → EditList → Result (Vec EditEntry) Unmet → Type 0
+IsMergeResult a b (Ok c) =
+    AreValidEdits a.old_len (new_len b) c.items
+    × IsSquash a b (as_list a.old_len c.items)
+IsMergeResult a b (Err LengthsDiffer) = ⊥
+IsMergeResult a b (Err (Contradicts edit)) = IsContradiction a b edit
+IsMergeResult a b (Err Memory) = ⊤

@@ -1,0 +1,55 @@
+-- One list of edits in the place of two, the second of which goes on from the first.
+use Rattle.std.specs.Prelude.{◌≡◌, ◌≢◌, ◌↔◌, ℕ, ◌+◌, ◌<◌, List, length, map, take, Result, Ok, Err}
+use Rattle.edit_record.specs.Lists.Pieces.{EditList, Transforms}
+use Rattle.edit_record.specs.Lists.Validity.{AreValidEdits, new_len}
+use Rattle.edit_record.specs.Squashes.Groups.{extent_of, squashed_extents}
+use Rattle.edit_record.specs.declared.squashes.squash_lists.Unmet.{Unmet}
+use Rattle.edit_record.specs.declared.squashes.squash_lists.Unmet.TheVariants.{LengthsDiffer, Contradicts, Memory}
+
+-- some text goes by the first list and then by the second
+abbrev pub AreComposable : EditList → EditList → Type 0
+AreComposable a b = (t : List ℕ) × (u : List ℕ) × (v : List ℕ) × Transforms a t u × Transforms b u v
+
+-- c turns exactly the texts into others that go by a and then by b
+abbrev pub IsComposition : EditList → EditList → EditList → Type 0
+IsComposition c a b = (t v : List ℕ) → Transforms c t v ↔ ((u : List ℕ) × Transforms a t u × Transforms b u v)
+
+-- the first edits of a list
+abbrev pub take_edits : ℕ → EditList → EditList
+take_edits k b = record { old_len = b.old_len; entries = take k b.entries }
+
+-- the edits of b before this one can follow a, with it none can: it is the lowest that contradicts
+pub record IsContradiction (a b : EditList) (edit : ℕ) : Type 0 where
+  pub in_range : edit < length b.entries
+  pub before : AreComposable a (take_edits edit b)
+  pub with_it : ¬ (AreComposable a (take_edits (edit + 1) b))
+  pub none : ¬ (AreComposable a b)
+
+-- c is the one list in the place of a and b
+pub record IsSquash (a b c : EditList) : Type 0 where
+  pub lengths_match : new_len a ≡ b.old_len
+  pub old_len_is : c.old_len ≡ a.old_len
+  pub composable : AreComposable a b
+  pub equivalent : IsComposition c a b
+  pub shape : map extent_of c.entries ≡ squashed_extents a.entries b.entries
+
+-- these are a list of edits: placed one behind the other, and both lengths are within the limit
+abbrev pub IsValidList : EditList → Type 0
+IsValidList e = AreValidEdits e.old_len (new_len e) e.entries
+
+-- any two lists, of which some text goes by the one and then by the other, have one in their place
+abbrev pub ComposableListsSquash : Type 0
+ComposableListsSquash = (a b : EditList) → IsValidList a → IsValidList b → AreComposable a b
+    → (c : EditList) × IsValidList c × IsSquash a b c
+
+-- the lengths follow, and there is an edit: no memory is taken for any other two lists
+pub record MayAllocate (a b : EditList) : Type 0 where
+  pub lengths_match : new_len a ≡ b.old_len
+  pub some : 0 < length a.entries + length b.entries
+
+-- what squash answers
+abbrev pub IsSquashResult : EditList → EditList → Result EditList Unmet → Type 0
+IsSquashResult a b (Ok c) = IsSquash a b c
+IsSquashResult a b (Err LengthsDiffer) = new_len a ≢ b.old_len
+IsSquashResult a b (Err (Contradicts edit)) = (new_len a ≡ b.old_len) × IsContradiction a b edit
+IsSquashResult a b (Err Memory) = MayAllocate a b

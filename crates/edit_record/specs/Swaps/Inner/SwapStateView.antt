@@ -1,0 +1,12 @@
+-- The place in the code.
+use Rattle.edit_record.specs.declared.swaps.swap_state.SwapState.{SwapState}
+use Rattle.edit_record.specs.Swaps.Inner.SwapState.{State}
+
+abbrev pub state : SwapState → State
+state s = record {
+  old = s.old_at;
+  mid = s.mid_at;
+  other = s.other_at;
+  us = s.seconds.items;
+  vs = s.firsts.items;
+}

@@ -1,0 +1,67 @@
+-- Taking one record's edits out of the records that follow it.
+use Rattle.std.specs.Prelude.{◌≡◌, ◌≢◌, ℕ, List, [], ◌∷◌, map, take, Option, None, Some, Result, Ok, Err}
+use Rattle.std.specs.Global.{Vec}
+use Rattle.edit_record.specs.declared.lists.record.Record.{Record}
+use Rattle.edit_record.specs.declared.lists.record.Word.{Word}
+use Rattle.edit_record.specs.declared.lists.edits.Edits.{Edits}
+use Rattle.edit_record.specs.Lists.Pieces.{EditList}
+use Rattle.edit_record.specs.Lists.Validity.{new_len}
+use Rattle.edit_record.specs.Lists.Journal.{JournalEntry}
+use Rattle.edit_record.specs.Swaps.Swap.{IsItem, FirstMeeting, NoneMeet, ExceedsLimit, IsWithinLimit}
+use Rattle.edit_record.specs.Swaps.MoveToEnd.{IsMovedToEnd}
+use Rattle.edit_record.specs.declared.swaps.reorder.MoveFault.{MoveFault}
+use Rattle.edit_record.specs.declared.swaps.reorder.MoveFault.TheVariants.{Length, Blocked, TooLong, Memory}
+
+-- the edits of records, and their commands
+abbrev pub edits_of : List JournalEntry → List EditList
+edits_of rs = map (λ r. r.edits) rs
+
+abbrev pub words_of : List JournalEntry → List Word
+words_of rs = map (λ r. r.word) rs
+
+-- what the list has become, which is itself where nothing was behind it
+abbrev pub moved_or : EditList → Option EditList → EditList
+moved_or a None = a
+moved_or a (Some m) = m
+
+-- why two lists do not change places: the second is for texts of another length, or edits meet, or
+-- a text would be too long
+abbrev pub LengthMismatch : EditList → EditList → ℕ → ℕ → Type 0
+LengthMismatch a b expected found = (new_len a ≢ b.old_len) × (expected ≡ b.old_len) × (found ≡ new_len a)
+
+abbrev pub SomeMeet : EditList → EditList → Type 0
+SomeMeet a b = (new_len a ≡ b.old_len) × (i : ℕ) × (j : ℕ) × FirstMeeting a b i j
+
+abbrev pub SwapIsTooLong : EditList → EditList → Type 0
+SwapIsTooLong a b = (new_len a ≡ b.old_len) × NoneMeet a b × ExceedsLimit a b
+
+-- behind the first k lists a has become one that does not change places with the next list
+pub record FailsAt (a : EditList) (bs : List EditList) (k : ℕ)
+    (Refuses : EditList → EditList → Type 0) : Type 0 where
+  pub swapped_lists : List EditList
+  pub moved_edits : EditList
+  pub next : EditList
+  pub is_moved : IsMovedToEnd a (take k bs) swapped_lists moved_edits
+  pub next_is : IsItem k next bs
+  pub refuses : Refuses moved_edits next
+
+-- nothing is in the way of two lists that are to change places
+abbrev pub CanSwap : EditList → EditList → Type 0
+CanSwap a b = (new_len a ≡ b.old_len) × NoneMeet a b × IsWithinLimit a b
+
+-- no memory is taken where there is no record, nor where the first one refuses
+abbrev pub MoveMayAllocate : EditList → List JournalEntry → Type 0
+MoveMayAllocate a [] = ⊥
+MoveMayAllocate a (r ∷ rs) = CanSwap a r.edits
+
+-- What take_out answers: the records as they are without a before them, with their commands, and
+-- what a has become behind them all; or the first record that refuses, and why.
+abbrev pub IsMoveToEndResult : EditList → List JournalEntry → Result (Vec Record × Option Edits) MoveFault
+    → Type 0
+IsMoveToEndResult a rs (Ok x) =
+    IsMovedToEnd a (edits_of rs) (edits_of x.0.items) (moved_or a x.1) × (words_of x.0.items ≡ words_of rs)
+IsMoveToEndResult a rs (Err (Length expected found)) =
+    (k : ℕ) × FailsAt a (edits_of rs) k (λ n b. LengthMismatch n b expected found)
+IsMoveToEndResult a rs (Err (Blocked k)) = FailsAt a (edits_of rs) k SomeMeet
+IsMoveToEndResult a rs (Err TooLong) = (k : ℕ) × FailsAt a (edits_of rs) k SwapIsTooLong
+IsMoveToEndResult a rs (Err Memory) = MoveMayAllocate a rs

@@ -1,0 +1,176 @@
+ghost use Rattle.std.specs.Prelude.{◌≡◌, ◌+◌, ◌≤◌, ◌<◌, length, IfOk, IfErr};
+ghost use Rattle.edit_record.specs.Lists.Inner.Storage.{removed_of, added_of, IsValidStorage};
+ghost use Rattle.edit_record.specs.declared.lists.edit.TheConstants.{INLINE_CAPACITY};
+
+use std::alloc::{AllocError, Global};
+use std::fmt::{self, Debug};
+use std::marker::Model;
+use thiserror::Error;
+
+/// The most bytes, removed and added together, that an edit stores inline. With the two lengths and
+/// the tag they fill 16 bytes.
+const INLINE_CAPACITY: usize = 13;
+
+/// Replaces the bytes `removed` at offset `at` of the old text by `added`.
+///
+/// An edit takes 24 bytes. It allocates only if the two texts together have more than 13 bytes.
+#[derive(Drop)]
+pub struct Edit {
+    at: usize,
+    storage: Storage,
+}
+
+// A text full of issues has an edit for each, most of a few bytes.
+const _: () = prove!(size_of::<Edit>() == 24);
+
+/// The removed bytes followed by the added ones. The first `removed_end` bytes are the removed ones.
+#[derive(Drop)]
+enum Storage {
+    Inline {
+        removed_end: u8,
+        len: u8,
+        bytes: [u8; INLINE_CAPACITY],
+    },
+    Heap(Box<HeapBytes>),
+}
+
+#[derive(Drop)]
+struct HeapBytes {
+    removed_end: usize,
+    bytes: Vec<u8>,
+}
+
+impl Model for Edit {
+    ghost use Rattle.edit_record.specs.Lists.Pieces.{EditEntry};
+    ghost use Rattle.edit_record.specs.Lists.Inner.Storage.{removed_of, added_of, IsValidStorage};
+
+    ghost Value = { EditEntry };
+
+    ghost view = { λ e.
+        record { at = e.at; removed = removed_of e.storage; added = added_of e.storage } };
+
+    ghost invariant = { λ e. IsValidStorage e.storage };
+}
+
+impl Edit {
+    /// The edit that removes `removed` at `at`, and adds `added` there.
+    pub fn new(alloc: Global, at: usize, removed: &[u8], added: &[u8]) -> Result<Self, AllocError>
+        ensures edit { IfOk result
+            (λ e. e ≡ record { at = at; removed = removed.now; added = added.now }) }
+        ensures allocates { IfErr result (λ _. INLINE_CAPACITY < length removed.now + length added.now) }
+    {
+        let storage = if removed.len() <= INLINE_CAPACITY
+            && added.len() <= INLINE_CAPACITY - removed.len()
+        {
+            store_inline(removed, added)
+        } else {
+            store_on_heap(alloc, removed, added)?
+        };
+        Ok(Edit { at, storage })
+    }
+
+    /// Where the edit stands in the old text, in bytes from 0.
+    pub fn at(&self) -> usize
+        ensures { result ≡ self.now.at }
+    {
+        self.at
+    }
+
+    /// Puts the edit at another place. It takes no memory.
+    pub fn set_at(&mut self, at: usize)
+        ensures { self.new ≡ record { at = at; removed = self.old.removed; added = self.old.added } }
+    {
+        self.at = at;
+    }
+
+    /// The bytes that go.
+    pub fn removed(&self) -> &[u8]
+        ensures { result.now ≡ self.now.removed }
+    {
+        match &self.storage {
+            Storage::Inline {
+                removed_end,
+                bytes,
+                ..
+            } => &bytes[..*removed_end as usize],
+            Storage::Heap(long) => &long.bytes[..long.removed_end],
+        }
+    }
+
+    /// The bytes that come in their place.
+    pub fn added(&self) -> &[u8]
+        ensures { result.now ≡ self.now.added }
+    {
+        match &self.storage {
+            Storage::Inline {
+                removed_end,
+                len,
+                bytes,
+            } => &bytes[*removed_end as usize..*len as usize],
+            Storage::Heap(long) => &long.bytes[long.removed_end..],
+        }
+    }
+}
+
+/// Both texts in the edit itself.
+fn store_inline(removed: &[u8], added: &[u8]) -> Storage
+    requires { length removed.now + length added.now ≤ INLINE_CAPACITY }
+    ensures removed { removed_of result ≡ removed.now }
+    ensures added { added_of result ≡ added.now }
+    ensures valid { IsValidStorage result }
+{
+    let removed_end = removed.len();
+    let len = removed_end + added.len();
+    let mut bytes = [0; INLINE_CAPACITY];
+    bytes[..removed_end].copy_from_slice(removed);
+    bytes[removed_end..len].copy_from_slice(added);
+    Storage::Inline {
+        removed_end: removed_end as u8,
+        len: len as u8,
+        bytes,
+    }
+}
+
+/// Both texts in memory of their own.
+fn store_on_heap(alloc: Global, removed: &[u8], added: &[u8]) -> Result<Storage, AllocError>
+    ensures removed { IfOk result (λ storage. removed_of storage ≡ removed.now) }
+    ensures added { IfOk result (λ storage. added_of storage ≡ added.now) }
+    ensures valid { IfOk result IsValidStorage }
+{
+    let len = removed.len().saturating_add(added.len());
+    let mut bytes = Vec::with_capacity(alloc, len)?;
+    bytes.extend_from_slice(removed)?;
+    bytes.extend_from_slice(added)?;
+    let long = HeapBytes {
+        removed_end: removed.len(),
+        bytes,
+    };
+    Ok(Storage::Heap(Box::new(alloc, long)?))
+}
+
+impl Debug for Edit {
+    fn fmt<W: fmt::Write>(&self, f: &mut fmt::Formatter<W>) -> fmt::Result {
+        f.debug_struct("Edit")
+            .field("at", &self.at)
+            .field("removed", &self.removed())
+            .field("added", &self.added())
+            .finish()
+    }
+}
+
+/// Why edits are no list of edits of a text. Edits are numbered from 0.
+#[derive(Clone, Copy, Debug, PartialEq, Eq, Error)]
+pub enum BadEdits {
+    /// The edit removes nothing and adds nothing.
+    #[error("edit {0} removes nothing and adds nothing")]
+    EmptyEdit(usize),
+    /// The edit begins before the one before it ends.
+    #[error("edit {0} begins before the end of the one before")]
+    OutOfOrder(usize),
+    /// The edit ends past the end of the text.
+    #[error("edit {0} ends past the end of the text")]
+    PastEnd(usize),
+    /// The old text or the new one is longer than a text can be.
+    #[error("the text has more than 16777216 bytes")]
+    TooLong,
+}

@@ -1,0 +1,168 @@
+ghost use Rattle.std.specs.Prelude.{◌≡◌, ◌+◌};
+
+use crate::lists::direction::Direction;
+use crate::lists::pass::apply_edits;
+use crate::lists::{BadEdits, Change, Edit, Refused};
+use std::alloc::Global;
+use std::marker::Model;
+
+/// The most bytes of a text, old or new: 16 MiB.
+pub const MAX_TEXT: usize = 16_777_216;
+
+/// A list of edits of texts of one length, in order and apart. Edits may touch.
+#[derive(Debug, Drop)]
+pub struct Edits {
+    old_len: usize,
+    new_len: usize,
+    edits: Vec<Edit>,
+}
+
+impl Model for Edits {
+    ghost use Rattle.edit_record.specs.Lists.Pieces.{EditList};
+    ghost use Rattle.edit_record.specs.Lists.Validity.{AreValidEdits};
+
+    ghost Value = { EditList };
+
+    ghost view = { λ e. record { old_len = e.old_len; entries = e.edits.items } };
+
+    ghost invariant = { λ e. AreValidEdits e.old_len e.new_len e.edits.items };
+}
+
+impl Edits {
+    ghost use Rattle.edit_record.specs.Lists.Pieces.{as_list, removed_len, added_len};
+    ghost use Rattle.edit_record.specs.Lists.Validity.{make_edits, AreValidEdits, new_len};
+
+    /// The edits as a list for texts of `old_len` bytes. A text has at most [`MAX_TEXT`] bytes.
+    ///
+    /// Refused are, in this order: an old length over that; the first edit that is empty, begins
+    /// before the end of the one before, or ends past the text; and a new length over the limit.
+    pub fn make(old_len: usize, edits: Vec<Edit>) -> Result<Self, BadEdits>
+        ensures { result ≡ make_edits old_len edits.items }
+    {
+        if old_len > MAX_TEXT {
+            return Err(BadEdits::TooLong);
+        }
+        let mut from = 0;
+        let mut removed = 0;
+        let mut added = 0usize;
+        for (i, edit) in edits.iter().enumerate() {
+            if edit.removed().is_empty() && edit.added().is_empty() {
+                return Err(BadEdits::EmptyEdit(i));
+            }
+            if edit.at() < from {
+                return Err(BadEdits::OutOfOrder(i));
+            }
+            if edit.at() > old_len || edit.removed().len() > old_len - edit.at() {
+                return Err(BadEdits::PastEnd(i));
+            }
+            from = edit.at() + edit.removed().len();
+            removed += edit.removed().len();
+            added = added.saturating_add(edit.added().len());
+        }
+        if added > MAX_TEXT - (old_len - removed) {
+            return Err(BadEdits::TooLong);
+        }
+        let new_len = old_len - removed + added;
+        Ok(Edits {
+            old_len,
+            new_len,
+            edits,
+        })
+    }
+
+    /// The edits as a list, where it is known that they are one: nothing is tested again.
+    pub fn from_valid(old_len: usize, new_len: usize, edits: Vec<Edit>) -> Self
+        requires { AreValidEdits old_len new_len edits.items }
+        ensures { result ≡ as_list old_len edits.items }
+    {
+        Edits {
+            old_len,
+            new_len,
+            edits,
+        }
+    }
+
+    /// The length of the texts that these edits apply to.
+    pub fn old_len(&self) -> usize
+        ensures { result ≡ self.now.old_len }
+    {
+        self.old_len
+    }
+
+    /// The length of the texts that they make: the old one, less what is removed, and what is
+    /// added.
+    pub fn new_len(&self) -> usize
+        ensures { result + removed_len self.now.entries
+            ≡ self.now.old_len + added_len self.now.entries }
+    {
+        self.new_len
+    }
+
+    /// The edits, in order.
+    pub fn edits(&self) -> &[Edit]
+        ensures same { result.now ≡ self.now.entries }
+        ensures disjoint { AreValidEdits self.now.old_len (new_len self.now) result.now }
+    {
+        self.edits.as_slice()
+    }
+
+    /// The same, handed out.
+    pub fn into_edits(self) -> Vec<Edit>
+        ensures same { result.items ≡ self.entries }
+        ensures disjoint { AreValidEdits self.old_len (new_len self) result.items }
+    {
+        self.edits
+    }
+}
+
+impl Change for Edits {
+    ghost use Rattle.std.specs.Prelude.{IfErr};
+    ghost use Rattle.edit_record.specs.Lists.Pieces.{Transforms};
+    ghost use Rattle.edit_record.specs.Lists.ChangeResults.{IsChangeCallResult, AgreesWith, HasExpectedLen};
+    ghost use Rattle.edit_record.specs.Lists.Inner.Walk.{apply_edits};
+    ghost use Rattle.edit_record.specs.Lists.Inner.Exact.{forward_exact, backward_exact, answer_never_memory};
+    ghost use Rattle.edit_record.specs.declared.lists.change.Refused.TheVariants.{Memory};
+    ghost use Rattle.edit_record.specs.declared.lists.direction.Direction.TheVariants.{Forward, Backward};
+
+    ghost turns = { Transforms };
+
+    ghost forward = { apply_edits Forward };
+
+    ghost backward = { apply_edits Backward };
+
+    ghost applies = { forward_exact };
+
+    ghost undoes = { backward_exact };
+
+    ghost never_memory = { λ e t. (answer_never_memory Forward e t, answer_never_memory Backward e t) };
+
+    fn apply(&self, alloc: Global, text: &[u8]) -> Result<Vec<u8>, Refused>
+        ensures agrees { AgreesWith result (apply_edits Forward self.now text.now) }
+        ensures memory { IfErr result (λ e. e ≡ Memory → HasExpectedLen Forward self.now text.now) }
+        ensures pieces { IsChangeCallResult Forward self.now text.now result }
+    {
+        apply_edits(
+            alloc,
+            Direction::Forward,
+            self.old_len,
+            self.new_len,
+            &self.edits,
+            text,
+        )
+    }
+
+    fn undo(&self, alloc: Global, text: &[u8]) -> Result<Vec<u8>, Refused>
+        ensures agrees { AgreesWith result (apply_edits Backward self.now text.now) }
+        ensures memory { IfErr result (λ e. e ≡ Memory → HasExpectedLen Backward self.now text.now) }
+        ensures pieces { IsChangeCallResult Backward self.now text.now result }
+    {
+        apply_edits(
+            alloc,
+            Direction::Backward,
+            self.old_len,
+            self.new_len,
+            &self.edits,
+            text,
+        )
+    }
+}

@@ -1,0 +1,102 @@
+ghost use Rattle.std.specs.Prelude.{◌≡◌, ◌≤◌, ◌+◌, [], ◌∷◌, ◌++◌, length, take, OnOk, OnErr, IfErr, IsNone, option_to_list};
+
+use crate::lists::sequence::{apply_records, undo_records};
+use crate::lists::{Change, Record, Refused};
+use std::alloc::{AllocFailed, Global};
+use std::marker::Model;
+
+/// What commands did to a text, in order: the first record is the oldest.
+#[derive(Debug, Drop)]
+pub struct Journal {
+    records: Vec<Record>,
+}
+
+impl Model for Journal {
+    ghost use Rattle.std.specs.Prelude.{List};
+    ghost use Rattle.edit_record.specs.Lists.Journal.{JournalEntry};
+
+    ghost Value = { List JournalEntry };
+
+    ghost view = { λ j. j.records.items };
+}
+
+impl Journal {
+    /// A journal with no records. It takes memory only once it grows.
+    pub fn empty(alloc: Global) -> Self
+        ensures { result ≡ [] }
+    {
+        Journal {
+            records: Vec::new(alloc),
+        }
+    }
+
+    /// Adds a record at the end. Where memory is wanting it hands the record back, and the journal
+    /// is as before.
+    pub fn push(&mut self, last: Record) -> Result<(), AllocFailed<Record>>
+        ensures ok { OnOk result (self.new ≡ self.old ++ last ∷ []) }
+        ensures unchanged { OnErr result (self.new ≡ self.old) }
+        ensures back { IfErr result (λ e. e.value ≡ last) }
+    {
+        self.records.push(last)
+    }
+
+    /// Takes the last record off, if there is one.
+    pub fn pop(&mut self) -> Option<Record>
+        ensures rest { self.old ≡ self.new ++ option_to_list result }
+        ensures none { IsNone result → self.old ≡ [] }
+    {
+        self.records.pop()
+    }
+
+    /// Puts these in the place of the records from this number on, counted from 0. It takes no
+    /// memory, since there are as many of them at most.
+    pub fn replace_from(&mut self, from: usize, others: Vec<Record>)
+        requires { from + length others.items ≤ length self.old }
+        ensures { self.new ≡ take from self.old ++ others.items }
+    {
+        let mut others = others;
+        self.records.truncate(from);
+        let _ = self.records.append(&mut others);
+    }
+
+    /// The records, from the oldest on.
+    pub fn records(&self) -> &[Record]
+        ensures { result.now ≡ self.now }
+    {
+        self.records.as_slice()
+    }
+}
+
+impl Change for Journal {
+    ghost use Rattle.edit_record.specs.Lists.Journal.{journal_transforms, journal_forward, journal_backward};
+    ghost use Rattle.edit_record.specs.Lists.JournalResults.{IsJournalCallResult};
+    ghost use Rattle.edit_record.specs.Lists.ChangeResults.{AgreesWith};
+    ghost use Rattle.edit_record.specs.Lists.Inner.JournalExact.{journal_applies, journal_undoes, journal_never_memory};
+    ghost use Rattle.edit_record.specs.declared.lists.direction.Direction.TheVariants.{Forward, Backward};
+
+    ghost turns = { journal_transforms };
+
+    ghost forward = { journal_forward };
+
+    ghost backward = { journal_backward };
+
+    ghost applies = { journal_applies };
+
+    ghost undoes = { journal_undoes };
+
+    ghost never_memory = { journal_never_memory };
+
+    fn apply(&self, alloc: Global, text: &[u8]) -> Result<Vec<u8>, Refused>
+        ensures agrees { AgreesWith result (journal_forward self.now text.now) }
+        ensures pieces { IsJournalCallResult Forward self.now text.now result }
+    {
+        apply_records(alloc, &self.records, text)
+    }
+
+    fn undo(&self, alloc: Global, text: &[u8]) -> Result<Vec<u8>, Refused>
+        ensures agrees { AgreesWith result (journal_backward self.now text.now) }
+        ensures pieces { IsJournalCallResult Backward self.now text.now result }
+    {
+        undo_records(alloc, &self.records, text)
+    }
+}

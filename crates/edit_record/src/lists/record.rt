@@ -1,0 +1,89 @@
+ghost use Rattle.std.specs.Prelude.{◌≡◌};
+
+use crate::lists::{Change, Edits, Refused};
+use std::alloc::Global;
+use std::marker::Model;
+
+/// The command that made a record.
+#[derive(Clone, Copy, Debug, PartialEq, Eq)]
+pub enum Word {
+    Fmt,
+    Fix,
+}
+
+/// What one command did to the text. Its edits are its only step, which has the number 0.
+#[derive(Debug, Drop)]
+pub struct Record {
+    word: Word,
+    edits: Edits,
+}
+
+impl Model for Record {
+    ghost use Rattle.edit_record.specs.Lists.Journal.{JournalEntry};
+
+    ghost Value = { JournalEntry };
+
+    ghost view = { λ r. record { word = r.word; edits = r.edits } };
+}
+
+impl Record {
+    ghost use Rattle.edit_record.specs.Lists.Journal.{JournalEntry};
+
+    /// The record of a command that made these edits.
+    pub fn make(word: Word, edits: Edits) -> Self
+        ensures { result ≡ record { word = word; edits = edits } }
+    {
+        Record { word, edits }
+    }
+
+    /// The command.
+    pub fn word(&self) -> Word
+        ensures { result ≡ self.now.word }
+    {
+        self.word
+    }
+
+    /// Its edits.
+    pub fn edits(&self) -> &Edits
+        ensures { result.now ≡ self.now.edits }
+    {
+        &self.edits
+    }
+}
+
+impl Change for Record {
+    ghost use Rattle.std.specs.Prelude.{IfErr};
+    ghost use Rattle.edit_record.specs.Lists.Journal.{record_transforms, record_forward, record_backward};
+    ghost use Rattle.edit_record.specs.Lists.ChangeResults.{IsChangeCallResult, AgreesWith, HasExpectedLen};
+    ghost use Rattle.edit_record.specs.Lists.Inner.JournalExact.{record_applies, record_undoes, record_never_memory};
+    ghost use Rattle.edit_record.specs.declared.lists.change.Refused.TheVariants.{Memory};
+    ghost use Rattle.edit_record.specs.declared.lists.direction.Direction.TheVariants.{Forward, Backward};
+
+    ghost turns = { record_transforms };
+
+    ghost forward = { record_forward };
+
+    ghost backward = { record_backward };
+
+    ghost applies = { record_applies };
+
+    ghost undoes = { record_undoes };
+
+    ghost never_memory = { record_never_memory };
+
+    fn apply(&self, alloc: Global, text: &[u8]) -> Result<Vec<u8>, Refused>
+        ensures agrees { AgreesWith result (record_forward self.now text.now) }
+        ensures memory { IfErr result (λ e. e ≡ Memory → HasExpectedLen Forward self.now.edits text.now) }
+        ensures pieces { IsChangeCallResult Forward self.now.edits text.now result }
+    {
+        self.edits.apply(alloc, text)
+    }
+
+    fn undo(&self, alloc: Global, text: &[u8]) -> Result<Vec<u8>, Refused>
+        ensures agrees { AgreesWith result (record_backward self.now text.now) }
+        ensures memory { IfErr result (λ e. e ≡ Memory → HasExpectedLen Backward self.now.edits text.now) }
+        ensures pieces { IsChangeCallResult Backward self.now.edits text.now result }
+    {
+        self.edits.undo(alloc, text)
+    }
+}

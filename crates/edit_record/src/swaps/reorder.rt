@@ -1,0 +1,135 @@
+//! Taking one record's edits out of a row of records.
+ghost use Rattle.std.specs.Prelude.{◌≡◌, ◌<◌, ◌≤◌, length};
+ghost use Rattle.edit_record.specs.Swaps.Inner.MovePastResult.{IsMovePastResult};
+ghost use Rattle.edit_record.specs.Swaps.MoveToEndResult.{IsMoveToEndResult, moved_or};
+ghost use Rattle.edit_record.specs.declared.swaps.reorder.MoveFault.TheVariants.{Memory};
+
+use crate::lists::{Edits, Record};
+use crate::swaps::moving_edits::MovingEdits;
+use crate::swaps::{SwapFault, swap};
+use std::alloc::{AllocError, AllocFailed, Global};
+use thiserror::Error;
+
+/// Why edits cannot be moved past the records that follow them.
+#[derive(Clone, Copy, Debug, PartialEq, Eq, Error)]
+pub enum MoveFault {
+    /// A record applies to texts of another length than the one before it makes.
+    #[error("record expects {expected} bytes, found {found}")]
+    Length { expected: usize, found: usize },
+    /// An edit meets one of this record, counted from 0.
+    #[error("blocked by record {number}")]
+    Blocked { number: usize },
+    /// A text without the edits is too long.
+    #[error("the text is too long")]
+    TooLong,
+    /// There was no memory for the records.
+    #[error("out of memory")]
+    Memory,
+}
+
+impl From<AllocError> for MoveFault {
+    ghost from_gives = { λ _ e. e ≡ Memory };
+
+    fn from(_e: AllocError) -> MoveFault {
+        MoveFault::Memory
+    }
+}
+
+impl<T: Drop> From<AllocFailed<T>> for MoveFault {
+    ghost from_gives = { λ _ e. e ≡ Memory };
+
+    fn from(_e: AllocFailed<T>) -> MoveFault {
+        MoveFault::Memory
+    }
+}
+
+/// Returns the records that follow `first`, as they are without it, and what it has become after
+/// them all (`None`: itself, since none follows).
+///
+/// The edits change places with those of each record in turn, and each record keeps its command.
+/// Undoing what `first` has become on the last text gives the text without it. Nothing that was
+/// lent is changed.
+///
+/// The edits of `first` and those of the first record are gone over once, and so for each record
+/// after it that is as large; after these each edit of a record takes a search among the edits of
+/// `first`, by halves.
+///
+/// # Errors
+///
+/// Of the first record that refuses, counted from 0. Memory is asked for a record once nothing
+/// else stands against it.
+pub fn move_to_end(
+    alloc: Global,
+    first: &Edits,
+    records: &[Record],
+) -> Result<(Vec<Record>, Option<Edits>), MoveFault>
+    ensures { IsMoveToEndResult first.now records.now result }
+{
+    let mut reordered = Vec::new(alloc);
+    let [next, ..] = records else {
+        return Ok((reordered, None));
+    };
+    let (before, after) = move_past(alloc, first, next, 0)?;
+    reordered.push(before)?;
+    let large = leading(first, records);
+    let mut moved = after;
+    for i in 1..large {
+        let (before, after) = move_past(alloc, &moved, &records[i], i)?;
+        reordered.push(before)?;
+        moved = after;
+    }
+    if large == records.len() {
+        return Ok((reordered, Some(moved)));
+    }
+    let mut moving = MovingEdits::new(alloc, moved)?;
+    for i in large..records.len() {
+        let before = moving.move_past(alloc, &records[i], i)?;
+        reordered.push(before)?;
+    }
+    Ok((reordered, Some(moving.into_edits())))
+}
+
+/// How many records come before one with fewer edits than a tenth of those that are taken out: it
+/// is faster to go over both lists for these than to search. The first record is one of them.
+fn leading(first: &Edits, records: &[Record]) -> usize
+    requires { 0 < length records.now }
+    ensures some { 0 < result }
+    ensures within { result ≤ length records.now }
+{
+    let few = first.edits().len() / 10;
+    for i in 1..records.len() {
+        if records[i].edits().edits().len() < few {
+            return i;
+        }
+    }
+    records.len()
+}
+
+/// One record without the edits before it, and the edits after it.
+fn move_past(
+    alloc: Global,
+    edits: &Edits,
+    rec: &Record,
+    number: usize,
+) -> Result<(Record, Edits), MoveFault>
+    ensures { IsMovePastResult edits.now rec.now number result }
+{
+    match swap(alloc, edits, rec.edits()) {
+        Ok((before, after)) => {
+            let rec = Record::make(rec.word(), before);
+            Ok((rec, after))
+        }
+        Err(SwapFault::LengthsDiffer) => Err(MoveFault::Length {
+            expected: rec.edits().old_len(),
+            found: edits.new_len(),
+        }),
+        Err(
+            SwapFault::Meets {
+                first: _,
+                second: _,
+            },
+        ) => Err(MoveFault::Blocked { number }),
+        Err(SwapFault::TooLong) => Err(MoveFault::TooLong),
+        Err(SwapFault::Memory) => Err(MoveFault::Memory),
+    }
+}

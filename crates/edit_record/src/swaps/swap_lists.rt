@@ -1,0 +1,157 @@
+//! Swapping two lists of edits.
+ghost use Rattle.std.specs.Prelude.{◌≡◌, ◌↔◌, ◌+◌, ◌<◌, length, IfErr, IfOk, IfSome, IsNone, IsTrue};
+ghost use Rattle.edit_record.specs.Lists.Validity.{new_len};
+ghost use Rattle.edit_record.specs.Swaps.Swap.{IsSwapResult, NoneMeet, SwapTo, FirstMeeting, ExceedsLimit, IsWithinLimit};
+ghost use Rattle.edit_record.specs.Swaps.Inner.SwapState.{IsSwapDone};
+ghost use Rattle.edit_record.specs.Swaps.Inner.SwapStateView.{state};
+ghost use Rattle.edit_record.specs.declared.swaps.swap_lists.SwapFault.TheVariants.{Memory};
+
+use crate::lists::{Edit, Edits, MAX_TEXT};
+use crate::swaps::swap_state::SwapState;
+use std::alloc::{AllocError, AllocFailed, Global};
+use thiserror::Error;
+
+/// Why two lists of edits do not change places.
+#[derive(Clone, Copy, Debug, PartialEq, Eq, Error)]
+pub enum SwapFault {
+    /// The texts that the first list makes have another length than those that the second applies
+    /// to.
+    #[error("the lengths of the two lists of edits do not follow")]
+    LengthsDiffer,
+    /// These edits overlap or touch in the text between. Of all such edits they have the lowest
+    /// number in the second list, and then in the first.
+    #[error("edit {first} of the first list meets edit {second} of the second")]
+    Meets { first: usize, second: usize },
+    /// The text between, in the other order, is too long.
+    #[error("the text between is too long")]
+    TooLong,
+    /// There was no memory for the edits.
+    #[error("out of memory")]
+    Memory,
+}
+
+impl From<AllocError> for SwapFault {
+    ghost from_gives = { λ _ e. e ≡ Memory };
+
+    fn from(_e: AllocError) -> SwapFault {
+        SwapFault::Memory
+    }
+}
+
+impl<T: Drop> From<AllocFailed<T>> for SwapFault {
+    ghost from_gives = { λ _ e. e ≡ Memory };
+
+    fn from(_e: AllocFailed<T>) -> SwapFault {
+        SwapFault::Memory
+    }
+}
+
+/// The two lists in the other order: what `second` does, for the texts that `first` applies to, and
+/// then what `first` does.
+///
+/// Each edit removes and adds the same bytes as before; its place (bytes from 0) goes by what the
+/// edits of the other list before it remove and add. Where an edit of the one list overlaps or
+/// touches one of the other in the text between, the lists do not change places, and `Meets` names
+/// the two, each counted from 0 in its list. `TooLong` means that the text between would have more
+/// than [`MAX_TEXT`] bytes in the other order.
+///
+/// It takes one pass over both lists, and where they change places another, which alone takes
+/// memory. It builds no text.
+pub fn swap(alloc: Global, first: &Edits, second: &Edits) -> Result<(Edits, Edits), SwapFault>
+    ensures { IsSwapResult first.now second.now result }
+{
+    if first.new_len() != second.old_len() {
+        return Err(SwapFault::LengthsDiffer);
+    }
+    if let Some((one, other)) = first_meeting(alloc, first, second) {
+        return Err(SwapFault::Meets {
+            first: one,
+            second: other,
+        });
+    }
+    if exceeds_limit(first, second) {
+        return Err(SwapFault::TooLong);
+    }
+    Ok(swap_disjoint(alloc, first, second)?)
+}
+
+/// The lowest edits that meet, if any do: by their number in the second list, and then in the
+/// first. It takes no memory.
+fn first_meeting(alloc: Global, first: &Edits, second: &Edits) -> Option<(usize, usize)>
+    requires { new_len first.now ≡ second.now.old_len }
+    ensures meet { IfSome result (λ m. FirstMeeting first.now second.now m.0 m.1) }
+    ensures apart { IsNone result → NoneMeet first.now second.now }
+{
+    let mut state = SwapState::new(alloc);
+    let firsts = first.edits();
+    let seconds = second.edits();
+    let mut xs = firsts;
+    let mut ys = seconds;
+    'edits: while has_more(xs, ys) {
+        if state.first_is_next(xs, ys) {
+            xs = state.skip_first(xs, ys);
+        } else if state.second_is_next(xs, ys) {
+            ys = state.skip_second(xs, ys);
+        } else {
+            return Some((firsts.len() - xs.len(), seconds.len() - ys.len()));
+        }
+    }
+    None
+}
+
+/// Whether the text between is too long in the other order.
+fn exceeds_limit(first: &Edits, second: &Edits) -> bool
+    ensures { IsTrue result ↔ ExceedsLimit first.now second.now }
+{
+    let _firsts = first.edits();
+    let _seconds = second.edits();
+    first.old_len() + second.new_len() > MAX_TEXT + second.old_len()
+}
+
+/// The two lists in the other order, where they change places.
+fn swap_disjoint(alloc: Global, first: &Edits, second: &Edits) -> Result<(Edits, Edits), AllocError>
+    requires lengths_match { new_len first.now ≡ second.now.old_len }
+    requires apart { NoneMeet first.now second.now }
+    requires within { IsWithinLimit first.now second.now }
+    ensures swapped { IfOk result (λ x. SwapTo first.now second.now x.0 x.1) }
+    ensures memory { IfErr result (λ _. 0 < length first.now.entries + length second.now.entries) }
+{
+    let state = swap_edits(alloc, first, second)?;
+    let len = state.swapped_len(first.old_len());
+    let (seconds, firsts) = state.into_edits();
+    let before = Edits::from_valid(first.old_len(), len, seconds);
+    let after = Edits::from_valid(len, second.new_len(), firsts);
+    Ok((before, after))
+}
+
+/// Both lists in the other order, edit by edit.
+fn swap_edits<'a>(
+    alloc: Global,
+    first: &'a Edits,
+    second: &'a Edits,
+) -> Result<SwapState, AllocError>
+    requires lengths_match { new_len first.now ≡ second.now.old_len }
+    requires apart { NoneMeet first.now second.now }
+    ensures done { IfOk result (λ e. IsSwapDone first.now second.now (state e)) }
+    ensures memory { IfErr result (λ _. 0 < length first.now.entries + length second.now.entries) }
+{
+    let mut state = SwapState::new(alloc);
+    let firsts = first.edits();
+    let seconds = second.edits();
+    let mut xs = firsts;
+    let mut ys = seconds;
+    'edits: while has_more(xs, ys) {
+        if state.first_is_next(xs, ys) {
+            xs = state.take_first(alloc, xs, ys)?;
+        } else {
+            ys = state.take_second(alloc, xs, ys)?;
+        }
+    }
+    Ok(state)
+}
+
+fn has_more(xs: &[Edit], ys: &[Edit]) -> bool
+    ensures { IsTrue result ↔ (0 < length xs.now + length ys.now) }
+{
+    !xs.is_empty() || !ys.is_empty()
+}

@@ -1,5 +1,0 @@
-use Rattle.edit_squash.proofs.Groupings.{associates}
-use Rattle.edit_squash.proofs.laws.squash_is_associative.Goals as goal
-
-pub returns : goal.returns
-returns c = associates c.args.a.now c.args.b.now c.args.c.now

@@ -1,7 +1,0 @@
-use Rattle.std.proofs.Common.{◌≡◌, ◌++◌, take, drop}
-use Rattle.edit_swap.specs.Inner.RelativeEnds.{ends_of}
-use Rattle.edit_swap.specs.Inner.EditEnds.{with_ends}
-use Rattle.edit_swap.proofs.moving_edits.set_places.Given as goal
-
-abbrev pub invariant-loop-i : goal.invariant-loop-i
-invariant-loop-i l = l.edits ≡ with_ends (take l.i l.initial.edits) (ends_of l.ends) ++ drop l.i l.initial.edits
