@@ -1,6 +1,6 @@
 -- What a check has met, from what its one call answers.
 use Rattle.std.proofs.Common.{◌≡◌, Bool, true, false, refl, sym, subst}
-use Rattle.tf_outcome.specs.declared.outcome.FileOutcome.{FileOutcome}
+use Rattle.tf_cli.specs.declared.outcome.FileOutcome.{FileOutcome}
 use Rattle.tf_stream.specs.Streams.{Source}
 use Rattle.tf_commands.specs.Streaming as streaming
 use Rattle.tf_program.specs.Inputs.{Checks}

@@ -8,7 +8,7 @@ use Rattle.tf_commands.specs.declared.command.Done.{Done}
 use Rattle.tf_commands.specs.declared.fault.RunFault.{RunFault}
 use Rattle.tf_commands.specs.Records.{DoesStep}
 use Rattle.tf_commands.specs.Streams.{ReadsText}
-use Rattle.tf_outcome.specs.declared.outcome.FileOutcome.{FileOutcome}
+use Rattle.tf_cli.specs.declared.outcome.FileOutcome.{FileOutcome}
 use Rattle.tf_program.specs.Inputs.{IsOutcomeOf, FixesText, NotFixed, WriteBothFault, Fixes, FixInputFault}
 
 pub no_lines : (rules : RuleSet) (t : List ℕ) (js : List JournalEntry) (d : Done) (u : List ℕ)

@@ -15,7 +15,7 @@ use Rattle.tf_commands.specs.LintStream as lines
 use Rattle.tf_commands.specs.Records.{DoesStep, RefusesStep}
 use Rattle.tf_commands.specs.Streaming as streaming
 use Rattle.tf_commands.specs.Streams.{ReadsText, IsReadStreamFault, IsWriteFault}
-use Rattle.tf_outcome.specs.declared.outcome.FileOutcome.{FileOutcome}
+use Rattle.tf_cli.specs.declared.outcome.FileOutcome.{FileOutcome}
 
 -- what so many issues come to
 abbrev pub IsOutcomeOf : FileOutcome → ℕ → Type 0

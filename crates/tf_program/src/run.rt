@@ -7,8 +7,7 @@ use crate::files::{
 use std::alloc::{AllocError, Global};
 use std::io::{Read, Write};
 use std::rt::Files;
-use tf_command_line::{Action, CommandLine, Exit, Task};
-use tf_outcome::{FileOutcome, RunOutcome};
+use tf_cli::{Action, CommandLine, Exit, FileOutcome, RunOutcome, Task};
 use tf_session::{RunFault, Told, put_text};
 
 const OUT_OF_MEMORY: &str = "tfk: out of memory\n";

@@ -1,10 +1,10 @@
 use Rattle.std.proofs.Common.{◌||◌, take, sym, ap, ◌∙◌}
 use Rattle.tf_rule.specs.RuleSets.{has_rule}
-use Rattle.tf_command_line.specs.Choices.{choice_names, is_chosen}
-use Rattle.tf_command_line.specs.declared.rule_choice.Choice.TheVariants.{All, One}
-use Rattle.tf_command_line.proofs.Choosing.{one_more, rule_in, all_in, or_more}
-use Rattle.tf_command_line.proofs.rule_choice.add_choices.Goals as goal
-use Rattle.tf_command_line.proofs.rule_choice.add_choices.Goals.{in-All, in-One}
+use Rattle.tf_cli.specs.Choices.{choice_names, is_chosen}
+use Rattle.tf_cli.specs.declared.rule_choice.Choice.TheVariants.{All, One}
+use Rattle.tf_cli.proofs.Choosing.{one_more, rule_in, all_in, or_more}
+use Rattle.tf_cli.proofs.rule_choice.add_choices.Goals as goal
+use Rattle.tf_cli.proofs.rule_choice.add_choices.Goals.{in-All, in-One}
 
 pub loop-choice-preserved : goal.loop-choice-preserved
 loop-choice-preserved c = λ rule.

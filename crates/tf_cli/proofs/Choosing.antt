@@ -7,8 +7,8 @@ use Rattle.tf_rule.specs.declared.rule.Rule.TheVariants.{CommentSyntax}
 use Rattle.tf_rule.specs.declared.rule_set.RuleSet.{RuleSet}
 use Rattle.tf_rule.specs.RuleSets.{has_rule}
 use Rattle.tf_rule.specs.Rules.{all_rules, index_of}
-use Rattle.tf_command_line.specs.Choices.{choice_names, is_chosen}
-use Rattle.tf_command_line.specs.declared.rule_choice.Choice.{Choice}
+use Rattle.tf_cli.specs.Choices.{choice_names, is_chosen}
+use Rattle.tf_cli.specs.declared.rule_choice.Choice.{Choice}
 
 -- each rule stands at its number, so a number is that of one rule
 stands : (rule d : Rule) → get_or all_rules (index_of rule) d ≡ rule

@@ -3,8 +3,8 @@ use Rattle.std.specs.Prelude.{◌==◌, Bool, true, List}
 use Rattle.std.specs.List.{list_any}
 use Rattle.tf_rule.specs.declared.rule.Rule.{Rule}
 use Rattle.tf_rule.specs.Rules.{index_of}
-use Rattle.tf_command_line.specs.declared.rule_choice.Choice.{Choice}
-use Rattle.tf_command_line.specs.declared.rule_choice.Choice.TheVariants.{All, One}
+use Rattle.tf_cli.specs.declared.rule_choice.Choice.{Choice}
+use Rattle.tf_cli.specs.declared.rule_choice.Choice.TheVariants.{All, One}
 
 -- whether a choice names the rule: `all` names every rule
 abbrev pub choice_names : Choice → Rule → Bool

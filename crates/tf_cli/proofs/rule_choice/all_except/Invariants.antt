@@ -1,8 +1,8 @@
 use Rattle.std.proofs.Common.{◌≡◌, not, take}
 use Rattle.tf_rule.specs.declared.rule.Rule.{Rule}
 use Rattle.tf_rule.specs.RuleSets.{has_rule}
-use Rattle.tf_command_line.specs.Choices.{is_chosen}
-use Rattle.tf_command_line.proofs.rule_choice.all_except.Given as goal
+use Rattle.tf_cli.specs.Choices.{is_chosen}
+use Rattle.tf_cli.proofs.rule_choice.all_except.Given as goal
 
 -- all rules are left but those that the choices so far name
 abbrev pub invariant-loop-choice : goal.invariant-loop-choice
