@@ -9,7 +9,7 @@ use hcl_scan::Scanned;
 use std::fmt::Write;
 use tf_diagnostics::findings;
 use tf_lint::{FixResult, Issue, LintFault, Place, Rule, RuleSet, fix_text, issues};
-use tf_rule::Finding;
+use tf_rules::Finding;
 
 pub fn answer(row: &Row, out: &mut Answer) {
     match row.word(0) {

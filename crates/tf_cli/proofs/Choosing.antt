@@ -2,11 +2,11 @@
 use Rattle.std.proofs.Common.{◌≡◌, ◌≢◌, ◌==◌, ◌||◌, ℕ, ◌<◌, ◌+◌, Bool, true, false, not, List, take, length, get_or, inl, inr, refl, sym, ap, ◌∙◌}
 use Rattle.std.proofs.lemmas.Bool.Decides.{eqb_tells}
 use Rattle.std.proofs.lemmas.List.Folds.{list_any_more}
-use Rattle.tf_rule.specs.declared.rule.Rule.{Rule}
-use Rattle.tf_rule.specs.declared.rule.Rule.TheVariants.{CommentSyntax}
-use Rattle.tf_rule.specs.declared.rule_set.RuleSet.{RuleSet}
-use Rattle.tf_rule.specs.RuleSets.{has_rule}
-use Rattle.tf_rule.specs.Rules.{all_rules, index_of}
+use Rattle.tf_rules.specs.declared.rule.Rule.{Rule}
+use Rattle.tf_rules.specs.declared.rule.Rule.TheVariants.{CommentSyntax}
+use Rattle.tf_rules.specs.declared.rule_set.RuleSet.{RuleSet}
+use Rattle.tf_rules.specs.RuleSets.{has_rule}
+use Rattle.tf_rules.specs.Table.{all_rules, index_of}
 use Rattle.tf_cli.specs.Choices.{choice_names, is_chosen}
 use Rattle.tf_cli.specs.declared.rule_choice.Choice.{Choice}
 

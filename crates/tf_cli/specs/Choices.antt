@@ -1,8 +1,8 @@
 -- Which rules the words of the command line choose. Options of TFLint.
 use Rattle.std.specs.Prelude.{◌==◌, Bool, true, List}
 use Rattle.std.specs.List.{list_any}
-use Rattle.tf_rule.specs.declared.rule.Rule.{Rule}
-use Rattle.tf_rule.specs.Rules.{index_of}
+use Rattle.tf_rules.specs.declared.rule.Rule.{Rule}
+use Rattle.tf_rules.specs.Table.{index_of}
 use Rattle.tf_cli.specs.declared.rule_choice.Choice.{Choice}
 use Rattle.tf_cli.specs.declared.rule_choice.Choice.TheVariants.{All, One}
 

@@ -18,7 +18,7 @@ use Rattle.tf_commands.specs.TakeLaws.{HistoryRunWithMemory, CommandResultIsUniq
 use Rattle.tf_commands.proofs.ResultIsUnique.{same_fixes, same_layouts}
 use Rattle.tf_commands.proofs.Lists.{not_nil, same_last}
 use Rattle.tf_commands.proofs.RemovalIsUnique.{take_has_one_answer}
-use Rattle.tf_rule.specs.declared.rule_set.RuleSet.{RuleSet}
+use Rattle.tf_rules.specs.declared.rule_set.RuleSet.{RuleSet}
 use Rattle.tf_lint.proofs.DoesNotParse.{OneCut, NoCutWithFault, OneFault}
 use Rattle.tf_lint.specs.Steps.{FixIsUnique}
 

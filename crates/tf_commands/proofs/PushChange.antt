@@ -10,7 +10,7 @@ use Rattle.hcl_layout.specs.Layouts.{IsLayout}
 use Rattle.tf_fix.specs.declared.parsed.Parsed.{Parsed}
 use Rattle.tf_fix.specs.ParsedTexts.{IsParseOf}
 use Rattle.tf_commands.proofs.LayoutLemmas.{changes}
-use Rattle.tf_rule.specs.declared.rule_set.RuleSet.{RuleSet}
+use Rattle.tf_rules.specs.declared.rule_set.RuleSet.{RuleSet}
 use Rattle.tf_commands.specs.declared.command.Command.{Command}
 use Rattle.tf_commands.specs.declared.command.Command.TheVariants.{Fmt, Fix}
 use Rattle.tf_commands.specs.declared.command.Done.{Done}

@@ -1,9 +1,9 @@
 -- What the steps of a fix say of a text, as a session says it.
 use Rattle.std.proofs.Common.{◌≡◌, ℕ, List, [], ◌∷◌, Bool, true, false, MatchBool, Result, Ok, Err, inl, inr}
-use Rattle.tf_rule.specs.declared.finding.Finding.{Finding}
-use Rattle.tf_rule.specs.declared.rule.Rule.{Rule}
-use Rattle.tf_rule.specs.declared.rule_set.RuleSet.{RuleSet}
-use Rattle.tf_rule.specs.RuleSets.{has_rule}
+use Rattle.tf_rules.specs.declared.finding.Finding.{Finding}
+use Rattle.tf_rules.specs.declared.rule.Rule.{Rule}
+use Rattle.tf_rules.specs.declared.rule_set.RuleSet.{RuleSet}
+use Rattle.tf_rules.specs.RuleSets.{has_rule}
 use Rattle.tf_commands.specs.declared.command.Command.TheVariants.{Fix}
 use Rattle.tf_commands.specs.Faults.{fault_of_fix}
 use Rattle.tf_commands.specs.Rewrites.{IsReadFault, RefusesText}

@@ -1,6 +1,6 @@
 -- What a stream answers where the whole text is refused.
 use Rattle.std.proofs.Common.{ℕ, List, [], refl, inl, inr}
-use Rattle.tf_rule.specs.declared.rule_set.RuleSet.{RuleSet}
+use Rattle.tf_rules.specs.declared.rule_set.RuleSet.{RuleSet}
 use Rattle.tf_stream.specs.Streams.{Source, Target, Untouched}
 use Rattle.tf_commands.specs.declared.command.Command.{Command}
 use Rattle.tf_commands.specs.declared.command.Command.TheVariants.{Fmt}

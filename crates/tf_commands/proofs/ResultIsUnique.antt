@@ -7,7 +7,7 @@ use Rattle.hcl_scan.specs.declared.fault.ScanFault.{ScanFault}
 use Rattle.hcl_scan.specs.Tokenization.{IsTokenization, MAX_TEXT}
 use Rattle.hcl_scan.specs.Fault.{IsFault}
 use Rattle.edit_record.specs.Lists.Pieces.{EditList}
-use Rattle.tf_rule.specs.declared.rule_set.RuleSet.{RuleSet}
+use Rattle.tf_rules.specs.declared.rule_set.RuleSet.{RuleSet}
 use Rattle.tf_commands.specs.declared.command.Command.{Command}
 use Rattle.tf_commands.specs.declared.command.Command.TheVariants.{Fmt, Fix, Revert, Take}
 use Rattle.tf_commands.specs.declared.command.Done.{Done}

@@ -1,7 +1,7 @@
 -- What `fix` makes of a text: the steps of its rules one after another.
 use Rattle.std.specs.Prelude.{ℕ, List, Result, Ok, Err}
 use Rattle.hcl_scan.specs.Fault.{IsFault}
-use Rattle.tf_rule.specs.declared.rule_set.RuleSet.{RuleSet}
+use Rattle.tf_rules.specs.declared.rule_set.RuleSet.{RuleSet}
 use Rattle.tf_commands.specs.declared.command.Fault.{Fault}
 use Rattle.tf_commands.specs.declared.command.Fault.TheVariants.{Scan, Parse, FixBroken, TooLong, NoRecord, Refused, Memory, Blocked}
 use Rattle.tf_lint.specs.declared.fault.FixFault.{FixFault}

@@ -1,6 +1,6 @@
 -- The lines of the issues of a text, and what a call that lints a stream took, wrote and answers.
 use Rattle.std.specs.Prelude.{◌≡◌, ◌⊎◌, ℕ, List, length}
-use Rattle.tf_rule.specs.declared.rule_set.RuleSet.{RuleSet}
+use Rattle.tf_rules.specs.declared.rule_set.RuleSet.{RuleSet}
 use Rattle.tf_lint.specs.Issues.{AreReports}
 use Rattle.tf_lint.specs.Reports.{Report, lines_of}
 use Rattle.tf_stream.specs.Streams.{Source, Target, WritesBytes, Untouched}

@@ -13,7 +13,7 @@ ghost use Rattle.tf_lint.specs.Remaining.{IsRemaining};
 use crate::command::{Done, Fault};
 use std::alloc::Global;
 use tf_lint::{FixResult, FixedText, Remaining};
-use tf_rule::RuleSet;
+use tf_rules::RuleSet;
 
 /// The text fixed by the rules of the set.
 pub fn fix_text(alloc: Global, text: &[u8], rules: RuleSet) -> Result<FixResult, Fault>

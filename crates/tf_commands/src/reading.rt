@@ -15,7 +15,7 @@ use crate::command::Fault;
 use hcl_scan::Scanned;
 use std::alloc::Global;
 use tf_lint::LintedText;
-use tf_rule::RuleSet;
+use tf_rules::RuleSet;
 
 /// The tokens of a text, if it parses.
 pub fn check_syntax<'t>(alloc: Global, text: &'t [u8]) -> Result<Scanned<'t>, Fault>

@@ -1,7 +1,7 @@
 -- Marks, by line.
 use Rattle.std.proofs.Common.{◌≡◌, ℕ, ◌+◌, ◌<◌, ◌≤◌, Result, Ok, Err, OnOk, Bool, true, false, ◌||◌, nat_lt, List, [], ◌∷◌, ◌++◌, take, refl, subst, sym, ap, ◌∙◌, arith}
 use Rattle.std.proofs.lemmas.Bool.Decides.{nat_tests}
-use Rattle.tf_rule.specs.declared.rule.Rule.{Rule}
+use Rattle.tf_rules.specs.declared.rule.Rule.{Rule}
 use Rattle.tf_diagnostics.specs.declared.silencing.annotation.Annotation.{Annotation}
 use Rattle.tf_diagnostics.specs.Silencing.{covers_line}
 use Rattle.tf_diagnostics.specs.Inner.Annotations.{covers, is_silenced_by, AreLinesIncreasing, CanSilence}

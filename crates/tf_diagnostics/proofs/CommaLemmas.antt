@@ -4,7 +4,7 @@ use Rattle.std.specs.Prelude.{if◌then◌else◌}
 use Rattle.std.proofs.lemmas.List.{take_all}
 use Rattle.std.proofs.lemmas.List.Sums.{prefix_len-le-length}
 use Rattle.std.specs.List.{list_all, list_any}
-use Rattle.tf_rule.specs.declared.rule.Rule.{Rule}
+use Rattle.tf_rules.specs.declared.rule.Rule.{Rule}
 use Rattle.tf_diagnostics.specs.declared.silencing.class.ByteClass.TheVariants.{NotComma}
 use Rattle.tf_diagnostics.specs.Comments.{is_in_class, class_prefix_len, split_commas, cons_to_first, is_name, names_rule}
 

@@ -9,12 +9,12 @@ use Rattle.hcl_token.specs.TokenizedText.{kind_of}
 use Rattle.hcl_token.specs.Place.{line_of}
 use Rattle.hcl_token.specs.Tokens.{Pair}
 use Rattle.hcl_token.specs.declared.kind.Kind.{Kind}
-use Rattle.tf_rule.specs.declared.finding.Finding.{Finding}
-use Rattle.tf_rule.specs.declared.rule.Rule.{Rule}
-use Rattle.tf_rule.specs.declared.rule.Rule.TheVariants.{CommentSyntax}
-use Rattle.tf_rule.specs.declared.rule_set.RuleSet.{RuleSet}
-use Rattle.tf_rule.specs.Findings.{is_valid, valid_findings}
-use Rattle.tf_rule.specs.RuleSets.{has_rule}
+use Rattle.tf_rules.specs.declared.finding.Finding.{Finding}
+use Rattle.tf_rules.specs.declared.rule.Rule.{Rule}
+use Rattle.tf_rules.specs.declared.rule.Rule.TheVariants.{CommentSyntax}
+use Rattle.tf_rules.specs.declared.rule_set.RuleSet.{RuleSet}
+use Rattle.tf_rules.specs.Findings.{is_valid, valid_findings}
+use Rattle.tf_rules.specs.RuleSets.{has_rule}
 use Rattle.tf_rules.specs.Rules.CommentSyntax.{is_line_comment, is_slash_comment, comment_finding, comment_findings_from, comment_finding_at}
 use Rattle.tf_diagnostics.proofs.LineLemmas.{line_next}
 use Rattle.tf_diagnostics.proofs.AnnotationLemmas.{or_assoc, or_false}

@@ -5,9 +5,9 @@ use Rattle.std.specs.List.Sorted.{IsStable}
 use Rattle.std.specs.Ordering.{is_lt}
 use Rattle.hcl_grammar.specs.declared.tree.Member.{Member}
 use Rattle.hcl_token.specs.Tokens.{Pair}
-use Rattle.tf_rule.specs.declared.finding.Finding.{Finding}
-use Rattle.tf_rule.specs.declared.rule_set.RuleSet.{RuleSet}
-use Rattle.tf_rule.specs.Findings.{valid_findings}
+use Rattle.tf_rules.specs.declared.finding.Finding.{Finding}
+use Rattle.tf_rules.specs.declared.rule_set.RuleSet.{RuleSet}
+use Rattle.tf_rules.specs.Findings.{valid_findings}
 use Rattle.tf_rules.specs.Preorder.{PreorderIsUnique}
 use Rattle.tf_diagnostics.proofs.SortIsUnique.{sorted_are_one}
 use Rattle.tf_diagnostics.proofs.TotalOrder.{total}

@@ -10,7 +10,7 @@ use Rattle.hcl_token.specs.TokenizedText.{kind_of, spelling_of}
 use Rattle.hcl_token.specs.declared.kind.Kind.{Kind}
 use Rattle.hcl_token.specs.Place.{line_of, pieces_before, is_lf, counted_bytes}
 use Rattle.hcl_token.specs.Tokens.{Pair}
-use Rattle.tf_rule.specs.declared.rule.Rule.{Rule}
+use Rattle.tf_rules.specs.declared.rule.Rule.{Rule}
 use Rattle.tf_diagnostics.specs.Comments.{silences}
 use Rattle.tf_diagnostics.specs.Silencing.{silenced_from, covers_line}
 use Rattle.tf_diagnostics.specs.Inner.Annotations.{silences_at}

@@ -17,12 +17,12 @@ use Rattle.hcl_grammar.specs.declared.tree.Member.{Member, out-Member}
 use Rattle.hcl_grammar.specs.declared.tree.Primary.{out-Primary}
 use Rattle.hcl_grammar.specs.declared.tree.Tail.{out-Tail}
 use Rattle.hcl_token.specs.Tokens.{Pair}
-use Rattle.tf_rule.specs.declared.finding.Finding.{Finding}
-use Rattle.tf_rule.specs.declared.rule.Rule.{Rule}
-use Rattle.tf_rule.specs.declared.rule.Rule.TheVariants.{CommentSyntax, DeprecatedIndex, DeprecatedInterpolation, EmptyListEquality, DeprecatedLookup, NamingConvention, TypedVariables, DocumentedVariables, DocumentedOutputs}
-use Rattle.tf_rule.specs.declared.rule_set.RuleSet.{RuleSet}
-use Rattle.tf_rule.specs.SingleRule.{only}
-use Rattle.tf_rule.specs.RuleSets.{has_rule}
+use Rattle.tf_rules.specs.declared.finding.Finding.{Finding}
+use Rattle.tf_rules.specs.declared.rule.Rule.{Rule}
+use Rattle.tf_rules.specs.declared.rule.Rule.TheVariants.{CommentSyntax, DeprecatedIndex, DeprecatedInterpolation, EmptyListEquality, DeprecatedLookup, NamingConvention, TypedVariables, DocumentedVariables, DocumentedOutputs}
+use Rattle.tf_rules.specs.declared.rule_set.RuleSet.{RuleSet}
+use Rattle.tf_rules.specs.SingleRule.{only}
+use Rattle.tf_rules.specs.RuleSets.{has_rule}
 use Rattle.tf_rules.specs.Rules.Interpolation.{sole_interpolation}
 use Rattle.tf_rules.specs.NodeFindings.{node_findings}
 use Rattle.tf_rules.specs.Preorder as nodes
@@ -38,8 +38,8 @@ use Rattle.tf_rules.proofs.FoundBy.Naming as naming
 use Rattle.tf_rules.proofs.AllFoundBy.{AreFrom, From, append}
 use Rattle.tf_diagnostics.proofs.TotalOrder.{total}
 use Rattle.tf_diagnostics.specs.Findings.{all_findings}
-use Rattle.tf_rule.specs.Findings.{is_valid, valid_findings}
-use Rattle.tf_rule.specs.Rules.{all_rules, index_of, is_comment_rule}
+use Rattle.tf_rules.specs.Findings.{is_valid, valid_findings}
+use Rattle.tf_rules.specs.Table.{all_rules, index_of, is_comment_rule}
 use Rattle.std.proofs.lemmas.Bool.Decides.{nat_tests}
 use Rattle.tf_diagnostics.specs.RuleFilter.{is_found_by, FindingsOfOneRule}
 use Rattle.tf_diagnostics.specs.FoundBy.{FindingsMatchTheirRule}

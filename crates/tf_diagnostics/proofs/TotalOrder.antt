@@ -1,7 +1,7 @@
 -- The order of a report is a total order.
 use Rattle.std.proofs.lemmas.Cmp.{nat_cmp_total, on_total, back_total, then_total}
 use Rattle.std.specs.Cmp.{IsTotalOrder}
-use Rattle.tf_rule.specs.declared.finding.Finding.{Finding}
+use Rattle.tf_rules.specs.declared.finding.Finding.{Finding}
 use Rattle.tf_diagnostics.specs.Order.{rank, report_order}
 
 pub total : IsTotalOrder report_order

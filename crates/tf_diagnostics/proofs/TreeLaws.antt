@@ -3,10 +3,10 @@ use Rattle.std.proofs.Common.{◌≡◌, Bool, List, [], ◌∷◌, ◌++◌, le
 use Rattle.std.specs.List.{flat_map}
 use Rattle.std.proofs.lemmas.List.Elements.{filter-append}
 use Rattle.hcl_token.specs.Tokens.{Pair}
-use Rattle.tf_rule.specs.declared.rule_set.RuleSet.{RuleSet}
-use Rattle.tf_rule.specs.declared.finding.Finding.{Finding}
+use Rattle.tf_rules.specs.declared.rule_set.RuleSet.{RuleSet}
+use Rattle.tf_rules.specs.declared.finding.Finding.{Finding}
 use Rattle.tf_diagnostics.specs.Inner.Collects.{Collects, no_nodes, visit}
-use Rattle.tf_rule.specs.Findings.{is_valid, valid_findings}
+use Rattle.tf_rules.specs.Findings.{is_valid, valid_findings}
 use Rattle.tf_rules.specs.NodeFindings.{node_findings}
 use Rattle.tf_rules.specs.Preorder as nodes
 use Rattle.tf_rules.specs.Preorder.{Node, IsPreorder, children}

@@ -5,8 +5,8 @@ use Rattle.std.proofs.lemmas.List.{nil_from_length}
 use Rattle.std.proofs.lemmas.List.Elements.{filter_agree}
 use Rattle.hcl_token.specs.Place.{line_of}
 use Rattle.hcl_token.specs.Tokens.{Pair}
-use Rattle.tf_rule.specs.declared.finding.Finding.{Finding}
-use Rattle.tf_rule.specs.declared.rule.Rule.{Rule}
+use Rattle.tf_rules.specs.declared.finding.Finding.{Finding}
+use Rattle.tf_rules.specs.declared.rule.Rule.{Rule}
 use Rattle.tf_diagnostics.specs.declared.silencing.annotation.Annotation.{Annotation}
 use Rattle.tf_diagnostics.specs.Silencing.{is_silenced, is_silenced_on}
 use Rattle.tf_diagnostics.specs.Inner.Annotations.{is_silenced_by, silences_among}

@@ -3,8 +3,8 @@ use Rattle.std.proofs.Common.{◌≡◌, ℕ, Bool, true, false, List, [], ◌�
 use Rattle.std.specs.Prelude.{filter, if◌then◌else◌}
 use Rattle.std.specs.List.{AllByRecursion}
 use Rattle.std.specs.List.Sorted.{IsPermutation}
-use Rattle.tf_rule.specs.declared.finding.Finding.{Finding}
-use Rattle.tf_rule.specs.Findings.{is_valid, valid_findings, IsValidFinding, AreValidFindings}
+use Rattle.tf_rules.specs.declared.finding.Finding.{Finding}
+use Rattle.tf_rules.specs.Findings.{is_valid, valid_findings, IsValidFinding, AreValidFindings}
 use Rattle.tf_diagnostics.proofs.FilterLemmas.{each_kept, each_in_order}
 
 -- the test says the same as the facts

@@ -6,8 +6,8 @@ use Rattle.std.specs.List.{prefix_len, list_all, list_any}
 use Rattle.std.specs.Str.{bytes_eq}
 use Rattle.hcl_token.specs.declared.kind.Kind.{Kind}
 use Rattle.hcl_token.specs.declared.kind.Kind.TheVariants.{LineComment, InlineComment}
-use Rattle.tf_rule.specs.declared.rule.Rule.{Rule}
-use Rattle.tf_rule.specs.Rules.{name_of}
+use Rattle.tf_rules.specs.declared.rule.Rule.{Rule}
+use Rattle.tf_rules.specs.Table.{name_of}
 use Rattle.tf_diagnostics.specs.declared.silencing.class.ByteClass.{ByteClass}
 use Rattle.tf_diagnostics.specs.declared.silencing.class.ByteClass.TheVariants.{Whitespace, NameByte, NotComma, NotHash}
 

@@ -4,9 +4,9 @@ use Rattle.std.specs.List.{flat_map}
 use Rattle.std.specs.List.Sorted.{IsPermutation, IsSorted, IsStable}
 use Rattle.hcl_grammar.specs.declared.tree.Member.{Member}
 use Rattle.hcl_token.specs.Tokens.{Pair}
-use Rattle.tf_rule.specs.declared.finding.Finding.{Finding}
-use Rattle.tf_rule.specs.declared.rule_set.RuleSet.{RuleSet}
-use Rattle.tf_rule.specs.Findings.{valid_findings}
+use Rattle.tf_rules.specs.declared.finding.Finding.{Finding}
+use Rattle.tf_rules.specs.declared.rule_set.RuleSet.{RuleSet}
+use Rattle.tf_rules.specs.Findings.{valid_findings}
 use Rattle.tf_rules.specs.NodeFindings.{node_findings}
 use Rattle.tf_rules.specs.Preorder.{Node, member, IsPreorder}
 use Rattle.tf_rules.specs.Rules.CommentSyntax.{comment_findings}

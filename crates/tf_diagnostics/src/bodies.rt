@@ -12,8 +12,7 @@ use hcl_grammar::tree::{Attribute, Content, Member, Tree};
 use hcl_grammar::{Boxed, Items};
 use hcl_scan::Scanned;
 use std::alloc::{AllocError, Global};
-use tf_rule::{Finding, RuleSet};
-use tf_rules::{LintContext, Role};
+use tf_rules::{Finding, LintContext, Role, RuleSet};
 
 #[cycle(bodies)]
 fn walk_members(

@@ -3,8 +3,8 @@
 
 ghost use Rattle.std.specs.Prelude.{◌≡◌, ◌++◌, ◌||◌, ◌<◌, ◌≤◌, ◌+◌, ℕ, Some, length, slice_get, OnOk, IfOk};
 ghost use Rattle.hcl_token.specs.Tokens.{Pair};
-ghost use Rattle.tf_rule.specs.declared.rule.Rule.{Rule};
-ghost use Rattle.tf_rule.specs.Findings.{valid_findings};
+ghost use Rattle.tf_rules.specs.declared.rule.Rule.{Rule};
+ghost use Rattle.tf_rules.specs.Findings.{valid_findings};
 ghost use Rattle.tf_rules.specs.Rules.CommentSyntax.{comment_findings, comment_finding_at};
 ghost use Rattle.tf_diagnostics.specs.Silencing.{is_silenced_on};
 ghost use Rattle.tf_diagnostics.specs.Inner.Annotations.{AreIncreasing, silences_at, silences_among};
@@ -12,8 +12,7 @@ ghost use Rattle.tf_diagnostics.specs.Inner.Annotations.{AreIncreasing, silences
 use crate::silencing::{is_comment, silences_any};
 use hcl_scan::Scanned;
 use std::alloc::{AllocError, Global};
-use tf_rule::{Finding, RuleSet};
-use tf_rules::check_comment;
+use tf_rules::{Finding, RuleSet, check_comment};
 
 /// Adds what the rule on comments finds at token `i`, a comment, and its number to the others, if
 /// it silences anything.

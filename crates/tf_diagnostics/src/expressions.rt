@@ -17,8 +17,7 @@ use hcl_grammar::tree::{
 };
 use hcl_grammar::{Boxed, Items};
 use std::alloc::AllocError;
-use tf_rule::Finding;
-use tf_rules::{LintContext, Role, check_expr, check_tail, check_term};
+use tf_rules::{Finding, LintContext, Role, check_expr, check_tail, check_term};
 
 #[cycle(expressions)]
 pub fn walk_expr(

@@ -6,7 +6,7 @@ ghost use Rattle.tf_diagnostics.specs.Order.{rank, report_order};
 
 use std::alloc::AllocError;
 use std::cmp::Ordering;
-use tf_rule::{Finding, Rule};
+use tf_rules::{Finding, Rule};
 
 pub(crate) fn rank(rule: Rule) -> usize
     ensures { result ≡ rank rule }

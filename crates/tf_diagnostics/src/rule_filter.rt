@@ -4,7 +4,7 @@ ghost use Rattle.std.specs.Prelude.{◌≡◌};
 ghost use Rattle.tf_diagnostics.specs.RuleFilter.{is_found_by};
 
 use crate::order::rank;
-use tf_rule::{Finding, Rule};
+use tf_rules::{Finding, Rule};
 
 /// Whether it is this rule that found it.
 #[inline]

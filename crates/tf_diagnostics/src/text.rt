@@ -2,7 +2,7 @@
 
 ghost use Rattle.std.specs.Prelude.{List, length, IfOk};
 ghost use Rattle.hcl_grammar.specs.declared.tree.Member.{Member};
-ghost use Rattle.tf_rule.specs.Findings.{AreValidFindings};
+ghost use Rattle.tf_rules.specs.Findings.{AreValidFindings};
 ghost use Rattle.tf_diagnostics.specs.Findings.{AreNodeAndBlockFindings, AreFindings};
 
 use crate::bodies::tree_findings;
@@ -12,8 +12,7 @@ use crate::silencing::remove_silenced;
 use hcl_grammar::tree::Tree;
 use hcl_scan::Scanned;
 use std::alloc::{AllocError, Global};
-use tf_rule::{Finding, RuleSet, is_valid_is_exact};
-use tf_rules::add_top_level_findings;
+use tf_rules::{Finding, RuleSet, add_top_level_findings, is_valid_is_exact};
 
 /// What the rules of the set find in a text, by the first token, at one token by rule, and of one
 /// rule the longer first; without what comments silence. `AllocError` where memory is refused.

@@ -14,18 +14,18 @@ use Rattle.hcl_token.specs.declared.kind.Kind.TheVariants.{LineComment}
 use Rattle.hcl_token.specs.TokenizedText.{TokenizedText}
 use Rattle.hcl_token.specs.Tokens.{Pair, whole_text}
 use Rattle.hcl_scan.specs.Follows.{AreApart}
-use Rattle.tf_rule.specs.declared.finding.Finding.{Finding}
-use Rattle.tf_rule.specs.declared.fix.Fix.{Fix}
-use Rattle.tf_rule.specs.declared.fix.Fix.TheVariants.{CommentMarker}
-use Rattle.tf_rule.specs.declared.rule.Rule.{Rule}
+use Rattle.tf_rules.specs.declared.finding.Finding.{Finding}
+use Rattle.tf_rules.specs.declared.fix.Fix.{Fix}
+use Rattle.tf_rules.specs.declared.fix.Fix.TheVariants.{CommentMarker}
+use Rattle.tf_rules.specs.declared.rule.Rule.{Rule}
 use Rattle.tf_fix.specs.StepText.{gap_at, fixed_pairs, fixed_pairs_from, fix_step_text}
 use Rattle.tf_fix.specs.Comments.{IsSlashComment, fixed_comment, start_of, comment_edit}
-use Rattle.tf_rule.specs.Findings.{AreValidFindings}
-use Rattle.tf_rule.specs.declared.rule.Rule.TheVariants.{CommentSyntax}
+use Rattle.tf_rules.specs.Findings.{AreValidFindings}
+use Rattle.tf_rules.specs.declared.rule.Rule.TheVariants.{CommentSyntax}
 use Rattle.tf_fix.specs.Inner.Nonempty.{IsFixableWithin, HasValidFix}
 use Rattle.tf_fix.specs.FindingReplacements.{spelling_at, pairs_parts, IsOfRule, AreOfRule}
-use Rattle.tf_rule.specs.Fixes.{is_comment_fix}
-use Rattle.tf_rule.specs.Rules.{is_comment_rule}
+use Rattle.tf_rules.specs.Fixes.{is_comment_fix}
+use Rattle.tf_rules.specs.Table.{is_comment_rule}
 use Rattle.tf_fix.specs.Parts.{Part, parts_of, text_of_parts}
 use Rattle.tf_fix.specs.Parts.Part.{Gap, Token}
 use Rattle.tf_fix.specs.SettledSpaces.{Prev, prev_after, joins_prev}

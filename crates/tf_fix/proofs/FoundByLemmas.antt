@@ -7,9 +7,9 @@ use Rattle.std.proofs.lemmas.Bool.{and_parts, eqb-true, false≢true}
 use Rattle.hcl_token.specs.declared.kind.Kind.{Kind}
 use Rattle.hcl_token.specs.declared.kind.Kind.TheVariants.{LineComment}
 use Rattle.hcl_token.specs.Tokens.{Pair}
-use Rattle.tf_rule.specs.declared.finding.Finding.{Finding}
-use Rattle.tf_rule.specs.declared.rule.Rule.{Rule}
-use Rattle.tf_rule.specs.declared.rule.Rule.TheVariants.{CommentSyntax}
+use Rattle.tf_rules.specs.declared.finding.Finding.{Finding}
+use Rattle.tf_rules.specs.declared.rule.Rule.{Rule}
+use Rattle.tf_rules.specs.declared.rule.Rule.TheVariants.{CommentSyntax}
 use Rattle.tf_rules.specs.Rules.CommentSyntax.{is_line_comment}
 use Rattle.tf_rules.specs.FoundBy.{IsSlashCommentAt, IsFoundBy}
 use Rattle.tf_fix.specs.Comments.{IsSlashComment}

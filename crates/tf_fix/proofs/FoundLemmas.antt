@@ -5,11 +5,11 @@ use Rattle.hcl_token.specs.TokenizedText.{TokenizedText}
 use Rattle.edit_record.specs.Lists.Pieces.{EditList, Transforms}
 use Rattle.tf_fix.specs.StepText.{fix_step_text}
 use Rattle.tf_fix.specs.StepEdits.{fix_step_edits}
-use Rattle.tf_rule.specs.SingleRule.{only}
-use Rattle.tf_rule.specs.RuleSets.{has_rule}
-use Rattle.tf_rule.specs.declared.finding.Finding.{Finding}
-use Rattle.tf_rule.specs.declared.rule.Rule.{Rule}
-use Rattle.tf_rule.specs.declared.rule.Rule.TheVariants.{CommentSyntax}
+use Rattle.tf_rules.specs.SingleRule.{only}
+use Rattle.tf_rules.specs.RuleSets.{has_rule}
+use Rattle.tf_rules.specs.declared.finding.Finding.{Finding}
+use Rattle.tf_rules.specs.declared.rule.Rule.{Rule}
+use Rattle.tf_rules.specs.declared.rule.Rule.TheVariants.{CommentSyntax}
 use Rattle.tf_fix.specs.OneStep.{RulesFind, step_count_of, IsTooLong, IsFixStep}
 use Rattle.tf_fix.specs.declared.fault.LintFault.{LintFault}
 use Rattle.tf_fix.specs.declared.fault.LintFault.TheVariants.{TooLong, Memory}

@@ -16,13 +16,13 @@ use Rattle.hcl_scan.specs.Tokenization.{TokenizesFrom, IsTokenization, byte_orde
 use Rattle.hcl_scan.specs.Lexeme.{is_heredoc, is_decimal, is_identifier, fixed_spelling, Spells, IsLexeme}
 use Rattle.hcl_scan.specs.Modes.{Mode, mode_of, marker, marker_of, clear_line_start, after_literal, is_in_sequence, is_braces, is_at_line_start, modes_after}
 use Rattle.hcl_scan.specs.Modes.Mode.{Expression, Sequence, Braces, Quoted, Heredoc}
-use Rattle.tf_rule.specs.Fixes.{ReadsWithin, ChangesSomething, ChangesEnd, AreInOrder as AreKeptInOrder}
-use Rattle.tf_rule.specs.declared.finding.Finding.{Finding}
-use Rattle.tf_rule.specs.declared.fix.Fix.{Fix}
-use Rattle.tf_rule.specs.declared.fix.Fix.TheVariants.{CommentMarker, Tokens}
-use Rattle.tf_rule.specs.declared.fix.Insertion.{Insertion}
-use Rattle.tf_rule.specs.declared.fix.Insertion.TheVariants.{Nothing, Index}
-use Rattle.tf_rule.specs.declared.fix.KeptTokens.{KeptTokens}
+use Rattle.tf_rules.specs.Fixes.{ReadsWithin, ChangesSomething, ChangesEnd, AreInOrder as AreKeptInOrder}
+use Rattle.tf_rules.specs.declared.finding.Finding.{Finding}
+use Rattle.tf_rules.specs.declared.fix.Fix.{Fix}
+use Rattle.tf_rules.specs.declared.fix.Fix.TheVariants.{CommentMarker, Tokens}
+use Rattle.tf_rules.specs.declared.fix.Insertion.{Insertion}
+use Rattle.tf_rules.specs.declared.fix.Insertion.TheVariants.{Nothing, Index}
+use Rattle.tf_rules.specs.declared.fix.KeptTokens.{KeptTokens}
 use Rattle.tf_fix.specs.Inner.Nonempty.{AreNonempty, HasValidFix}
 use Rattle.tf_fix.specs.Inner.Views.{CanInsert, CanInsertKept}
 use Rattle.tf_fix.specs.FindingReplacements.{spelling_at, inserted, inserted_parts, empty_gap, replacements_from, fix_replacements, finding_replacements}

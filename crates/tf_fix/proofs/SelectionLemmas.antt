@@ -5,15 +5,15 @@ use Rattle.std.proofs.lemmas.List.{drop_more}
 use Rattle.std.proofs.lemmas.Bool.{and_parts, ltb-false}
 use Rattle.hcl_token.specs.Tokens.{Pair}
 use Rattle.tf_diagnostics.specs.RuleFilter.{is_found_by}
-use Rattle.tf_rule.specs.declared.finding.Finding.{Finding}
-use Rattle.tf_rule.specs.declared.fix.Fix.{Fix}
-use Rattle.tf_rule.specs.declared.fix.Fix.TheVariants.{CommentMarker, Tokens}
-use Rattle.tf_rule.specs.declared.fix.Insertion.{Insertion}
-use Rattle.tf_rule.specs.declared.fix.Insertion.TheVariants.{Nothing}
-use Rattle.tf_rule.specs.declared.fix.KeptTokens.{KeptTokens}
-use Rattle.tf_rule.specs.declared.rule.Rule.{Rule}
-use Rattle.tf_rule.specs.Findings.{is_fixable, IsFixValid, AreValidFindings}
-use Rattle.tf_rule.specs.Fixes.{AreInOrder as AreKeptInOrder}
+use Rattle.tf_rules.specs.declared.finding.Finding.{Finding}
+use Rattle.tf_rules.specs.declared.fix.Fix.{Fix}
+use Rattle.tf_rules.specs.declared.fix.Fix.TheVariants.{CommentMarker, Tokens}
+use Rattle.tf_rules.specs.declared.fix.Insertion.{Insertion}
+use Rattle.tf_rules.specs.declared.fix.Insertion.TheVariants.{Nothing}
+use Rattle.tf_rules.specs.declared.fix.KeptTokens.{KeptTokens}
+use Rattle.tf_rules.specs.declared.rule.Rule.{Rule}
+use Rattle.tf_rules.specs.Findings.{is_fixable, IsFixValid, AreValidFindings}
+use Rattle.tf_rules.specs.Fixes.{AreInOrder as AreKeptInOrder}
 use Rattle.tf_fix.specs.Inner.Nonempty.{IsFixableWithin, HasValidFix}
 use Rattle.tf_fix.specs.FindingReplacements.{replacements_from, fix_replacements, finding_replacements, IsOfRule, AreOfRule}
 use Rattle.tf_fix.specs.Replacements.{Replacement, AreInOrder}

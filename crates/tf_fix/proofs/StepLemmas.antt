@@ -11,14 +11,14 @@ use Rattle.hcl_scan.specs.Tokenization.{IsTokenization}
 use Rattle.hcl_scan.specs.Follows.{AreApart}
 use Rattle.hcl_token.specs.TokenizedText.{TokenizedText}
 use Rattle.hcl_token.specs.Tokens.{whole_text}
-use Rattle.tf_rule.specs.declared.finding.Finding.{Finding}
-use Rattle.tf_rule.specs.declared.rule.Rule.{Rule}
+use Rattle.tf_rules.specs.declared.finding.Finding.{Finding}
+use Rattle.tf_rules.specs.declared.rule.Rule.{Rule}
 use Rattle.tf_fix.specs.StepText.{fix_step_text}
 use Rattle.tf_fix.specs.Comments.{comment_edit}
 use Rattle.tf_fix.specs.StepEdits.{fix_step_entries}
-use Rattle.tf_rule.specs.Findings.{AreValidFindings}
+use Rattle.tf_rules.specs.Findings.{AreValidFindings}
 use Rattle.tf_fix.specs.FindingReplacements.{step_replacements, AreOfRule}
-use Rattle.tf_rule.specs.Rules.{is_comment_rule}
+use Rattle.tf_rules.specs.Table.{is_comment_rule}
 use Rattle.tf_fix.specs.Parts.{parts}
 use Rattle.tf_fix.specs.Replacements.{Replacement, AreInOrder, replaced_pieces}
 use Rattle.tf_fix.specs.Selection.{selected}

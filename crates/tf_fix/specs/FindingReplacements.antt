@@ -4,16 +4,16 @@ use Rattle.std.specs.List.{flat_map}
 use Rattle.hcl_token.specs.declared.kind.Kind.TheVariants.{Number, OpenBracket, CloseBracket, OpenParen, CloseParen, Identifier, DoubleEqual, Greater}
 use Rattle.hcl_token.specs.TokenizedText.{spelling_of}
 use Rattle.hcl_token.specs.Tokens.{Pair}
-use Rattle.tf_rule.specs.declared.finding.Finding.{Finding}
-use Rattle.tf_rule.specs.declared.fix.Fix.{Fix}
-use Rattle.tf_rule.specs.declared.fix.Fix.TheVariants.{CommentMarker, Tokens}
-use Rattle.tf_rule.specs.declared.fix.Insertion.{Insertion}
-use Rattle.tf_rule.specs.declared.fix.KeptTokens.{KeptTokens}
-use Rattle.tf_rule.specs.declared.fix.Insertion.TheVariants.{Nothing, Index, Length, IsZero, IsPositive, OpenBracket as Opening, CloseBracket as Closing}
+use Rattle.tf_rules.specs.declared.finding.Finding.{Finding}
+use Rattle.tf_rules.specs.declared.fix.Fix.{Fix}
+use Rattle.tf_rules.specs.declared.fix.Fix.TheVariants.{CommentMarker, Tokens}
+use Rattle.tf_rules.specs.declared.fix.Insertion.{Insertion}
+use Rattle.tf_rules.specs.declared.fix.KeptTokens.{KeptTokens}
+use Rattle.tf_rules.specs.declared.fix.Insertion.TheVariants.{Nothing, Index, Length, IsZero, IsPositive, OpenBracket as Opening, CloseBracket as Closing}
 use Rattle.hcl_token.specs.declared.kind.Kind.{Kind}
-use Rattle.tf_rule.specs.declared.rule.Rule.{Rule}
-use Rattle.tf_rule.specs.declared.rule.Rule.TheVariants.{CommentSyntax}
-use Rattle.tf_rule.specs.Fixes.{is_comment_fix}
+use Rattle.tf_rules.specs.declared.rule.Rule.{Rule}
+use Rattle.tf_rules.specs.declared.rule.Rule.TheVariants.{CommentSyntax}
+use Rattle.tf_rules.specs.Fixes.{is_comment_fix}
 use Rattle.tf_fix.specs.Comments.{IsSlashComment}
 use Rattle.tf_fix.specs.Parts.{Part, at_gap, at_token}
 use Rattle.tf_fix.specs.Parts.Part.{Gap, Token}

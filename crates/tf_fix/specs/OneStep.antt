@@ -3,16 +3,16 @@ use Rattle.std.specs.Prelude.{◌≡◌, ◌≤◌, ◌<◌, ℕ, List, length}
 use Rattle.hcl_scan.specs.Tokenization.{MAX_TEXT}
 use Rattle.hcl_token.specs.TokenizedText.{TokenizedText}
 use Rattle.edit_record.specs.Lists.Pieces.{EditList, Transforms}
-use Rattle.tf_rule.specs.declared.finding.Finding.{Finding}
-use Rattle.tf_rule.specs.declared.rule.Rule.{Rule}
-use Rattle.tf_rule.specs.declared.rule_set.RuleSet.{RuleSet}
+use Rattle.tf_rules.specs.declared.finding.Finding.{Finding}
+use Rattle.tf_rules.specs.declared.rule.Rule.{Rule}
+use Rattle.tf_rules.specs.declared.rule_set.RuleSet.{RuleSet}
 use Rattle.tf_fix.specs.StepText.{fix_step_text}
 use Rattle.tf_fix.specs.StepEdits.{fix_step_edits}
 use Rattle.tf_fix.specs.Selection.{selected}
 use Rattle.tf_diagnostics.specs.Findings.{AreFindings}
 use Rattle.tf_fix.specs.ParsedTexts.{IsParseOf}
 use Rattle.tf_fix.specs.declared.parsed.Parsed.{Parsed}
-use Rattle.tf_rule.specs.SingleRule.{only}
+use Rattle.tf_rules.specs.SingleRule.{only}
 
 -- what the rules of the set find in the text
 abbrev pub RulesFind : RuleSet → Parsed → List Finding → Type 0

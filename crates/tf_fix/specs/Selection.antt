@@ -1,7 +1,7 @@
 -- Which findings one step of a fix takes.
 use Rattle.std.specs.Prelude.{ℕ, not, ◌&&◌, nat_lt, List, [], ◌∷◌, if◌then◌else◌}
-use Rattle.tf_rule.specs.declared.finding.Finding.{Finding}
-use Rattle.tf_rule.specs.Findings.{is_fixable}
+use Rattle.tf_rules.specs.declared.finding.Finding.{Finding}
+use Rattle.tf_rules.specs.Findings.{is_fixable}
 
 -- Findings are looked at in order: by their first token, of those with one first token the longer
 -- first. One that can be fixed is taken where it shares no token with one that is taken before it:

@@ -2,9 +2,9 @@
 use Rattle.std.specs.Prelude.{List, length, map, if◌then◌else◌}
 use Rattle.edit_record.specs.Lists.Pieces.{EditEntry, EditList, as_list, changed_entries}
 use Rattle.hcl_token.specs.TokenizedText.{TokenizedText}
-use Rattle.tf_rule.specs.declared.finding.Finding.{Finding}
-use Rattle.tf_rule.specs.declared.rule.Rule.{Rule}
-use Rattle.tf_rule.specs.Rules.{is_comment_rule}
+use Rattle.tf_rules.specs.declared.finding.Finding.{Finding}
+use Rattle.tf_rules.specs.declared.rule.Rule.{Rule}
+use Rattle.tf_rules.specs.Table.{is_comment_rule}
 use Rattle.tf_fix.specs.Comments.{comment_edit}
 use Rattle.tf_fix.specs.FindingReplacements.{step_replacements}
 use Rattle.tf_fix.specs.Parts.{parts}

@@ -4,11 +4,11 @@
 use Rattle.std.specs.Prelude.{ℕ, ◌&&◌, Bool, true, false, List, [], ◌∷◌, ◌++◌, drop, map, slice_range, unwrap_or, Option, Some, None, if◌then◌else◌}
 use Rattle.hcl_token.specs.TokenizedText.{TokenizedText, gap_of}
 use Rattle.hcl_token.specs.Tokens.{Pair, whole_text}
-use Rattle.tf_rule.specs.declared.finding.Finding.{Finding}
-use Rattle.tf_rule.specs.declared.fix.Fix.{Fix}
-use Rattle.tf_rule.specs.declared.fix.Fix.TheVariants.{CommentMarker, Tokens}
-use Rattle.tf_rule.specs.declared.fix.Insertion.{Insertion}
-use Rattle.tf_rule.specs.declared.fix.KeptTokens.{KeptTokens}
+use Rattle.tf_rules.specs.declared.finding.Finding.{Finding}
+use Rattle.tf_rules.specs.declared.fix.Fix.{Fix}
+use Rattle.tf_rules.specs.declared.fix.Fix.TheVariants.{CommentMarker, Tokens}
+use Rattle.tf_rules.specs.declared.fix.Insertion.{Insertion}
+use Rattle.tf_rules.specs.declared.fix.KeptTokens.{KeptTokens}
 use Rattle.tf_fix.specs.Comments.{fixed_comment}
 use Rattle.tf_fix.specs.FindingReplacements.{inserted}
 use Rattle.tf_fix.specs.SettledSpaces.{Prev, joins_prev, space}

@@ -3,7 +3,7 @@
 ghost use Rattle.std.specs.Prelude.{◌≡◌, ◌<◌, length, map, filter, IfOk};
 ghost use Rattle.tf_diagnostics.specs.RuleFilter.{is_found_by};
 ghost use Rattle.tf_fix.specs.Comments.{comment_edit};
-ghost use Rattle.tf_rule.specs.Findings.{AreValidFindings};
+ghost use Rattle.tf_rules.specs.Findings.{AreValidFindings};
 ghost use Rattle.tf_fix.specs.Selection.{selected};
 
 use crate::selection::is_selected;
@@ -11,7 +11,7 @@ use edit_record::lists::Edit;
 use hcl_scan::Scanned;
 use std::alloc::{AllocError, Global};
 use tf_diagnostics::is_found_by;
-use tf_rule::{Finding, Rule};
+use tf_rules::{Finding, Rule};
 
 fn comment_edit(alloc: Global, scanned: &Scanned<'_>, one: Finding) -> Result<Edit, AllocError>
     requires { one.first < length scanned.now.pairs }

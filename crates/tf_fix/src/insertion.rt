@@ -10,7 +10,7 @@ use crate::prev_token::{PrevToken, joins_prev};
 use hcl_scan::Scanned;
 use hcl_token::Kind;
 use std::alloc::{AllocError, Global};
-use tf_rule::Insertion;
+use tf_rules::Insertion;
 
 /// What is added behind `near`.
 pub fn added_text(

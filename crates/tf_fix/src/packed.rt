@@ -8,7 +8,7 @@ use crate::boundary::Boundary;
 use crate::splice::Replacement;
 use std::alloc::AllocError;
 use std::marker::Model;
-use tf_rule::Insertion;
+use tf_rules::Insertion;
 
 /// A replacement as it stands in the list of all that one step makes, in 24 bytes: a place as how
 /// many gaps and tokens stand before it.

@@ -2,7 +2,7 @@
 
 ghost use Rattle.std.specs.Prelude.{◌≡◌, ◌++◌, ◌<◌, length, filter, IfOk, IfErr};
 ghost use Rattle.tf_diagnostics.specs.RuleFilter.{is_found_by};
-ghost use Rattle.tf_rule.specs.Findings.{AreValidFindings};
+ghost use Rattle.tf_rules.specs.Findings.{AreValidFindings};
 ghost use Rattle.tf_fix.specs.FindingReplacements.{replacements_from, finding_replacements, step_replacements};
 ghost use Rattle.tf_fix.specs.Selection.{selected};
 ghost use Rattle.tf_fix.specs.Inner.Nonempty.{AreNonempty, IsFixableWithin};
@@ -15,7 +15,7 @@ use crate::splice::Replacement;
 use hcl_scan::Scanned;
 use std::alloc::{AllocError, Global};
 use tf_diagnostics::is_found_by;
-use tf_rule::{Finding, Fix, Insertion, KeptTokens, Rule};
+use tf_rules::{Finding, Fix, Insertion, KeptTokens, Rule};
 
 /// Appends the replacements of one fix from `from` on: it inserts `text_of_parts` there, keeps each range
 /// of `kept` and inserts what follows it, and removes all other tokens up to `past`.

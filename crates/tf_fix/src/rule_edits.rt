@@ -5,10 +5,10 @@ ghost use Rattle.edit_record.specs.Lists.Pieces.{Transforms};
 ghost use Rattle.hcl_scan.specs.Tokenization.{MAX_TEXT};
 ghost use Rattle.hcl_scan.specs.Follows.{AreApart};
 ghost use Rattle.tf_diagnostics.specs.RuleFilter.{is_found_by};
-ghost use Rattle.tf_rule.specs.Findings.{AreValidFindings};
+ghost use Rattle.tf_rules.specs.Findings.{AreValidFindings};
 ghost use Rattle.tf_fix.specs.StepText.{fix_step_text};
 ghost use Rattle.tf_fix.specs.StepEdits.{fix_step_entries, fix_step_edits};
-ghost use Rattle.tf_rule.specs.Rules.{is_comment_rule};
+ghost use Rattle.tf_rules.specs.Table.{is_comment_rule};
 ghost use Rattle.tf_fix.specs.FindingReplacements.{AreOfRule};
 ghost use Rattle.tf_fix.specs.Inner.Nonempty.{AreNonempty};
 ghost use Rattle.tf_fix.specs.declared.fault.LintFault.TheVariants.{TooLong, Memory};
@@ -21,7 +21,7 @@ use edit_record::lists::laws::{pieces_make_valid_edits, pieces_transform};
 use edit_record::lists::{Edit, Edits};
 use hcl_scan::Scanned;
 use std::alloc::Global;
-use tf_rule::{Finding, Rule};
+use tf_rules::{Finding, Rule};
 
 fn is_comment_rule(rule: Rule) -> bool
     ensures { result ≡ is_comment_rule rule }

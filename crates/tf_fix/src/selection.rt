@@ -2,11 +2,11 @@
 
 ghost use Rattle.std.specs.Prelude.{◌≡◌, ◌&&◌, not, nat_lt, length, filter};
 ghost use Rattle.tf_diagnostics.specs.RuleFilter.{is_found_by};
-ghost use Rattle.tf_rule.specs.Findings.{is_fixable};
+ghost use Rattle.tf_rules.specs.Findings.{is_fixable};
 ghost use Rattle.tf_fix.specs.Selection.{selected};
 
 use tf_diagnostics::is_found_by;
-use tf_rule::{Finding, Rule};
+use tf_rules::{Finding, Rule};
 
 /// Whether the finding is taken, where those taken before it end before token `past`.
 pub fn is_selected(one: &Finding, past: usize) -> bool

@@ -14,7 +14,7 @@ use crate::prev_token::{PrevToken, is_glued, prev_before};
 use edit_record::lists::Edit;
 use hcl_scan::Scanned;
 use std::alloc::{AllocError, Global};
-use tf_rule::Insertion;
+use tf_rules::Insertion;
 
 /// The parts from one place to another go, and others come in their place.
 #[derive(Clone, Copy)]

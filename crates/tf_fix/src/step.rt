@@ -3,8 +3,8 @@
 ghost use Rattle.std.specs.Prelude.{◌≡◌, ◌≤◌, ◌⊎◌, ℕ, true, length, IfOk, IfErr};
 ghost use Rattle.hcl_scan.specs.Tokenization.{MAX_TEXT};
 ghost use Rattle.tf_fix.specs.ParsedTexts.{IsParseOf};
-ghost use Rattle.tf_rule.specs.Findings.{AreValidFindings};
-ghost use Rattle.tf_rule.specs.RuleSets.{has_rule};
+ghost use Rattle.tf_rules.specs.Findings.{AreValidFindings};
+ghost use Rattle.tf_rules.specs.RuleSets.{has_rule};
 ghost use Rattle.tf_fix.specs.declared.parsed.Parsed.{Parsed};
 ghost use Rattle.tf_fix.specs.OneStep.{AreFindingsOf, IsTooLong, IsFixStep};
 ghost use Rattle.tf_fix.specs.declared.fault.LintFault.TheVariants.{TooLong, Memory};
@@ -20,7 +20,7 @@ use hcl_text_laws::laws::parsed_tokens_are_apart;
 use std::alloc::Global;
 use tf_diagnostics::findings;
 use tf_diagnostics::laws::{findings_match_their_rule, findings_of_one_rule};
-use tf_rule::{Finding, Rule, RuleSet};
+use tf_rules::{Finding, Rule, RuleSet};
 
 /// The edits of one rule's step, and how many findings they mend.
 #[derive(Drop)]

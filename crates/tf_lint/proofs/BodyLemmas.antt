@@ -17,9 +17,9 @@ use Rattle.tf_lint.proofs.MemberAnswers.{member_answers}
 use Rattle.tf_lint.specs.LintedMembers.{IsLintedMember, AreLintedMembers}
 use Rattle.tf_lint.specs.declared.body.BodyFindings.{BodyFindings}
 use Rattle.tf_lint.specs.declared.member.LintedMember.{LintedMember}
-use Rattle.tf_rule.specs.declared.finding.Finding.{Finding}
-use Rattle.tf_rule.specs.Findings.{is_valid, valid_findings}
-use Rattle.tf_rule.specs.declared.rule_set.RuleSet.{RuleSet}
+use Rattle.tf_rules.specs.declared.finding.Finding.{Finding}
+use Rattle.tf_rules.specs.Findings.{is_valid, valid_findings}
+use Rattle.tf_rules.specs.declared.rule_set.RuleSet.{RuleSet}
 use Rattle.tf_rules.specs.TopLevelFindings.{top_level_member_findings, top_level_findings}
 
 -- what stands in some nodes and in others behind them

@@ -15,7 +15,7 @@ use Rattle.hcl_text_laws.specs.declared.fault.ParseFault.{ParseFault}
 use Rattle.hcl_token.specs.TokenizedText.{TokenizedText}
 use Rattle.tf_diagnostics.specs.Findings.{AreFindings}
 use Rattle.tf_lint.specs.LintedMembers.{AreLintedMembers}
-use Rattle.tf_rule.specs.Findings.{AreValidFindings}
+use Rattle.tf_rules.specs.Findings.{AreValidFindings}
 use Rattle.tf_lint.proofs.DoesNotParse.{not_parsed}
 use Rattle.tf_lint.specs.Faults.{fault_of_scan, fault_of_parse, fault_of_lint}
 use Rattle.tf_fix.specs.OneStep.{RulesFind, AreFindingsOf, IsTooLong}
@@ -28,8 +28,8 @@ use Rattle.tf_lint.specs.declared.fault.FixFault.TheVariants.{TooLong, Memory}
 use Rattle.tf_fix.specs.declared.fault.LintFault.{LintFault}
 use Rattle.tf_fix.specs.declared.fault.LintFault.TheVariants as lint
 use Rattle.tf_fix.specs.declared.parsed.Parsed.{Parsed}
-use Rattle.tf_rule.specs.declared.finding.Finding.{Finding}
-use Rattle.tf_rule.specs.declared.rule.Rule.{Rule}
+use Rattle.tf_rules.specs.declared.finding.Finding.{Finding}
+use Rattle.tf_rules.specs.declared.rule.Rule.{Rule}
 use Rattle.tf_lint.specs.declared.linted_text.LintedText.{LintedText}
 
 -- a text that was scanned and searched is read, and this is what was found in it

@@ -6,15 +6,15 @@ use Rattle.hcl_grammar.specs.declared.tree.Tree.{Tree}
 use Rattle.hcl_text_laws.specs.Parses.{OneParse}
 use Rattle.edit_record.specs.Lists.Pieces.{EditList}
 use Rattle.edit_record.specs.Squashes.SquashLists.{SquashAllIsUnique}
-use Rattle.tf_rule.specs.declared.finding.Finding.{Finding}
-use Rattle.tf_rule.specs.declared.rule.Rule.{Rule}
-use Rattle.tf_rule.specs.declared.rule_set.RuleSet.{RuleSet}
-use Rattle.tf_rule.specs.RuleSets.{has_rule}
+use Rattle.tf_rules.specs.declared.finding.Finding.{Finding}
+use Rattle.tf_rules.specs.declared.rule.Rule.{Rule}
+use Rattle.tf_rules.specs.declared.rule_set.RuleSet.{RuleSet}
+use Rattle.tf_rules.specs.RuleSets.{has_rule}
 use Rattle.tf_diagnostics.specs.Findings.{FindingsAreUnique}
 use Rattle.tf_lint.specs.declared.fault.FixFault.{FixFault}
 use Rattle.tf_lint.specs.declared.fault.FixFault.TheVariants.{Scan, Parse, FixBroken, TooLong, Memory}
 use Rattle.tf_fix.specs.declared.parsed.Parsed.{Parsed}
-use Rattle.tf_rule.specs.SingleRule.{only}
+use Rattle.tf_rules.specs.SingleRule.{only}
 use Rattle.tf_fix.specs.ParsedTexts.{IsParseOf}
 use Rattle.tf_fix.specs.OneStep.{step_text_of}
 use Rattle.tf_lint.specs.Steps.{IsRemainingCount, Steps, prepend_step, StepBreaks, FoundThen, StepThen, RunSteps, fix_order, IsSquashOfAll, Rewrite, Fixes, Breaks, FixIsUnique}

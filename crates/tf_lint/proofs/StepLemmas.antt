@@ -6,7 +6,7 @@ use Rattle.edit_record.specs.Squashes.Squash.{AreComposable, IsSquashResult}
 use Rattle.edit_record.specs.declared.squashes.squash_lists.Unmet.{Unmet}
 use Rattle.edit_record.specs.declared.squashes.squash_lists.Unmet.TheVariants.{LengthsDiffer, Contradicts, Memory}
 use Rattle.std.specs.Prelude.{Err}
-use Rattle.tf_rule.specs.declared.rule.Rule.{Rule}
+use Rattle.tf_rules.specs.declared.rule.Rule.{Rule}
 use Rattle.tf_fix.specs.declared.parsed.Parsed.{Parsed}
 use Rattle.tf_fix.specs.OneStep.{step_text_of, step_edits_of, IsFixStep}
 use Rattle.tf_lint.specs.Steps.{texts_differ}

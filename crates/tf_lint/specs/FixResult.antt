@@ -2,7 +2,7 @@
 use Rattle.std.specs.Prelude.{ℕ, List, [], length, Option, Some, None}
 use Rattle.std.specs.Global.{Vec}
 use Rattle.edit_record.specs.Lists.Pieces.{EditList, Transforms, as_list}
-use Rattle.tf_rule.specs.declared.rule_set.RuleSet.{RuleSet}
+use Rattle.tf_rules.specs.declared.rule_set.RuleSet.{RuleSet}
 use Rattle.tf_lint.specs.declared.step.NewText.{NewText}
 use Rattle.tf_lint.specs.declared.steps.FixResult.{FixResult}
 use Rattle.tf_lint.specs.declared.steps.FixedText.{FixedText}

@@ -9,8 +9,8 @@ use Rattle.hcl_token.specs.Tokens.{Pair}
 use Rattle.tf_rules.specs.Preorder as node
 use Rattle.tf_diagnostics.specs.TreeFindings.{AreTreeFindings}
 use Rattle.tf_lint.specs.declared.member.LintedMember.{LintedMember}
-use Rattle.tf_rule.specs.Findings.{valid_findings}
-use Rattle.tf_rule.specs.declared.rule_set.RuleSet.{RuleSet}
+use Rattle.tf_rules.specs.Findings.{valid_findings}
+use Rattle.tf_rules.specs.declared.rule_set.RuleSet.{RuleSet}
 use Rattle.tf_rules.specs.TopLevelFindings.{top_level_member_findings}
 
 -- a member stands there, and that is what the rules find in it

@@ -1,8 +1,8 @@
 -- What a fix leaves.
 use Rattle.std.specs.Prelude.{ℕ, List, length}
 use Rattle.hcl_token.specs.TokenLists.{IsTokenListOf}
-use Rattle.tf_rule.specs.declared.rule_set.RuleSet.{RuleSet}
-use Rattle.tf_rule.specs.Findings.{AreValidFindings}
+use Rattle.tf_rules.specs.declared.rule_set.RuleSet.{RuleSet}
+use Rattle.tf_rules.specs.Findings.{AreValidFindings}
 use Rattle.tf_fix.specs.declared.parsed.Parsed.{Parsed}
 use Rattle.tf_fix.specs.OneStep.{RulesFind}
 use Rattle.tf_fix.specs.ParsedTexts.{IsParseOf}

@@ -11,14 +11,14 @@ ghost use Rattle.hcl_scan.specs.Follows.{tokens_of};
 ghost use Rattle.hcl_token.specs.Tokens.{Pair};
 ghost use Rattle.tf_lint.specs.Inner.BodyFindings.{AreBodyFindings, IsBodyRead};
 ghost use Rattle.tf_lint.specs.LintedMembers.{IsLintedMember, AreLintedMembers};
-ghost use Rattle.tf_rule.specs.declared.rule_set.RuleSet.{RuleSet};
+ghost use Rattle.tf_rules.specs.declared.rule_set.RuleSet.{RuleSet};
 
 use crate::member::{LintedMember, next_member};
 use hcl_grammar::fault::TokenFault;
 use hcl_scan::Scanned;
 use hcl_tree::Reader;
 use std::alloc::{AllocError, Global};
-use tf_rule::{Finding, RuleSet};
+use tf_rules::{Finding, RuleSet};
 
 /// What was read of a body.
 #[derive(Drop)]

@@ -1,7 +1,7 @@
 //! All issues of a text.
 
 ghost use Rattle.std.specs.Prelude.{◌≡◌, ◌++◌, [], ◌∷◌, ◌<◌, length, map, string_bytes, IfOk, IfErr};
-ghost use Rattle.tf_rule.specs.Findings.{AreValidFindings};
+ghost use Rattle.tf_rules.specs.Findings.{AreValidFindings};
 ghost use Rattle.tf_lint.specs.Issues.{reports, AreIssues};
 ghost use Rattle.tf_lint.specs.Reports.{report_of, lines_of};
 ghost use Rattle.tf_fix.specs.declared.fault.LintFault.TheVariants.{Memory};
@@ -13,7 +13,7 @@ use hcl_scan::Scanned;
 use std::alloc::{AllocError, Global};
 use tf_diagnostics::findings;
 use tf_fix::LintFault;
-use tf_rule::{Finding, RuleSet};
+use tf_rules::{Finding, RuleSet};
 
 /// The issues of the rules in the set, by place, then by rule, then the longer first; without what
 /// comments silence. The only refusal is `Memory`.

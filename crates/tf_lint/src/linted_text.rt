@@ -2,7 +2,7 @@
 
 use crate::member::LintedMember;
 use hcl_scan::{Scanned, TokenList};
-use tf_rule::{Finding, RuleSet};
+use tf_rules::{Finding, RuleSet};
 
 /// A text that parses: its tokens, and what the rules find in it.
 #[derive(Drop)]

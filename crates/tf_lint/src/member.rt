@@ -10,8 +10,8 @@ ghost use Rattle.tf_rules.specs.Preorder as node;
 ghost use Rattle.tf_diagnostics.specs.TreeFindings.{AreTreeFindings};
 ghost use Rattle.tf_reuse.specs.MembersKeep.{SameTokens};
 ghost use Rattle.tf_lint.specs.LintedMembers.{IsLintedMember, AreLintedMembers, IsNextMember};
-ghost use Rattle.tf_rule.specs.Findings.{valid_findings};
-ghost use Rattle.tf_rule.specs.declared.rule_set.RuleSet.{RuleSet};
+ghost use Rattle.tf_rules.specs.Findings.{valid_findings};
+ghost use Rattle.tf_rules.specs.declared.rule_set.RuleSet.{RuleSet};
 ghost use Rattle.tf_rules.specs.TopLevelFindings.{top_level_member_findings};
 
 use crate::tokens::same_tokens;
@@ -22,7 +22,7 @@ use hcl_tree::{MAX_NESTING, Reader, member};
 use std::alloc::{AllocError, Global};
 use tf_reuse::laws::unchanged_members_keep_findings;
 use tf_reuse::renumber_findings;
-use tf_rule::{Finding, RuleSet};
+use tf_rules::{Finding, RuleSet};
 
 /// A member of a text's body: where it was read, and what the rules find in it.
 #[derive(Drop)]

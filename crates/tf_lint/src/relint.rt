@@ -19,7 +19,7 @@ use hcl_scan::laws::{no_tokenization_with_fault, one_tokenization};
 use hcl_scan::{Scanned, Token, scan};
 use hcl_text_laws::laws::parsed_tokens_are_apart;
 use std::alloc::{AllocError, Global};
-use tf_rule::{Finding, Rule, RuleSet};
+use tf_rules::{Finding, Rule, RuleSet};
 
 /// The tokens of a text, if it parses, and what the rules of the set find in it.
 ///

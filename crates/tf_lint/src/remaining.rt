@@ -6,14 +6,14 @@ ghost use Rattle.tf_lint.specs.Issues.{reports};
 ghost use Rattle.tf_lint.specs.Remaining.{remaining_count, IsRemaining};
 ghost use Rattle.tf_lint.specs.Reports.{Report, lines_of};
 ghost use Rattle.tf_lint.specs.Steps.{IsReport};
-ghost use Rattle.tf_rule.specs.declared.rule_set.RuleSet.{RuleSet};
+ghost use Rattle.tf_rules.specs.declared.rule_set.RuleSet.{RuleSet};
 
 use crate::issue::Issue;
 use crate::issue_list::{issues_of, lines_of_findings};
 use hcl_scan::{Scanned, TokenList};
 use std::alloc::{AllocError, Global};
 use tf_fix::LintFault;
-use tf_rule::Finding;
+use tf_rules::Finding;
 
 /// What the rules of a fix still find in the text that it left. Lines and issues are made of it
 /// only where they are asked for.

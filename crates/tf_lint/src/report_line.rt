@@ -9,7 +9,7 @@ use crate::message::add_message;
 use hcl_scan::Scanned;
 use hcl_token::Place;
 use std::alloc::AllocError;
-use tf_rule::{Finding, Rule};
+use tf_rules::{Finding, Rule};
 
 /// Adds what stands in front of an issue's text in its line, in a report on the file of this name:
 /// `NAME:LINE:COLUMN: SEVERITY - `.

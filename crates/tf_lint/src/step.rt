@@ -3,7 +3,7 @@
 ghost use Rattle.std.specs.Prelude.{◌≡◌, ◌≤◌, ◌⊎◌, ℕ, true, List, IfOk, IfErr};
 ghost use Rattle.hcl_scan.specs.Tokenization.{MAX_TEXT};
 ghost use Rattle.edit_record.specs.Lists.Pieces.{Transforms};
-ghost use Rattle.tf_rule.specs.RuleSets.{has_rule};
+ghost use Rattle.tf_rules.specs.RuleSets.{has_rule};
 ghost use Rattle.tf_lint.specs.LintedText.{IsLintOf};
 ghost use Rattle.tf_fix.specs.declared.parsed.Parsed.{Parsed};
 ghost use Rattle.tf_fix.specs.OneStep.{IsFixStep};
@@ -17,7 +17,7 @@ use edit_record::lists::laws::apply_is_exact;
 use edit_record::lists::{Change as _, Edits};
 use std::alloc::Global;
 use tf_fix::{StepEdits, fix_step_of_findings};
-use tf_rule::Rule;
+use tf_rules::Rule;
 
 /// A new text, and the edits that lead to it.
 #[derive(Drop)]

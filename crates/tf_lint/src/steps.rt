@@ -27,7 +27,7 @@ use edit_record::squashes::{Unmet, squash};
 use hcl_rescan::ReplacedRange;
 use hcl_scan::Token;
 use std::alloc::Global;
-use tf_rule::{Finding, Rule, RuleSet};
+use tf_rules::{Finding, Rule, RuleSet};
 
 /// What a fix made of a text.
 #[derive(Drop)]

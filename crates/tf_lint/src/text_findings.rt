@@ -14,7 +14,7 @@ ghost use Rattle.hcl_text_laws.specs.declared.fault.ParseFault.TheVariants.{Memo
 ghost use Rattle.tf_diagnostics.specs.Findings.{AreNodeAndBlockFindings, AreFindings};
 ghost use Rattle.tf_lint.specs.Inner.BodyFindings.{AreBodyFindings};
 ghost use Rattle.tf_lint.specs.LintedMembers.{AreLintedMembers};
-ghost use Rattle.tf_rule.specs.Findings.{AreValidFindings};
+ghost use Rattle.tf_rules.specs.Findings.{AreValidFindings};
 
 use crate::body::{BodyFindings, append_findings, lint_body};
 use crate::member::LintedMember;
@@ -25,7 +25,7 @@ use hcl_token::Kind;
 use hcl_tree::{MAX_NESTING, ParseFault, Reader};
 use std::alloc::Global;
 use tf_diagnostics::complete_findings;
-use tf_rule::{Finding, RuleSet};
+use tf_rules::{Finding, RuleSet};
 
 /// What the rules find in a text, and in each member of its body.
 #[derive(Drop)]

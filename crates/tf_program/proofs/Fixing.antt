@@ -1,7 +1,7 @@
 -- What a fix of an input comes to, from what its calls answer.
 use Rattle.std.proofs.Common.{◌≡◌, ℕ, List, [], Result, Ok, Err, OnOk, IfOk, IfErr, refl, subst, inl, inr}
 use Rattle.edit_record.specs.Lists.Journal.{JournalEntry}
-use Rattle.tf_rule.specs.declared.rule_set.RuleSet.{RuleSet}
+use Rattle.tf_rules.specs.declared.rule_set.RuleSet.{RuleSet}
 use Rattle.tf_stream.specs.Streams.{Source, Target, WritesBytes, Untouched}
 use Rattle.tf_commands.specs.declared.command.Command.TheVariants.{Fix}
 use Rattle.tf_commands.specs.declared.command.Done.{Done}

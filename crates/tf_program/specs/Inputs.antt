@@ -1,7 +1,7 @@
 -- What the work on one input took of it, what it wrote, and what it has met.
 use Rattle.std.specs.Prelude.{◌≡◌, ◌<◌, ◌⊎◌, ℕ, true, false, List, []}
 use Rattle.edit_record.specs.Lists.Journal.{JournalEntry}
-use Rattle.tf_rule.specs.declared.rule_set.RuleSet.{RuleSet}
+use Rattle.tf_rules.specs.declared.rule_set.RuleSet.{RuleSet}
 use Rattle.tf_lint.specs.Reports.{Report, lines_of}
 use Rattle.tf_lint.specs.Steps.{IsReport}
 use Rattle.tf_stream.specs.Streams.{Source, Target, WritesBytes, Untouched}

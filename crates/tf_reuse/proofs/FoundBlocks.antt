@@ -25,14 +25,14 @@ use Rattle.tf_reuse.proofs.RenumberedTrivia.{moved_token, spelling_moved}
 use Rattle.tf_reuse.proofs.Renumbering.{Moves, either, append, finding_moves, no_fix}
 use Rattle.tf_reuse.proofs.Renumbering as moves
 use Rattle.tf_reuse.proofs.Window.{Here, Same}
-use Rattle.tf_rule.specs.declared.finding.Message.{Message}
-use Rattle.tf_rule.specs.declared.finding.NameKind.{NameKind}
-use Rattle.tf_rule.specs.declared.finding.NameKind.TheVariants.{Local}
-use Rattle.tf_rule.specs.declared.rule.Rule.{Rule}
-use Rattle.tf_rule.specs.declared.rule.Rule.TheVariants.{NamingConvention, TypedVariables, DocumentedVariables, DocumentedOutputs}
-use Rattle.tf_rule.specs.declared.rule_set.RuleSet.{RuleSet}
-use Rattle.tf_rule.specs.Findings.{valid_findings}
-use Rattle.tf_rule.specs.RuleSets.{has_rule}
+use Rattle.tf_rules.specs.declared.finding.Message.{Message}
+use Rattle.tf_rules.specs.declared.finding.NameKind.{NameKind}
+use Rattle.tf_rules.specs.declared.finding.NameKind.TheVariants.{Local}
+use Rattle.tf_rules.specs.declared.rule.Rule.{Rule}
+use Rattle.tf_rules.specs.declared.rule.Rule.TheVariants.{NamingConvention, TypedVariables, DocumentedVariables, DocumentedOutputs}
+use Rattle.tf_rules.specs.declared.rule_set.RuleSet.{RuleSet}
+use Rattle.tf_rules.specs.Findings.{valid_findings}
+use Rattle.tf_rules.specs.RuleSets.{has_rule}
 use Rattle.tf_rules.specs.Attributes.{attributes, layer_attributes, member_attributes, has_no_parts, is_empty_string_primary, is_empty_string_kind, is_empty_string, has_attribute}
 use Rattle.tf_rules.specs.TreeLayers.{ExprKindLayer, PrimaryLayer}
 use Rattle.tf_rules.specs.Rules.Missing.{is_undocumented, missing_finding, untyped_findings, undocumented_findings, missing_findings}

@@ -13,9 +13,9 @@ use Rattle.tf_reuse.proofs.RenumberedNodes.{MovedMember}
 use Rattle.tf_reuse.proofs.Window.{Here, Same}
 use Rattle.tf_reuse.specs.MembersKeep.{SameTokens}
 use Rattle.tf_reuse.specs.Renumbering.{renumber_finding}
-use Rattle.tf_rule.specs.declared.finding.Finding.{Finding}
-use Rattle.tf_rule.specs.Findings.{valid_findings}
-use Rattle.tf_rule.specs.declared.rule_set.RuleSet.{RuleSet}
+use Rattle.tf_rules.specs.declared.finding.Finding.{Finding}
+use Rattle.tf_rules.specs.Findings.{valid_findings}
+use Rattle.tf_rules.specs.declared.rule_set.RuleSet.{RuleSet}
 
 -- one list of nodes stands in some nodes
 one_list : {ns xs ys : List Node} → IsPreorder ns xs → IsPreorder ns ys → xs ≡ ys

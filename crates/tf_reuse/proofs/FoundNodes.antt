@@ -32,7 +32,7 @@ use Rattle.tf_reuse.proofs.Renumbering as moves
 use Rattle.tf_reuse.proofs.RenumberedFindings.{splat_behind_moved, at_expr, at_term, at_tail}
 use Rattle.tf_reuse.proofs.Window.{Here, Same}
 use Rattle.tf_reuse.specs.MembersKeep.{SameTokens}
-use Rattle.tf_rule.specs.declared.rule_set.RuleSet.{RuleSet}
+use Rattle.tf_rules.specs.declared.rule_set.RuleSet.{RuleSet}
 
 -- in two lists of nodes stands as much, and in the second is found what is found in the first, its numbers moved
 pub record SameFound (rules : RuleSet) (old new : List Pair) (from to : ℕ) (ns ns' : List Node) : Type 0 where

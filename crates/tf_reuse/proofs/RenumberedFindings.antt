@@ -23,8 +23,8 @@ use Rattle.tf_rules.specs.Rules.Lookup.{is_splat, has_splat, is_indexable_kind, 
 use Rattle.tf_rules.specs.declared.role.Role.{Role}
 use Rattle.tf_rules.specs.NodeFindings.{node_findings}
 use Rattle.tf_rules.specs.Preorder.{expr, term, tail, splat_after}
-use Rattle.tf_rule.specs.declared.rule_set.RuleSet.{RuleSet}
-use Rattle.tf_rule.specs.RuleSets.{has_rule}
+use Rattle.tf_rules.specs.declared.rule_set.RuleSet.{RuleSet}
+use Rattle.tf_rules.specs.RuleSets.{has_rule}
 use Rattle.tf_rules.specs.Trivia.{token_range, has_trivia, is_here_close}
 use Rattle.tf_reuse.proofs.RenumberedNodes as moved
 use Rattle.tf_reuse.proofs.RenumberedNodes.{MovedNumbers, MovedExpr, MovedForm, MovedLinks, MovedTails, MovedTail, MovedTerm, MovedShape, MovedExprs, MovedParts, MovedFilter}
@@ -33,11 +33,11 @@ use Rattle.tf_reuse.proofs.Window.{Here, Same}
 use Rattle.tf_reuse.specs.MembersKeep.{SameTokens}
 use Rattle.tf_reuse.proofs.Renumbering.{Moves, SameFix, either, append, both, fix_when, index, word, keeps, skip, no_kept, tokens as same_tokens, no_fix, finding_moves, neither_fits}
 use Rattle.tf_reuse.proofs.Renumbering as moves
-use Rattle.tf_rule.specs.declared.fix.Fix.{Fix}
-use Rattle.tf_rule.specs.declared.fix.Insertion.TheVariants.{Nothing, Length, IsZero, IsPositive, OpenBracket, CloseBracket}
-use Rattle.tf_rule.specs.declared.rule.Rule.TheVariants.{DeprecatedIndex, DeprecatedInterpolation, EmptyListEquality, DeprecatedLookup}
-use Rattle.tf_rule.specs.Findings.{plain_message, finding_at, is_fix_valid}
-use Rattle.tf_rule.specs.Fixes.{kept, keep_one, when}
+use Rattle.tf_rules.specs.declared.fix.Fix.{Fix}
+use Rattle.tf_rules.specs.declared.fix.Insertion.TheVariants.{Nothing, Length, IsZero, IsPositive, OpenBracket, CloseBracket}
+use Rattle.tf_rules.specs.declared.rule.Rule.TheVariants.{DeprecatedIndex, DeprecatedInterpolation, EmptyListEquality, DeprecatedLookup}
+use Rattle.tf_rules.specs.Findings.{plain_message, finding_at, is_fix_valid}
+use Rattle.tf_rules.specs.Fixes.{kept, keep_one, when}
 
 -- ---- what does not depend on numbers, whatever the places are related by
 

@@ -9,16 +9,16 @@ use Rattle.tf_reuse.proofs.RenumberedTrivia.{moved_is, moved_token, here_of, lt_
 use Rattle.tf_reuse.proofs.Window.{Here, Same}
 use Rattle.tf_reuse.specs.MembersKeep.{SameTokens}
 use Rattle.tf_reuse.specs.Renumbering.{renumber, renumber_insertion, renumber_kept, renumber_fix, renumber_message, renumber_finding}
-use Rattle.tf_rule.specs.declared.finding.Finding.{Finding}
-use Rattle.tf_rule.specs.declared.finding.Message.{Message}
-use Rattle.tf_rule.specs.declared.fix.Fix.{Fix}
-use Rattle.tf_rule.specs.declared.fix.Fix.TheVariants.{Tokens}
-use Rattle.tf_rule.specs.declared.fix.Insertion.{Insertion}
-use Rattle.tf_rule.specs.declared.fix.Insertion.TheVariants.{Nothing, Index}
-use Rattle.tf_rule.specs.declared.fix.KeptTokens.{KeptTokens}
-use Rattle.tf_rule.specs.declared.rule.Rule.{Rule}
-use Rattle.tf_rule.specs.Findings.{finding_at, is_fix_valid, is_valid, valid_findings}
-use Rattle.tf_rule.specs.Fixes.{kept, when, reads_within, changes_something, changes_end, are_in_order}
+use Rattle.tf_rules.specs.declared.finding.Finding.{Finding}
+use Rattle.tf_rules.specs.declared.finding.Message.{Message}
+use Rattle.tf_rules.specs.declared.fix.Fix.{Fix}
+use Rattle.tf_rules.specs.declared.fix.Fix.TheVariants.{Tokens}
+use Rattle.tf_rules.specs.declared.fix.Insertion.{Insertion}
+use Rattle.tf_rules.specs.declared.fix.Insertion.TheVariants.{Nothing, Index}
+use Rattle.tf_rules.specs.declared.fix.KeptTokens.{KeptTokens}
+use Rattle.tf_rules.specs.declared.rule.Rule.{Rule}
+use Rattle.tf_rules.specs.Findings.{finding_at, is_fix_valid, is_valid, valid_findings}
+use Rattle.tf_rules.specs.Fixes.{kept, when, reads_within, changes_something, changes_end, are_in_order}
 
 pub record Moves (old new : List Pair) (from to : ℕ) (fs fs' : List Finding) : Type 0 where
   pub is : valid_findings (length new) fs' ≡ map (renumber_finding from to) (valid_findings (length old) fs)

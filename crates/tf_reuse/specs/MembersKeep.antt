@@ -8,9 +8,9 @@ use Rattle.hcl_token.specs.Tokens.{Pair}
 use Rattle.tf_rules.specs.Preorder.{member}
 use Rattle.tf_diagnostics.specs.TreeFindings.{AreTreeFindings}
 use Rattle.tf_reuse.specs.Renumbering.{renumber_finding}
-use Rattle.tf_rule.specs.declared.finding.Finding.{Finding}
-use Rattle.tf_rule.specs.Findings.{valid_findings}
-use Rattle.tf_rule.specs.declared.rule_set.RuleSet.{RuleSet}
+use Rattle.tf_rules.specs.declared.finding.Finding.{Finding}
+use Rattle.tf_rules.specs.Findings.{valid_findings}
+use Rattle.tf_rules.specs.declared.rule_set.RuleSet.{RuleSet}
 use Rattle.tf_rules.specs.TopLevelFindings.{top_level_member_findings}
 
 -- so many tokens stand from number `from` on in the one list, and from number `to` on in the other:

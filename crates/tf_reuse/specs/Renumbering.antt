@@ -1,14 +1,14 @@
 -- Numbers of tokens, where those that stood from one number on stand from another on.
 use Rattle.std.specs.Prelude.{ℕ, ◌+◌, ◌-◌, ◌^◌, min, map}
 use Rattle.std.specs.Option.{option_map}
-use Rattle.tf_rule.specs.declared.finding.Finding.{Finding}
-use Rattle.tf_rule.specs.declared.finding.Message.{Message}
-use Rattle.tf_rule.specs.declared.fix.Fix.{Fix}
-use Rattle.tf_rule.specs.declared.fix.Fix.TheVariants.{CommentMarker, Tokens}
-use Rattle.tf_rule.specs.declared.fix.Insertion.{Insertion}
-use Rattle.tf_rule.specs.declared.fix.Insertion.TheVariants.{Index}
-use Rattle.tf_rule.specs.declared.fix.KeptTokens.{KeptTokens}
-use Rattle.tf_rule.specs.Fixes.{kept}
+use Rattle.tf_rules.specs.declared.finding.Finding.{Finding}
+use Rattle.tf_rules.specs.declared.finding.Message.{Message}
+use Rattle.tf_rules.specs.declared.fix.Fix.{Fix}
+use Rattle.tf_rules.specs.declared.fix.Fix.TheVariants.{CommentMarker, Tokens}
+use Rattle.tf_rules.specs.declared.fix.Insertion.{Insertion}
+use Rattle.tf_rules.specs.declared.fix.Insertion.TheVariants.{Index}
+use Rattle.tf_rules.specs.declared.fix.KeptTokens.{KeptTokens}
+use Rattle.tf_rules.specs.Fixes.{kept}
 
 -- the number of a token, where the tokens that stood from number `from` on stand from number `to`
 -- on; no greater than a usize can be

@@ -6,7 +6,7 @@ ghost use Rattle.tf_reuse.specs.Renumbering as spec;
 ghost use Rattle.tf_reuse.specs.Renumbering.{renumber_finding};
 
 use std::alloc::{AllocError, Global};
-use tf_rule::{Finding, Fix, Insertion, KeptTokens, Message};
+use tf_rules::{Finding, Fix, Insertion, KeptTokens, Message};
 
 /// The number of a token, where the tokens that stood from number `from` on stand from number `to`
 /// on.

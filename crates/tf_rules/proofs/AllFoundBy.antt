@@ -4,13 +4,13 @@ use Rattle.std.proofs.lemmas.Bool.{false≢true}
 use Rattle.std.specs.Prelude.{if◌then◌else◌}
 use Rattle.std.specs.List.{flat_map, AllByRecursion}
 use Rattle.hcl_token.specs.Tokens.{Pair}
-use Rattle.tf_rule.specs.declared.finding.Finding.{Finding}
-use Rattle.tf_rule.specs.declared.finding.Message.{Message}
-use Rattle.tf_rule.specs.declared.fix.Fix.{Fix}
-use Rattle.tf_rule.specs.declared.rule.Rule.{Rule}
-use Rattle.tf_rule.specs.Findings.{is_fixable, finding_at}
-use Rattle.tf_rule.specs.Fixes.{when, is_comment_fix}
-use Rattle.tf_rule.specs.Rules.{is_comment_rule, has_fix}
+use Rattle.tf_rules.specs.declared.finding.Finding.{Finding}
+use Rattle.tf_rules.specs.declared.finding.Message.{Message}
+use Rattle.tf_rules.specs.declared.fix.Fix.{Fix}
+use Rattle.tf_rules.specs.declared.rule.Rule.{Rule}
+use Rattle.tf_rules.specs.Findings.{is_fixable, finding_at}
+use Rattle.tf_rules.specs.Fixes.{when, is_comment_fix}
+use Rattle.tf_rules.specs.Table.{is_comment_rule, has_fix}
 use Rattle.tf_rules.specs.FoundBy.{IsFoundBy}
 
 abbrev pub AreFrom : List Pair → Rule → List Finding → Type 0

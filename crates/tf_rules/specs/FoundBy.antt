@@ -1,11 +1,11 @@
 -- What is known of a finding by its rule.
 use Rattle.std.specs.Prelude.{◌≡◌, ℕ, true, List, Some, slice_get}
 use Rattle.hcl_token.specs.Tokens.{Pair}
-use Rattle.tf_rule.specs.declared.finding.Finding.{Finding}
-use Rattle.tf_rule.specs.declared.rule.Rule.{Rule}
-use Rattle.tf_rule.specs.Findings.{is_fixable}
-use Rattle.tf_rule.specs.Fixes.{is_comment_fix}
-use Rattle.tf_rule.specs.Rules.{is_comment_rule, has_fix}
+use Rattle.tf_rules.specs.declared.finding.Finding.{Finding}
+use Rattle.tf_rules.specs.declared.rule.Rule.{Rule}
+use Rattle.tf_rules.specs.Findings.{is_fixable}
+use Rattle.tf_rules.specs.Fixes.{is_comment_fix}
+use Rattle.tf_rules.specs.Table.{is_comment_rule, has_fix}
 use Rattle.tf_rules.specs.Rules.CommentSyntax.{is_slash_comment}
 
 -- the token of this number is a comment that begins with `//`

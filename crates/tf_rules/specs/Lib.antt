@@ -1,3 +1,11 @@
+pub mod Findings
+pub mod Fixes
+pub mod FindingModel
+pub mod Inner
+pub mod SingleRule
+pub mod Representable
+pub mod RuleSets
+pub mod Table
 pub mod Arguments
 pub mod Attributes
 pub mod TreeLayers

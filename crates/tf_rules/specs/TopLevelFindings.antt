@@ -5,10 +5,10 @@ use Rattle.hcl_grammar.specs.declared.tree.Block.{Block}
 use Rattle.hcl_grammar.specs.declared.tree.Content.TheOpen.{Member-F}
 use Rattle.hcl_grammar.specs.declared.tree.Member.{Member, out-Member}
 use Rattle.hcl_token.specs.Tokens.{Pair}
-use Rattle.tf_rule.specs.declared.finding.Finding.{Finding}
-use Rattle.tf_rule.specs.declared.rule.Rule.TheVariants.{NamingConvention}
-use Rattle.tf_rule.specs.declared.rule_set.RuleSet.{RuleSet}
-use Rattle.tf_rule.specs.RuleSets.{has_rule}
+use Rattle.tf_rules.specs.declared.finding.Finding.{Finding}
+use Rattle.tf_rules.specs.declared.rule.Rule.TheVariants.{NamingConvention}
+use Rattle.tf_rules.specs.declared.rule_set.RuleSet.{RuleSet}
+use Rattle.tf_rules.specs.RuleSets.{has_rule}
 use Rattle.tf_rules.specs.TreeLayers.{MemberLayer}
 use Rattle.tf_rules.specs.Rules.Missing.{missing_findings}
 use Rattle.tf_rules.specs.Rules.Naming.{naming_findings}

@@ -1,11 +1,11 @@
 //! A search for what the rules of a set find in a text.
 
 ghost use Rattle.std.specs.Prelude.{◌≡◌, ◌++◌, length, OnOk};
-ghost use Rattle.tf_rule.specs.Findings.{finding_at, valid_findings};
+ghost use Rattle.tf_rules.specs.Findings.{finding_at, valid_findings};
 
+use crate::{Finding, Fix, Message, Rule, RuleSet, add_finding};
 use hcl_scan::Scanned;
 use std::alloc::AllocError;
-use tf_rule::{Finding, Fix, Message, Rule, RuleSet, add_finding};
 
 /// The text that is searched, and the rules.
 #[derive(Clone, Copy)]

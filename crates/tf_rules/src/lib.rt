@@ -4,8 +4,13 @@
 
 mod attributes;
 mod context;
+mod finding;
+mod fix;
 mod node;
+mod packed;
 mod role;
+mod rule;
+mod rule_set;
 mod rules;
 mod snake_case;
 mod spelling;
@@ -13,7 +18,11 @@ mod top_level;
 mod trivia;
 
 pub use context::LintContext;
+pub use finding::{Finding, Message, NameKind, add_finding, is_valid_is_exact};
+pub use fix::{Fix, Insertion, KeptTokens};
 pub use node::{check_expr, check_tail, check_term};
 pub use role::Role;
+pub use rule::{Rule, RuleInfo, Severity};
+pub use rule_set::RuleSet;
 pub use rules::comment_syntax::check_comment;
 pub use top_level::{add_top_level_findings, add_top_level_member_findings};

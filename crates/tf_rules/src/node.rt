@@ -3,14 +3,14 @@
 ghost use Rattle.std.specs.Prelude.{◌≡◌, ◌++◌, OnOk, length};
 ghost use Rattle.tf_rules.specs.NodeFindings.{node_findings};
 ghost use Rattle.tf_rules.specs.Preorder.{expr, term, tail};
-ghost use Rattle.tf_rule.specs.Findings.{valid_findings};
+ghost use Rattle.tf_rules.specs.Findings.{valid_findings};
 
+use crate::Finding;
 use crate::context::LintContext;
 use crate::role::Role;
 use crate::rules::{equality, index, interpolation, lookup};
 use hcl_grammar::tree::{Expr, Tail, Term};
 use std::alloc::AllocError;
-use tf_rule::Finding;
 
 /// At an expression, and as what it stands.
 pub fn check_expr(

@@ -1,15 +1,15 @@
 //! The blocks of a text at top level.
 
 ghost use Rattle.std.specs.Prelude.{◌≡◌, ◌++◌, length, OnOk};
-ghost use Rattle.tf_rule.specs.Findings.{valid_findings};
+ghost use Rattle.tf_rules.specs.Findings.{valid_findings};
 ghost use Rattle.tf_rules.specs.TopLevelFindings.{top_level_block_findings, top_level_member_findings, top_level_findings};
 
 use crate::context::LintContext;
 use crate::rules::{missing, naming};
+use crate::{Finding, RuleSet};
 use hcl_grammar::tree::{Block, Member, Tree};
 use hcl_scan::Scanned;
 use std::alloc::AllocError;
-use tf_rule::{Finding, RuleSet};
 
 fn check_block(
     cx: &LintContext<'_, '_>,

@@ -34,20 +34,20 @@ use Rattle.tf_rules.specs.Rules.Lookup.{is_lookup, is_lookup_fixable, pair_findi
 use Rattle.tf_rules.specs.NodeFindings.{node_findings}
 use Rattle.tf_rules.specs.Preorder.{Node, expr, term, tail, part, member}
 use Rattle.tf_rules.specs.Rules.CommentSyntax.{is_slash_comment, comment_findings_from}
-use Rattle.tf_rule.specs.declared.finding.Finding.{Finding}
-use Rattle.tf_rule.specs.declared.finding.NameKind.{NameKind}
-use Rattle.tf_rule.specs.declared.finding.NameKind.TheVariants.{Local}
-use Rattle.tf_rule.specs.declared.rule.Rule.{Rule}
-use Rattle.tf_rule.specs.declared.rule.Rule.TheVariants.{CommentSyntax, DeprecatedIndex, DeprecatedInterpolation, EmptyListEquality, DeprecatedLookup, NamingConvention, TypedVariables, DocumentedVariables, DocumentedOutputs}
-use Rattle.tf_rule.specs.declared.rule_set.RuleSet.{RuleSet}
+use Rattle.tf_rules.specs.declared.finding.Finding.{Finding}
+use Rattle.tf_rules.specs.declared.finding.NameKind.{NameKind}
+use Rattle.tf_rules.specs.declared.finding.NameKind.TheVariants.{Local}
+use Rattle.tf_rules.specs.declared.rule.Rule.{Rule}
+use Rattle.tf_rules.specs.declared.rule.Rule.TheVariants.{CommentSyntax, DeprecatedIndex, DeprecatedInterpolation, EmptyListEquality, DeprecatedLookup, NamingConvention, TypedVariables, DocumentedVariables, DocumentedOutputs}
+use Rattle.tf_rules.specs.declared.rule_set.RuleSet.{RuleSet}
 use Rattle.std.proofs.lemmas.List.Elements.{filter-append}
-use Rattle.tf_rule.specs.Findings.{is_valid, is_fix_valid, valid_findings, plain_message, finding_at}
-use Rattle.tf_rule.specs.Fixes.{is_in_order, when, kept, keep_one, keep_two, insert_only}
-use Rattle.tf_rule.specs.declared.finding.Message.{Message}
-use Rattle.tf_rule.specs.declared.fix.Fix.{Fix}
-use Rattle.tf_rule.specs.declared.fix.Fix.TheVariants.{CommentMarker}
-use Rattle.tf_rule.specs.declared.fix.Insertion.TheVariants.{Nothing, Index, OpenBracket, CloseBracket}
-use Rattle.tf_rule.specs.RuleSets.{has_rule}
+use Rattle.tf_rules.specs.Findings.{is_valid, is_fix_valid, valid_findings, plain_message, finding_at}
+use Rattle.tf_rules.specs.Fixes.{is_in_order, when, kept, keep_one, keep_two, insert_only}
+use Rattle.tf_rules.specs.declared.finding.Message.{Message}
+use Rattle.tf_rules.specs.declared.fix.Fix.{Fix}
+use Rattle.tf_rules.specs.declared.fix.Fix.TheVariants.{CommentMarker}
+use Rattle.tf_rules.specs.declared.fix.Insertion.TheVariants.{Nothing, Index, OpenBracket, CloseBracket}
+use Rattle.tf_rules.specs.RuleSets.{has_rule}
 use Rattle.tf_rules.specs.Attributes.{layer_attribute, member_attributes, layer_attributes, attributes, has_attribute}
 use Rattle.tf_rules.specs.TreeLayers.{ContentLayer, MemberLayer}
 use Rattle.tf_rules.specs.Rules.Missing.{is_undocumented, missing_finding, undocumented_findings, missing_findings}

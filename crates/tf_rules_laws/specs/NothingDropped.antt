@@ -4,8 +4,8 @@ use Rattle.hcl_grammar.specs.declared.tree.Tree.{Tree}
 use Rattle.hcl_text_laws.specs.Parses.{Parses}
 use Rattle.tf_rules.specs.Preorder.{Node, member, IsPreorder}
 use Rattle.tf_diagnostics.specs.Findings.{all_findings}
-use Rattle.tf_rule.specs.declared.rule_set.RuleSet.{RuleSet}
-use Rattle.tf_rule.specs.Findings.{valid_findings}
+use Rattle.tf_rules.specs.declared.rule_set.RuleSet.{RuleSet}
+use Rattle.tf_rules.specs.Findings.{valid_findings}
 
 -- Over a text that parses, what the rules find is all that they name at the nodes that stand in its
 -- tree, at its blocks and at its comments: the test drops none.

@@ -4,9 +4,9 @@ use Rattle.std.specs.Option.{option_map}
 use Rattle.std.specs.List.{list_any}
 use Rattle.hcl_token.specs.Place.{line_of}
 use Rattle.hcl_token.specs.Tokens.{Pair}
-use Rattle.tf_rule.specs.declared.rule.Rule.{Rule}
-use Rattle.tf_rule.specs.declared.rule_set.RuleSet.{RuleSet}
-use Rattle.tf_rule.specs.RuleSets.{has_rule}
+use Rattle.tf_rules.specs.declared.rule.Rule.{Rule}
+use Rattle.tf_rules.specs.declared.rule_set.RuleSet.{RuleSet}
+use Rattle.tf_rules.specs.RuleSets.{has_rule}
 use Rattle.tf_diagnostics.specs.declared.silencing.annotation.Annotation.{Annotation}
 use Rattle.tf_diagnostics.specs.Comments.{silences}
 use Rattle.tf_diagnostics.specs.Silencing.{covers_line}

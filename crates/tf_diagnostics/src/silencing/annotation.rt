@@ -1,12 +1,12 @@
 //! Lines with silencing comments.
 
 ghost use Rattle.std.specs.Prelude.{◌≡◌, ◌||◌, ◌&&◌, ◌==◌, ◌+◌};
-ghost use Rattle.tf_rule.specs.declared.rule.Rule.{Rule};
-ghost use Rattle.tf_rule.specs.RuleSets.{has_rule};
+ghost use Rattle.tf_rules.specs.declared.rule.Rule.{Rule};
+ghost use Rattle.tf_rules.specs.RuleSets.{has_rule};
 ghost use Rattle.tf_diagnostics.specs.Silencing.{covers_line};
 ghost use Rattle.tf_diagnostics.specs.Inner.Annotations.{covers};
 
-use tf_rule::{Rule, RuleSet};
+use tf_rules::{Rule, RuleSet};
 
 /// A line on which silencing comments begin, counted from 1, and the rules that these silence on it
 /// and on the next.

@@ -2,8 +2,8 @@
 
 ghost use Rattle.std.specs.Prelude.{◌≡◌, ◌++◌, [], ◌∷◌, ◌||◌, ◌<◌, ℕ, length, OnOk, IfOk};
 ghost use Rattle.hcl_token.specs.Place.{line_of};
-ghost use Rattle.tf_rule.specs.declared.rule.Rule.{Rule};
-ghost use Rattle.tf_rule.specs.RuleSets.{has_rule};
+ghost use Rattle.tf_rules.specs.declared.rule.Rule.{Rule};
+ghost use Rattle.tf_rules.specs.RuleSets.{has_rule};
 ghost use Rattle.tf_diagnostics.specs.Inner.Annotations.{AreLinesIncreasing, AreIncreasing, covers, is_silenced_by, silences_at, silences_among};
 
 use crate::silencing::annotation::Annotation;

@@ -3,15 +3,15 @@
 ghost use Rattle.std.specs.Prelude.{◌≡◌, ◌==◌, ◌&&◌, ◌||◌, ◌<◌, ◌≤◌, ◌+◌, ℕ, List, false, length, take, drop, codes};
 ghost use Rattle.std.specs.List.{list_all, list_any};
 ghost use Rattle.std.specs.Str.{bytes_eq};
-ghost use Rattle.tf_rule.specs.declared.rule.Rule.{Rule};
-ghost use Rattle.tf_rule.specs.RuleSets.{has_rule};
+ghost use Rattle.tf_rules.specs.declared.rule.Rule.{Rule};
+ghost use Rattle.tf_rules.specs.RuleSets.{has_rule};
 ghost use Rattle.tf_rules.specs.Rules.CommentSyntax.{is_line_comment};
 ghost use Rattle.tf_diagnostics.specs.Comments.{skip_whitespace, is_all_whitespace, ends_in_whitespace, split_commas, leading_name, is_name, names_rule, list_names, body_silences, comment_body, silences};
 ghost use Rattle.tf_diagnostics.specs.Inner.Annotations.{option_has};
 
 use crate::silencing::class::{ByteClass, class_prefix_len, is_in_class};
 use hcl_token::Kind;
-use tf_rule::RuleSet;
+use tf_rules::RuleSet;
 
 fn skip_whitespace(t: &[u8]) -> &[u8]
     ensures { result.now ≡ skip_whitespace t.now }

@@ -2,8 +2,8 @@
 
 ghost use Rattle.std.specs.Prelude.{◌≡◌, ◌<◌, ◌≤◌, ◌+◌, ◌++◌, [], ◌∷◌, ℕ, not, nat_lt, filter, length, take, drop, IfOk, if◌then◌else◌};
 ghost use Rattle.hcl_token.specs.Place.{line_of};
-ghost use Rattle.tf_rule.specs.declared.rule.Rule.{Rule};
-ghost use Rattle.tf_rule.specs.Findings.{AreValidFindings};
+ghost use Rattle.tf_rules.specs.declared.rule.Rule.{Rule};
+ghost use Rattle.tf_rules.specs.Findings.{AreValidFindings};
 ghost use Rattle.tf_diagnostics.specs.Silencing.{is_silenced, is_silenced_on};
 ghost use Rattle.tf_diagnostics.specs.Inner.Annotations.{AreLinesIncreasing, AreIncreasing, is_silenced_by, silences_among, CanSilence};
 
@@ -11,7 +11,7 @@ use crate::silencing::annotation::Annotation;
 use crate::silencing::annotations::annotations_of;
 use hcl_scan::Scanned;
 use std::alloc::{AllocError, Global};
-use tf_rule::{Finding, Rule};
+use tf_rules::{Finding, Rule};
 
 /// Whether a line lies behind the one that follows a mark's.
 fn is_out_of_reach(line: usize, annotation: &Annotation) -> bool

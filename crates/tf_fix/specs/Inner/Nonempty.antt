@@ -1,9 +1,9 @@
 -- For proofs: what is known where a finding is mended.
 use Rattle.std.specs.Prelude.{ℕ, ◌<◌, ◌≤◌, List, [], ◌∷◌, length, Option, Some, None, ⊤}
 use Rattle.hcl_token.specs.Tokens.{Pair}
-use Rattle.tf_rule.specs.Fixes.{IsInOrder}
-use Rattle.tf_rule.specs.declared.fix.Fix.{Fix}
-use Rattle.tf_rule.specs.declared.finding.Finding.{Finding}
+use Rattle.tf_rules.specs.Fixes.{IsInOrder}
+use Rattle.tf_rules.specs.declared.fix.Fix.{Fix}
+use Rattle.tf_rules.specs.declared.finding.Finding.{Finding}
 
 -- each token has a byte
 abbrev pub AreNonempty : List Pair → Type 0

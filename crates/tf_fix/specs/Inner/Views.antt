@@ -9,9 +9,9 @@ use Rattle.tf_fix.specs.declared.boundary.Boundary.{Boundary}
 use Rattle.tf_fix.specs.declared.boundary.Boundary.TheVariants.{Gap as BeforeGap, Token as BeforeToken}
 use Rattle.tf_fix.specs.declared.prev_token.PrevToken.{PrevToken}
 use Rattle.tf_fix.specs.declared.prev_token.PrevToken.TheVariants.{Nothing as NothingNear, Token as TokenNear}
-use Rattle.tf_rule.specs.declared.fix.Insertion.{Insertion}
-use Rattle.tf_rule.specs.declared.fix.KeptTokens.{KeptTokens}
-use Rattle.tf_rule.specs.declared.fix.Insertion.TheVariants.{Index}
+use Rattle.tf_rules.specs.declared.fix.Insertion.{Insertion}
+use Rattle.tf_rules.specs.declared.fix.KeptTokens.{KeptTokens}
+use Rattle.tf_rules.specs.declared.fix.Insertion.TheVariants.{Index}
 use Rattle.tf_fix.specs.declared.splice.Replacement.{Replacement as Replacing}
 
 -- how many parts stand before the place

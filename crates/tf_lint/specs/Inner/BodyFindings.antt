@@ -7,8 +7,8 @@ use Rattle.tf_rules.specs.Preorder.{member}
 use Rattle.tf_diagnostics.specs.TreeFindings.{AreTreeFindings}
 use Rattle.tf_lint.specs.LintedMembers.{AreLintedMembers}
 use Rattle.tf_lint.specs.declared.body.BodyFindings.{BodyFindings}
-use Rattle.tf_rule.specs.Findings.{valid_findings}
-use Rattle.tf_rule.specs.declared.rule_set.RuleSet.{RuleSet}
+use Rattle.tf_rules.specs.Findings.{valid_findings}
+use Rattle.tf_rules.specs.declared.rule_set.RuleSet.{RuleSet}
 use Rattle.tf_rules.specs.TopLevelFindings.{top_level_findings}
 
 -- these members, with what is found in each that is kept, and in all

@@ -3,9 +3,9 @@ use Rattle.std.specs.Prelude.{◌≡◌, ◌≤◌, ◌<◌, ◌+◌, ◌*◌, �
 use Rattle.hcl_scan.specs.Tokenization.{MAX_TEXT}
 use Rattle.edit_record.specs.Lists.Pieces.{EditList, Transforms}
 use Rattle.edit_record.specs.Squashes.SquashLists.{SquashAll}
-use Rattle.tf_rule.specs.declared.finding.Finding.{Finding}
-use Rattle.tf_rule.specs.declared.rule.Rule.{Rule}
-use Rattle.tf_rule.specs.declared.rule_set.RuleSet.{RuleSet}
+use Rattle.tf_rules.specs.declared.finding.Finding.{Finding}
+use Rattle.tf_rules.specs.declared.rule.Rule.{Rule}
+use Rattle.tf_rules.specs.declared.rule_set.RuleSet.{RuleSet}
 use Rattle.tf_lint.specs.declared.fault.FixFault.{FixFault}
 use Rattle.tf_lint.specs.declared.fault.FixFault.TheVariants.{FixBroken, Memory}
 use Rattle.tf_fix.specs.declared.parsed.Parsed.{Parsed}
@@ -17,9 +17,9 @@ use Rattle.tf_lint.specs.declared.steps.FirstChange.TheVariants.{NoChange, Chang
 use Rattle.tf_fix.specs.ParsedTexts.{IsParseOf}
 use Rattle.tf_lint.specs.ParseFaults.{DoesNotParse}
 use Rattle.tf_lint.specs.Remaining.{remaining_count}
-use Rattle.tf_rule.specs.SingleRule.{only}
-use Rattle.tf_rule.specs.RuleSets.{has_rule}
-use Rattle.tf_rule.specs.Rules.{has_fix}
+use Rattle.tf_rules.specs.SingleRule.{only}
+use Rattle.tf_rules.specs.RuleSets.{has_rule}
+use Rattle.tf_rules.specs.Table.{has_fix}
 use Rattle.tf_fix.specs.OneStep.{RulesFind, step_text_of, step_edits_of, step_count_of}
 use Rattle.tf_lint.specs.Steps.{IsRemainingCount, texts_differ, Steps, no_steps, StepThen, Rewrite}
 

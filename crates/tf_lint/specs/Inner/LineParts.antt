@@ -2,8 +2,8 @@
 use Rattle.std.specs.Prelude.{ℕ, List, ◌++◌, codes}
 use Rattle.std.specs.Fmt.{decimal}
 use Rattle.hcl_token.specs.declared.place.Place.{Place}
-use Rattle.tf_rule.specs.declared.rule.Rule.{Rule}
-use Rattle.tf_rule.specs.Rules.{name_of, severity_of, label_of}
+use Rattle.tf_rules.specs.declared.rule.Rule.{Rule}
+use Rattle.tf_rules.specs.Table.{name_of, severity_of, label_of}
 
 abbrev pub line_prefix : List ℕ → Place → Rule → List ℕ
 line_prefix name place rule =

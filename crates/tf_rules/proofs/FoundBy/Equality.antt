@@ -4,7 +4,7 @@ use Rattle.hcl_grammar.specs.declared.tree.Expr.{Expr}
 use Rattle.hcl_grammar.specs.declared.tree.ExprKind.TheOpen.{ExprKind-F}
 use Rattle.hcl_grammar.specs.declared.tree.Operation.{Operation}
 use Rattle.hcl_token.specs.Tokens.{Pair}
-use Rattle.tf_rule.specs.declared.rule.Rule.TheVariants.{EmptyListEquality}
+use Rattle.tf_rules.specs.declared.rule.Rule.TheVariants.{EmptyListEquality}
 use Rattle.tf_rules.specs.Rules.Equality.{is_equality, is_equal, is_empty_list, is_comparison_fixable, length_fix, operation_findings, chain_findings, equality_findings}
 use Rattle.tf_rules.specs.TreeLayers.{ExprKindLayer}
 use Rattle.tf_rules.proofs.AllFoundBy.{From, none, choose, both, maybe}

@@ -2,9 +2,9 @@
 use Rattle.std.proofs.Common.{Bool, not, List, refl}
 use Rattle.hcl_grammar.specs.declared.tree.ExprKind.TheOpen.{Tail-F}
 use Rattle.hcl_token.specs.Tokens.{Pair}
-use Rattle.tf_rule.specs.declared.fix.Insertion.TheVariants as insertion
-use Rattle.tf_rule.specs.declared.rule.Rule.TheVariants.{DeprecatedIndex}
-use Rattle.tf_rule.specs.Fixes.{insert_only}
+use Rattle.tf_rules.specs.declared.fix.Insertion.TheVariants as insertion
+use Rattle.tf_rules.specs.declared.rule.Rule.TheVariants.{DeprecatedIndex}
+use Rattle.tf_rules.specs.Fixes.{insert_only}
 use Rattle.tf_rules.specs.Rules.Index.{index_findings}
 use Rattle.tf_rules.specs.TreeLayers.{TailLayer}
 use Rattle.tf_rules.proofs.AllFoundBy.{From, none, maybe}

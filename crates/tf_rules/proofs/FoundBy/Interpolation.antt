@@ -2,9 +2,9 @@
 use Rattle.std.proofs.Common.{ℕ, ◌+◌, ◌-◌, List, Option, Some, None, refl}
 use Rattle.hcl_grammar.specs.declared.tree.Expr.{Expr}
 use Rattle.hcl_token.specs.Tokens.{Pair}
-use Rattle.tf_rule.specs.declared.fix.Insertion.TheVariants as insertion
-use Rattle.tf_rule.specs.declared.rule.Rule.TheVariants.{DeprecatedInterpolation}
-use Rattle.tf_rule.specs.Fixes.{kept, keep_one}
+use Rattle.tf_rules.specs.declared.fix.Insertion.TheVariants as insertion
+use Rattle.tf_rules.specs.declared.rule.Rule.TheVariants.{DeprecatedInterpolation}
+use Rattle.tf_rules.specs.Fixes.{kept, keep_one}
 use Rattle.tf_rules.specs.declared.role.Role.{Role}
 use Rattle.tf_rules.specs.Rules.Interpolation.{is_object_key, is_interpolation_fixable, interpolation_findings}
 use Rattle.tf_rules.proofs.AllFoundBy.{From, none, choose, maybe}

@@ -2,8 +2,8 @@
 use Rattle.std.proofs.Common.{◌≡◌, ℕ, false, List, Option}
 use Rattle.hcl_grammar.specs.declared.tree.Block.{Block}
 use Rattle.hcl_token.specs.Tokens.{Pair}
-use Rattle.tf_rule.specs.declared.rule.Rule.{Rule}
-use Rattle.tf_rule.specs.Rules.{is_comment_rule}
+use Rattle.tf_rules.specs.declared.rule.Rule.{Rule}
+use Rattle.tf_rules.specs.Table.{is_comment_rule}
 use Rattle.tf_rules.specs.Rules.Missing.{missing_finding as missing_at}
 use Rattle.tf_rules.proofs.AllFoundBy.{From, plainly}
 

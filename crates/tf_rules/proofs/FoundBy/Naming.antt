@@ -6,9 +6,9 @@ use Rattle.hcl_grammar.specs.declared.tree.Attribute.{Attribute}
 use Rattle.hcl_grammar.specs.declared.tree.Block.{Block}
 use Rattle.hcl_grammar.specs.declared.tree.Label.{Label}
 use Rattle.hcl_token.specs.Tokens.{Pair}
-use Rattle.tf_rule.specs.declared.finding.NameKind.{NameKind}
-use Rattle.tf_rule.specs.declared.finding.NameKind.TheVariants.{Local}
-use Rattle.tf_rule.specs.declared.rule.Rule.TheVariants.{NamingConvention}
+use Rattle.tf_rules.specs.declared.finding.NameKind.{NameKind}
+use Rattle.tf_rules.specs.declared.finding.NameKind.TheVariants.{Local}
+use Rattle.tf_rules.specs.declared.rule.Rule.TheVariants.{NamingConvention}
 use Rattle.tf_rules.specs.Attributes.{attributes}
 use Rattle.tf_rules.specs.Rules.Naming.{naming_finding, label_findings, declared_findings, declared_name, local_findings, naming_findings}
 use Rattle.tf_rules.specs.SnakeCase.{is_snake_case}

@@ -9,12 +9,12 @@ use Rattle.hcl_grammar.specs.declared.tree.BinaryOperator.{BinaryOperator}
 use Rattle.hcl_grammar.specs.declared.tree.BinaryOperator.TheVariants as operator
 use Rattle.hcl_grammar.specs.declared.tree.Primary.{out-Primary}
 use Rattle.hcl_token.specs.Tokens.{Pair}
-use Rattle.tf_rule.specs.declared.fix.Fix.{Fix}
-use Rattle.tf_rule.specs.declared.fix.Insertion.TheVariants.{Length, IsZero, IsPositive}
-use Rattle.tf_rule.specs.Fixes.{kept, keep_one, when}
-use Rattle.tf_rule.specs.declared.rule.Rule.TheVariants.{EmptyListEquality}
-use Rattle.tf_rule.specs.Findings.{plain_message, finding_at}
-use Rattle.tf_rule.specs.declared.finding.Finding.{Finding}
+use Rattle.tf_rules.specs.declared.fix.Fix.{Fix}
+use Rattle.tf_rules.specs.declared.fix.Insertion.TheVariants.{Length, IsZero, IsPositive}
+use Rattle.tf_rules.specs.Fixes.{kept, keep_one, when}
+use Rattle.tf_rules.specs.declared.rule.Rule.TheVariants.{EmptyListEquality}
+use Rattle.tf_rules.specs.Findings.{plain_message, finding_at}
+use Rattle.tf_rules.specs.declared.finding.Finding.{Finding}
 use Rattle.tf_rules.specs.TreeLayers.{ExprKindLayer, PrimaryLayer}
 use Rattle.tf_rules.specs.Trivia.{token_range, has_trivia, is_here_close}
 

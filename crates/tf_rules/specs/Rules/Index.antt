@@ -2,11 +2,11 @@
 use Rattle.std.specs.Prelude.{◌+◌, not, Bool, List, []}
 use Rattle.hcl_grammar.specs.declared.tree.ExprKind.TheOpen.{Tail-F}
 use Rattle.hcl_token.specs.Tokens.{Pair}
-use Rattle.tf_rule.specs.declared.finding.Finding.{Finding}
-use Rattle.tf_rule.specs.declared.fix.Insertion.TheVariants.{Index}
-use Rattle.tf_rule.specs.Fixes.{insert_only, when}
-use Rattle.tf_rule.specs.declared.rule.Rule.TheVariants.{DeprecatedIndex}
-use Rattle.tf_rule.specs.Findings.{plain_message, finding_at}
+use Rattle.tf_rules.specs.declared.finding.Finding.{Finding}
+use Rattle.tf_rules.specs.declared.fix.Insertion.TheVariants.{Index}
+use Rattle.tf_rules.specs.Fixes.{insert_only, when}
+use Rattle.tf_rules.specs.declared.rule.Rule.TheVariants.{DeprecatedIndex}
+use Rattle.tf_rules.specs.Findings.{plain_message, finding_at}
 use Rattle.tf_rules.specs.TreeLayers.{TailLayer}
 
 -- One at each legacy index. It can be written with brackets where one does not come to `.*` going

@@ -6,11 +6,11 @@ use Rattle.hcl_grammar.specs.declared.tree.ExprKind.{out-ExprKind}
 use Rattle.hcl_grammar.specs.declared.tree.ExprKind.TheOpen.{ExprKind-F, Primary-F, Part-F}
 use Rattle.hcl_grammar.specs.declared.tree.Part.{Part, out-Part}
 use Rattle.hcl_token.specs.Tokens.{Pair}
-use Rattle.tf_rule.specs.declared.finding.Finding.{Finding}
-use Rattle.tf_rule.specs.declared.fix.Insertion.TheVariants.{Nothing}
-use Rattle.tf_rule.specs.Fixes.{kept, keep_one, when}
-use Rattle.tf_rule.specs.declared.rule.Rule.TheVariants.{DeprecatedInterpolation}
-use Rattle.tf_rule.specs.Findings.{plain_message, finding_at}
+use Rattle.tf_rules.specs.declared.finding.Finding.{Finding}
+use Rattle.tf_rules.specs.declared.fix.Insertion.TheVariants.{Nothing}
+use Rattle.tf_rules.specs.Fixes.{kept, keep_one, when}
+use Rattle.tf_rules.specs.declared.rule.Rule.TheVariants.{DeprecatedInterpolation}
+use Rattle.tf_rules.specs.Findings.{plain_message, finding_at}
 use Rattle.tf_rules.specs.declared.role.Role.{Role}
 use Rattle.tf_rules.specs.declared.role.Role.TheVariants.{ObjectKey, Elsewhere}
 use Rattle.tf_rules.specs.TreeLayers.{ExprKindLayer, PrimaryLayer, PartLayer}

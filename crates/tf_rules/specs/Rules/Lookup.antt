@@ -9,11 +9,11 @@ use Rattle.hcl_grammar.specs.declared.tree.Tail.{Tail, out-Tail}
 use Rattle.hcl_token.specs.TokenizedText.{spelling_of}
 use Rattle.hcl_token.specs.Tokens.{Pair}
 use Rattle.std.specs.Str.{bytes_eq}
-use Rattle.tf_rule.specs.declared.fix.Insertion.TheVariants.{Nothing, OpenBracket, CloseBracket}
-use Rattle.tf_rule.specs.Fixes.{kept, keep_two, when}
-use Rattle.tf_rule.specs.declared.rule.Rule.TheVariants.{DeprecatedLookup}
-use Rattle.tf_rule.specs.Findings.{plain_message, finding_at}
-use Rattle.tf_rule.specs.declared.finding.Finding.{Finding}
+use Rattle.tf_rules.specs.declared.fix.Insertion.TheVariants.{Nothing, OpenBracket, CloseBracket}
+use Rattle.tf_rules.specs.Fixes.{kept, keep_two, when}
+use Rattle.tf_rules.specs.declared.rule.Rule.TheVariants.{DeprecatedLookup}
+use Rattle.tf_rules.specs.Findings.{plain_message, finding_at}
+use Rattle.tf_rules.specs.declared.finding.Finding.{Finding}
 use Rattle.std.specs.List.{list_any}
 use Rattle.tf_rules.specs.Arguments.{two_arguments}
 use Rattle.tf_rules.specs.TreeLayers.{ExprKindLayer, PrimaryLayer, TailLayer, CallLayer}

@@ -7,11 +7,11 @@ use Rattle.hcl_grammar.specs.declared.tree.Attribute.{Attribute}
 use Rattle.hcl_grammar.specs.declared.tree.Block.{Block}
 use Rattle.hcl_grammar.specs.declared.tree.Label.{Label}
 use Rattle.hcl_token.specs.Tokens.{Pair}
-use Rattle.tf_rule.specs.declared.finding.Finding.{Finding}
-use Rattle.tf_rule.specs.declared.finding.NameKind.{NameKind}
-use Rattle.tf_rule.specs.declared.finding.NameKind.TheVariants.{Resource, Data, Variable, Output, Module, Local}
-use Rattle.tf_rule.specs.declared.rule.Rule.TheVariants.{NamingConvention}
-use Rattle.tf_rule.specs.Findings.{finding_at}
+use Rattle.tf_rules.specs.declared.finding.Finding.{Finding}
+use Rattle.tf_rules.specs.declared.finding.NameKind.{NameKind}
+use Rattle.tf_rules.specs.declared.finding.NameKind.TheVariants.{Resource, Data, Variable, Output, Module, Local}
+use Rattle.tf_rules.specs.declared.rule.Rule.TheVariants.{NamingConvention}
+use Rattle.tf_rules.specs.Findings.{finding_at}
 use Rattle.tf_rules.specs.Attributes.{attributes}
 use Rattle.tf_rules.specs.SnakeCase.{is_snake_case}
 use Rattle.tf_rules.specs.Spelling.{token_text, name_text}

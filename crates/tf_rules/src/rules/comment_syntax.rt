@@ -2,14 +2,14 @@
 
 ghost use Rattle.std.specs.Prelude.{◌≡◌, ◌++◌, ◌<◌, ◌==◌, ◌&&◌, Some, slice_get, slice_index, length, OnOk};
 ghost use Rattle.std.specs.Option.{option_map};
-ghost use Rattle.tf_rule.specs.Findings.{valid_findings};
+ghost use Rattle.tf_rules.specs.Findings.{valid_findings};
 ghost use Rattle.hcl_token.specs.Tokens.{Pair};
 ghost use Rattle.tf_rules.specs.Rules.CommentSyntax.{is_slash_comment, comment_finding, comment_finding_at};
 
+use crate::{Finding, Fix, Message, Rule, RuleSet, add_finding};
 use hcl_scan::Scanned;
 use hcl_token::Kind;
 use std::alloc::AllocError;
-use tf_rule::{Finding, Fix, Message, Rule, RuleSet, add_finding};
 
 fn begins_with_slashes(spelling: &[u8]) -> bool
     ensures { result ≡ (slice_index spelling.now 0 == 47 && slice_index spelling.now 1 == 47) }

@@ -3,17 +3,17 @@
 ghost use Rattle.std.specs.Prelude.{◌≡◌, ◌++◌, true, OnOk, length, [], if◌then◌else◌};
 ghost use Rattle.hcl_grammar.specs.declared.tree.ExprKind.{out-ExprKind};
 ghost use Rattle.tf_rules.specs.Rules.Equality.{is_empty_list, is_equality, is_equal, is_comparison_fixable, length_fix, operation_findings, chain_findings, equality_findings};
-ghost use Rattle.tf_rule.specs.Fixes.{when};
-ghost use Rattle.tf_rule.specs.declared.rule.Rule.TheVariants.{EmptyListEquality};
-ghost use Rattle.tf_rule.specs.RuleSets.{has_rule};
-ghost use Rattle.tf_rule.specs.Findings.{plain_message, finding_at, valid_findings};
+ghost use Rattle.tf_rules.specs.Fixes.{when};
+ghost use Rattle.tf_rules.specs.declared.rule.Rule.TheVariants.{EmptyListEquality};
+ghost use Rattle.tf_rules.specs.RuleSets.{has_rule};
+ghost use Rattle.tf_rules.specs.Findings.{plain_message, finding_at, valid_findings};
 
 use crate::context::LintContext;
 use crate::trivia::{has_trivia, is_here_close};
+use crate::{Finding, Fix, Insertion, KeptTokens, Message, Rule};
 use hcl_grammar::tree::{BinaryOperator, Expr, ExprKind, Operation, Primary};
 use hcl_scan::Scanned;
 use std::alloc::AllocError;
-use tf_rule::{Finding, Fix, Insertion, KeptTokens, Message, Rule};
 
 /// Whether the comparison with the empty list can be written as a length.
 fn is_comparison_fixable(

@@ -4,14 +4,14 @@ ghost use Rattle.std.specs.Prelude.{◌≡◌, ◌++◌, OnOk, length, [], if◌
 ghost use Rattle.hcl_grammar.specs.declared.tree.ExprKind.TheOpen.{Tail-F};
 ghost use Rattle.hcl_grammar.specs.declared.tree.Tail.{out-Tail};
 ghost use Rattle.tf_rules.specs.Rules.Index.{index_findings};
-ghost use Rattle.tf_rule.specs.RuleSets.{has_rule};
-ghost use Rattle.tf_rule.specs.declared.rule.Rule.TheVariants.{DeprecatedIndex};
-ghost use Rattle.tf_rule.specs.Findings.{valid_findings};
+ghost use Rattle.tf_rules.specs.RuleSets.{has_rule};
+ghost use Rattle.tf_rules.specs.declared.rule.Rule.TheVariants.{DeprecatedIndex};
+ghost use Rattle.tf_rules.specs.Findings.{valid_findings};
 
 use crate::context::LintContext;
+use crate::{Finding, Fix, Insertion, Message, Rule};
 use hcl_grammar::tree::Tail;
 use std::alloc::AllocError;
-use tf_rule::{Finding, Fix, Insertion, Message, Rule};
 
 fn check_tail(
     cx: &LintContext<'_, '_>,

@@ -5,16 +5,16 @@ ghost use Rattle.hcl_grammar.specs.declared.tree.Part.{out-Part};
 ghost use Rattle.hcl_grammar.specs.declared.tree.Primary.{out-Primary};
 ghost use Rattle.tf_rules.specs.Rules.Interpolation.{is_post, is_object_key, is_elsewhere, sole_part, sole_interpolation, part_interpolation, is_interpolation_fixable, interpolation_findings};
 ghost use Rattle.tf_rules.specs.Trivia.{token_range, has_line_break};
-ghost use Rattle.tf_rule.specs.RuleSets.{has_rule};
-ghost use Rattle.tf_rule.specs.Findings.{plain_message, finding_at, valid_findings};
-ghost use Rattle.tf_rule.specs.declared.rule.Rule.TheVariants.{DeprecatedInterpolation};
+ghost use Rattle.tf_rules.specs.RuleSets.{has_rule};
+ghost use Rattle.tf_rules.specs.Findings.{plain_message, finding_at, valid_findings};
+ghost use Rattle.tf_rules.specs.declared.rule.Rule.TheVariants.{DeprecatedInterpolation};
 
 use crate::context::LintContext;
 use crate::role::Role;
 use crate::trivia::has_line_break;
+use crate::{Finding, Fix, Insertion, KeptTokens, Message, Rule};
 use hcl_grammar::tree::{Expr, ExprKind, Part, Primary, Term};
 use std::alloc::AllocError;
-use tf_rule::{Finding, Fix, Insertion, KeptTokens, Message, Rule};
 
 fn is_object_key(role: Role) -> bool
     ensures { result ≡ is_object_key role }

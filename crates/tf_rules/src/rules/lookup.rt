@@ -7,16 +7,16 @@ ghost use Rattle.hcl_grammar.specs.declared.tree.Primary.{out-Primary};
 ghost use Rattle.hcl_token.specs.TokenizedText.{spelling_of};
 ghost use Rattle.tf_rules.specs.Arguments.{two_arguments};
 ghost use Rattle.tf_rules.specs.Rules.Lookup.{is_splat, has_splat, is_indexable_kind, is_lookup, is_lookup_token, is_lookup_fixable, pair_findings, call_findings, lookup_findings};
-ghost use Rattle.tf_rule.specs.RuleSets.{has_rule};
-ghost use Rattle.tf_rule.specs.declared.rule.Rule.TheVariants.{DeprecatedLookup};
-ghost use Rattle.tf_rule.specs.Findings.{valid_findings};
+ghost use Rattle.tf_rules.specs.RuleSets.{has_rule};
+ghost use Rattle.tf_rules.specs.declared.rule.Rule.TheVariants.{DeprecatedLookup};
+ghost use Rattle.tf_rules.specs.Findings.{valid_findings};
 
 use crate::context::LintContext;
 use crate::trivia::{has_line_break, has_trivia};
+use crate::{Finding, Fix, Insertion, KeptTokens, Message, Rule};
 use hcl_grammar::tree::{Call, Expr, ExprKind, Primary, Tail, Term};
 use hcl_scan::Scanned;
 use std::alloc::AllocError;
-use tf_rule::{Finding, Fix, Insertion, KeptTokens, Message, Rule};
 
 fn is_splat(t: &Tail) -> bool
     ensures { result ≡ is_splat t.now }

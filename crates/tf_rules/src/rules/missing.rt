@@ -3,15 +3,15 @@
 ghost use Rattle.std.specs.Prelude.{◌≡◌, ◌++◌, Some, slice_get, OnOk, length};
 ghost use Rattle.tf_rules.specs.Attributes.{attributes};
 ghost use Rattle.tf_rules.specs.Rules.Missing.{is_undocumented, missing_finding, untyped_findings, undocumented_findings, missing_findings};
-ghost use Rattle.tf_rule.specs.Findings.{valid_findings};
+ghost use Rattle.tf_rules.specs.Findings.{valid_findings};
 
 use crate::attributes::has_attribute;
 use crate::context::LintContext;
 use crate::spelling::{is_spelled, token_text};
+use crate::{Finding, Message, Rule};
 use hcl_grammar::tree::{Block, Label};
 use hcl_scan::Scanned;
 use std::alloc::AllocError;
-use tf_rule::{Finding, Message, Rule};
 
 fn is_undocumented(scanned: &Scanned<'_>, b: &Block) -> bool
     ensures { result ≡ is_undocumented scanned.now.pairs (attributes b.now) }

@@ -5,17 +5,17 @@ ghost use Rattle.std.specs.List.{flat_map};
 ghost use Rattle.tf_rules.specs.Attributes.{member_attributes, optional_attribute, attributes};
 ghost use Rattle.tf_rules.specs.Spelling.{token_text};
 ghost use Rattle.tf_rules.specs.Rules.Naming.{naming_finding, declared_name, label_findings, declared_findings, local_findings, locals_findings, naming_findings};
-ghost use Rattle.tf_rule.specs.RuleSets.{has_rule};
-ghost use Rattle.tf_rule.specs.declared.rule.Rule.TheVariants.{NamingConvention};
-ghost use Rattle.tf_rule.specs.Findings.{valid_findings};
+ghost use Rattle.tf_rules.specs.RuleSets.{has_rule};
+ghost use Rattle.tf_rules.specs.declared.rule.Rule.TheVariants.{NamingConvention};
+ghost use Rattle.tf_rules.specs.Findings.{valid_findings};
 
 use crate::context::LintContext;
 use crate::snake_case::is_snake_case;
 use crate::spelling::{is_spelled, name_text, token_text};
+use crate::{Finding, Message, NameKind, Rule};
 use hcl_grammar::Boxed;
 use hcl_grammar::tree::{Attribute, Block, Content, Label, Member};
 use std::alloc::AllocError;
-use tf_rule::{Finding, Message, NameKind, Rule};
 
 /// What a block that begins with this word declares, and the number of the label that names it.
 fn declared_name(block_type: &[u8]) -> Option<(NameKind, usize)>

@@ -1,5 +1,5 @@
 use Rattle.std.proofs.Common.{◌||◌, take, sym, ap, ◌∙◌}
-use Rattle.tf_rule.specs.RuleSets.{has_rule}
+use Rattle.tf_rules.specs.RuleSets.{has_rule}
 use Rattle.tf_cli.specs.Choices.{choice_names, is_chosen}
 use Rattle.tf_cli.specs.declared.rule_choice.Choice.TheVariants.{All, One}
 use Rattle.tf_cli.proofs.Choosing.{one_more, rule_in, all_in, or_more}

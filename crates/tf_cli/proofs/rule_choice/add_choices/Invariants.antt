@@ -1,6 +1,6 @@
 use Rattle.std.proofs.Common.{◌≡◌, ◌||◌, take}
-use Rattle.tf_rule.specs.declared.rule.Rule.{Rule}
-use Rattle.tf_rule.specs.RuleSets.{has_rule}
+use Rattle.tf_rules.specs.declared.rule.Rule.{Rule}
+use Rattle.tf_rules.specs.RuleSets.{has_rule}
 use Rattle.tf_cli.specs.Choices.{is_chosen}
 use Rattle.tf_cli.proofs.rule_choice.add_choices.Given as goal
 

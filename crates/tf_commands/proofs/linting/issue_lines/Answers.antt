@@ -4,8 +4,8 @@ use Rattle.std.specs.Prelude.{string_bytes}
 use Rattle.std.proofs.lemmas.List.{length-map}
 use Rattle.hcl_token.specs.TokenizedText.{TokenizedText}
 use Rattle.tf_lint.specs.Reports.{report_of, lines_of}
-use Rattle.tf_rule.specs.declared.finding.Finding.{Finding}
-use Rattle.tf_rule.specs.declared.rule_set.RuleSet.{RuleSet}
+use Rattle.tf_rules.specs.declared.finding.Finding.{Finding}
+use Rattle.tf_rules.specs.declared.rule_set.RuleSet.{RuleSet}
 use Rattle.tf_fix.specs.OneStep.{RulesFind}
 use Rattle.tf_commands.proofs.linting.issue_lines.Goals as goal
 

@@ -1,5 +1,5 @@
 use Rattle.std.proofs.Common.{map, List, drop}
-use Rattle.tf_rule.specs.declared.finding.Finding.{Finding}
+use Rattle.tf_rules.specs.declared.finding.Finding.{Finding}
 use Rattle.tf_diagnostics.specs.Inner.Collects.{Collects}
 use Rattle.tf_rules.specs.Preorder.{member}
 use Rattle.tf_diagnostics.proofs.bodies.+bodies.Given as goal

@@ -1,6 +1,6 @@
 use Rattle.std.proofs.Common.{◌≡◌, ◌++◌, ◌||◌, ℕ, length, drop}
-use Rattle.tf_rule.specs.declared.rule.Rule.{Rule}
-use Rattle.tf_rule.specs.Findings.{valid_findings}
+use Rattle.tf_rules.specs.declared.rule.Rule.{Rule}
+use Rattle.tf_rules.specs.Findings.{valid_findings}
 use Rattle.tf_rules.specs.Rules.CommentSyntax.{comment_findings}
 use Rattle.tf_diagnostics.specs.Silencing.{silenced_from, is_silenced_on}
 use Rattle.tf_diagnostics.specs.Inner.Annotations.{AreIncreasing, silences_among}

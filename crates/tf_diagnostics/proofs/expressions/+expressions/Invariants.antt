@@ -1,6 +1,6 @@
 use Rattle.std.proofs.Common.{map, false, List, drop}
 use Rattle.std.specs.List.{flat_map}
-use Rattle.tf_rule.specs.declared.finding.Finding.{Finding}
+use Rattle.tf_rules.specs.declared.finding.Finding.{Finding}
 use Rattle.tf_rules.specs.declared.role.Role.TheVariants as role
 use Rattle.tf_diagnostics.specs.Inner.Collects.{Collects}
 use Rattle.tf_rules.specs.Preorder.{expr, part, elem_children, nodes_of_tails}

@@ -1,5 +1,5 @@
 use Rattle.std.proofs.Common.{refl}
-use Rattle.tf_rule.specs.declared.rule.Rule.TheVariants.{CommentSyntax}
+use Rattle.tf_rules.specs.declared.rule.Rule.TheVariants.{CommentSyntax}
 use Rattle.tf_fix.proofs.CommentLemmas.{comments_settled}
 use Rattle.tf_fix.proofs.laws.comment_fixes_need_no_space.Goals as goal
 

@@ -1,8 +1,8 @@
 use Rattle.std.proofs.Common.{List, [], ◌∷◌, Option, Some, None, Result, Ok, Err}
 use Rattle.std.specs.Prelude.{◌≡◌, ◌++◌, IfOk, OnOk}
 use Rattle.hcl_token.specs.Tokens.{Pair}
-use Rattle.tf_rule.specs.declared.fix.Insertion.{Insertion}
-use Rattle.tf_rule.specs.declared.fix.KeptTokens.{KeptTokens}
+use Rattle.tf_rules.specs.declared.fix.Insertion.{Insertion}
+use Rattle.tf_rules.specs.declared.fix.KeptTokens.{KeptTokens}
 use Rattle.tf_fix.specs.Inner.Views.{CanInsert, CanInsertAll, CanInsertKept}
 use Rattle.tf_fix.specs.declared.splice.Replacement.{Replacement as Replacing}
 use Rattle.tf_fix.proofs.SelectionLemmas.{insertion_push}

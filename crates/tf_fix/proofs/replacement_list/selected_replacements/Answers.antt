@@ -1,8 +1,8 @@
 use Rattle.std.proofs.Common.{◌≡◌, ◌<◌, length, true, sym, subst, ◌∙◌, rules}
 use Rattle.std.proofs.lemmas.Bool.{and_parts}
 use Rattle.tf_diagnostics.specs.RuleFilter.{is_found_by}
-use Rattle.tf_rule.specs.declared.finding.Finding.{Finding}
-use Rattle.tf_rule.specs.Findings.{is_fixable}
+use Rattle.tf_rules.specs.declared.finding.Finding.{Finding}
+use Rattle.tf_rules.specs.Findings.{is_fixable}
 use Rattle.tf_fix.specs.Inner.Nonempty.{IsFixableWithin}
 use Rattle.tf_fix.proofs.SelectionLemmas.{is_valid}
 use Rattle.tf_fix.proofs.replacement_list.selected_replacements.Goals as goal

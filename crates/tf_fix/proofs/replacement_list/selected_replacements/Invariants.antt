@@ -3,7 +3,7 @@ use Rattle.std.specs.List.{flat_map}
 use Rattle.tf_diagnostics.specs.RuleFilter.{is_found_by}
 use Rattle.tf_fix.specs.Inner.Views.{replacements, CanInsertAll}
 use Rattle.tf_fix.specs.FindingReplacements.{finding_replacements, step_replacements}
-use Rattle.tf_rule.specs.Findings.{AreValidFindings}
+use Rattle.tf_rules.specs.Findings.{AreValidFindings}
 use Rattle.tf_fix.specs.Selection.{selected_from, selected}
 use Rattle.tf_fix.proofs.replacement_list.selected_replacements.Given as goal
 

@@ -1,6 +1,6 @@
 -- The set of one rule has it.
 use Rattle.std.proofs.Common.{List, refl, sym, subst}
-use Rattle.tf_rule.specs.declared.finding.Finding.{Finding}
+use Rattle.tf_rules.specs.declared.finding.Finding.{Finding}
 use Rattle.tf_fix.specs.OneStep.{RulesFind}
 use Rattle.tf_fix.specs.declared.parsed.Parsed.{Parsed}
 use Rattle.tf_fix.proofs.FoundLemmas.{has_itself}

@@ -5,12 +5,12 @@ use Rattle.hcl_scan.specs.Follows.{AreApart}
 use Rattle.hcl_token.specs.TokenizedText.{TokenizedText}
 use Rattle.tf_diagnostics.specs.RuleFilter.{is_found_by, FindingsOfOneRule}
 use Rattle.tf_diagnostics.proofs.ValidLemmas.{valid_kept}
-use Rattle.tf_rule.specs.SingleRule.{only}
-use Rattle.tf_rule.specs.RuleSets.{has_rule}
-use Rattle.tf_rule.specs.Findings.{AreValidFindings}
-use Rattle.tf_rule.specs.declared.finding.Finding.{Finding}
-use Rattle.tf_rule.specs.declared.rule.Rule.{Rule}
-use Rattle.tf_rule.specs.declared.rule_set.RuleSet.{RuleSet}
+use Rattle.tf_rules.specs.SingleRule.{only}
+use Rattle.tf_rules.specs.RuleSets.{has_rule}
+use Rattle.tf_rules.specs.Findings.{AreValidFindings}
+use Rattle.tf_rules.specs.declared.finding.Finding.{Finding}
+use Rattle.tf_rules.specs.declared.rule.Rule.{Rule}
+use Rattle.tf_rules.specs.declared.rule_set.RuleSet.{RuleSet}
 use Rattle.tf_fix.specs.FindingReplacements.{AreOfRule}
 use Rattle.tf_fix.specs.OneStep.{RulesFind}
 use Rattle.tf_fix.specs.declared.parsed.Parsed.{Parsed}

@@ -1,7 +1,7 @@
 use Rattle.std.proofs.Common.{◌≡◌, ◌-◌, ◌⊎◌, ℕ, List, ◌∷◌, None, Err, true, false, length, take, drop, slice_index_or, inl, inr, refl, subst, rules, arith, sym, ap}
-use Rattle.tf_rule.specs.declared.rule.Rule.{Rule}
-use Rattle.tf_rule.specs.declared.rule.Rule.TheVariants.{CommentSyntax}
-use Rattle.tf_rule.specs.declared.rule_set.RuleSet.{RuleSet}
+use Rattle.tf_rules.specs.declared.rule.Rule.{Rule}
+use Rattle.tf_rules.specs.declared.rule.Rule.TheVariants.{CommentSyntax}
+use Rattle.tf_rules.specs.declared.rule_set.RuleSet.{RuleSet}
 use Rattle.tf_fix.specs.OneStep.{step_text_of}
 use Rattle.tf_fix.specs.ParsedTexts.{IsParseOf}
 use Rattle.tf_fix.specs.declared.parsed.Parsed.{Parsed}

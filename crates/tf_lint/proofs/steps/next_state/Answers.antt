@@ -1,7 +1,7 @@
 use Rattle.std.proofs.Common.{ℕ, List, ◌∙◌, length, sym, subst, inl, inr}
-use Rattle.tf_rule.specs.Findings.{AreValidFindings}
+use Rattle.tf_rules.specs.Findings.{AreValidFindings}
 use Rattle.tf_fix.specs.OneStep.{RulesFind}
-use Rattle.tf_rule.specs.declared.rule_set.RuleSet.{RuleSet}
+use Rattle.tf_rules.specs.declared.rule_set.RuleSet.{RuleSet}
 use Rattle.tf_fix.specs.ParsedTexts.{IsParseOf}
 use Rattle.tf_lint.specs.Inner.FirstChange.{IsFirstChange, RefusesFrom}
 use Rattle.tf_lint.specs.ParseFaults.{DoesNotParse}

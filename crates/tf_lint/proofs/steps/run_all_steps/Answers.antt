@@ -8,11 +8,11 @@ use Rattle.tf_lint.specs.Remaining.{IsRemaining}
 use Rattle.tf_lint.specs.LintedText.{IsLintOf}
 use Rattle.tf_lint.specs.declared.linted_text.LintedText.{LintedText}
 use Rattle.tf_lint.specs.Steps.{Refuses}
-use Rattle.tf_rule.specs.declared.finding.Finding.{Finding}
-use Rattle.tf_rule.specs.declared.rule.Rule.{Rule}
-use Rattle.tf_rule.specs.declared.rule_set.RuleSet.{RuleSet}
-use Rattle.tf_rule.specs.Findings.{AreValidFindings}
-use Rattle.tf_rule.specs.Rules.{all_rules}
+use Rattle.tf_rules.specs.declared.finding.Finding.{Finding}
+use Rattle.tf_rules.specs.declared.rule.Rule.{Rule}
+use Rattle.tf_rules.specs.declared.rule_set.RuleSet.{RuleSet}
+use Rattle.tf_rules.specs.Findings.{AreValidFindings}
+use Rattle.tf_rules.specs.Table.{all_rules}
 use Rattle.tf_lint.specs.Inner.LeadsTo.{LeadsTo}
 use Rattle.tf_lint.specs.Inner.FirstChange.{RunFixable, IsFirstChange, FixesFrom, RefusesFrom, rewrite_by}
 use Rattle.tf_lint.specs.declared.fault.FixFault.TheVariants.{Memory}

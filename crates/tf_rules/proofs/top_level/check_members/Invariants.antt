@@ -1,5 +1,5 @@
 use Rattle.std.proofs.Common.{◌≡◌, ◌++◌, drop, length}
-use Rattle.tf_rule.specs.Findings.{valid_findings}
+use Rattle.tf_rules.specs.Findings.{valid_findings}
 use Rattle.tf_rules.specs.TopLevelFindings.{top_level_findings}
 use Rattle.tf_rules.proofs.top_level.check_members.Given as goal
 

@@ -1,6 +1,6 @@
 use Rattle.std.proofs.Common.{◌≡◌, ◌||◌, ℕ, length, drop}
 use Rattle.hcl_token.specs.Place.{line_of}
-use Rattle.tf_rule.specs.declared.rule.Rule.{Rule}
+use Rattle.tf_rules.specs.declared.rule.Rule.{Rule}
 use Rattle.tf_diagnostics.specs.Inner.Annotations.{AreLinesIncreasing, AreIncreasing, is_silenced_by, silences_among}
 use Rattle.tf_diagnostics.proofs.silencing.annotations.annotations_of.Given as goal
 

@@ -1,6 +1,6 @@
 use Rattle.std.proofs.Common.{◌≡◌, ◌&&◌, ◌||◌, ◌∙◌, sym, ap, take, drop, length, ◌+◌, ◌<◌, ◌≤◌, arith}
 use Rattle.std.specs.List.{list_all, list_any}
-use Rattle.tf_rule.specs.RuleSets.{has_rule}
+use Rattle.tf_rules.specs.RuleSets.{has_rule}
 use Rattle.tf_diagnostics.specs.declared.silencing.class.ByteClass.TheVariants.{NotComma}
 use Rattle.tf_diagnostics.proofs.CommaLemmas.{first_not, last_one, one_more}
 use Rattle.tf_diagnostics.specs.Comments.{class_prefix_len, split_commas, is_name, names_rule}

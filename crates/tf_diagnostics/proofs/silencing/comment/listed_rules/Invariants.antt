@@ -1,7 +1,7 @@
 use Rattle.std.proofs.Common.{◌≡◌, ◌&&◌, ◌||◌, length}
 use Rattle.std.specs.List.{list_all, list_any}
-use Rattle.tf_rule.specs.declared.rule.Rule.{Rule}
-use Rattle.tf_rule.specs.RuleSets.{has_rule}
+use Rattle.tf_rules.specs.declared.rule.Rule.{Rule}
+use Rattle.tf_rules.specs.RuleSets.{has_rule}
 use Rattle.tf_diagnostics.specs.Comments.{split_commas, is_name, names_rule}
 use Rattle.tf_diagnostics.proofs.silencing.comment.listed_rules.Given as goal
 

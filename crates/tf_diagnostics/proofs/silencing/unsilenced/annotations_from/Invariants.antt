@@ -1,5 +1,5 @@
 use Rattle.std.proofs.Common.{◌≡◌, ◌≤◌, ℕ, length}
-use Rattle.tf_rule.specs.declared.rule.Rule.{Rule}
+use Rattle.tf_rules.specs.declared.rule.Rule.{Rule}
 use Rattle.tf_diagnostics.specs.Inner.Annotations.{AreLinesIncreasing, is_silenced_by}
 use Rattle.tf_diagnostics.proofs.silencing.unsilenced.annotations_from.Given as goal
 

@@ -1,9 +1,9 @@
 use Rattle.std.proofs.Common.{◌≡◌, ◌++◌, ◌≤◌, ℕ, not, length, drop, take}
 use Rattle.std.specs.Prelude.{filter}
 use Rattle.hcl_token.specs.Place.{line_of}
-use Rattle.tf_rule.specs.declared.finding.Finding.{Finding}
-use Rattle.tf_rule.specs.declared.rule.Rule.{Rule}
-use Rattle.tf_rule.specs.Findings.{AreValidFindings}
+use Rattle.tf_rules.specs.declared.finding.Finding.{Finding}
+use Rattle.tf_rules.specs.declared.rule.Rule.{Rule}
+use Rattle.tf_rules.specs.Findings.{AreValidFindings}
 use Rattle.tf_diagnostics.specs.Inner.Annotations.{AreLinesIncreasing, is_silenced_by}
 use Rattle.tf_diagnostics.proofs.silencing.unsilenced.retain_unsilenced.Given as goal
 

@@ -1,5 +1,5 @@
 use Rattle.std.proofs.Common.{◌≡◌, ◌++◌, true, drop, length}
-use Rattle.tf_rule.specs.Findings.{valid_findings}
+use Rattle.tf_rules.specs.Findings.{valid_findings}
 use Rattle.tf_rules.specs.Rules.Equality.{chain_findings}
 use Rattle.tf_rules.proofs.rules.equality.check_chain.Given as goal
 

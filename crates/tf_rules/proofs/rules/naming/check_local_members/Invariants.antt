@@ -1,5 +1,5 @@
 use Rattle.std.proofs.Common.{◌≡◌, ◌++◌, drop, length}
-use Rattle.tf_rule.specs.Findings.{valid_findings}
+use Rattle.tf_rules.specs.Findings.{valid_findings}
 use Rattle.std.specs.List.{flat_map}
 use Rattle.tf_rules.specs.Attributes.{member_attributes}
 use Rattle.tf_rules.specs.Rules.Naming.{local_findings}

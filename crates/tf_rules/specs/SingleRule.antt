@@ -1,8 +1,8 @@
 -- Sets of one rule.
 use Rattle.std.specs.Prelude.{◌==◌, map}
-use Rattle.tf_rule.specs.declared.rule.Rule.{Rule}
-use Rattle.tf_rule.specs.declared.rule_set.RuleSet.{RuleSet}
-use Rattle.tf_rule.specs.Rules.{all_rules, index_of}
+use Rattle.tf_rules.specs.declared.rule.Rule.{Rule}
+use Rattle.tf_rules.specs.declared.rule_set.RuleSet.{RuleSet}
+use Rattle.tf_rules.specs.Table.{all_rules, index_of}
 
 -- the set that has this rule and no other
 abbrev pub only : Rule → RuleSet

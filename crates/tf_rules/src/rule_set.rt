@@ -2,10 +2,10 @@
 
 ghost use Rattle.std.specs.Prelude.{◌≡◌, ◌≢◌, ◌||◌, true, false};
 ghost use Rattle.std.specs.Str.{bytes_eq};
-ghost use Rattle.tf_rule.specs.declared.rule.Rule.{Rule};
-ghost use Rattle.tf_rule.specs.RuleSets.{has_rule};
-ghost use Rattle.tf_rule.specs.Rules.{name_of};
-ghost use Rattle.tf_rule.specs.SingleRule.{only};
+ghost use Rattle.tf_rules.specs.declared.rule.Rule.{Rule};
+ghost use Rattle.tf_rules.specs.RuleSets.{has_rule};
+ghost use Rattle.tf_rules.specs.Table.{name_of};
+ghost use Rattle.tf_rules.specs.SingleRule.{only};
 
 use crate::rule::Rule;
 

@@ -2,9 +2,9 @@
 
 ghost use Rattle.std.specs.Prelude.{◌≡◌, ◌++◌, ℕ, true, false, IfOk, IfErr, OnOk, OnErr};
 ghost use Rattle.std.specs.Prelude.{filter, List, ◌∷◌, []};
-ghost use Rattle.tf_rule.specs.declared.finding.Finding.{Finding};
-ghost use Rattle.tf_rule.specs.Findings.{is_fix_valid, is_fixable, is_valid, IsValidFinding};
-ghost use Rattle.tf_rule.specs.Representable.{is_representable};
+ghost use Rattle.tf_rules.specs.declared.finding.Finding.{Finding};
+ghost use Rattle.tf_rules.specs.Findings.{is_fix_valid, is_fixable, is_valid, IsValidFinding};
+ghost use Rattle.tf_rules.specs.Representable.{is_representable};
 
 use crate::fix::Fix;
 use crate::packed::{PackedFix, name_to_u32, to_u32};
@@ -55,14 +55,14 @@ pub struct Finding {
 }
 
 impl Model for Finding {
-    ghost use Rattle.tf_rule.specs.FindingModel.{FindingModel};
+    ghost use Rattle.tf_rules.specs.FindingModel.{FindingModel};
 
     ghost Value = { FindingModel };
 
     ghost use Rattle.std.specs.Prelude.{refl};
-    ghost use Rattle.tf_rule.specs.Inner.Unpacking.{unpack_fix, unpack_name, IsCanonicalName, IsCanonical};
-    ghost use Rattle.tf_rule.specs.Inner.Packing.{pack_fix, is_named, pack_name};
-    ghost use Rattle.tf_rule.specs.Inner.Packing.{fix_round_trip, name_round_trip, has_name_round_trip};
+    ghost use Rattle.tf_rules.specs.Inner.Unpacking.{unpack_fix, unpack_name, IsCanonicalName, IsCanonical};
+    ghost use Rattle.tf_rules.specs.Inner.Packing.{pack_fix, is_named, pack_name};
+    ghost use Rattle.tf_rules.specs.Inner.Packing.{fix_round_trip, name_round_trip, has_name_round_trip};
 
     ghost view = { λ f. record {
       rule = f.rule;

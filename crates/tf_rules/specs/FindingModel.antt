@@ -1,8 +1,8 @@
 -- What a finding says.
 use Rattle.std.specs.Prelude.{ℕ, Option}
-use Rattle.tf_rule.specs.declared.finding.Message.{Message}
-use Rattle.tf_rule.specs.declared.fix.Fix.{Fix}
-use Rattle.tf_rule.specs.declared.rule.Rule.{Rule}
+use Rattle.tf_rules.specs.declared.finding.Message.{Message}
+use Rattle.tf_rules.specs.declared.fix.Fix.{Fix}
+use Rattle.tf_rules.specs.declared.rule.Rule.{Rule}
 
 -- its rule, its tokens from number first up to past, its message, and what mends it
 pub record FindingModel : Type 0 where

@@ -1,9 +1,9 @@
 -- The rules: one line for each. TFLint ruleset for the Terraform language.
 use Rattle.std.specs.Prelude.{ℕ, Bool, true, false, List, [], ◌∷◌, codes}
-use Rattle.tf_rule.specs.declared.rule.Rule.{Rule}
-use Rattle.tf_rule.specs.declared.rule.Rule.TheVariants.{CommentSyntax, DeprecatedIndex, DeprecatedInterpolation, EmptyListEquality, DeprecatedLookup, NamingConvention, TypedVariables, DocumentedVariables, DocumentedOutputs}
-use Rattle.tf_rule.specs.declared.rule.Severity.{Severity}
-use Rattle.tf_rule.specs.declared.rule.Severity.TheVariants.{Warning, Notice}
+use Rattle.tf_rules.specs.declared.rule.Rule.{Rule}
+use Rattle.tf_rules.specs.declared.rule.Rule.TheVariants.{CommentSyntax, DeprecatedIndex, DeprecatedInterpolation, EmptyListEquality, DeprecatedLookup, NamingConvention, TypedVariables, DocumentedVariables, DocumentedOutputs}
+use Rattle.tf_rules.specs.declared.rule.Severity.{Severity}
+use Rattle.tf_rules.specs.declared.rule.Severity.TheVariants.{Warning, Notice}
 
 -- what is the same in each finding of a rule
 pub record RuleInfo : Type 0 where

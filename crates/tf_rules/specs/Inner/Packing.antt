@@ -2,18 +2,18 @@
 use Rattle.std.specs.Prelude.{◌≡◌, ℕ, Bool, true, false, [], ◌∷◌, Option, Some, None, refl}
 use Rattle.std.specs.Option.{option_map}
 use Rattle.std.proofs.Common.{ap, sym}
-use Rattle.tf_rule.specs.declared.fix.Fix.{Fix}
-use Rattle.tf_rule.specs.declared.fix.Fix.TheVariants.{CommentMarker, Tokens}
-use Rattle.tf_rule.specs.declared.fix.Insertion.{Insertion}
-use Rattle.tf_rule.specs.declared.fix.Insertion.TheVariants as insertion
-use Rattle.tf_rule.specs.declared.fix.KeptTokens.{KeptTokens}
-use Rattle.tf_rule.specs.declared.packed.PackedFix.{PackedFix}
-use Rattle.tf_rule.specs.declared.packed.PackedFixKind.{PackedFixKind}
-use Rattle.tf_rule.specs.declared.packed.PackedFixKind.TheVariants as outline
-use Rattle.tf_rule.specs.declared.packed.PackedRange.{PackedRange}
-use Rattle.tf_rule.specs.declared.packed.PackedInsertion.{PackedInsertion}
-use Rattle.tf_rule.specs.declared.packed.PackedInsertion.TheVariants as written
-use Rattle.tf_rule.specs.Inner.Unpacking.{unpack_insertion, unpack_kept, unpack_kind, unpack_fix, unpack_name, IsCanonicalRange, AreCanonicalRanges, IsCanonical, IsCanonicalName}
+use Rattle.tf_rules.specs.declared.fix.Fix.{Fix}
+use Rattle.tf_rules.specs.declared.fix.Fix.TheVariants.{CommentMarker, Tokens}
+use Rattle.tf_rules.specs.declared.fix.Insertion.{Insertion}
+use Rattle.tf_rules.specs.declared.fix.Insertion.TheVariants as insertion
+use Rattle.tf_rules.specs.declared.fix.KeptTokens.{KeptTokens}
+use Rattle.tf_rules.specs.declared.packed.PackedFix.{PackedFix}
+use Rattle.tf_rules.specs.declared.packed.PackedFixKind.{PackedFixKind}
+use Rattle.tf_rules.specs.declared.packed.PackedFixKind.TheVariants as outline
+use Rattle.tf_rules.specs.declared.packed.PackedRange.{PackedRange}
+use Rattle.tf_rules.specs.declared.packed.PackedInsertion.{PackedInsertion}
+use Rattle.tf_rules.specs.declared.packed.PackedInsertion.TheVariants as written
+use Rattle.tf_rules.specs.Inner.Unpacking.{unpack_insertion, unpack_kept, unpack_kind, unpack_fix, unpack_name, IsCanonicalRange, AreCanonicalRanges, IsCanonical, IsCanonicalName}
 
 abbrev pub pack_insertion : Insertion → PackedInsertion
 pack_insertion insertion.Nothing = written.Nothing

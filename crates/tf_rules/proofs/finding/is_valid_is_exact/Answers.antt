@@ -1,13 +1,13 @@
 use Rattle.std.proofs.Common.{◌≡◌, ℕ, ◌<◌, ◌≤◌, Bool, true, false, ◌&&◌, nat_lt, nat_le, ◌==◌, List, [], ◌∷◌, Option, Some, None, refl, arith}
 use Rattle.std.proofs.lemmas.Bool.Decides.{nat_tests}
-use Rattle.tf_rule.specs.declared.fix.Fix.{Fix}
-use Rattle.tf_rule.specs.declared.fix.Fix.TheVariants.{CommentMarker, Tokens}
-use Rattle.tf_rule.specs.declared.fix.Insertion.{Insertion}
-use Rattle.tf_rule.specs.declared.fix.Insertion.TheVariants.{Nothing, Index}
-use Rattle.tf_rule.specs.declared.fix.KeptTokens.{KeptTokens}
-use Rattle.tf_rule.specs.Findings.{is_fix_valid, IsFixValid}
-use Rattle.tf_rule.specs.Fixes.{reads_within, changes_something, changes_end, are_in_order, ReadsWithin, ChangesSomething, ChangesEnd, AreInOrder}
-use Rattle.tf_rule.proofs.finding.is_valid_is_exact.Goals as goal
+use Rattle.tf_rules.specs.declared.fix.Fix.{Fix}
+use Rattle.tf_rules.specs.declared.fix.Fix.TheVariants.{CommentMarker, Tokens}
+use Rattle.tf_rules.specs.declared.fix.Insertion.{Insertion}
+use Rattle.tf_rules.specs.declared.fix.Insertion.TheVariants.{Nothing, Index}
+use Rattle.tf_rules.specs.declared.fix.KeptTokens.{KeptTokens}
+use Rattle.tf_rules.specs.Findings.{is_fix_valid, IsFixValid}
+use Rattle.tf_rules.specs.Fixes.{reads_within, changes_something, changes_end, are_in_order, ReadsWithin, ChangesSomething, ChangesEnd, AreInOrder}
+use Rattle.tf_rules.proofs.finding.is_valid_is_exact.Goals as goal
 
 left : (a b : Bool) → (a && b) ≡ true → a ≡ true
 left true b e = refl

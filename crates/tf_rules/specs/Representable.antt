@@ -1,12 +1,12 @@
 -- Which findings there is room for: a finding holds numbers of 32 bits, and no number of an index.
 use Rattle.std.specs.Prelude.{ℕ, ◌^◌, nat_lt, ◌==◌, ◌&&◌, Bool, true, Option, Some, None}
 use Rattle.std.specs.List.{list_all}
-use Rattle.tf_rule.specs.declared.finding.Message.{Message}
-use Rattle.tf_rule.specs.declared.fix.Fix.{Fix}
-use Rattle.tf_rule.specs.declared.fix.Fix.TheVariants.{Tokens}
-use Rattle.tf_rule.specs.declared.fix.Insertion.{Insertion}
-use Rattle.tf_rule.specs.declared.fix.Insertion.TheVariants as insertion
-use Rattle.tf_rule.specs.declared.fix.KeptTokens.{KeptTokens}
+use Rattle.tf_rules.specs.declared.finding.Message.{Message}
+use Rattle.tf_rules.specs.declared.fix.Fix.{Fix}
+use Rattle.tf_rules.specs.declared.fix.Fix.TheVariants.{Tokens}
+use Rattle.tf_rules.specs.declared.fix.Insertion.{Insertion}
+use Rattle.tf_rules.specs.declared.fix.Insertion.TheVariants as insertion
+use Rattle.tf_rules.specs.declared.fix.KeptTokens.{KeptTokens}
 
 -- there is room for a number of 32 bits
 abbrev pub fits_u32 : ℕ → Bool

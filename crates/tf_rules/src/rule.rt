@@ -1,7 +1,7 @@
 //! The rules.
 
 ghost use Rattle.std.specs.Prelude.{◌≡◌, ◌↔◌, ◌<◌, Some};
-ghost use Rattle.tf_rule.specs.Rules.{info_of, index_of, name_of, severity_of, has_fix, label_of};
+ghost use Rattle.tf_rules.specs.Table.{info_of, index_of, name_of, severity_of, has_fix, label_of};
 
 /// A rule. The order of the variants is the order of the rules in reports.
 ///

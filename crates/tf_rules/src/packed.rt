@@ -3,11 +3,11 @@
 
 ghost use Rattle.std.specs.Prelude.{◌≡◌, ℕ, ◌&&◌, false, Some, IfOk, IfErr, is_some};
 ghost use Rattle.std.specs.Option.{option_map};
-ghost use Rattle.tf_rule.specs.declared.fix.Fix.TheVariants.{Tokens};
-ghost use Rattle.tf_rule.specs.Findings.{is_fixable};
-ghost use Rattle.tf_rule.specs.Representable.{fits_u32, fits_insertion, fits_kept, fits_fix, fits_name};
-ghost use Rattle.tf_rule.specs.Inner.Unpacking.{unpack_insertion, unpack_kept, unpack_fix, unpack_name};
-ghost use Rattle.tf_rule.specs.Inner.Unpacking.{IsCanonicalRange, IsCanonical, IsCanonicalName};
+ghost use Rattle.tf_rules.specs.declared.fix.Fix.TheVariants.{Tokens};
+ghost use Rattle.tf_rules.specs.Findings.{is_fixable};
+ghost use Rattle.tf_rules.specs.Representable.{fits_u32, fits_insertion, fits_kept, fits_fix, fits_name};
+ghost use Rattle.tf_rules.specs.Inner.Unpacking.{unpack_insertion, unpack_kept, unpack_fix, unpack_name};
+ghost use Rattle.tf_rules.specs.Inner.Unpacking.{IsCanonicalRange, IsCanonical, IsCanonicalName};
 
 use crate::fix::{Fix, Insertion, KeptTokens};
 use std::alloc::AllocError;

@@ -1,17 +1,17 @@
 -- What a finding holds of its fix and of its message, and what that stands for.
 use Rattle.std.specs.Prelude.{◌≡◌, ℕ, Bool, true, false, [], ◌∷◌, Option, Some, None, if◌then◌else◌, ⊤}
 use Rattle.std.specs.Option.{option_map}
-use Rattle.tf_rule.specs.declared.fix.Fix.{Fix}
-use Rattle.tf_rule.specs.declared.fix.Fix.TheVariants.{CommentMarker, Tokens}
-use Rattle.tf_rule.specs.declared.fix.Insertion.{Insertion}
-use Rattle.tf_rule.specs.declared.fix.Insertion.TheVariants as insertion
-use Rattle.tf_rule.specs.declared.fix.KeptTokens.{KeptTokens}
-use Rattle.tf_rule.specs.declared.packed.PackedFix.{PackedFix}
-use Rattle.tf_rule.specs.declared.packed.PackedFixKind.{PackedFixKind}
-use Rattle.tf_rule.specs.declared.packed.PackedFixKind.TheVariants as outline
-use Rattle.tf_rule.specs.declared.packed.PackedRange.{PackedRange}
-use Rattle.tf_rule.specs.declared.packed.PackedInsertion.{PackedInsertion}
-use Rattle.tf_rule.specs.declared.packed.PackedInsertion.TheVariants as written
+use Rattle.tf_rules.specs.declared.fix.Fix.{Fix}
+use Rattle.tf_rules.specs.declared.fix.Fix.TheVariants.{CommentMarker, Tokens}
+use Rattle.tf_rules.specs.declared.fix.Insertion.{Insertion}
+use Rattle.tf_rules.specs.declared.fix.Insertion.TheVariants as insertion
+use Rattle.tf_rules.specs.declared.fix.KeptTokens.{KeptTokens}
+use Rattle.tf_rules.specs.declared.packed.PackedFix.{PackedFix}
+use Rattle.tf_rules.specs.declared.packed.PackedFixKind.{PackedFixKind}
+use Rattle.tf_rules.specs.declared.packed.PackedFixKind.TheVariants as outline
+use Rattle.tf_rules.specs.declared.packed.PackedRange.{PackedRange}
+use Rattle.tf_rules.specs.declared.packed.PackedInsertion.{PackedInsertion}
+use Rattle.tf_rules.specs.declared.packed.PackedInsertion.TheVariants as written
 
 -- what is written in a finding that begins with token first
 abbrev pub unpack_insertion : ℕ → PackedInsertion → Insertion
