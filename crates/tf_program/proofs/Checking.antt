@@ -2,7 +2,7 @@
 use Rattle.std.proofs.Common.{◌≡◌, Bool, true, false, refl, sym, subst}
 use Rattle.tf_cli.specs.declared.outcome.FileOutcome.{FileOutcome}
 use Rattle.tf_stream.specs.Streams.{Source}
-use Rattle.tf_commands.specs.Streaming as streaming
+use Rattle.tf_session.specs.Streaming as streaming
 use Rattle.tf_program.specs.Inputs.{Checks}
 
 pub checked : (file_outcome : FileOutcome) (yes : Bool) (source : Source) → (yes ≡ true → file_outcome ≡ FileOutcome.Nothing)

@@ -3,11 +3,11 @@ use Rattle.std.proofs.Common.{◌≡◌, ℕ, List, [], Result, Ok, Err, OnOk, I
 use Rattle.edit_record.specs.Lists.Journal.{JournalEntry}
 use Rattle.tf_rules.specs.declared.rule_set.RuleSet.{RuleSet}
 use Rattle.tf_stream.specs.Streams.{Source, Target, WritesBytes, Untouched}
-use Rattle.tf_commands.specs.declared.command.Command.TheVariants.{Fix}
-use Rattle.tf_commands.specs.declared.command.Done.{Done}
-use Rattle.tf_commands.specs.declared.fault.RunFault.{RunFault}
-use Rattle.tf_commands.specs.Records.{DoesStep}
-use Rattle.tf_commands.specs.Streams.{ReadsText}
+use Rattle.tf_session.specs.declared.command.Command.TheVariants.{Fix}
+use Rattle.tf_session.specs.declared.command.Done.{Done}
+use Rattle.tf_session.specs.declared.fault.RunFault.{RunFault}
+use Rattle.tf_session.specs.Records.{DoesStep}
+use Rattle.tf_session.specs.Streams.{ReadsText}
 use Rattle.tf_cli.specs.declared.outcome.FileOutcome.{FileOutcome}
 use Rattle.tf_program.specs.Inputs.{IsOutcomeOf, FixesText, NotFixed, WriteBothFault, Fixes, FixInputFault}
 

@@ -5,16 +5,16 @@ use Rattle.tf_rules.specs.declared.rule_set.RuleSet.{RuleSet}
 use Rattle.tf_lint.specs.Reports.{Report, lines_of}
 use Rattle.tf_lint.specs.Steps.{IsReport}
 use Rattle.tf_stream.specs.Streams.{Source, Target, WritesBytes, Untouched}
-use Rattle.tf_commands.specs.declared.command.Command.TheVariants.{Fmt, Fix}
-use Rattle.tf_commands.specs.declared.command.Done.{Done}
-use Rattle.tf_commands.specs.declared.command.Fault.{Fault}
-use Rattle.tf_commands.specs.declared.fault.RunFault.{RunFault}
-use Rattle.tf_commands.specs.declared.fault.Part.{Part}
-use Rattle.tf_commands.specs.Faults.{run_fault_of}
-use Rattle.tf_commands.specs.LintStream as lines
-use Rattle.tf_commands.specs.Records.{DoesStep, RefusesStep}
-use Rattle.tf_commands.specs.Streaming as streaming
-use Rattle.tf_commands.specs.Streams.{ReadsText, IsReadStreamFault, IsWriteFault}
+use Rattle.tf_session.specs.declared.command.Command.TheVariants.{Fmt, Fix}
+use Rattle.tf_session.specs.declared.command.Done.{Done}
+use Rattle.tf_session.specs.declared.command.Fault.{Fault}
+use Rattle.tf_session.specs.declared.fault.RunFault.{RunFault}
+use Rattle.tf_session.specs.declared.fault.Part.{Part}
+use Rattle.tf_session.specs.Faults.{run_fault_of}
+use Rattle.tf_session.specs.LintStream as lines
+use Rattle.tf_session.specs.Records.{DoesStep, RefusesStep}
+use Rattle.tf_session.specs.Streaming as streaming
+use Rattle.tf_session.specs.Streams.{ReadsText, IsReadStreamFault, IsWriteFault}
 use Rattle.tf_cli.specs.declared.outcome.FileOutcome.{FileOutcome}
 
 -- what so many issues come to

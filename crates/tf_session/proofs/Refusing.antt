@@ -1,19 +1,25 @@
--- Why a stream is refused, from why one of its calls is.
-use Rattle.std.proofs.Common.{ℕ, List, refl, inl, inr}
-use Rattle.edit_record.specs.Lists.Journal.{JournalEntry}
+-- What a stream answers where the whole text is refused.
+use Rattle.std.proofs.Common.{ℕ, List, [], refl, inl, inr}
+use Rattle.tf_rules.specs.declared.rule_set.RuleSet.{RuleSet}
 use Rattle.tf_stream.specs.Streams.{Source, Target, Untouched}
-use Rattle.tf_commands.specs.declared.command.Command.{Command}
-use Rattle.tf_commands.specs.declared.command.Fault.{Fault}
-use Rattle.tf_commands.specs.declared.fault.RunFault.{RunFault}
-use Rattle.tf_commands.specs.Faults.{run_fault_of}
-use Rattle.tf_commands.specs.Records.{RefusesStep}
-use Rattle.tf_session.specs.Journals.{Loads, LoadFault, JournaledStreamFault}
+use Rattle.tf_session.specs.declared.command.Command.{Command}
+use Rattle.tf_session.specs.declared.command.Command.TheVariants.{Fmt}
+use Rattle.tf_session.specs.declared.command.Fault.{Fault}
+use Rattle.tf_session.specs.Faults.{run_fault_of}
+use Rattle.tf_session.specs.Streams.{ReadsText}
+use Rattle.tf_session.specs.Rewrites.{IsReadFault, RefusesText}
+use Rattle.tf_session.specs.Records.{RefusesStep}
+use Rattle.tf_session.specs.LintStream.{LintStreamFault}
+use Rattle.tf_session.specs.Streaming.{StepStreamFault, CheckStreamFault}
 
-pub not_loaded : (command : Command) (fault : RunFault) (text_in journal_in : Source) (journal_out text_out : Target)
-    → LoadFault fault text_in journal_in → Untouched journal_out → Untouched text_out → JournaledStreamFault command fault text_in journal_in journal_out text_out
-not_loaded command fault text_in journal_in journal_out text_out n u v = inl (n, u, v)
+pub not_linted : (name : List ℕ) (rules : RuleSet) (refusal : Fault) (source : Source) (target : Target) (text : List ℕ)
+    → ReadsText source text → IsReadFault text refusal → Untouched target → LintStreamFault name rules (run_fault_of refusal) source target
+not_linted name rules refusal source target text taken why still = inr (inl ((text, taken, refusal, refl, why), still))
 
-pub not_done : (command : Command) (refusal : Fault) (text_in journal_in : Source) (journal_out text_out : Target) (text : List ℕ) (records : List JournalEntry)
-    → Loads text records text_in journal_in → RefusesStep command text records refusal → Untouched journal_out → Untouched text_out
-    → JournaledStreamFault command (run_fault_of refusal) text_in journal_in journal_out text_out
-not_done command refusal text_in journal_in journal_out text_out text records l r u v = inr (inl ((text, records, l, refusal, refl, r), u, v))
+pub not_stepped : (command : Command) (refusal : Fault) (source : Source) (target : Target) (text : List ℕ)
+    → ReadsText source text → RefusesStep command text [] refusal → Untouched target → StepStreamFault command (run_fault_of refusal) source target
+not_stepped command refusal source target text taken why still = inr (inl ((text, taken, refusal, refl, why), still))
+
+pub not_checked : (refusal : Fault) (source : Source) (text : List ℕ)
+    → ReadsText source text → RefusesText Fmt text refusal → CheckStreamFault (run_fault_of refusal) source
+not_checked refusal source text taken why = inr (text, taken, refusal, refl, why)

@@ -5,12 +5,12 @@ use Rattle.hcl_scan.specs.Tokenization.{MAX_TEXT}
 use Rattle.edit_record.specs.Lists.Journal.{JournalEntry, record_transforms}
 use Rattle.edit_record.specs.Text.{IsJournalText}
 use Rattle.tf_stream.specs.Streams.{Source, Target, WritesBytes, ReadsAll}
-use Rattle.tf_commands.specs.declared.command.Command.{Command}
-use Rattle.tf_commands.specs.declared.command.Command.TheVariants.{Fmt, Fix, Revert, Take}
-use Rattle.tf_commands.specs.declared.command.Done.{Done}
+use Rattle.tf_session.specs.declared.command.Command.{Command}
+use Rattle.tf_session.specs.declared.command.Command.TheVariants.{Fmt, Fix, Revert, Take}
+use Rattle.tf_session.specs.declared.command.Done.{Done}
 use Rattle.tf_lint.specs.Steps.{Rewrite, texts_differ}
-use Rattle.tf_commands.specs.Machine.{done}
-use Rattle.tf_commands.specs.Records.{AddsRecordOf, DoesStep, ReplacesText}
+use Rattle.tf_session.specs.Machine.{done}
+use Rattle.tf_session.specs.Records.{AddsRecordOf, DoesStep, ReplacesText}
 use Rattle.tf_session.specs.Journals.{Saves}
 use Rattle.tf_session.specs.RevertRestores.{ReadsBack, AddsOneRecord, RevertRestores}
 

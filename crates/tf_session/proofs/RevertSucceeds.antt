@@ -9,16 +9,16 @@ use Rattle.edit_record.specs.declared.fault.RecordFault.{RecordFault}
 use Rattle.edit_record.specs.declared.fault.RecordFault.TheVariants.{BadHead, BadNumber, CutShort, BadEdits, BadEnd, BadSteps}
 use Rattle.tf_stream.specs.Streams.{Source, Target, ReadAtFault, WritesBytes}
 use Rattle.tf_stream.specs.declared.fault.ReadFault.{ReadFault}
-use Rattle.tf_commands.specs.declared.command.Command.{Command}
-use Rattle.tf_commands.specs.declared.command.Command.TheVariants.{Revert}
-use Rattle.tf_commands.specs.declared.command.Done.{Done}
-use Rattle.tf_commands.specs.declared.command.Fault.{Fault}
-use Rattle.tf_commands.specs.declared.fault.Part.{Part}
-use Rattle.tf_commands.specs.declared.fault.RunFault.{RunFault}
-use Rattle.tf_commands.specs.declared.fault.RunFault.TheVariants.{Scan, Parse, FixBroken, TooLong, NoRecord, Refused, Memory, Blocked, Read, Write, Endless, BadJournal}
-use Rattle.tf_commands.specs.Faults.{run_fault_of, run_fault_of_take, run_fault_of_record}
-use Rattle.tf_commands.specs.Records.{RefusesStep}
-use Rattle.tf_commands.specs.Streams.{IsWriteFault}
+use Rattle.tf_session.specs.declared.command.Command.{Command}
+use Rattle.tf_session.specs.declared.command.Command.TheVariants.{Revert}
+use Rattle.tf_session.specs.declared.command.Done.{Done}
+use Rattle.tf_session.specs.declared.command.Fault.{Fault}
+use Rattle.tf_session.specs.declared.fault.Part.{Part}
+use Rattle.tf_session.specs.declared.fault.RunFault.{RunFault}
+use Rattle.tf_session.specs.declared.fault.RunFault.TheVariants.{Scan, Parse, FixBroken, TooLong, NoRecord, Refused, Memory, Blocked, Read, Write, Endless, BadJournal}
+use Rattle.tf_session.specs.Faults.{run_fault_of, run_fault_of_take, run_fault_of_record}
+use Rattle.tf_session.specs.Records.{RefusesStep}
+use Rattle.tf_session.specs.Streams.{IsWriteFault}
 use Rattle.tf_session.specs.Journals.{MAX_JOURNAL, Loads, JournalTextFault, LoadReadFault, LoadDecodeFault, SaveFault, JournaledStreamFault}
 use Rattle.tf_session.specs.RevertRestores.{ReadsBack, AddsOneRecord, StreamsCommandAt, ReadsWhatWasWritten, Endpoints, is_from_outside, RevertSucceeds}
 use Rattle.tf_session.proofs.RevertRestores.{not_nil, same_last, held, same_bytes, put}

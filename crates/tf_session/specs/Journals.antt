@@ -9,15 +9,15 @@ use Rattle.edit_record.specs.Decoding.{IsDecodeResult}
 use Rattle.edit_record.specs.declared.fault.RecordFault.{RecordFault}
 use Rattle.tf_stream.specs.Streams.{Source, Target, ReadsAll, ReadAtFault, WritesBytes, Untouched}
 use Rattle.tf_stream.specs.declared.fault.ReadFault.{ReadFault}
-use Rattle.tf_commands.specs.declared.command.Command.{Command}
-use Rattle.tf_commands.specs.declared.command.Done.{Done}
-use Rattle.tf_commands.specs.declared.command.Fault.{Fault}
-use Rattle.tf_commands.specs.declared.fault.RunFault.{RunFault}
-use Rattle.tf_commands.specs.declared.fault.RunFault.TheVariants.{Memory, Write, Endless}
-use Rattle.tf_commands.specs.declared.fault.Part.{Part}
-use Rattle.tf_commands.specs.Faults.{run_fault_of, run_fault_of_take, run_fault_of_record}
-use Rattle.tf_commands.specs.Streams.{ReadsText, IsWriteFault}
-use Rattle.tf_commands.specs.Records.{DoesStep, RefusesStep}
+use Rattle.tf_session.specs.declared.command.Command.{Command}
+use Rattle.tf_session.specs.declared.command.Done.{Done}
+use Rattle.tf_session.specs.declared.command.Fault.{Fault}
+use Rattle.tf_session.specs.declared.fault.RunFault.{RunFault}
+use Rattle.tf_session.specs.declared.fault.RunFault.TheVariants.{Memory, Write, Endless}
+use Rattle.tf_session.specs.declared.fault.Part.{Part}
+use Rattle.tf_session.specs.Faults.{run_fault_of, run_fault_of_take, run_fault_of_record}
+use Rattle.tf_session.specs.Streams.{ReadsText, IsWriteFault}
+use Rattle.tf_session.specs.Records.{DoesStep, RefusesStep}
 
 -- the most bytes of a journal's text
 abbrev pub MAX_JOURNAL : ℕ

@@ -2,12 +2,12 @@
 use Rattle.std.specs.Prelude.{◌≡◌, ℕ, Bool, true, false, List, [], Some}
 use Rattle.edit_record.specs.Lists.Journal.{JournalEntry}
 use Rattle.tf_stream.specs.Streams.{Source, Target}
-use Rattle.tf_commands.specs.declared.command.Command.{Command}
-use Rattle.tf_commands.specs.declared.command.Command.TheVariants.{Fmt, Fix, Revert}
-use Rattle.tf_commands.specs.declared.command.Done.{Done}
-use Rattle.tf_commands.specs.declared.fault.RunFault.{RunFault}
-use Rattle.tf_commands.specs.declared.fault.RunFault.TheVariants.{Memory, Read, Write}
-use Rattle.tf_commands.specs.Machine.{done}
+use Rattle.tf_session.specs.declared.command.Command.{Command}
+use Rattle.tf_session.specs.declared.command.Command.TheVariants.{Fmt, Fix, Revert}
+use Rattle.tf_session.specs.declared.command.Done.{Done}
+use Rattle.tf_session.specs.declared.fault.RunFault.{RunFault}
+use Rattle.tf_session.specs.declared.fault.RunFault.TheVariants.{Memory, Read, Write}
+use Rattle.tf_session.specs.Machine.{done}
 use Rattle.tf_session.specs.Journals.{Loads, Saves, StreamsCommand, JournaledStreamFault}
 
 -- the source has just what went to the target, which held nothing before

@@ -3,15 +3,15 @@
 ghost use Rattle.std.specs.Prelude.{◌≡◌, ◌↔◌, ◌⊎◌, true, false, IfOk, IfErr, IsErrOf, IsErrAnd};
 ghost use Rattle.tf_stream.specs.Told.{has_failed};
 ghost use Rattle.tf_stream.specs.Streams.{source_of, target_of, Untouched};
-ghost use Rattle.tf_commands.specs.Streams.{is_write};
-ghost use Rattle.tf_commands.specs.declared.command.Command.TheVariants.{Fmt, Fix, Revert};
+ghost use Rattle.tf_session.specs.Streams.{is_write};
+ghost use Rattle.tf_session.specs.declared.command.Command.TheVariants.{Fmt, Fix, Revert};
 ghost use Rattle.tf_session.specs.Journals.{IsWriteOf, StreamsCommand, JournaledStreamFault};
 
 use crate::loader::load;
 use crate::saver::save;
+use crate::{Command, Done, Part, RuleSet, RunFault, Told};
 use std::alloc::Global;
 use std::io::{Read, Write};
-use tf_commands::{Command, Done, Part, RuleSet, RunFault, Told};
 
 /// Lays out the text of a reader, and writes the journal with the record of that, then the new
 /// text.

@@ -1,22 +1,123 @@
-//! Laws of texts beside their journals: functions that do nothing, for callers whose proofs want
-//! what their clauses say.
+//! Laws of the machine that `run` stands for: functions that do nothing, for callers whose proofs
+//! want what their clauses say.
 
-ghost use Rattle.tf_session.specs.RevertRestores.{RevertRestores, RevertSucceeds};
+ghost use Rattle.tf_session.specs.ResultIsUnique.{CommandResultIsUnique};
+ghost use Rattle.tf_session.specs.FmtLaws.{FmtKeepsTokens, FmtIsIdempotent};
+ghost use Rattle.tf_session.specs.JournalLaws.{JournalSquashesToOne};
+ghost use Rattle.tf_session.specs.TakeLaws.{CommandResultIsUniqueOverLayers, TakeResultIsUnique, TakePreservesHistory, OutOfMemoryChangesNothingOverLayers, RevertsRestoreTheFirstAfterTakes, JournalSquashesToOneAfterTakes};
+ghost use Rattle.tf_session.specs.MachinesAgree.{MachinesAgreeWithoutTake};
+ghost use Rattle.tf_session.specs.RunLaws.{OutOfMemoryChangesNothing, RevertsPop, RevertsRestoreTheFirst};
 
-use edit_record::laws::text_is_unambiguous;
+use edit_record::lists::laws::{apply_is_deterministic, transformed_lengths_match};
+use edit_record::squashes::laws::squash_all_is_unique;
+use edit_record::swaps::laws::{move_to_end_is_unique, swap_is_unique};
+use hcl_layout::laws::{layout_keeps_tokens, layout_of_layout, one_layout};
+use hcl_scan::laws::{no_tokenization_with_fault, one_fault, one_tokenization};
+use tf_lint::laws::fix_is_unique;
 
-/// A fmt or a fix that changed the text, and then a revert over what it wrote, give the first text
-/// and the journal as it was read.
-pub fn revert_restores_text_and_journal()
-    ensures { RevertRestores }
+/// A command that met a refused growth might as well not be in the list.
+pub fn out_of_memory_changes_nothing()
+    ensures { OutOfMemoryChangesNothing }
+{}
+
+/// Reverts take exactly the last texts off, one each, byte for byte.
+pub fn reverts_pop_the_last()
+    ensures { RevertsPop }
+{}
+
+/// After any commands enough reverts give back the first bytes.
+pub fn reverts_restore_the_first_text()
+    ensures { RevertsRestoreTheFirst }
+{}
+
+/// A command over a stack of texts has one reply, and leaves one stack.
+pub fn command_result_is_unique()
+    ensures { CommandResultIsUnique }
 {
-    text_is_unambiguous();
+    one_tokenization();
+    no_tokenization_with_fault();
+    one_fault();
+    one_layout();
+    fix_is_unique();
 }
 
-/// After a fmt or a fix that changed the text, a revert over what it wrote is refused only where a
-/// growth, a read or a write is.
-pub fn revert_fails_only_from_outside()
-    ensures { RevertSucceeds }
+/// Where a fmt answers `Done`, the new text has the tokens of the old one, comments and line ends
+/// among them.
+pub fn fmt_keeps_tokens()
+    ensures { FmtKeepsTokens }
 {
-    text_is_unambiguous();
+    layout_keeps_tokens();
+}
+
+/// A fmt after a fmt changes nothing.
+pub fn fmt_is_idempotent()
+    ensures { FmtIsIdempotent }
+{
+    layout_of_layout();
+}
+
+/// The records of the journal of any run, squashed from the first on, are one list of edits, which
+/// turns the first text into the last: on the way no list is refused but for want of memory.
+pub fn journal_squashes_to_one()
+    ensures { JournalSquashesToOne }
+{
+    transformed_lengths_match();
+    squash_all_is_unique();
+}
+
+/// Without take among the commands, the machine that keeps the edits is the machine of whole texts.
+pub fn machines_agree_without_take()
+    ensures { MachinesAgreeWithoutTake }
+{}
+
+/// What a take leaves is a history again, whose text is the one before it without what the command
+/// did.
+pub fn take_preserves_history()
+    ensures { TakePreservesHistory }
+{
+    move_to_end_is_unique();
+    apply_is_deterministic();
+}
+
+/// A take has one reply, and leaves one history.
+pub fn take_result_is_unique()
+    ensures { TakeResultIsUnique }
+{
+    swap_is_unique();
+    move_to_end_is_unique();
+    apply_is_deterministic();
+}
+
+/// A command over a first text with its layers of edits has one reply, and leaves one history.
+pub fn command_result_is_unique_over_layers()
+    ensures { CommandResultIsUniqueOverLayers }
+{
+    one_tokenization();
+    no_tokenization_with_fault();
+    one_fault();
+    one_layout();
+    fix_is_unique();
+    swap_is_unique();
+    move_to_end_is_unique();
+    apply_is_deterministic();
+}
+
+/// A command that met a refused growth might as well not be in the list, takes among its commands
+/// too.
+pub fn out_of_memory_changes_nothing_over_layers()
+    ensures { OutOfMemoryChangesNothingOverLayers }
+{}
+
+/// After any commands, takes among them, enough reverts give back the first bytes.
+pub fn reverts_restore_the_first_text_after_takes()
+    ensures { RevertsRestoreTheFirstAfterTakes }
+{}
+
+/// The records of the journal of any run, takes among its commands, are one list of edits from the
+/// first text to the last.
+pub fn journal_squashes_to_one_after_takes()
+    ensures { JournalSquashesToOneAfterTakes }
+{
+    transformed_lengths_match();
+    squash_all_is_unique();
 }

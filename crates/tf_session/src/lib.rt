@@ -5,18 +5,37 @@
 //! failed.
 #![tactic(auto)]
 
+mod command;
+mod fault;
+mod fixing;
+mod formatting;
+pub mod journal_laws;
 mod journaled_streams;
 pub mod laws;
+mod linting;
 mod loader;
+mod reading;
+mod removal;
+mod running;
 mod saver;
+mod session;
+mod streaming;
+mod text_io;
 
+pub use command::{Command, Done, Fault, Reply};
 pub use edit_record::RecordFault;
+pub use edit_record::lists::{Journal, Refused};
+pub use fault::{Part, RunFault};
+pub use fixing::fix_without_session;
+pub use hcl_scan::ScanFault;
+pub use hcl_tree::ParseFault;
 pub use journaled_streams::{fix_stream, fmt_stream, revert_stream};
+pub use linting::{lint_stream, write_issues};
 pub use loader::{MAX_JOURNAL, load};
+pub use running::run;
 pub use saver::{journal_text, save};
-pub use tf_commands::{
-    Command, Done, Fault, Issue, Journal, ParseFault, Part, Refused, Remaining, Reply, Rule,
-    RuleSet, RunFault, ScanFault, Session, Told, check_stream, fix_text_stream,
-    fix_without_session, format_text_stream, lint_stream, put_journal, put_text, run,
-    step_text_stream, take_text, write_issues,
-};
+pub use session::Session;
+pub use streaming::{check_stream, fix_text_stream, format_text_stream, step_text_stream};
+pub use text_io::{put_journal, put_text, take_text};
+pub use tf_lint::{Issue, Remaining, Rule, RuleSet};
+pub use tf_stream::Told;

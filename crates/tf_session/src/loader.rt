@@ -3,14 +3,14 @@
 ghost use Rattle.std.specs.Prelude.{◌≡◌, ◌↔◌, ◌⊎◌, true, false, IfOk, IfErr, IsErrOf};
 ghost use Rattle.tf_stream.specs.Told.{has_failed};
 ghost use Rattle.tf_stream.specs.Streams.{source_of};
-ghost use Rattle.tf_commands.specs.Session.{text_of, records_of};
+ghost use Rattle.tf_session.specs.Session.{text_of, records_of};
 ghost use Rattle.tf_session.specs.Journals.{Loads, LoadFault};
 
+use crate::{RunFault, Session, Told};
 use edit_record::decode;
 use hcl_scan::MAX_TEXT;
 use std::alloc::Global;
 use std::io::Read;
-use tf_commands::{RunFault, Session, Told};
 use tf_stream::read_to_limit;
 
 /// The most bytes of a journal's text, read or written.

@@ -3,15 +3,15 @@
 ghost use Rattle.std.specs.Prelude.{◌≡◌, ◌↔◌, true, false, OnOk, IfOk, IfErr, IsErrAnd};
 ghost use Rattle.tf_stream.specs.Told.{has_failed};
 ghost use Rattle.tf_stream.specs.Streams.{target_of, Untouched};
-ghost use Rattle.tf_commands.specs.Session.{text_of, records_of};
-ghost use Rattle.tf_commands.specs.Streams.{is_write};
+ghost use Rattle.tf_session.specs.Session.{text_of, records_of};
+ghost use Rattle.tf_session.specs.Streams.{is_write};
 ghost use Rattle.tf_session.specs.Journals.{IsSavedText, JournalTextFault, Saves, SaveFault, IsWriteOf};
 
 use crate::loader::MAX_JOURNAL;
+use crate::{Part, RunFault, Session, Told, put_journal, put_text};
 use edit_record::{encode, encoded_len};
 use std::alloc::Global;
 use std::io::Write;
-use tf_commands::{Part, RunFault, Session, Told, put_journal, put_text};
 
 /// The text of the session's journal, as it is written.
 ///

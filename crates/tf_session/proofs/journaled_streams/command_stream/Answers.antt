@@ -1,7 +1,7 @@
 -- What was not loaded, or not done, left the targets as they were.
 use Rattle.std.proofs.Common.{rules}
-use Rattle.tf_commands.specs.Session.{text_of, records_of}
-use Rattle.tf_session.proofs.Refusing.{not_loaded, not_done}
+use Rattle.tf_session.specs.Session.{text_of, records_of}
+use Rattle.tf_session.proofs.JournalRefusing.{not_loaded, not_done}
 use Rattle.tf_session.proofs.journaled_streams.command_stream.Goals as goal
 
 pub returns-in-Err-clause-fault : goal.returns-in-Err-clause-fault

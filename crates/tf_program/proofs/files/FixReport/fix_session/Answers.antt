@@ -3,8 +3,8 @@ use Rattle.std.proofs.Common.{◌≡◌, ◌∙◌, Err, List, ℕ, rules, subst
 use Rattle.std.specs.Prelude.{string_bytes}
 use Rattle.tf_lint.specs.Remaining.{IsRemaining}
 use Rattle.tf_lint.specs.Steps.{IsReport}
-use Rattle.tf_commands.specs.declared.fault.RunFault.{RunFault}
-use Rattle.tf_commands.specs.Session.{text_of, records_of}
+use Rattle.tf_session.specs.declared.fault.RunFault.{RunFault}
+use Rattle.tf_session.specs.Session.{text_of, records_of}
 use Rattle.tf_program.proofs.Fixing.{no_lines}
 use Rattle.tf_program.proofs.files.FixReport.fix_session.Goals as goal
 

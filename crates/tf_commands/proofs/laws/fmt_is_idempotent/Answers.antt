@@ -1,5 +1,0 @@
-use Rattle.tf_commands.proofs.FmtAgain.{fmt_changes_once}
-use Rattle.tf_commands.proofs.laws.fmt_is_idempotent.Goals as goal
-
-pub returns : goal.returns
-returns c = fmt_changes_once c.layout_of_layout.ensures

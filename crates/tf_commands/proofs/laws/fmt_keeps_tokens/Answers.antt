@@ -1,5 +1,0 @@
-use Rattle.tf_commands.proofs.FmtAgain.{fmt_keeps_tokens}
-use Rattle.tf_commands.proofs.laws.fmt_keeps_tokens.Goals as goal
-
-pub returns : goal.returns
-returns c = fmt_keeps_tokens c.layout_keeps_tokens.ensures

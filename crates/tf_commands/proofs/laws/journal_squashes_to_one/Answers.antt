@@ -1,5 +1,0 @@
-use Rattle.tf_commands.proofs.JournalOne.{journal_is_one}
-use Rattle.tf_commands.proofs.laws.journal_squashes_to_one.Goals as goal
-
-pub returns : goal.returns
-returns c = journal_is_one c.transformed_lengths_match.ensures c.squash_all_is_unique.ensures

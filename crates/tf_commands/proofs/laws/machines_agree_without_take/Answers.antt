@@ -1,5 +1,0 @@
-use Rattle.tf_commands.proofs.OneMachine.{without_take_one_machine}
-use Rattle.tf_commands.proofs.laws.machines_agree_without_take.Goals as goal
-
-pub returns : goal.returns
-returns c = without_take_one_machine

@@ -1,5 +1,0 @@
-use Rattle.tf_commands.proofs.RunLaws.{refused_do_not_count}
-use Rattle.tf_commands.proofs.laws.out_of_memory_changes_nothing.Goals as goal
-
-pub returns : goal.returns
-returns c = refused_do_not_count

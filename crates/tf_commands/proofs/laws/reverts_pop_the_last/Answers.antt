@@ -1,5 +1,0 @@
-use Rattle.tf_commands.proofs.RunLaws.{reverts_take_off}
-use Rattle.tf_commands.proofs.laws.reverts_pop_the_last.Goals as goal
-
-pub returns : goal.returns
-returns c = reverts_take_off

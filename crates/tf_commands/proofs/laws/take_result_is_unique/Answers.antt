@@ -1,5 +1,0 @@
-use Rattle.tf_commands.proofs.RemovalIsUnique.{take_has_one_answer}
-use Rattle.tf_commands.proofs.laws.take_result_is_unique.Goals as goal
-
-pub returns : goal.returns
-returns c = take_has_one_answer c.swap_is_unique.ensures c.move_to_end_is_unique.ensures c.apply_is_deterministic.ensures

@@ -1,0 +1,77 @@
+-- Laws of the machine that keeps the edits, over all its commands: each has one answer, and those that were refused for want of memory do not count.
+use Rattle.std.proofs.Common.{◌≡◌, ◌∙◌, ℕ, List, [], ◌∷◌, Bool, true, false, MatchBool, Result, Ok, Err, refl, sym, ap, subst, inl, inr}
+use Rattle.edit_record.specs.Lists.Validity.{ApplyIsDeterministic}
+use Rattle.edit_record.specs.declared.lists.record.Word.{Word}
+use Rattle.edit_record.specs.Swaps.Swap.{SwapIsUnique}
+use Rattle.edit_record.specs.Swaps.MoveToEnd.{MoveToEndIsUnique}
+use Rattle.hcl_layout.specs.LayoutLaws.{OneLayout}
+use Rattle.tf_session.specs.declared.command.Command.{Command}
+use Rattle.tf_session.specs.declared.command.Command.TheVariants.{Fmt, Fix, Revert, Take}
+use Rattle.tf_session.specs.declared.command.Done.{Done}
+use Rattle.tf_session.specs.declared.command.Fault.{Fault}
+use Rattle.tf_lint.specs.Steps.{Rewrite, texts_differ}
+use Rattle.tf_session.specs.Machine.{done, is_memory}
+use Rattle.tf_session.specs.ResultIsUnique.{AreSameUpToParseFault}
+use Rattle.tf_session.specs.RunLaws.{completed_commands, completed_replies}
+use Rattle.tf_session.specs.Layers.{History, top_text, PushesLayer, PopsLayer, HistoryStep, HistoryMayAllocate}
+use Rattle.tf_session.specs.TakeLaws.{HistoryRunWithMemory, CommandResultIsUniqueOverLayers, OutOfMemoryChangesNothingOverLayers}
+use Rattle.tf_session.proofs.ResultIsUnique.{same_fixes, same_layouts}
+use Rattle.tf_session.proofs.Lists.{not_nil, same_last}
+use Rattle.tf_session.proofs.RemovalIsUnique.{take_has_one_answer}
+use Rattle.tf_rules.specs.declared.rule_set.RuleSet.{RuleSet}
+use Rattle.tf_lint.proofs.DoesNotParse.{OneCut, NoCutWithFault, OneFault}
+use Rattle.tf_lint.specs.Steps.{FixIsUnique}
+
+-- ---- one answer
+
+push_one : (word : Word) (answer : Result Rewrite Fault) (old : History) (reply other : Result Done Fault) (new another : History)
+    → PushesLayer word answer old reply new → PushesLayer word answer old other another → (reply ≡ other) × (new ≡ another)
+push_one word (Ok made) old reply other new another p q = (p.0 ∙ sym q.0, p.1 ∙ sym q.1)
+push_one word (Err fault) old reply other new another p q = (p.0 ∙ sym q.0, p.1 ∙ sym q.1)
+
+push_same : (word : Word) (a b : Result Rewrite Fault) (old : History) (reply other : Result Done Fault) (new another : History)
+    → AreSameUpToParseFault a b → PushesLayer word a old reply new → PushesLayer word b old other another → AreSameUpToParseFault reply other × (new ≡ another)
+push_same word a b old reply other new another (inl same) p q =
+    let h = push_one word a old reply other new another p (subst (λ (x : Result Rewrite Fault). PushesLayer word x old other another) (sym same) q) in
+    (inl h.0, h.1)
+push_same word a b old reply other new another (inr w) p q =
+    let f = subst (λ (x : Result Rewrite Fault). PushesLayer word x old reply new) w.2 p in
+    let g = subst (λ (x : Result Rewrite Fault). PushesLayer word x old other another) w.3 q in
+    (inr (w.0, w.1, f.0, g.0), f.1 ∙ sym g.1)
+
+off_same : (old : History) (reply other : Result Done Fault) (new another : History) → PopsLayer old reply new → PopsLayer old other another → (reply ≡ other) × (new ≡ another)
+off_same old (Ok d) (Ok e) new another p q =
+    let lasts = same_last p.rest q.rest p.last q.last (sym p.layers_are ∙ q.layers_are) in
+    let same : new ≡ another = p.new_is ∙ (λ i. record { first = old.first; layers = lasts.0 i }) ∙ sym q.new_is in
+    let d_is : d ≡ e = p.done_is ∙ ap (λ (h : History). done (texts_differ (top_text h) (top_text old)) 0 0) same ∙ sym q.done_is in
+    (ap (λ (x : Done). Ok x) d_is, same)
+off_same old (Ok d) (Err f) new another p q = absurd (not_nil p.rest p.last (sym p.layers_are ∙ q.1))
+off_same old (Err f) (Ok e) new another p q = absurd (not_nil q.rest q.last (sym q.layers_are ∙ p.1))
+off_same old (Err f) (Err g) new another p q = (ap (λ (x : Fault). Err x) (p.0 ∙ sym q.0), p.2 ∙ sym q.2)
+
+module _ (one_cut : OneCut) (no_cut : NoCutWithFault) (one_fault : OneFault) (one_layout : OneLayout) (one_fix : (rules : RuleSet) (text : List ℕ) → FixIsUnique rules text) (one_swap : SwapIsUnique) (takes_one : MoveToEndIsUnique) (into_one : ApplyIsDeterministic) where
+  pub one_answer_over_layers : CommandResultIsUniqueOverLayers
+  one_answer_over_layers Fmt old reply other new another p q =
+      push_same Word.Fmt p.0 q.0 old reply other new another (same_layouts one_cut no_cut one_fault one_layout one_fix (top_text old) p.0 q.0 p.1 q.1) p.2 q.2
+  one_answer_over_layers (Fix rules) old reply other new another p q =
+      push_same Word.Fix p.0 q.0 old reply other new another (same_fixes one_cut no_cut one_fault one_layout one_fix rules (top_text old) p.0 q.0 p.1 q.1) p.2 q.2
+  one_answer_over_layers Revert old reply other new another p q = let h = off_same old reply other new another p q in (inl h.0, h.1)
+  one_answer_over_layers (Take n) old reply other new another p q =
+      let h = take_has_one_answer one_swap takes_one into_one n old reply other new another p q in
+      (inl h.0, h.1)
+
+-- ---- want of memory
+
+by_memory : (b : Bool) (old mid new : History) (command : Command) (commands : List Command) (reply : Result Done Fault) (replies : List (Result Done Fault)) → is_memory reply ≡ b
+    → MatchBool b (HistoryMayAllocate command old × (mid ≡ old)) (HistoryStep command old reply mid) → HistoryRunWithMemory mid (completed_commands commands replies) (completed_replies replies) new
+    → HistoryRunWithMemory old (completed_commands (command ∷ commands) (reply ∷ replies)) (completed_replies (reply ∷ replies)) new
+by_memory true old mid new command commands reply replies e step h =
+    rw e (subst (λ (s : History). HistoryRunWithMemory s (completed_commands commands replies) (completed_replies replies) new) step.1 h)
+by_memory false old mid new command commands reply replies e step h = rw e (mid, step, h)
+
+pub refused_do_not_count_over_layers : OutOfMemoryChangesNothingOverLayers
+refused_do_not_count_over_layers old new [] [] run = run
+refused_do_not_count_over_layers old new [] (reply ∷ replies) run = absurd run
+refused_do_not_count_over_layers old new (command ∷ commands) [] run = absurd run
+refused_do_not_count_over_layers old new (command ∷ commands) (reply ∷ replies) run =
+    by_memory (is_memory reply) old run.0 new command commands reply replies refl run.1 (refused_do_not_count_over_layers run.0 new commands replies run.2)

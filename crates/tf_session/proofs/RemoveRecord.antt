@@ -1,0 +1,110 @@
+-- One record taken out of a journal.
+use Rattle.std.proofs.Common.{◌≡◌, ◌∙◌, ◌↔◌, ◌≤◌, ◌<◌, ◌+◌, ◌-◌, ℕ, zero, suc, List, [], ◌∷◌, ◌++◌, length, take, drop, get_or, Result, Ok, Err, IfOk, IfErr, refl, sym, ap, subst, arith, append_assoc, inl, inr}
+use Rattle.std.proofs.lemmas.List.{take_more, take-append-drop, length-take-le, length-map, length-drop, take_all}
+use Rattle.std.specs.Global.{Vec}
+use Rattle.edit_record.specs.Lists.Journal.{JournalEntry}
+use Rattle.edit_record.specs.Lists.Inner.Walk.{apply_edits}
+use Rattle.edit_record.specs.Lists.Pieces.{EditList, Transforms}
+use Rattle.edit_record.specs.Lists.ChangeResults.{IsChangeResult, AgreesWith, HasExpectedLen}
+use Rattle.edit_record.specs.declared.lists.change.Refused.{Refused}
+use Rattle.edit_record.specs.declared.lists.direction.Direction.TheVariants.{Backward}
+use Rattle.edit_record.specs.declared.swaps.reorder.MoveFault.{MoveFault}
+use Rattle.edit_record.specs.declared.swaps.reorder.MoveFault.TheVariants.{Length, Blocked, TooLong, Memory}
+use Rattle.edit_record.specs.Swaps.Swap.{IsItem}
+use Rattle.edit_record.specs.Swaps.MoveToEnd.{IsMovedToEnd}
+use Rattle.edit_record.specs.Swaps.MoveToEndResult.{edits_of, words_of, IsMoveToEndResult}
+use Rattle.tf_session.specs.Faults.{fault_of_refused}
+use Rattle.tf_lint.specs.Steps.{texts_differ}
+use Rattle.tf_session.specs.Machine.{done}
+use Rattle.tf_session.specs.NthItem.{Nth}
+use Rattle.tf_session.specs.RemovingRecord.{RemovesRecord, RefusesRemoval, CannotUndo, removal_fault, counted_records}
+
+-- what undoing edits answers, by the laws of edits
+abbrev pub Undoes : EditList → Type 0
+Undoes e = (t u : List ℕ) → (apply_edits Backward e u ≡ Ok t) ↔ Transforms e t u
+
+-- the text that undoing gives is the only one
+pub only_old : (e : EditList) (u : List ℕ) (result : Result (Vec ℕ) Refused) → Undoes e → AgreesWith result (apply_edits Backward e u) → IfOk result (λ old. (v : List ℕ) → Transforms e v u → v ≡ old.items)
+only_old e u (Ok old) exact is = λ v turns. let other : apply_edits Backward e u ≡ Ok v = (exact v u).1 turns in cc
+only_old e u (Err refused) exact is = tt
+
+no_old : (e : EditList) (u v : List ℕ) (refused : Refused) → Undoes e → apply_edits Backward e u ≡ Err refused → ¬ (Transforms e v u)
+no_old e u v refused exact is turns = let other : apply_edits Backward e u ≡ Ok v = (exact v u).1 turns in absurd cc
+
+-- why undoing is refused
+pub cannot : (e : EditList) (u : List ℕ) (result : Result (Vec ℕ) Refused) → Undoes e → IsChangeResult Backward e u (apply_edits Backward e u) → AgreesWith result (apply_edits Backward e u)
+    → IfErr result (λ refused. refused ≡ Refused.Memory → HasExpectedLen Backward e u) → IfErr result (λ refused. CannotUndo e u refused)
+cannot e u (Ok old) exact answers is memory = tt
+cannot e u (Err (Refused.Length expected found)) exact answers is memory =
+    (subst (λ (a : Result (List ℕ) Refused). IsChangeResult Backward e u a) is answers, λ v. no_old e u v (Refused.Length expected found) exact is)
+cannot e u (Err (Refused.Differs step edit)) exact answers is memory =
+    (subst (λ (a : Result (List ℕ) Refused). IsChangeResult Backward e u a) is answers, λ v. no_old e u v (Refused.Differs step edit) exact is)
+cannot e u (Err Refused.Memory) exact answers is memory = memory refl
+
+-- the slice behind record n
+abbrev pub rest_of : ℕ → List JournalEntry → List JournalEntry
+rest_of n rs = take (length rs - n) (drop n rs)
+
+rest_is : (n : ℕ) (rs : List JournalEntry) → rest_of n rs ≡ drop n rs
+rest_is n rs = let l = length-drop n rs in take_all (length rs - n) (drop n rs) (omega (arith, l))
+
+next_all : (n : ℕ) (rs : List JournalEntry) (r : JournalEntry) → n < length rs → r ≡ get_or rs n r → rs ≡ take n rs ++ r ∷ drop (n + 1) rs
+next_all n rs r lt is =
+    sym (take-append-drop (n + 1) rs)
+    ∙ ap (λ (x : List JournalEntry). x ++ drop (n + 1) rs) (take_more rs n r lt ∙ ap (λ (x : JournalEntry). take n rs ++ x ∷ []) (sym is))
+    ∙ append_assoc (take n rs) (r ∷ []) (drop (n + 1) rs)
+
+module _ (n : ℕ) (rs : List JournalEntry) (r : JournalEntry) (pos : 1 ≤ n) (le : n ≤ length rs) (is : r ≡ get_or rs (n - 1) r) where
+  all_of : rs ≡ take (n - 1) rs ++ r ∷ rest_of n rs
+  all_of =
+      let e : n - 1 + 1 ≡ n = omega (arith, pos) in
+      subst (λ (x : List JournalEntry). rs ≡ take (n - 1) rs ++ r ∷ x) (sym (rest_is n rs))
+      (subst (λ (k : ℕ). rs ≡ take (n - 1) rs ++ r ∷ drop k rs) e (next_all (n - 1) rs r (omega (arith, pos, le)) is))
+
+  number_of : n ≡ length (take (n - 1) rs) + 1
+  number_of = let l = length-take-le (n - 1) rs (omega (arith, le)) in omega (arith, pos, l)
+
+  abbrev nth_of : Nth n rs
+  nth_of = record { before = take (n - 1) rs; item = r; after = rest_of n rs; all = all_of; number = number_of }
+
+  pub made : (t u : List ℕ) (others : List JournalEntry) (gone : EditList) → IsMovedToEnd r.edits (edits_of (rest_of n rs)) (edits_of others) gone → words_of others ≡ words_of (rest_of n rs)
+      → Transforms gone u t → ((v : List ℕ) → Transforms gone v t → v ≡ u) → RemovesRecord n t rs (done (texts_differ u t) 0 0) u (take (n - 1) rs ++ others)
+  made t u others gone taken words turns initial_stack = record {
+    nth = nth_of;
+    new_records = others;
+    moved_edits = gone;
+    is_moved = taken;
+    words = words;
+    transforms = turns;
+    only = initial_stack;
+    records = refl;
+    done_is = refl;
+  }
+
+  pub not_back : (t : List ℕ) (others : List EditList) (gone : EditList) (refused : Refused) → IsMovedToEnd r.edits (edits_of (rest_of n rs)) others gone → CannotUndo gone t refused → RefusesRemoval n t rs (fault_of_refused refused)
+  not_back t others gone (Refused.Length expected found) taken not = inr (record { nth = nth_of; new_records = others; moved_edits = gone; is_moved = taken; refuses = not.0; none = not.1 })
+  not_back t others gone (Refused.Differs step edit) taken not = inr (record { nth = nth_of; new_records = others; moved_edits = gone; is_moved = taken; refuses = not.0; none = not.1 })
+  not_back t others gone Refused.Memory taken len = (nth_of, inr (others, gone, taken, len))
+
+  pub refuses : (t : List ℕ) (e : MoveFault) → IsMoveToEndResult r.edits (rest_of n rs) (Err e) → RefusesRemoval n t rs (removal_fault n e)
+  refuses t (Length expected found) h = inl (h.0, record { nth = nth_of; fails = h.1 })
+  refuses t (Blocked k) h = (k, record { nth = nth_of; fails = h }, refl)
+  refuses t TooLong h = (h.0, record { nth = nth_of; fails = h.1 })
+  refuses t Memory h = (nth_of, inl h)
+
+at_short : {X : Type 0} (i : ℕ) (x : X) (xs : List X) → IsItem i x xs → i < length xs
+at_short i x [] h = absurd h
+at_short zero x (y ∷ ys) h = omega arith
+at_short (suc i) x (y ∷ ys) h = let l = at_short i x ys h in omega (arith, l)
+
+-- the number of the record that refuses is one of those of the journal
+pub short : (n : ℕ) (rs : List JournalEntry) (a : EditList) (e : MoveFault) → n ≤ length rs → IsMoveToEndResult a (rest_of n rs) (Err e) → n + counted_records e ≤ length rs
+short n rs a (Length expected found) le h = omega (arith, le)
+short n rs a (Blocked k) le h =
+    let l = at_short k h.next (edits_of (rest_of n rs)) h.next_is in
+    let m = length-map (rest_of n rs) (λ (x : JournalEntry). x.edits) in
+    let s = ap length (rest_is n rs) in
+    let d = length-drop n rs in
+    omega (arith, l, m, s, d, le)
+short n rs a TooLong le h = omega (arith, le)
+short n rs a Memory le h = omega (arith, le)

@@ -1,0 +1,163 @@
+-- One text has one cut or one fault, and a fix makes one text of it, so each command has one answer.
+use Rattle.std.proofs.Common.{◌≡◌, ◌∙◌, ◌≤◌, ◌<◌, ◌⊎◌, ℕ, List, [], ◌∷◌, length, Result, Ok, Err, refl, sym, ap, subst, inl, inr, arith}
+use Rattle.hcl_token.specs.Tokens.{Pair}
+use Rattle.hcl_text_laws.specs.declared.fault.ParseFault.{ParseFault}
+use Rattle.hcl_text_laws.specs.declared.fault.ParseFault.TheVariants.{Syntax, TooDeep}
+use Rattle.hcl_scan.specs.declared.fault.ScanFault.{ScanFault}
+use Rattle.hcl_scan.specs.Tokenization.{IsTokenization, MAX_TEXT}
+use Rattle.hcl_scan.specs.Fault.{IsFault}
+use Rattle.edit_record.specs.Lists.Pieces.{EditList}
+use Rattle.tf_rules.specs.declared.rule_set.RuleSet.{RuleSet}
+use Rattle.tf_session.specs.declared.command.Command.{Command}
+use Rattle.tf_session.specs.declared.command.Command.TheVariants.{Fmt, Fix, Revert, Take}
+use Rattle.tf_session.specs.declared.command.Done.{Done}
+use Rattle.tf_session.specs.declared.command.Fault.{Fault}
+use Rattle.tf_session.specs.declared.command.Fault.TheVariants.{Scan, Parse, FixBroken, TooLong, NoRecord, Refused, Memory, Blocked}
+use Rattle.tf_session.specs.Faults.{fault_of_fix}
+use Rattle.tf_session.specs.Fixing.{FixRewrites}
+use Rattle.tf_lint.specs.declared.fault.FixFault.{FixFault}
+use Rattle.tf_lint.specs.Steps.{Rewrite, Breaks, FixIsUnique}
+use Rattle.hcl_layout.specs.Gaps.Layout.{layout_edits}
+use Rattle.hcl_layout.specs.Layouts.{IsTooLong}
+use Rattle.hcl_layout.specs.LayoutLaws.{OneLayout}
+use Rattle.tf_session.specs.Parsing.{DoesParse}
+use Rattle.tf_lint.specs.ParseFaults.{IsParseFault}
+use Rattle.tf_session.specs.Formatting.{Formats, FmtRewrites}
+use Rattle.tf_session.proofs.ReadTexts.{does_parse}
+use Rattle.tf_lint.proofs.DoesNotParse.{OneCut, NoCutWithFault, OneFault, not_both, same_cut}
+use Rattle.tf_session.specs.Machine.{StackEntry, Stack, PushesText, PopsText}
+use Rattle.tf_session.specs.ResultIsUnique.{AreSameUpToParseFault, CommandResultIsUnique}
+
+-- what is made, by its parts
+one_made : (a b : Rewrite) → a.text ≡ b.text → a.edits ≡ b.edits → a.fixed ≡ b.fixed → a.left ≡ b.left → a ≡ b
+one_made a b texts edits fixed left =
+    ap (λ (x : List ℕ). let r : Rewrite = record { text = x; edits = a.edits; fixed = a.fixed; left = a.left } in r) texts
+    ∙ ap (λ (x : EditList). let r : Rewrite = record { text = b.text; edits = x; fixed = a.fixed; left = a.left } in r) edits
+    ∙ ap (λ (x : ℕ). let r : Rewrite = record { text = b.text; edits = b.edits; fixed = x; left = a.left } in r) fixed
+    ∙ ap (λ (x : ℕ). let r : Rewrite = record { text = b.text; edits = b.edits; fixed = b.fixed; left = x } in r) left
+
+push_one : (command : Command) (answer : Result Rewrite Fault) (old : Stack) (reply other : Result Done Fault) (new another : Stack)
+    → PushesText command answer old reply new → PushesText command answer old other another → (reply ≡ other) × (new ≡ another)
+push_one command (Ok made) old reply other new another p q = (p.0 ∙ sym q.0, p.1 ∙ sym q.1)
+push_one command (Err fault) old reply other new another p q = (p.0 ∙ sym q.0, p.1 ∙ sym q.1)
+
+-- answers that are alike have replies that are, and leave one stack
+push_same : (command : Command) (a b : Result Rewrite Fault) (old : Stack) (reply other : Result Done Fault) (new another : Stack)
+    → AreSameUpToParseFault a b → PushesText command a old reply new → PushesText command b old other another → AreSameUpToParseFault reply other × (new ≡ another)
+push_same command a b old reply other new another (inl same) p q =
+    let h = push_one command a old reply other new another p (subst (λ (x : Result Rewrite Fault). PushesText command x old other another) (sym same) q) in
+    (inl h.0, h.1)
+push_same command a b old reply other new another (inr w) p q =
+    let f = subst (λ (x : Result Rewrite Fault). PushesText command x old reply new) w.2 p in
+    let g = subst (λ (x : Result Rewrite Fault). PushesText command x old other another) w.3 q in
+    (inr (w.0, w.1, f.0, g.0), f.1 ∙ sym g.1)
+
+take_same : (top : List ℕ) (below : List StackEntry) (reply other : Result Done Fault) (new another : Stack)
+    → PopsText top below reply new → PopsText top below other another → (reply ≡ other) × (new ≡ another)
+take_same top [] reply other new another p q = (p.0 ∙ sym q.0, p.1 ∙ sym q.1)
+take_same top (under ∷ rest) reply other new another p q = (p.0 ∙ sym q.0, p.1 ∙ sym q.1)
+
+-- why a command refuses a text: it has no tokens, it does not parse, or this
+abbrev Why : List ℕ → Fault → Type 0 → Type 0
+Why text f Other = ((fault : ScanFault) × (f ≡ Scan fault) × IsFault text fault) ⊎ (((fault : ParseFault) × (f ≡ Parse fault) × IsParseFault text fault) ⊎ Other)
+
+-- a step of the fix can't be done
+abbrev Broken : RuleSet → List ℕ → Fault → Type 0
+Broken rules text f = (fault : FixFault) × (f ≡ fault_of_fix fault) × Breaks rules text fault
+
+why_fix : (rules : RuleSet) (text : List ℕ) (f : Fault) → FixRewrites rules text (Err f) → Why text f (Broken rules text f)
+why_fix rules text (Scan fault) h = inl (fault, refl, h)
+why_fix rules text (Parse fault) h = inr (inl (fault, refl, h))
+why_fix rules text (FixBroken rule) h = inr (inr (FixFault.FixBroken rule, refl, h))
+why_fix rules text TooLong h = inr (inr (FixFault.TooLong, refl, h))
+why_fix rules text NoRecord h = absurd h
+why_fix rules text (Refused refused) h = absurd h
+why_fix rules text Memory h = absurd h
+why_fix rules text (Blocked number) h = absurd h
+
+-- the layout is too long
+abbrev Long : List ℕ → Fault → Type 0
+Long text f = (f ≡ TooLong) × DoesParse text × IsTooLong text
+
+why_fmt : (text : List ℕ) (f : Fault) → FmtRewrites text (Err f) → Why text f (Long text f)
+why_fmt text (Scan fault) h = inl (fault, refl, h)
+why_fmt text (Parse fault) h = inr (inl (fault, refl, h))
+why_fmt text (FixBroken rule) h = absurd h
+why_fmt text TooLong h = inr (inr (refl, h.0, h.1))
+why_fmt text NoRecord h = absurd h
+why_fmt text (Refused refused) h = absurd h
+why_fmt text Memory h = absurd h
+why_fmt text (Blocked number) h = absurd h
+
+-- tokens over which no tree stands
+has_tokens : (text : List ℕ) (fault : ParseFault) → IsParseFault text fault → (pairs : List Pair) × (last : List ℕ) × IsTokenization text pairs last
+has_tokens text (Syntax at) h = (h.0, h.1, h.2)
+has_tokens text (TooDeep at) h = (h.0, h.1, h.2)
+has_tokens text ParseFault.Memory h = absurd h
+
+module _ (one_cut : OneCut) (no_cut : NoCutWithFault) (one_fault : OneFault) (one_layout : OneLayout) (one_fix : (rules : RuleSet) (text : List ℕ) → FixIsUnique rules text) where
+  no_tokens : (text : List ℕ) (fault : ScanFault) (other : ParseFault) → IsFault text fault → IsParseFault text other → ⊥
+  no_tokens text fault other h p = let cut = has_tokens text other p in no_cut text fault cut.0 cut.1 h cut.2
+
+  -- a text that is read has none of these faults
+  not_why : (text : List ℕ) (f : Fault) (Other : Type 0) → DoesParse text → (Other → ⊥) → Why text f Other → ⊥
+  not_why text f Other p not_other (inl w) = no_cut text w.0 p.1.pairs p.1.last w.2 p.1.tokenization
+  not_why text f Other p not_other (inr (inl w)) = not_both one_cut text w.0 p.0 w.2 p.1
+  not_why text f Other p not_other (inr (inr w)) = not_other w
+
+  same_why : (text : List ℕ) (f g : Fault) (One Two : Type 0) → (One → DoesParse text) → (Two → DoesParse text) → (One → Two → f ≡ g)
+      → Why text f One → Why text g Two → AreSameUpToParseFault {X = Rewrite} (Err f) (Err g)
+  same_why text f g One Two one two same (inl v) (inl w) =
+      inl (ap (λ (x : Fault). Err x) (v.1 ∙ ap (λ (x : ScanFault). Scan x) (one_fault text v.0 w.0 v.2 w.2) ∙ sym w.1))
+  same_why text f g One Two one two same (inl v) (inr (inl w)) = absurd (no_tokens text v.0 w.0 v.2 w.2)
+  same_why text f g One Two one two same (inl v) (inr (inr w)) = absurd (not_why text f ⊥ (two w) (λ e. e) (inl v))
+  same_why text f g One Two one two same (inr (inl v)) (inl w) = absurd (no_tokens text w.0 v.0 w.2 v.2)
+  same_why text f g One Two one two same (inr (inl v)) (inr (inl w)) = inr (v.0, w.0, ap (λ (x : Fault). Err x) v.1, ap (λ (x : Fault). Err x) w.1)
+  same_why text f g One Two one two same (inr (inl v)) (inr (inr w)) = absurd (not_why text f ⊥ (two w) (λ e. e) (inr (inl v)))
+  same_why text f g One Two one two same (inr (inr v)) (inl w) = absurd (not_why text g ⊥ (one v) (λ e. e) (inl w))
+  same_why text f g One Two one two same (inr (inr v)) (inr (inl w)) = absurd (not_why text g ⊥ (one v) (λ e. e) (inr (inl w)))
+  same_why text f g One Two one two same (inr (inr v)) (inr (inr w)) = inl (ap (λ (x : Fault). Err x) (same v w))
+
+  same_broken : (rules : RuleSet) (text : List ℕ) (f g : Fault) → Broken rules text f → Broken rules text g → f ≡ g
+  same_broken rules text f g v w = v.1 ∙ ap fault_of_fix ((one_fix rules text).broken v.0 w.0 v.2 w.2) ∙ sym w.1
+
+  pub same_fixes : (rules : RuleSet) (text : List ℕ) (a b : Result Rewrite Fault) → FixRewrites rules text a → FixRewrites rules text b → AreSameUpToParseFault a b
+  same_fixes rules text (Ok a) (Ok b) p q = inl (ap (λ (x : Rewrite). Ok x) ((one_fix rules text).made a b p q))
+  same_fixes rules text (Ok a) (Err f) p q =
+      absurd (not_why text f (Broken rules text f) (does_parse text p.parsed p.reads) (λ w. (one_fix rules text).exclusive a w.0 p w.2) (why_fix rules text f q))
+  same_fixes rules text (Err f) (Ok b) p q =
+      absurd (not_why text f (Broken rules text f) (does_parse text q.parsed q.reads) (λ w. (one_fix rules text).exclusive b w.0 q w.2) (why_fix rules text f p))
+  same_fixes rules text (Err f) (Err g) p q =
+      same_why text f g (Broken rules text f) (Broken rules text g) (λ w. does_parse text w.2.0 w.2.1) (λ w. does_parse text w.2.0 w.2.1) (same_broken rules text f g) (why_fix rules text f p) (why_fix rules text g q)
+
+  not_long : (text : List ℕ) (made : Rewrite) (f : Fault) → Formats text made → Long text f → ⊥
+  not_long text made f p w =
+      let same : w.2.new ≡ made.text = one_layout text w.2.new made.text w.2.layout p.layout in
+      let long : MAX_TEXT < length made.text = subst (λ (t : List ℕ). MAX_TEXT < length t) same w.2.long in
+      let short : length made.text ≤ MAX_TEXT = p.short in
+      omega (arith, long, short)
+
+  same_formats : (text : List ℕ) (a b : Rewrite) → Formats text a → Formats text b → a ≡ b
+  same_formats text a b p q =
+      let texts : a.text ≡ b.text = one_layout text a.text b.text p.layout q.layout in
+      let edits : a.edits ≡ b.edits = p.edits_are ∙ ap layout_edits (same_cut one_cut text p.parsed q.parsed p.reads q.reads) ∙ sym q.edits_are in
+      let fixed : a.fixed ≡ b.fixed = p.fixed_is ∙ sym q.fixed_is in
+      let left : a.left ≡ b.left = p.left_is ∙ sym q.left_is in
+      one_made a b texts edits fixed left
+
+  pub same_layouts : (text : List ℕ) (a b : Result Rewrite Fault) → FmtRewrites text a → FmtRewrites text b → AreSameUpToParseFault a b
+  same_layouts text (Ok a) (Ok b) p q = inl (ap (λ (x : Rewrite). Ok x) (same_formats text a b p q))
+  same_layouts text (Ok a) (Err f) p q = absurd (not_why text f (Long text f) (does_parse text p.parsed p.reads) (not_long text a f p) (why_fmt text f q))
+  same_layouts text (Err f) (Ok b) p q = absurd (not_why text f (Long text f) (does_parse text q.parsed q.reads) (not_long text b f q) (why_fmt text f p))
+  same_layouts text (Err f) (Err g) p q =
+      same_why text f g (Long text f) (Long text g) (λ w. w.1) (λ w. w.1) (λ v w. v.0 ∙ sym w.0) (why_fmt text f p) (why_fmt text g q)
+
+  pub one_answer : CommandResultIsUnique
+  one_answer Fmt old reply other new another p q =
+      push_same Fmt p.0 q.0 old reply other new another (same_layouts old.top p.0 q.0 p.1 q.1) p.2 q.2
+  one_answer (Fix rules) old reply other new another p q =
+      push_same (Fix rules) p.0 q.0 old reply other new another (same_fixes rules old.top p.0 q.0 p.1 q.1) p.2 q.2
+  one_answer Revert old reply other new another p q =
+      let h = take_same old.top old.below reply other new another p q in
+      (inl h.0, h.1)
+  one_answer (Take n) old reply other new another p q = absurd p

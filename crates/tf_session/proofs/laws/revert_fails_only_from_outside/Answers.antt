@@ -1,5 +1,0 @@
-use Rattle.tf_session.proofs.RevertSucceeds.{command_can_be_taken_back}
-use Rattle.tf_session.proofs.laws.revert_fails_only_from_outside.Goals as goal
-
-pub returns : goal.returns
-returns c = command_can_be_taken_back c.text_is_unambiguous.ensures

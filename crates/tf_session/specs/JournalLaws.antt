@@ -1,0 +1,34 @@
+-- The records of a journal as one list of edits.
+use Rattle.std.specs.Prelude.{◌≡◌, ℕ, List, ◌∷◌, ◌++◌, map, Result}
+use Rattle.edit_record.specs.Lists.Journal.{JournalEntry}
+use Rattle.edit_record.specs.Lists.Validity.{new_len}
+use Rattle.edit_record.specs.Lists.Pieces.{EditList, Transforms}
+use Rattle.edit_record.specs.Squashes.SquashLists.{SquashAll}
+use Rattle.edit_record.specs.Squashes.Squash.{AreComposable}
+use Rattle.tf_session.specs.declared.command.Command.{Command}
+use Rattle.tf_session.specs.declared.command.Done.{Done}
+use Rattle.tf_session.specs.declared.command.Fault.{Fault}
+use Rattle.tf_session.specs.Machine.{Stack, initial_stack, StackRun}
+use Rattle.tf_session.specs.Records.{IsJournalOfStack}
+
+-- the edits of each record, the oldest first
+abbrev pub edit_lists_of : List JournalEntry → List EditList
+edit_lists_of records = map (λ (r : JournalEntry). r.edits) records
+
+-- The lists, squashed from the first on, each into the result so far, become one that turns the one
+-- text into the other. On the way each goes on from those before it, so squashing it is refused for
+-- want of memory alone.
+pub record SquashToOne (text top : List ℕ) (first : EditList) (others : List EditList) : Type 0 where
+  pub composable : (before : List EditList) (next : EditList) (after : List EditList)
+      (so_far : EditList) → others ≡ before ++ next ∷ after
+      → SquashAll first before so_far → (new_len so_far ≡ next.old_len) × AreComposable so_far next
+  pub transforms : (one : EditList) → SquashAll first others one → Transforms one text top
+
+-- The records of the journal of any run, if it has any, become one list that turns the first text
+-- into the last.
+abbrev pub JournalSquashesToOne : Type 0
+JournalSquashesToOne = (text : List ℕ) (commands : List Command) (replies : List (Result Done Fault))
+    (end : Stack) (records : List JournalEntry)
+    → StackRun (initial_stack text) commands replies end → IsJournalOfStack records end.top end.below
+    → (first : EditList) (others : List EditList) → edit_lists_of records ≡ first ∷ others
+    → SquashToOne text end.top first others

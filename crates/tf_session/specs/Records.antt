@@ -1,0 +1,110 @@
+-- What the journal of a session says, in terms of the stack of whole texts.
+use Rattle.std.specs.Prelude.{◌≡◌, ℕ, Bool, true, false, List, [], ◌∷◌, ◌++◌, Ok, Err}
+use Rattle.edit_record.specs.declared.lists.record.Word.{Word}
+use Rattle.edit_record.specs.Lists.Pieces.{EditList}
+use Rattle.edit_record.specs.Lists.ChangeResults.{HasExpectedLen}
+use Rattle.edit_record.specs.declared.lists.direction.Direction.TheVariants.{Backward}
+use Rattle.edit_record.specs.Lists.Journal.{JournalEntry, record_transforms, record_backward}
+use Rattle.tf_session.specs.declared.command.Command.{Command}
+use Rattle.tf_session.specs.declared.command.Command.TheVariants.{Fmt, Fix, Revert, Take}
+use Rattle.tf_session.specs.declared.command.Done.{Done}
+use Rattle.tf_session.specs.declared.command.Fault.{Fault}
+use Rattle.tf_session.specs.declared.command.Fault.TheVariants.{Scan, Parse, FixBroken, TooLong, NoRecord, Refused, Memory, Blocked}
+use Rattle.tf_lint.specs.Steps.{Rewrite, texts_differ}
+use Rattle.tf_session.specs.Rewrites.{Rewrites, RefusesText}
+use Rattle.tf_session.specs.Machine.{StackEntry, done}
+use Rattle.tf_session.specs.RemovingRecord.{RemovesRecord, RefusesRemoval}
+
+-- the word that the record of a command has; revert and take have no record
+abbrev pub HasWord : Command → Word → Type 0
+HasWord Fmt word = word ≡ Word.Fmt
+HasWord (Fix rules) word = word ≡ Word.Fix
+HasWord Revert word = ⊥
+HasWord (Take n) word = ⊥
+
+-- the record of a command that put the upper text on the lower: its word, the stated edits, and it
+-- turns the one into the other
+pub record IsRecordOf (command : Command) (lower upper : List ℕ) (r : JournalEntry) : Type 0 where
+  pub made : Rewrite
+  pub makes : Rewrites command lower (Ok made)
+  pub text : upper ≡ made.text
+  pub edits : r.edits ≡ made.edits
+  pub word : HasWord command r.word
+  pub transforms : record_transforms r lower upper
+
+-- There is one record for each two neighbours, the oldest first, and neighbours differ.
+abbrev pub IsJournalOfStack : List JournalEntry → List ℕ → List StackEntry → Type 0
+IsJournalOfStack records top [] = records ≡ []
+IsJournalOfStack records top (under ∷ rest) =
+    (earlier : List JournalEntry) × (r : JournalEntry) × (records ≡ earlier ++ r ∷ [])
+    × IsRecordOf under.command under.text top r
+    × (texts_differ under.text top ≡ true) × IsJournalOfStack earlier under.text rest
+
+-- ---- One command over any session, its journal from outside too: the text t and the records js
+-- before, u and ks after.
+
+-- the record with this word and these edits is added, or nothing
+abbrev pub AddsRecord : Bool → Word → EditList → List JournalEntry → List JournalEntry → Type 0
+AddsRecord true word edits js ks = ks ≡ js ++ (record { word = word; edits = edits }) ∷ []
+AddsRecord false word edits js ks = ks ≡ js
+
+-- a text that differs is put on with one record more, of just these edits, and one that doesn't
+-- with none
+abbrev pub AddsRecordOf : Bool → Command → List ℕ → Rewrite → List JournalEntry → List JournalEntry → Type 0
+AddsRecordOf true command t made js ks =
+    (r : JournalEntry) × (ks ≡ js ++ r ∷ []) × IsRecordOf command t made.text r × (r.edits ≡ made.edits)
+AddsRecordOf false command t made js ks = ks ≡ js
+
+abbrev pub ReplacesText : Command → Rewrite → List ℕ → List JournalEntry → Done → List ℕ → List JournalEntry
+    → Type 0
+ReplacesText command made t js d u ks =
+    (u ≡ made.text) × (d ≡ done (texts_differ t made.text) made.fixed made.left)
+    × AddsRecordOf (texts_differ t made.text) command t made js ks
+
+-- u is the one text that the record turns into t
+abbrev pub IsUniqueOld : JournalEntry → List ℕ → List ℕ → Type 0
+IsUniqueOld r u t = record_transforms r u t × ((v : List ℕ) → record_transforms r v t → v ≡ u)
+
+-- the last record is undone and taken off
+abbrev pub RevertsLast : List ℕ → List JournalEntry → Done → List ℕ → List JournalEntry → Type 0
+RevertsLast t js d u ks =
+    (r : JournalEntry) × (js ≡ ks ++ r ∷ []) × IsUniqueOld r u t × (d ≡ done (texts_differ u t) 0 0)
+
+-- what a command that succeeds does
+abbrev pub DoesStep : Command → List ℕ → List JournalEntry → Done → List ℕ → List JournalEntry → Type 0
+DoesStep Fmt t js d u ks = (made : Rewrite) × Rewrites Fmt t (Ok made) × ReplacesText Fmt made t js d u ks
+DoesStep (Fix rules) t js d u ks =
+    (made : Rewrite) × Rewrites (Fix rules) t (Ok made) × ReplacesText (Fix rules) made t js d u ks
+DoesStep Revert t js d u ks = RevertsLast t js d u ks
+DoesStep (Take n) t js d u ks = RemovesRecord n t js d u ks
+
+-- what a command makes of a text that has no record before it, whatever it answers and records
+abbrev pub StepsTo : Command → List ℕ → List ℕ → Type 0
+StepsTo command text new =
+    (d : Done) × (records : List JournalEntry) × DoesStep command text [] d new records
+
+-- this is the last record
+abbrev pub IsLast : List JournalEntry → JournalEntry → Type 0
+IsLast js r = (earlier : List JournalEntry) × (js ≡ earlier ++ r ∷ [])
+
+-- Why a revert is refused: there is no record, or the last one does not stand in the text, so that
+-- it turns no text into this one.
+-- Memory is taken only where the text has the length that the last record asks for.
+abbrev pub RefusesRevert : List ℕ → List JournalEntry → Fault → Type 0
+RefusesRevert t js (Scan fault) = ⊥
+RefusesRevert t js (Parse fault) = ⊥
+RefusesRevert t js (FixBroken rule) = ⊥
+RefusesRevert t js TooLong = ⊥
+RefusesRevert t js NoRecord = js ≡ []
+RefusesRevert t js (Refused refused) =
+    (r : JournalEntry) × IsLast js r × (record_backward r t ≡ Err refused)
+    × ((v : List ℕ) → ¬ (record_transforms r v t))
+RefusesRevert t js Memory = (r : JournalEntry) × IsLast js r × HasExpectedLen Backward r.edits t
+RefusesRevert t js (Blocked number) = ⊥
+
+-- why a command is refused
+abbrev pub RefusesStep : Command → List ℕ → List JournalEntry → Fault → Type 0
+RefusesStep Fmt t js fault = RefusesText Fmt t fault
+RefusesStep (Fix rules) t js fault = RefusesText (Fix rules) t fault
+RefusesStep Revert t js fault = RefusesRevert t js fault
+RefusesStep (Take n) t js fault = RefusesRemoval n t js fault

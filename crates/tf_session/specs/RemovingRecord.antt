@@ -1,0 +1,99 @@
+-- Taking one record out of any journal, from outside too: the text t and the records js before, u
+-- and ks after. What it means to take one change out of a row of exact changes is this project's
+-- own, and is defined here and in edit_swap.
+use Rattle.std.specs.Prelude.{◌≡◌, ◌+◌, ◌<◌, ◌⊎◌, ℕ, List, ◌++◌, length, Err}
+use Rattle.edit_record.specs.Lists.Pieces.{EditList, Transforms}
+use Rattle.edit_record.specs.Lists.ChangeResults.{IsChangeResult, HasExpectedLen}
+use Rattle.edit_record.specs.Lists.Journal.{JournalEntry}
+use Rattle.edit_record.specs.declared.lists.change.Refused.{Refused}
+use Rattle.edit_record.specs.declared.lists.direction.Direction.TheVariants.{Backward}
+use Rattle.edit_record.specs.declared.swaps.reorder.MoveFault.{MoveFault}
+use Rattle.edit_record.specs.Swaps.MoveToEnd.{IsMovedToEnd}
+use Rattle.edit_record.specs.Swaps.MoveToEndResult.{edits_of, words_of, LengthMismatch, SomeMeet, SwapIsTooLong, FailsAt, MoveMayAllocate}
+use Rattle.tf_session.specs.declared.command.Done.{Done}
+use Rattle.tf_session.specs.declared.command.Fault.{Fault}
+use Rattle.tf_lint.specs.Steps.{texts_differ}
+use Rattle.tf_session.specs.Machine.{done}
+use Rattle.tf_session.specs.NthItem.{Nth}
+
+-- Record n goes. Its edits change places with those of each later record in turn; what these become
+-- stands in the journal, each with the word of its record. The new text is the only one that the
+-- edits of record n, as they are behind all others, turn into the old.
+pub record RemovesRecord (n : ℕ) (t : List ℕ) (js : List JournalEntry) (d : Done) (u : List ℕ)
+    (ks : List JournalEntry) : Type 0 where
+  pub nth : Nth n js
+  pub new_records : List JournalEntry
+  pub moved_edits : EditList
+  pub is_moved : IsMovedToEnd nth.item.edits (edits_of nth.after) (edits_of new_records) moved_edits
+  pub words : words_of new_records ≡ words_of nth.after
+  pub transforms : Transforms moved_edits u t
+  pub only : (v : List ℕ) → Transforms moved_edits v t → v ≡ u
+  pub records : ks ≡ nth.before ++ new_records
+  pub done_is : d ≡ done (texts_differ u t) 0 0
+
+-- ---- why record n is not taken out
+
+-- among what is behind record n its edits change places with the first k lists, and not with the
+-- next one
+pub record FailsAfter (n : ℕ) (records : List JournalEntry) (k : ℕ)
+    (Refuses : EditList → EditList → Type 0) : Type 0 where
+  pub nth : Nth n records
+  pub fails : FailsAt nth.item.edits (edits_of nth.after) k Refuses
+
+-- There is none of this number; or the first record behind it that refuses has an edit that meets
+-- one of record n; or the text without the one and with the other would be too long.
+abbrev pub CannotRemove : ℕ → List JournalEntry → Fault → Type 0
+CannotRemove n records Fault.NoRecord = (n ≡ 0) ⊎ (length records < n)
+CannotRemove n records (Fault.Blocked number) =
+    (k : ℕ) × FailsAfter n records k SomeMeet × (number ≡ n + k + 1)
+CannotRemove n records Fault.TooLong = (k : ℕ) × FailsAfter n records k SwapIsTooLong
+CannotRemove n records _ = ⊥
+
+-- Of two neighbours from record n on, the second applies to texts of another length than the first
+-- makes.
+abbrev pub LengthsBreak : ℕ → List JournalEntry → Refused → Type 0
+LengthsBreak n js (Refused.Length expected found) =
+    (k : ℕ) × FailsAfter n js k (λ a b. LengthMismatch a b expected found)
+LengthsBreak n js _ = ⊥
+
+-- all later records change places with record n, but its edits, as they are behind them, turn no
+-- text into this one
+pub record UndoFails (n : ℕ) (t : List ℕ) (js : List JournalEntry) (refused : Refused) : Type 0 where
+  pub nth : Nth n js
+  pub new_records : List EditList
+  pub moved_edits : EditList
+  pub is_moved : IsMovedToEnd nth.item.edits (edits_of nth.after) new_records moved_edits
+  pub refuses : IsChangeResult Backward moved_edits t (Err refused)
+  pub none : (v : List ℕ) → ¬ (Transforms moved_edits v t)
+
+-- Memory is taken where the next record goes on from record n and their first edits do not meet,
+-- and to undo the edits of record n as they are behind all others, in a text of the length that
+-- they ask.
+abbrev pub RemovalMayAllocate : ℕ → List ℕ → List JournalEntry → Type 0
+RemovalMayAllocate n t js =
+    (nth : Nth n js) × (MoveMayAllocate nth.item.edits nth.after
+    ⊎ ((others : List EditList) × (moved_edits : EditList)
+    × IsMovedToEnd nth.item.edits (edits_of nth.after) others moved_edits × HasExpectedLen Backward moved_edits t))
+
+abbrev pub RefusesRemoval : ℕ → List ℕ → List JournalEntry → Fault → Type 0
+RefusesRemoval n t js (Fault.Refused refused) = LengthsBreak n js refused ⊎ UndoFails n t js refused
+RefusesRemoval n t js Fault.Memory = RemovalMayAllocate n t js
+RefusesRemoval n t js fault = CannotRemove n js fault
+
+-- what take_out answers of the records behind record n, of which it counts the first as 0
+abbrev pub removal_fault : ℕ → MoveFault → Fault
+removal_fault n (MoveFault.Length expected found) = Fault.Refused (Refused.Length expected found)
+removal_fault n (MoveFault.Blocked passed) = Fault.Blocked (n + passed + 1)
+removal_fault n MoveFault.TooLong = Fault.TooLong
+removal_fault n MoveFault.Memory = Fault.Memory
+
+-- how many records, from record n on, are counted for this answer
+abbrev pub counted_records : MoveFault → ℕ
+counted_records (MoveFault.Blocked passed) = passed + 1
+counted_records _ = 0
+
+-- no text becomes this one by these edits, and why; or a growth was refused, for a text of the
+-- length that they ask
+abbrev pub CannotUndo : EditList → List ℕ → Refused → Type 0
+CannotUndo e t Refused.Memory = HasExpectedLen Backward e t
+CannotUndo e t refused = IsChangeResult Backward e t (Err refused) × ((v : List ℕ) → ¬ (Transforms e v t))

@@ -1,0 +1,22 @@
+-- The machine has one answer to each command, and leaves one stack.
+use Rattle.std.specs.Prelude.{◌≡◌, ◌⊎◌, Result, Err}
+use Rattle.hcl_text_laws.specs.declared.fault.ParseFault.{ParseFault}
+use Rattle.tf_session.specs.declared.command.Command.{Command}
+use Rattle.tf_session.specs.declared.command.Done.{Done}
+use Rattle.tf_session.specs.declared.command.Fault.{Fault}
+use Rattle.tf_session.specs.declared.command.Fault.TheVariants.{Parse}
+use Rattle.tf_session.specs.Machine.{Stack, StackStep}
+
+-- Two answers are one; but where the text does not parse, all that is fixed of the fault is what it
+-- says of the text.
+abbrev pub AreSameUpToParseFault : {X : Type 0} → Result X Fault → Result X Fault → Type 0
+AreSameUpToParseFault a b = (a ≡ b)
+    ⊎ ((fault : ParseFault) × (other : ParseFault) × (a ≡ Err (Parse fault))
+    × (b ≡ Err (Parse other)))
+
+-- a command over a stack has one reply and one new stack
+abbrev pub CommandResultIsUnique : Type 0
+CommandResultIsUnique =
+    (command : Command) (old : Stack) (reply other : Result Done Fault) (new another : Stack)
+    → StackStep command old reply new → StackStep command old other another
+    → AreSameUpToParseFault reply other × (new ≡ another)

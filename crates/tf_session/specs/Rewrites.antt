@@ -1,0 +1,47 @@
+-- What a command makes of a text.
+use Rattle.std.specs.Prelude.{ℕ, Bool, true, false, List, Result, MatchBool, Err}
+use Rattle.hcl_scan.specs.Fault.{IsFault}
+use Rattle.tf_session.specs.declared.command.Command.{Command}
+use Rattle.tf_session.specs.declared.command.Command.TheVariants.{Fmt, Fix, Revert, Take}
+use Rattle.tf_session.specs.declared.command.Fault.{Fault}
+use Rattle.tf_session.specs.declared.command.Fault.TheVariants.{Scan, Parse, FixBroken, TooLong, NoRecord, Refused, Memory, Blocked}
+use Rattle.tf_lint.specs.ParseFaults.{IsUtf8WithinLimit, IsParseFault}
+use Rattle.tf_lint.specs.Steps.{Rewrite}
+use Rattle.tf_session.specs.Fixing.{FixRewrites}
+use Rattle.tf_session.specs.Formatting.{FmtRewrites}
+
+-- revert and take make no text of the top
+abbrev pub Rewrites : Command → List ℕ → Result Rewrite Fault → Type 0
+Rewrites Fmt text answer = FmtRewrites text answer
+Rewrites (Fix rules) text answer = FixRewrites rules text answer
+Rewrites Revert text answer = ⊥
+Rewrites (Take n) text answer = ⊥
+
+-- whether a growth was refused inside the command
+abbrev pub is_memory_fault : Fault → Bool
+is_memory_fault (Scan fault) = false
+is_memory_fault (Parse fault) = false
+is_memory_fault (FixBroken rule) = false
+is_memory_fault TooLong = false
+is_memory_fault NoRecord = false
+is_memory_fault (Refused refused) = false
+is_memory_fault Memory = true
+is_memory_fault (Blocked number) = false
+
+-- why a text is not read: it has no tokens, it does not parse, or a growth was refused while it was
+-- looked into
+abbrev pub IsReadFault : List ℕ → Fault → Type 0
+IsReadFault text (Scan fault) = IsFault text fault
+IsReadFault text (Parse fault) = IsParseFault text fault
+IsReadFault text (FixBroken rule) = ⊥
+IsReadFault text TooLong = ⊥
+IsReadFault text NoRecord = ⊥
+IsReadFault text (Refused refused) = ⊥
+IsReadFault text Memory = IsUtf8WithinLimit text
+IsReadFault text (Blocked number) = ⊥
+
+-- why a command refuses a text: it can't make another of it, or a growth was refused while it
+-- looked into it
+abbrev pub RefusesText : Command → List ℕ → Fault → Type 0
+RefusesText command text fault =
+    MatchBool (is_memory_fault fault) (IsUtf8WithinLimit text) (Rewrites command text (Err fault))

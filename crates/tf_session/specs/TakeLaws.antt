@@ -1,0 +1,73 @@
+-- Laws of the machine with take, over lists of commands.
+use Rattle.std.specs.Prelude.{◌≡◌, ◌+◌, ℕ, List, [], ◌∷◌, length, replicate, Result}
+use Rattle.edit_record.specs.Lists.Pieces.{EditList, Transforms}
+use Rattle.edit_record.specs.Swaps.MoveToEndResult.{edits_of}
+use Rattle.tf_session.specs.declared.command.Command.{Command}
+use Rattle.tf_session.specs.declared.command.Command.TheVariants.{Revert}
+use Rattle.tf_session.specs.declared.command.Done.{Done}
+use Rattle.tf_session.specs.declared.command.Fault.{Fault}
+use Rattle.tf_session.specs.JournalLaws.{SquashToOne}
+use Rattle.tf_session.specs.ResultIsUnique.{AreSameUpToParseFault}
+use Rattle.tf_session.specs.RunLaws.{completed_commands, completed_replies}
+use Rattle.tf_session.specs.Layers.{History, initial_history, top_text, records_in, IsHistory, RemovesLayer, TakeStep, HistoryStep, HistoryRun}
+
+-- the machine over a list of commands, where no growth is refused
+abbrev pub HistoryRunWithMemory : History → List Command → List (Result Done Fault) → History → Type 0
+HistoryRunWithMemory old [] [] new = new ≡ old
+HistoryRunWithMemory old [] (reply ∷ replies) new = ⊥
+HistoryRunWithMemory old (command ∷ commands) [] new = ⊥
+HistoryRunWithMemory old (command ∷ commands) (reply ∷ replies) new =
+    (mid : History) × HistoryStep command old reply mid × HistoryRunWithMemory mid commands replies new
+
+-- In any run, takes among its commands, replies and history are those of the machine over the
+-- commands that had memory.
+abbrev pub OutOfMemoryChangesNothingOverLayers : Type 0
+OutOfMemoryChangesNothingOverLayers =
+    (old new : History) (commands : List Command) (replies : List (Result Done Fault))
+    → HistoryRun old commands replies new
+    → HistoryRunWithMemory old (completed_commands commands replies) (completed_replies replies) new
+
+-- a command over a history has one reply and leaves one history
+abbrev pub CommandResultIsUniqueOverLayers : Type 0
+CommandResultIsUniqueOverLayers =
+    (command : Command) (old : History) (reply other : Result Done Fault) (new another : History)
+    → HistoryStep command old reply new → HistoryStep command old other another
+    → AreSameUpToParseFault reply other × (new ≡ another)
+
+-- What a take leaves is a history again, on the same first text and with one layer less. The edits
+-- of the layer that is gone, as they are behind all others, turn its text into the one before the
+-- take: so it is that text without what the command did.
+pub record PreservesHistory (n : ℕ) (old : History) (d : Done) (new : History)
+    (out : RemovesLayer n old d new) : Type 0 where
+  pub first : new.first ≡ old.first
+  pub one_less : length new.layers + 1 ≡ length old.layers
+  pub is_history : IsHistory new
+  pub transforms : Transforms out.moved_edits (top_text new) (top_text old)
+
+abbrev pub TakePreservesHistory : Type 0
+TakePreservesHistory = (n : ℕ) (old : History) (d : Done) (new : History) → IsHistory old
+    → (out : RemovesLayer n old d new) → PreservesHistory n old d new out
+
+-- After any commands over a text, takes among them, as many reverts as there are layers leave the
+-- text that was there first, alone.
+abbrev pub RevertsRestoreTheFirstAfterTakes : Type 0
+RevertsRestoreTheFirstAfterTakes =
+    (text : List ℕ) (commands : List Command) (replies answers : List (Result Done Fault))
+    (mid new : History) → HistoryRun (initial_history text) commands replies mid
+    → HistoryRunWithMemory mid (replicate (length mid.layers) Revert) answers new → new ≡ initial_history text
+
+-- The records of the journal of any run, takes among its commands, become one list that turns the
+-- first text into the last.
+abbrev pub JournalSquashesToOneAfterTakes : Type 0
+JournalSquashesToOneAfterTakes =
+    (text : List ℕ) (commands : List Command) (replies : List (Result Done Fault)) (end : History)
+    → HistoryRun (initial_history text) commands replies end → IsHistory end
+    → (first : EditList) (others : List EditList)
+    → edits_of (records_in end.layers) ≡ first ∷ others → SquashToOne text (top_text end) first others
+
+-- A take has one reply and leaves one history. So Blocked, TooLong, NoRecord and Done exclude each
+-- other, and each is told exactly where it is so.
+abbrev pub TakeResultIsUnique : Type 0
+TakeResultIsUnique = (n : ℕ) (old : History) (reply other : Result Done Fault)
+    (new another : History) → TakeStep n old reply new → TakeStep n old other another
+    → (reply ≡ other) × (new ≡ another)

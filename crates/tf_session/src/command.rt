@@ -1,0 +1,131 @@
+//! What a session is asked, and what it answers.
+
+ghost use Rattle.std.specs.Prelude.{◌≡◌};
+
+use edit_record::lists::Refused;
+use hcl_layout::LayoutFault;
+use hcl_scan::ScanFault;
+use hcl_tree::ParseFault;
+use std::fmt;
+use tf_lint::{FixFault, LintFault, Rule, RuleSet};
+use thiserror::Error;
+
+/// What a session is asked to do.
+#[derive(Clone, Copy, Debug, PartialEq, Eq)]
+pub enum Command {
+    /// Lays the text out.
+    Fmt,
+    /// Fixes what the rules of the set find, as far as it can be fixed.
+    Fix(RuleSet),
+    /// Takes back the last command that changed the text.
+    Revert,
+    /// Takes back the command whose record has this number, the oldest being 1, and leaves the
+    /// later ones as if it had not been given.
+    Take(u32),
+}
+
+/// What a command did.
+#[derive(Clone, Copy, Debug, PartialEq, Eq)]
+pub struct Done {
+    /// Whether the text changed.
+    pub changed: bool,
+    /// How many issues were fixed.
+    pub fixed: usize,
+    /// How many issues of the chosen rules the new text has.
+    pub left: usize,
+}
+
+/// Why a command was refused.
+#[derive(Clone, Copy, PartialEq, Eq, Error)]
+pub enum Fault {
+    /// The text can't be cut into tokens.
+    #[error(transparent)]
+    Scan(ScanFault),
+    /// The tokens do not follow the grammar, or more than 100 constructs stand in one another.
+    #[error(transparent)]
+    Parse(ParseFault),
+    /// What the fix of the rule makes of the text does not parse.
+    #[error("fix of {} does not parse", .rule.name())]
+    FixBroken { rule: Rule },
+    /// The new text would have more than 16,777,216 bytes.
+    #[error("the text has more than 16777216 bytes")]
+    TooLong,
+    /// There is no command to take back.
+    #[error("nothing to revert")]
+    NoRecord,
+    /// The record does not stand in the text, or two records do not follow each other.
+    #[error(transparent)]
+    Refused(Refused),
+    /// A growth was refused.
+    #[error("out of memory")]
+    Memory,
+    /// What the command did overlaps or touches what the command of this record did, the oldest
+    /// being 1.
+    #[error("blocked by command {number}")]
+    Blocked { number: usize },
+}
+
+// The message says all: a form of its own would only be more to prove.
+impl fmt::Debug for Fault {
+    fn fmt<W: fmt::Write>(&self, f: &mut fmt::Formatter<W>) -> fmt::Result {
+        fmt::Display::fmt(self, f)
+    }
+}
+
+impl From<FixFault> for Fault {
+    ghost use Rattle.tf_session.specs.Faults.{fault_of_fix};
+
+    ghost from_gives = { λ fault given. given ≡ fault_of_fix fault };
+
+    fn from(fault: FixFault) -> Self {
+        match fault {
+            FixFault::Scan(fault) => Fault::Scan(fault),
+            FixFault::Parse(fault) => Fault::Parse(fault),
+            FixFault::FixBroken { rule } => Fault::FixBroken { rule },
+            FixFault::TooLong => Fault::TooLong,
+            FixFault::Memory => Fault::Memory,
+        }
+    }
+}
+
+impl From<LayoutFault> for Fault {
+    ghost use Rattle.tf_session.specs.Faults.{fault_of_layout};
+
+    ghost from_gives = { λ fault given. given ≡ fault_of_layout fault };
+
+    fn from(fault: LayoutFault) -> Self {
+        match fault {
+            LayoutFault::TooLong => Fault::TooLong,
+            LayoutFault::Memory => Fault::Memory,
+        }
+    }
+}
+
+impl From<LintFault> for Fault {
+    ghost use Rattle.tf_session.specs.Faults.{fault_of_lint};
+
+    ghost from_gives = { λ fault given. given ≡ fault_of_lint fault };
+
+    fn from(fault: LintFault) -> Self {
+        match fault {
+            LintFault::TooLong => Fault::TooLong,
+            LintFault::Memory => Fault::Memory,
+        }
+    }
+}
+
+impl From<Refused> for Fault {
+    ghost use Rattle.tf_session.specs.Faults.{fault_of_refused};
+
+    ghost from_gives = { λ refused given. given ≡ fault_of_refused refused };
+
+    fn from(refused: Refused) -> Self {
+        match refused {
+            Refused::Memory => Fault::Memory,
+            refused => Fault::Refused(refused),
+        }
+    }
+}
+
+/// The answer to one command.
+pub type Reply = Result<Done, Fault>;

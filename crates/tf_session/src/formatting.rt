@@ -1,0 +1,100 @@
+//! What a fmt makes of a text.
+
+ghost use Rattle.std.specs.Prelude.{◌≡◌, ◌≤◌, ◌⊎◌, ◌↔◌, true, Ok, length, IsTrue, IfOk, IfErr, OnOk, IfSome};
+ghost use Rattle.edit_record.specs.Lists.Pieces.{Transforms};
+ghost use Rattle.hcl_layout.specs.Layouts.{IsLayout, IsTooLong};
+ghost use Rattle.hcl_grammar.specs.Bodies.{IsFile};
+ghost use Rattle.hcl_grammar.specs.declared.tree.Tree as tree;
+ghost use Rattle.hcl_layout.specs.Gaps.Layout.{layout_edits};
+ghost use Rattle.hcl_grammar.specs.declared.bounds.TheConstants.{MAX_NESTING};
+ghost use Rattle.hcl_scan.specs.Tokenization.{MAX_TEXT};
+ghost use Rattle.hcl_scan.specs.Follows.{tokens_of};
+ghost use Rattle.tf_session.specs.Parsing.{DoesParse};
+ghost use Rattle.tf_session.specs.Formatting.{fmt_rewrite};
+ghost use Rattle.tf_session.specs.Records.{StepsTo};
+ghost use Rattle.tf_session.specs.Rewrites.{Rewrites, RefusesText};
+ghost use Rattle.tf_session.specs.declared.command.Command.TheVariants.{Fmt};
+ghost use Rattle.tf_session.specs.declared.command.Fault.TheVariants.{TooLong, Memory};
+
+use crate::command::Fault;
+use crate::reading::check_syntax;
+use edit_record::lists::Change as _;
+use edit_record::lists::laws::{apply_is_exact, change_is_one_to_one};
+use hcl_layout::{formatted_text, is_parsed_laid_out, laws, layout_of_parsed};
+use hcl_scan::Scanned;
+use hcl_text_laws::laws::parsed_tokens_are_apart;
+use std::alloc::Global;
+use tf_lint::NewText;
+
+/// The text laid out, with the edits that do so; none where it is its own layout.
+pub fn fmt_text(alloc: Global, text: &[u8]) -> Result<Option<NewText>, Fault>
+    ensures rewrites { IfOk result (λ change. Rewrites Fmt text.now (Ok (fmt_rewrite text.now change))) }
+    ensures change { IfOk result
+        (λ o. IfSome o (λ change. Transforms change.edits text.now change.text.items)) }
+    ensures fault { IfErr result (λ fault. RefusesText Fmt text.now fault) }
+{
+    laws::laid_out_is_text();
+    laws::one_layout();
+    parsed_tokens_are_apart();
+    let scanned = check_syntax(alloc, text)?;
+    let change = layout_change(alloc, &scanned)?;
+    if change.text.as_slice() == text {
+        return Ok(None);
+    }
+    Ok(Some(change))
+}
+
+/// The layout of a text that parses.
+fn layout_change(alloc: Global, scanned: &Scanned<'_>) -> Result<NewText, Fault>
+    requires { (t : tree.Tree) × IsFile (tokens_of scanned.now.pairs) MAX_NESTING t }
+    ensures layout { IfOk result (λ change. IsLayout scanned.now.text change.text.items) }
+    ensures short { IfOk result (λ change. length change.text.items ≤ MAX_TEXT) }
+    ensures edits { IfOk result (λ change. change.edits ≡ layout_edits scanned.now) }
+    ensures transforms { IfOk result (λ change. Transforms change.edits scanned.now.text change.text.items) }
+    ensures fault { IfErr result
+        (λ fault. (fault ≡ Memory) ⊎ ((fault ≡ TooLong) × IsTooLong scanned.now.text)) }
+{
+    let edits = layout_of_parsed(alloc, scanned)?;
+    apply_is_exact(&edits);
+    change_is_one_to_one(&edits);
+    match edits.apply(alloc, scanned.text()) {
+        Ok(text) => Ok(NewText { text, edits }),
+        Err(refused) => Err(Fault::from(refused)),
+    }
+}
+
+/// The text laid out, with no edits made: what a session with no journal has behind a fmt.
+pub fn format_without_session(alloc: Global, text: &[u8]) -> Result<Vec<u8>, Fault>
+    ensures rewrites { IfOk result (λ new. StepsTo Fmt text.now new.items) }
+    ensures fault { IfErr result (λ fault. RefusesText Fmt text.now fault) }
+{
+    let scanned = check_syntax(alloc, text)?;
+    let new = layout_of_text(alloc, &scanned)?;
+    Ok(new)
+}
+
+/// The layout of a text that parses, with no edits made.
+fn layout_of_text(alloc: Global, scanned: &Scanned<'_>) -> Result<Vec<u8>, Fault>
+    requires { (t : tree.Tree) × IsFile (tokens_of scanned.now.pairs) MAX_NESTING t }
+    ensures layout { IfOk result (λ new. IsLayout scanned.now.text new.items) }
+    ensures short { IfOk result (λ new. length new.items ≤ MAX_TEXT) }
+    ensures transforms { IfOk result (λ new.
+        Transforms (layout_edits scanned.now) scanned.now.text new.items) }
+    ensures fault { IfErr result (λ fault.
+        (fault ≡ Memory) ⊎ ((fault ≡ TooLong) × IsTooLong scanned.now.text)) }
+{
+    let new = formatted_text(alloc, scanned)?;
+    Ok(new)
+}
+
+/// Whether the text is its own layout.
+pub fn is_formatted(alloc: Global, text: &[u8]) -> Result<bool, Fault>
+    ensures parses { OnOk result (DoesParse text.now) }
+    ensures short { OnOk result (¬ (IsTooLong text.now)) }
+    ensures answer { IfOk result (λ yes. IsTrue yes ↔ IsLayout text.now text.now) }
+    ensures fault { IfErr result (λ fault. RefusesText Fmt text.now fault) }
+{
+    let scanned = check_syntax(alloc, text)?;
+    let yes = is_parsed_laid_out(alloc, &scanned)?;
+    Ok(yes)
+}

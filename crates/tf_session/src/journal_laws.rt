@@ -1,0 +1,22 @@
+//! Laws of texts beside their journals: functions that do nothing, for callers whose proofs want
+//! what their clauses say.
+
+ghost use Rattle.tf_session.specs.RevertRestores.{RevertRestores, RevertSucceeds};
+
+use edit_record::laws::text_is_unambiguous;
+
+/// A fmt or a fix that changed the text, and then a revert over what it wrote, give the first text
+/// and the journal as it was read.
+pub fn revert_restores_text_and_journal()
+    ensures { RevertRestores }
+{
+    text_is_unambiguous();
+}
+
+/// After a fmt or a fix that changed the text, a revert over what it wrote is refused only where a
+/// growth, a read or a write is.
+pub fn revert_fails_only_from_outside()
+    ensures { RevertSucceeds }
+{
+    text_is_unambiguous();
+}

@@ -1,0 +1,113 @@
+//! A text and its records without one of the records.
+
+ghost use Rattle.std.specs.Prelude.{◌≡◌, ◌≤◌, ◌<◌, ◌+◌, ◌^◌, ◌++◌, List, ℕ, length, take, IfOk, IfErr};
+ghost use Rattle.edit_record.specs.Lists.Pieces.{Transforms};
+ghost use Rattle.edit_record.specs.Swaps.MoveToEndResult.{moved_or};
+ghost use Rattle.tf_lint.specs.Steps.{texts_differ};
+ghost use Rattle.tf_session.specs.Machine.{done};
+ghost use Rattle.tf_session.specs.RemovingRecord.{RemovesRecord, RefusesRemoval, CannotUndo, removal_fault, counted_records};
+
+use crate::command::Fault;
+use edit_record::lists::laws::{edit_results_are_exact, undo_is_exact};
+use edit_record::lists::{Change as _, Edits, Record, Refused};
+use edit_record::swaps::{MoveFault, move_to_end};
+use std::alloc::Global;
+
+/// The text without a record, and the records that come in the place of those from number `from`
+/// on, counted from 0.
+#[derive(Drop)]
+pub struct Removal {
+    pub text: Vec<u8>,
+    pub from: usize,
+    pub new_records: Vec<Record>,
+}
+
+/// The text and its records without the record of this number, the oldest being 1.
+pub fn without_record(
+    alloc: Global,
+    text: &[u8],
+    records: &[Record],
+    number: usize,
+) -> Result<Removal, Fault>
+    ensures rewrites { IfOk result
+        (λ left. RemovesRecord number text.now records.now
+        (done (texts_differ left.text.items text.now) 0 0) left.text.items
+        (take left.from records.now ++ left.new_records.items)) }
+    ensures no_longer { IfOk result (λ left. left.from + length left.new_records.items ≤ length records.now) }
+    ensures refused { IfErr result (λ fault. RefusesRemoval number text.now records.now fault) }
+{
+    if number == 0 || number > records.len() {
+        return Err(Fault::NoRecord);
+    }
+    without_existing_record(alloc, text, records, number)
+}
+
+/// The same, where there is one of this number.
+fn without_existing_record(
+    alloc: Global,
+    text: &[u8],
+    records: &[Record],
+    number: usize,
+) -> Result<Removal, Fault>
+    requires some { 1 ≤ number }
+    requires there { number ≤ length records.now }
+    requires small { length records.now < 2 ^ 64 }
+    ensures rewrites { IfOk result
+        (λ left. RemovesRecord number text.now records.now
+        (done (texts_differ left.text.items text.now) 0 0) left.text.items
+        (take left.from records.now ++ left.new_records.items)) }
+    ensures no_longer { IfOk result (λ left. left.from + length left.new_records.items ≤ length records.now) }
+    ensures refused { IfErr result (λ fault. RefusesRemoval number text.now records.now fault) }
+{
+    let record = &records[number - 1];
+    match move_to_end(alloc, record.edits(), &records[number..]) {
+        Ok((others, moved)) => match undo_edits(alloc, edits_at_end(record.edits(), &moved), text) {
+            Ok(text) => Ok(Removal {
+                text,
+                from: number - 1,
+                new_records: others,
+            }),
+            Err(refused) => Err(Fault::from(refused)),
+        },
+        Err(fault) => Err(removal_fault(fault, number)),
+    }
+}
+
+/// What the edits have become behind all records that follow.
+fn edits_at_end<'a>(first: &'a Edits, moved: &'a Option<Edits>) -> &'a Edits
+    ensures { result.now ≡ moved_or first.now moved.now }
+{
+    match moved {
+        Some(edits) => edits,
+        None => first,
+    }
+}
+
+/// The text before the edits.
+fn undo_edits(alloc: Global, edits: &Edits, text: &[u8]) -> Result<Vec<u8>, Refused>
+    ensures transforms { IfOk result (λ old. Transforms edits.now old.items text.now) }
+    ensures only { IfOk result (λ old. (v : List ℕ) → Transforms edits.now v text.now → v ≡ old.items) }
+    ensures refused { IfErr result (λ refused. CannotUndo edits.now text.now refused) }
+{
+    undo_is_exact(edits);
+    edit_results_are_exact(edits);
+    edits.undo(alloc, text)
+}
+
+/// Converts a fault of `move_to_end`, which counts the records after number `number` from 0, to a
+/// fault of the command.
+fn removal_fault(fault: MoveFault, number: usize) -> Fault
+    requires { number + counted_records fault < 2 ^ 64 }
+    ensures { result ≡ removal_fault number fault }
+{
+    match fault {
+        MoveFault::Length { expected, found } => {
+            Fault::Refused(Refused::Length { expected, found })
+        }
+        MoveFault::Blocked { number: passed } => Fault::Blocked {
+            number: number + passed + 1,
+        },
+        MoveFault::TooLong => Fault::TooLong,
+        MoveFault::Memory => Fault::Memory,
+    }
+}

@@ -1,0 +1,200 @@
+//! A text with the journal of what changed it.
+
+ghost use Rattle.std.specs.Prelude.{◌≡◌, true, IfOk, IfErr, IfSome, OnErr};
+ghost use Rattle.tf_lint.specs.Remaining.{IsRemaining};
+ghost use Rattle.tf_lint.specs.Steps.{texts_differ};
+ghost use Rattle.tf_session.specs.declared.command.Command.TheVariants.{Fix};
+ghost use Rattle.tf_session.specs.Machine.{done};
+ghost use Rattle.tf_lint.specs.FixResult.{changed_text, changed_edits};
+ghost use Rattle.tf_session.specs.Session.{text_of, records_of};
+ghost use Rattle.tf_session.specs.Records.{DoesStep, RefusesStep, AddsRecord, RevertsLast, RefusesRevert};
+ghost use Rattle.tf_session.specs.RemovingRecord.{RemovesRecord, RefusesRemoval};
+
+use crate::command::{Command, Done, Fault, Reply};
+use crate::fixing::fix_text;
+use crate::formatting::fmt_text;
+use crate::removal::{Removal, without_record};
+use edit_record::lists::laws::undo_is_exact;
+use edit_record::lists::{Change as _, Journal, Record, Word};
+use std::alloc::Global;
+use tf_lint::{FixResult, NewText, Remaining, RuleSet};
+
+/// A text, and the journal of the commands that changed it.
+#[derive(Drop)]
+pub struct Session {
+    text: Vec<u8>,
+    journal: Journal,
+}
+
+impl Session {
+    /// A session over this text. The journal may come from outside: nothing is tested.
+    pub fn start(text: Vec<u8>, journal: Journal) -> Session
+        ensures text { text_of result ≡ text.items }
+        ensures journal { records_of result ≡ journal }
+    {
+        Session { text, journal }
+    }
+
+    /// The text.
+    pub fn text(&self) -> &[u8]
+        ensures { result.now ≡ text_of self.now }
+    {
+        self.text.as_slice()
+    }
+
+    /// The journal, the oldest record first.
+    pub fn journal(&self) -> &Journal
+        ensures { result.now ≡ records_of self.now }
+    {
+        &self.journal
+    }
+
+    /// One command. A refused one changes nothing.
+    pub fn step(&mut self, alloc: Global, command: Command) -> Reply
+        ensures done { IfOk result
+            (λ d. DoesStep command (text_of self.old) (records_of self.old) d (text_of self.new)
+            (records_of self.new)) }
+        ensures refused { IfErr result
+            (λ fault. RefusesStep command (text_of self.old) (records_of self.old) fault) }
+        ensures text { OnErr result (text_of self.new ≡ text_of self.old) }
+        ensures journal { OnErr result (records_of self.new ≡ records_of self.old) }
+    {
+        match command {
+            Command::Fmt => {
+                let change = fmt_text(alloc, self.text.as_slice())?;
+                self.push_change(Word::Fmt, change, 0, 0)
+            }
+            Command::Fix(rules) => match self.fix(alloc, rules) {
+                Ok((done, _)) => Ok(done),
+                Err(fault) => Err(fault),
+            },
+            Command::Revert => self.revert_last(alloc),
+            Command::Take(number) => self.remove_record(alloc, number),
+        }
+    }
+
+    /// A fix by the rules of the set, and what they find in the text behind it. A refused one
+    /// changes nothing.
+    pub fn fix(&mut self, alloc: Global, rules: RuleSet) -> Result<(Done, Remaining), Fault>
+        ensures done { IfOk result
+            (λ r. DoesStep (Fix rules) (text_of self.old) (records_of self.old) r.0
+            (text_of self.new) (records_of self.new)) }
+        ensures left { IfOk result (λ r. IsRemaining rules (text_of self.new) r.1) }
+        ensures refused { IfErr result
+            (λ fault. RefusesStep (Fix rules) (text_of self.old) (records_of self.old) fault) }
+        ensures text { OnErr result (text_of self.new ≡ text_of self.old) }
+        ensures journal { OnErr result (records_of self.new ≡ records_of self.old) }
+    {
+        let FixResult {
+            change,
+            fixed,
+            left,
+        } = fix_text(alloc, self.text.as_slice(), rules)?;
+        match self.push_change(Word::Fix, change, fixed, left.len()) {
+            Ok(done) => Ok((done, left)),
+            Err(fault) => Err(fault),
+        }
+    }
+
+    /// Puts the new text in the place of the old, with a record, if it changed.
+    fn push_change(
+        &mut self,
+        word: Word,
+        change: Option<NewText>,
+        fixed: usize,
+        left: usize,
+    ) -> Reply
+        ensures replied { IfOk result
+            (λ d. d ≡ done (texts_differ (text_of self.old)
+            (changed_text (text_of self.old) change)) fixed left) }
+        ensures pushed { IfOk result (λ d. text_of self.new ≡ changed_text (text_of self.old) change) }
+        ensures added { IfOk result
+            (λ d. AddsRecord (texts_differ (text_of self.old)
+            (changed_text (text_of self.old) change)) word
+            (changed_edits (text_of self.old) change) (records_of self.old)
+            (records_of self.new)) }
+        ensures refused { IfErr result (λ fault. fault ≡ Fault.Memory) }
+        ensures text { OnErr result (text_of self.new ≡ text_of self.old) }
+        ensures journal { OnErr result (records_of self.new ≡ records_of self.old) }
+    {
+        let Some(NewText { text, edits }) = change else {
+            return Ok(Done {
+                changed: false,
+                fixed,
+                left,
+            });
+        };
+        if text.as_slice() == self.text.as_slice() {
+            return Ok(Done {
+                changed: false,
+                fixed,
+                left,
+            });
+        }
+        if self.journal.push(Record::make(word, edits)).is_err() {
+            return Err(Fault::Memory);
+        }
+        self.text = text;
+        Ok(Done {
+            changed: true,
+            fixed,
+            left,
+        })
+    }
+
+    /// Undoes the last record and takes it off. Nothing can fail once the record is undone.
+    fn revert_last(&mut self, alloc: Global) -> Reply
+        ensures done { IfOk result
+            (λ d. RevertsLast (text_of self.old) (records_of self.old) d (text_of self.new)
+            (records_of self.new)) }
+        ensures refused { IfErr result
+            (λ fault. RefusesRevert (text_of self.old) (records_of self.old) fault) }
+        ensures text { OnErr result (text_of self.new ≡ text_of self.old) }
+        ensures journal { OnErr result (records_of self.new ≡ records_of self.old) }
+    {
+        let Some(record) = self.journal.records().last() else {
+            return Err(Fault::NoRecord);
+        };
+        undo_is_exact(record);
+        match record.undo(alloc, self.text.as_slice()) {
+            Ok(text) => {
+                let changed = text.as_slice() != self.text.as_slice();
+                let _ = self.journal.pop();
+                self.text = text;
+                Ok(Done {
+                    changed,
+                    fixed: 0,
+                    left: 0,
+                })
+            }
+            Err(refused) => Err(Fault::from(refused)),
+        }
+    }
+
+    /// Takes the record of this number out from before the later ones. Nothing can fail once all
+    /// new records are made.
+    fn remove_record(&mut self, alloc: Global, number: u32) -> Reply
+        ensures done { IfOk result
+            (λ d. RemovesRecord number (text_of self.old) (records_of self.old) d (text_of self.new)
+            (records_of self.new)) }
+        ensures refused { IfErr result
+            (λ fault. RefusesRemoval number (text_of self.old) (records_of self.old) fault) }
+        ensures text { OnErr result (text_of self.new ≡ text_of self.old) }
+        ensures journal { OnErr result (records_of self.new ≡ records_of self.old) }
+    {
+        let records = self.journal.records();
+        let Removal {
+            text,
+            from,
+            new_records: others,
+        } = without_record(alloc, &self.text, records, number as usize)?;
+        let changed = text.as_slice() != self.text.as_slice();
+        self.journal.replace_from(from, others);
+        self.text = text;
+        Ok(Done {
+            changed,
+            fixed: 0,
+            left: 0,
+        })
+    }
+}

@@ -1,0 +1,71 @@
+//! Whole texts, taken from readers and put to writers.
+
+ghost use Rattle.std.specs.Prelude.{◌≡◌, ◌↔◌, true, false, OnOk, IfOk, IfErr, IsErrOf, is_ok};
+ghost use Rattle.tf_stream.specs.Told.{has_failed};
+ghost use Rattle.tf_stream.specs.Streams.{source_of, target_of, WritesBytes};
+ghost use Rattle.tf_session.specs.Streams.{ReadsText, IsReadStreamFault, IsWriteFault};
+
+use crate::fault::{Part, RunFault};
+use hcl_scan::MAX_TEXT;
+use std::alloc::Global;
+use std::io::{Read, Write};
+use tf_stream::{Told, read_to_limit, write_and_flush};
+
+/// All the bytes that the reader has left, up to its end.
+///
+/// At most one byte over 16,777,216 is taken, and where there is one the answer is `Endless`. A
+/// read that fails is `Read`, whatever its error, and is not tried again.
+pub fn take_text<R: Read>(alloc: Global, reader: &mut Told<R>) -> Result<Vec<u8>, RunFault>
+    requires { has_failed reader.old ≡ false }
+    ensures text { IfOk result
+        (λ text. ReadsText (source_of R.remaining reader.old reader.new) text.items) }
+    ensures fault { IfErr result
+        (λ fault. IsReadStreamFault fault (source_of R.remaining reader.old reader.new)) }
+    ensures read { IsErrOf result RunFault.Read ↔ has_failed reader.new ≡ true }
+{
+    match read_to_limit(alloc, MAX_TEXT, reader) {
+        Ok(text) => Ok(text),
+        Err(fault) => Err(RunFault::from(fault)),
+    }
+}
+
+/// Writes all the bytes of a text and flushes.
+///
+/// A write that fails or takes nothing is `Write` with the number of bytes that went out before it,
+/// and is not tried again; a refused flush is `Write` with all bytes sent.
+pub fn put_text<W: Write>(bytes: &[u8], writer: &mut Told<W>) -> Result<(), RunFault>
+    requires { has_failed writer.old ≡ false }
+    ensures text { OnOk result (WritesBytes (target_of W.contents writer.old writer.new) bytes.now) }
+    ensures fault { IfErr result
+        (λ fault. IsWriteFault Part.Text fault (target_of W.contents writer.old writer.new) bytes.now) }
+    ensures failed { is_ok result ≡ false ↔ has_failed writer.new ≡ true }
+{
+    write_part(Part::Text, bytes, writer)
+}
+
+/// Writes all the bytes of a journal's text and flushes, as `put_text` does those of a text.
+pub fn put_journal<W: Write>(bytes: &[u8], writer: &mut Told<W>) -> Result<(), RunFault>
+    requires { has_failed writer.old ≡ false }
+    ensures text { OnOk result (WritesBytes (target_of W.contents writer.old writer.new) bytes.now) }
+    ensures fault { IfErr result
+        (λ fault. IsWriteFault Part.Journal fault (target_of W.contents writer.old writer.new) bytes.now) }
+    ensures failed { is_ok result ≡ false ↔ has_failed writer.new ≡ true }
+{
+    write_part(Part::Journal, bytes, writer)
+}
+
+fn write_part<W: Write>(part: Part, bytes: &[u8], writer: &mut Told<W>) -> Result<(), RunFault>
+    requires { has_failed writer.old ≡ false }
+    ensures text { OnOk result (WritesBytes (target_of W.contents writer.old writer.new) bytes.now) }
+    ensures fault { IfErr result
+        (λ fault. IsWriteFault part fault (target_of W.contents writer.old writer.new) bytes.now) }
+    ensures failed { is_ok result ≡ false ↔ has_failed writer.new ≡ true }
+{
+    match write_and_flush(bytes, writer) {
+        Ok(()) => Ok(()),
+        Err(fault) => Err(RunFault::Write {
+            part,
+            sent: fault.sent,
+        }),
+    }
+}
