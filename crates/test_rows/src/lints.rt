@@ -7,7 +7,7 @@ use crate::row::Row;
 use hcl_grammar::tree::Tree;
 use hcl_scan::Scanned;
 use std::fmt::Write;
-use tf_diagnostics::findings;
+use tf_findings::findings;
 use tf_lint::{FixResult, Issue, LintFault, Place, Rule, RuleSet, fix_text, issues};
 use tf_rules::Finding;
 

@@ -4,7 +4,7 @@ use Rattle.std.specs.List.{flat_map}
 use Rattle.std.proofs.lemmas.List.{drop_more}
 use Rattle.std.proofs.lemmas.Bool.{and_parts, ltb-false}
 use Rattle.hcl_token.specs.Tokens.{Pair}
-use Rattle.tf_diagnostics.specs.RuleFilter.{is_found_by}
+use Rattle.tf_findings.specs.RuleFilter.{is_found_by}
 use Rattle.tf_rules.specs.declared.finding.Finding.{Finding}
 use Rattle.tf_rules.specs.declared.fix.Fix.{Fix}
 use Rattle.tf_rules.specs.declared.fix.Fix.TheVariants.{CommentMarker, Tokens}

@@ -9,7 +9,7 @@ use Rattle.tf_rules.specs.declared.rule_set.RuleSet.{RuleSet}
 use Rattle.tf_fix.specs.StepText.{fix_step_text}
 use Rattle.tf_fix.specs.StepEdits.{fix_step_edits}
 use Rattle.tf_fix.specs.Selection.{selected}
-use Rattle.tf_diagnostics.specs.Findings.{AreFindings}
+use Rattle.tf_findings.specs.Findings.{AreFindings}
 use Rattle.tf_fix.specs.ParsedTexts.{IsParseOf}
 use Rattle.tf_fix.specs.declared.parsed.Parsed.{Parsed}
 use Rattle.tf_rules.specs.SingleRule.{only}

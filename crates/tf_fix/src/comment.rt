@@ -1,7 +1,7 @@
 //! The edits that mend comments: `//` becomes `#`.
 
 ghost use Rattle.std.specs.Prelude.{◌≡◌, ◌<◌, length, map, filter, IfOk};
-ghost use Rattle.tf_diagnostics.specs.RuleFilter.{is_found_by};
+ghost use Rattle.tf_findings.specs.RuleFilter.{is_found_by};
 ghost use Rattle.tf_fix.specs.Comments.{comment_edit};
 ghost use Rattle.tf_rules.specs.Findings.{AreValidFindings};
 ghost use Rattle.tf_fix.specs.Selection.{selected};
@@ -10,7 +10,7 @@ use crate::selection::is_selected;
 use edit_record::lists::Edit;
 use hcl_scan::Scanned;
 use std::alloc::{AllocError, Global};
-use tf_diagnostics::is_found_by;
+use tf_findings::is_found_by;
 use tf_rules::{Finding, Rule};
 
 fn comment_edit(alloc: Global, scanned: &Scanned<'_>, one: Finding) -> Result<Edit, AllocError>

@@ -1,7 +1,7 @@
 //! What is replaced to mend the findings that one step takes.
 
 ghost use Rattle.std.specs.Prelude.{◌≡◌, ◌++◌, ◌<◌, length, filter, IfOk, IfErr};
-ghost use Rattle.tf_diagnostics.specs.RuleFilter.{is_found_by};
+ghost use Rattle.tf_findings.specs.RuleFilter.{is_found_by};
 ghost use Rattle.tf_rules.specs.Findings.{AreValidFindings};
 ghost use Rattle.tf_fix.specs.FindingReplacements.{replacements_from, finding_replacements, step_replacements};
 ghost use Rattle.tf_fix.specs.Selection.{selected};
@@ -14,7 +14,7 @@ use crate::selection::{is_selected, selected_count};
 use crate::splice::Replacement;
 use hcl_scan::Scanned;
 use std::alloc::{AllocError, Global};
-use tf_diagnostics::is_found_by;
+use tf_findings::is_found_by;
 use tf_rules::{Finding, Fix, Insertion, KeptTokens, Rule};
 
 /// Appends the replacements of one fix from `from` on: it inserts `text_of_parts` there, keeps each range

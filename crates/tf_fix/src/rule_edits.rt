@@ -4,7 +4,7 @@ ghost use Rattle.std.specs.Prelude.{◌≡◌, ◌<◌, ◌≤◌, ◌⊎◌, le
 ghost use Rattle.edit_record.specs.Lists.Pieces.{Transforms};
 ghost use Rattle.hcl_scan.specs.Tokenization.{MAX_TEXT};
 ghost use Rattle.hcl_scan.specs.Follows.{AreApart};
-ghost use Rattle.tf_diagnostics.specs.RuleFilter.{is_found_by};
+ghost use Rattle.tf_findings.specs.RuleFilter.{is_found_by};
 ghost use Rattle.tf_rules.specs.Findings.{AreValidFindings};
 ghost use Rattle.tf_fix.specs.StepText.{fix_step_text};
 ghost use Rattle.tf_fix.specs.StepEdits.{fix_step_entries, fix_step_edits};

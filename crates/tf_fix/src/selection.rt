@@ -1,11 +1,11 @@
 //! Which findings one step of a fix takes.
 
 ghost use Rattle.std.specs.Prelude.{◌≡◌, ◌&&◌, not, nat_lt, length, filter};
-ghost use Rattle.tf_diagnostics.specs.RuleFilter.{is_found_by};
+ghost use Rattle.tf_findings.specs.RuleFilter.{is_found_by};
 ghost use Rattle.tf_rules.specs.Findings.{is_fixable};
 ghost use Rattle.tf_fix.specs.Selection.{selected};
 
-use tf_diagnostics::is_found_by;
+use tf_findings::is_found_by;
 use tf_rules::{Finding, Rule};
 
 /// Whether the finding is taken, where those taken before it end before token `past`.

@@ -18,8 +18,8 @@ use hcl_grammar::tree::Tree;
 use hcl_scan::Scanned;
 use hcl_text_laws::laws::parsed_tokens_are_apart;
 use std::alloc::Global;
-use tf_diagnostics::findings;
-use tf_diagnostics::laws::{findings_match_their_rule, findings_of_one_rule};
+use tf_findings::findings;
+use tf_findings::laws::{findings_match_their_rule, findings_of_one_rule};
 use tf_rules::{Finding, Rule, RuleSet};
 
 /// The edits of one rule's step, and how many findings they mend.

@@ -11,7 +11,7 @@ use Rattle.hcl_scan.specs.Follows.{tokens_of}
 use Rattle.hcl_token.specs.Tokens.{Pair}
 use Rattle.tf_rules.specs.NodeFindings.{node_findings}
 use Rattle.tf_rules.specs.Preorder.{Node, member, IsPreorder, no_nodes, visit}
-use Rattle.tf_diagnostics.specs.TreeFindings.{AreTreeFindings}
+use Rattle.tf_findings.specs.TreeFindings.{AreTreeFindings}
 use Rattle.tf_lint.specs.Inner.BodyFindings.{AreBodyFindings}
 use Rattle.tf_lint.proofs.MemberAnswers.{member_answers}
 use Rattle.tf_lint.specs.LintedMembers.{IsLintedMember, AreLintedMembers}

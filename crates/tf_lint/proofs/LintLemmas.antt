@@ -13,7 +13,7 @@ use Rattle.hcl_scan.specs.Follows.{tokens_of}
 use Rattle.hcl_text_laws.specs.Faults.{IsMemory, IsMemoryOrDeep}
 use Rattle.hcl_text_laws.specs.declared.fault.ParseFault.{ParseFault}
 use Rattle.hcl_token.specs.TokenizedText.{TokenizedText}
-use Rattle.tf_diagnostics.specs.Findings.{AreFindings}
+use Rattle.tf_findings.specs.Findings.{AreFindings}
 use Rattle.tf_lint.specs.LintedMembers.{AreLintedMembers}
 use Rattle.tf_rules.specs.Findings.{AreValidFindings}
 use Rattle.tf_lint.proofs.DoesNotParse.{not_parsed}

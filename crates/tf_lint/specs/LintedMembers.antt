@@ -7,7 +7,7 @@ use Rattle.hcl_grammar.specs.declared.bounds.TheConstants.{MAX_NESTING}
 use Rattle.hcl_scan.specs.Follows.{tokens_of}
 use Rattle.hcl_token.specs.Tokens.{Pair}
 use Rattle.tf_rules.specs.Preorder as node
-use Rattle.tf_diagnostics.specs.TreeFindings.{AreTreeFindings}
+use Rattle.tf_findings.specs.TreeFindings.{AreTreeFindings}
 use Rattle.tf_lint.specs.declared.member.LintedMember.{LintedMember}
 use Rattle.tf_rules.specs.Findings.{valid_findings}
 use Rattle.tf_rules.specs.declared.rule_set.RuleSet.{RuleSet}

@@ -11,7 +11,7 @@ use crate::report_line::add_line;
 use hcl_grammar::tree::Tree;
 use hcl_scan::Scanned;
 use std::alloc::{AllocError, Global};
-use tf_diagnostics::findings;
+use tf_findings::findings;
 use tf_fix::LintFault;
 use tf_rules::{Finding, RuleSet};
 

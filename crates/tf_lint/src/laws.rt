@@ -9,7 +9,7 @@ ghost use Rattle.tf_lint.specs.Steps.{FixIsUnique, fix_order};
 use edit_record::squashes::laws::squash_all_is_unique;
 use hcl_scan::laws::one_tokenization;
 use hcl_text_laws::laws::one_parse;
-use tf_diagnostics::laws::findings_are_unique;
+use tf_findings::laws::findings_are_unique;
 
 /// A fix makes one text of a text, or can't be done for one reason.
 pub fn fix_is_unique()

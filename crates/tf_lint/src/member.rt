@@ -7,7 +7,7 @@ ghost use Rattle.hcl_grammar.specs.declared.fault.TokenFault.TheVariants as faul
 ghost use Rattle.hcl_grammar.specs.declared.bounds.TheConstants.{MAX_NESTING};
 ghost use Rattle.hcl_scan.specs.Follows.{tokens_of};
 ghost use Rattle.tf_rules.specs.Preorder as node;
-ghost use Rattle.tf_diagnostics.specs.TreeFindings.{AreTreeFindings};
+ghost use Rattle.tf_findings.specs.TreeFindings.{AreTreeFindings};
 ghost use Rattle.tf_reuse.specs.MembersKeep.{SameTokens};
 ghost use Rattle.tf_lint.specs.LintedMembers.{IsLintedMember, AreLintedMembers, IsNextMember};
 ghost use Rattle.tf_rules.specs.Findings.{valid_findings};
@@ -72,7 +72,7 @@ fn lint_member(
         ≡ valid_findings (length scanned.now.pairs) (top_level_member_findings rules scanned.now.pairs x.now)) }
 {
     let mut nodes = Vec::new(alloc);
-    tf_diagnostics::add_node_findings(scanned, rules, x, &mut nodes)?;
+    tf_findings::add_node_findings(scanned, rules, x, &mut nodes)?;
     let mut blocks = Vec::new(alloc);
     tf_rules::add_top_level_member_findings(scanned, rules, x, &mut blocks)?;
     let nodes = shrink(alloc, nodes)?;

@@ -11,7 +11,7 @@ ghost use Rattle.hcl_text_laws.specs.Parses.{Parses};
 ghost use Rattle.hcl_scan.specs.Follows.{tokens_of};
 ghost use Rattle.hcl_text_laws.specs.Faults.{IsMemory, IsMemoryOrDeep};
 ghost use Rattle.hcl_text_laws.specs.declared.fault.ParseFault.TheVariants.{Memory};
-ghost use Rattle.tf_diagnostics.specs.Findings.{AreNodeAndBlockFindings, AreFindings};
+ghost use Rattle.tf_findings.specs.Findings.{AreNodeAndBlockFindings, AreFindings};
 ghost use Rattle.tf_lint.specs.Inner.BodyFindings.{AreBodyFindings};
 ghost use Rattle.tf_lint.specs.LintedMembers.{AreLintedMembers};
 ghost use Rattle.tf_rules.specs.Findings.{AreValidFindings};
@@ -24,7 +24,7 @@ use hcl_text_laws::to_parse_fault;
 use hcl_token::Kind;
 use hcl_tree::{MAX_NESTING, ParseFault, Reader};
 use std::alloc::Global;
-use tf_diagnostics::complete_findings;
+use tf_findings::complete_findings;
 use tf_rules::{Finding, RuleSet};
 
 /// What the rules find in a text, and in each member of its body.
@@ -109,7 +109,7 @@ fn finish_body(
     }
 }
 
-/// What the rules of the set find in a text, if it parses, as `tf_diagnostics::findings` finds it
+/// What the rules of the set find in a text, if it parses, as `tf_findings::findings` finds it
 /// in its tree; or why it does not parse, as `hcl_tree::parse` says it.
 ///
 /// The text is read once, from left to right. Of its tree no more is kept at a time than one

@@ -7,7 +7,7 @@ use Rattle.hcl_token.specs.Tokens.{Pair}
 use Rattle.tf_rules.specs.NodeFindings.{node_findings}
 use Rattle.tf_rules.specs.Preorder as nodes
 use Rattle.tf_rules.specs.Preorder.{Node, IsPreorder, member}
-use Rattle.tf_diagnostics.specs.TreeFindings.{AreTreeFindings}
+use Rattle.tf_findings.specs.TreeFindings.{AreTreeFindings}
 use Rattle.tf_reuse.proofs.FoundNodes.{found_member}
 use Rattle.tf_reuse.proofs.RenumberedNodes.{MovedMember}
 use Rattle.tf_reuse.proofs.Window.{Here, Same}

@@ -3,7 +3,7 @@ use Rattle.std.specs.Prelude.{◌≡◌, ℕ, List, map, length}
 use Rattle.hcl_grammar.specs.declared.tree.Tree.{Tree}
 use Rattle.hcl_text_laws.specs.Parses.{Parses}
 use Rattle.tf_rules.specs.Preorder.{Node, member, IsPreorder}
-use Rattle.tf_diagnostics.specs.Findings.{all_findings}
+use Rattle.tf_findings.specs.Findings.{all_findings}
 use Rattle.tf_rules.specs.declared.rule_set.RuleSet.{RuleSet}
 use Rattle.tf_rules.specs.Findings.{valid_findings}
 

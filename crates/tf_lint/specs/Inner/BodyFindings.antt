@@ -4,7 +4,7 @@ use Rattle.hcl_grammar.specs.Pure.Reading.{Outcome}
 use Rattle.hcl_grammar.specs.declared.tree.Member.{Member}
 use Rattle.hcl_token.specs.Tokens.{Pair}
 use Rattle.tf_rules.specs.Preorder.{member}
-use Rattle.tf_diagnostics.specs.TreeFindings.{AreTreeFindings}
+use Rattle.tf_findings.specs.TreeFindings.{AreTreeFindings}
 use Rattle.tf_lint.specs.LintedMembers.{AreLintedMembers}
 use Rattle.tf_lint.specs.declared.body.BodyFindings.{BodyFindings}
 use Rattle.tf_rules.specs.Findings.{valid_findings}

@@ -1,6 +1,6 @@
 use Rattle.std.proofs.Common.{◌≡◌, ◌≤◌, ◌++◌, length, drop, filter}
 use Rattle.std.specs.List.{flat_map}
-use Rattle.tf_diagnostics.specs.RuleFilter.{is_found_by}
+use Rattle.tf_findings.specs.RuleFilter.{is_found_by}
 use Rattle.tf_fix.specs.Inner.Views.{replacements, CanInsertAll}
 use Rattle.tf_fix.specs.FindingReplacements.{finding_replacements, step_replacements}
 use Rattle.tf_rules.specs.Findings.{AreValidFindings}

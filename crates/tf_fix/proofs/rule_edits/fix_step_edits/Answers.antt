@@ -1,6 +1,6 @@
 use Rattle.std.proofs.Common.{filter, sym, inr, refl, subst}
 use Rattle.edit_record.specs.Lists.Pieces.{EditList, Transforms}
-use Rattle.tf_diagnostics.specs.RuleFilter.{is_found_by}
+use Rattle.tf_findings.specs.RuleFilter.{is_found_by}
 use Rattle.tf_fix.specs.StepText.{fix_step_text}
 use Rattle.tf_fix.specs.StepEdits.{fix_step_entries}
 use Rattle.tf_fix.proofs.NonemptyLemmas.{cut_nonempty}

@@ -1,5 +1,5 @@
 use Rattle.std.proofs.Common.{filter}
-use Rattle.tf_diagnostics.specs.RuleFilter.{is_found_by}
+use Rattle.tf_findings.specs.RuleFilter.{is_found_by}
 use Rattle.tf_fix.proofs.SelectionLemmas.{step_order}
 use Rattle.tf_fix.proofs.rule_edits.fix_step_entries.Goals as goal
 

@@ -1,5 +1,5 @@
 use Rattle.std.proofs.Common.{◌≡◌, ◌+◌, ◌≤◌, length, drop, filter}
-use Rattle.tf_diagnostics.specs.RuleFilter.{is_found_by}
+use Rattle.tf_findings.specs.RuleFilter.{is_found_by}
 use Rattle.tf_fix.specs.Selection.{selected_from, selected}
 use Rattle.tf_fix.proofs.selection.selected_count.Given as goal
 

@@ -3,7 +3,7 @@ use Rattle.hcl_grammar.specs.declared.bounds.TheConstants.{MAX_NESTING}
 use Rattle.hcl_scan.specs.Follows.{tokens_of}
 use Rattle.hcl_text_laws.proofs.OwnTokens.{own_tokens}
 use Rattle.hcl_tree.proofs.FaultLemmas.{memory_to_parse_fault, deep_to_parse_fault}
-use Rattle.tf_diagnostics.specs.Findings.{AreFindings}
+use Rattle.tf_findings.specs.Findings.{AreFindings}
 use Rattle.tf_lint.specs.declared.text_findings.TextFindings.{TextFindings}
 use Rattle.tf_lint.proofs.FileLemmas.{if_ok}
 use Rattle.tf_lint.proofs.text_findings.lint_tokens.Goals as goal

@@ -1,5 +1,0 @@
-use Rattle.tf_diagnostics.proofs.TreeLaws.{one_tree}
-use Rattle.tf_diagnostics.proofs.laws.preorder_is_unique.Goals as goal
-
-pub returns : goal.returns
-returns c = λ ns xs ys a b. one_tree a b

@@ -1,7 +1,0 @@
--- What the check tries anyway: with an answer here, a wrong body is refused without a second search.
-use Rattle.std.proofs.Common.{rules, arith}
-use Rattle.std.proofs.lemmas.Grind.{common_steps}
-use Rattle.tf_diagnostics.proofs.order.order.Goals as goal
-
-pub returns : goal.returns
-returns c = first_of (search rules, grind (arith, common_steps))

@@ -1,0 +1,109 @@
+use Rattle.std.proofs.Common.{false, [], ◌∷◌, ◌+◌, drop, map, refl, sym, ap, append-nil}
+use Rattle.std.specs.List.{flat_map}
+use Rattle.hcl_grammar.specs.declared.tree.Operation.{Operation}
+use Rattle.tf_rules.specs.declared.role.Role.TheVariants as role
+use Rattle.tf_rules.specs.Preorder.{expr, term, part, tail, elem_children, expr_kind_children, primary_children, tail_children, part_children, filter_children, else_children, nodes_of_tails}
+use Rattle.tf_findings.proofs.WalkLemmas.{joined, whole, nowhere, among, turn, finished}
+use Rattle.tf_findings.proofs.TreeLayers.{is-Conditional, is-Chain, is-Tailed, is-Number, is-Identifier, is-Literal, is-Name, is-Legacy, is-AttributeSplat, is-FullSplat}
+use Rattle.tf_findings.proofs.expressions.+expressions.Goals as goal
+
+pub walk_expr-returns : goal.walk_expr-returns
+walk_expr-returns t c = whole _ c.in_ok-check_expr.ensures c.in_ok-walk_expr_kind.ensures
+
+pub walk_term-returns : goal.walk_term-returns
+walk_term-returns t c = whole _ c.in_ok-check_term.ensures c.in_ok-walk_primary.ensures
+
+pub walk_tail-returns : goal.walk_tail-returns
+walk_tail-returns t c = whole _ c.in_ok-check_tail.ensures c.in_ok-walk_tail_children.ensures
+
+pub walk_for_directive-returns : goal.walk_for_directive-returns
+walk_for_directive-returns t c = joined c.in_ok-walk_expr.ensures c.in_ok-walk_parts.ensures
+
+pub walk_for_tuple-returns : goal.walk_for_tuple-returns
+walk_for_tuple-returns t c = joined c.in_ok-walk_expr.ensures (joined c.in_ok-walk_expr-2.ensures c.in_ok-walk_filter.ensures)
+
+pub walk_for_object-returns : goal.walk_for_object-returns
+walk_for_object-returns t c = joined c.in_ok-walk_expr.ensures (joined c.in_ok-walk_expr-2.ensures (joined c.in_ok-walk_expr-3.ensures c.in_ok-walk_filter.ensures))
+
+pub walk_if_directive-returns : goal.walk_if_directive-returns
+walk_if_directive-returns t c = joined c.in_ok-walk_expr.ensures (joined c.in_ok-walk_parts.ensures c.in_ok-walk_else_branch.ensures)
+
+pub walk_elems-loop-x-preserved : goal.walk_elems-loop-x-preserved
+walk_elems-loop-x-preserved t c =
+    turn (flat_map elem_children) _ c.loop-x.x-index c.x-item.result _ _ c.x-item.is c.loop-x-test.true refl c.loop-x.invariant (joined c.in_ok-walk_expr.ensures c.in_ok-walk_expr-2.ensures)
+
+pub walk_exprs-loop-e-preserved : goal.walk_exprs-loop-e-preserved
+walk_exprs-loop-e-preserved t c =
+    turn (map (expr c.args.role)) _ c.loop-e.e-index c.e-item.result _ _ c.e-item.is c.loop-e-test.true refl c.loop-e.invariant c.in_ok-walk_expr.ensures
+
+pub walk_operations-loop-link-preserved : goal.walk_operations-loop-link-preserved
+walk_operations-loop-link-preserved t c =
+    turn (map (λ (x : Operation). expr role.Elsewhere x.operand)) _ c.loop-link.link-index c.link-item.result _ _ c.link-item.is c.loop-link-test.true refl c.loop-link.invariant
+    c.in_ok-walk_expr.ensures
+
+pub walk_parts-loop-x-preserved : goal.walk_parts-loop-x-preserved
+walk_parts-loop-x-preserved t c = turn (map part) _ c.loop-x.x-index c.x-item.result _ _ c.x-item.is c.loop-x-test.true refl c.loop-x.invariant (whole (part c.x-item.result) (sym (append-nil _)) c.in_ok-walk_part.ensures)
+
+pub walk_tails-loop-t-preserved : goal.walk_tails-loop-t-preserved
+walk_tails-loop-t-preserved t c =
+    turn (nodes_of_tails c.loop-t.splat) c.as_slice-t-items.result.now c.loop-t.t-index c.t-item.result (tail c.loop-t.splat c.t-item.result ∷ []) _ c.t-item.is c.loop-t-test.true
+    (ap (λ s. tail c.loop-t.splat c.t-item.result ∷ nodes_of_tails s (drop (c.loop-t.t-index + 1) c.as_slice-t-items.result.now)) (sym c.splat_after-splat.ensures))
+    c.loop-t.invariant c.in_ok-walk_tail.ensures
+
+pub walk_elems-returns : goal.walk_elems-returns
+walk_elems-returns t c = finished (flat_map elem_children) _ c.loop-x.x-index c.loop-x-test.false refl c.loop-x.invariant
+
+pub walk_exprs-returns : goal.walk_exprs-returns
+walk_exprs-returns t c = finished (map (expr c.args.role)) _ c.loop-e.e-index c.loop-e-test.false refl c.loop-e.invariant
+
+pub walk_operations-returns : goal.walk_operations-returns
+walk_operations-returns t c = finished (map (λ (x : Operation). expr role.Elsewhere x.operand)) _ c.loop-link.link-index c.loop-link-test.false refl c.loop-link.invariant
+
+pub walk_parts-returns : goal.walk_parts-returns
+walk_parts-returns t c = finished (map part) _ c.loop-x.x-index c.loop-x-test.false refl c.loop-x.invariant
+
+pub walk_tails-returns : goal.walk_tails-returns
+walk_tails-returns t c = finished (nodes_of_tails c.loop-t.splat) _ c.loop-t.t-index c.loop-t-test.false refl c.loop-t.invariant
+
+pub walk_expr_kind-returns-in_ok-walk_boxed-in-Conditional-3 : goal.walk_expr_kind-returns-in_ok-walk_boxed-in-Conditional-3
+walk_expr_kind-returns-in_ok-walk_boxed-in-Conditional-3 t c =
+    among (ap (expr_kind_children c.args.role) (is-Conditional c.in-Conditional.is))
+    (joined c.in_ok-walk_boxed-in-Conditional.ensures (joined c.in_ok-walk_boxed-in-Conditional-2.ensures c.in_ok-walk_boxed-in-Conditional-3.ensures))
+
+pub walk_expr_kind-returns-in_ok-walk_operations-in-Binary : goal.walk_expr_kind-returns-in_ok-walk_operations-in-Binary
+walk_expr_kind-returns-in_ok-walk_operations-in-Binary t c =
+    among (ap (expr_kind_children c.args.role) (is-Chain c.in-Binary.is))
+    (joined c.in_ok-walk_boxed-in-Binary.ensures (among (ap (map (λ (x : Operation). expr role.Elsewhere x.operand)) (sym c.get.ensures)) c.in_ok-walk_operations-in-Binary.ensures))
+
+pub walk_expr_kind-returns-in_ok-walk_tails-in-Postfix : goal.walk_expr_kind-returns-in_ok-walk_tails-in-Postfix
+walk_expr_kind-returns-in_ok-walk_tails-in-Postfix t c =
+    among (ap (expr_kind_children c.args.role) (is-Tailed c.in-Postfix.is))
+    (joined (among (ap (λ x. term role.Elsewhere x ∷ []) (sym c.get-in-Postfix.ensures)) c.in_ok-walk_term-in-Postfix.ensures)
+    (among (ap (nodes_of_tails false) (sym c.get-in-Postfix-2.ensures)) c.in_ok-walk_tails-in-Postfix.ensures))
+
+pub walk_primary-returns-in-Number : goal.walk_primary-returns-in-Number
+walk_primary-returns-in-Number t c = nowhere (ap primary_children (is-Number c.in-Number.is))
+
+pub walk_primary-returns-in-Identifier : goal.walk_primary-returns-in-Identifier
+walk_primary-returns-in-Identifier t c = nowhere (ap primary_children (is-Identifier c.in-Identifier.is))
+
+pub walk_part-returns-in-Literal : goal.walk_part-returns-in-Literal
+walk_part-returns-in-Literal t c = nowhere (ap part_children (is-Literal c.in-Literal.is))
+
+pub walk_tail_children-returns-in-Name : goal.walk_tail_children-returns-in-Name
+walk_tail_children-returns-in-Name t c = nowhere (ap tail_children (is-Name c.in-Name.is))
+
+pub walk_tail_children-returns-in-LegacyIndex : goal.walk_tail_children-returns-in-LegacyIndex
+walk_tail_children-returns-in-LegacyIndex t c = nowhere (ap tail_children (is-Legacy c.in-LegacyIndex.is))
+
+pub walk_tail_children-returns-in-AttributeSplat : goal.walk_tail_children-returns-in-AttributeSplat
+walk_tail_children-returns-in-AttributeSplat t c = nowhere (ap tail_children (is-AttributeSplat c.in-AttributeSplat.is))
+
+pub walk_tail_children-returns-in-FullSplat : goal.walk_tail_children-returns-in-FullSplat
+walk_tail_children-returns-in-FullSplat t c = nowhere (ap tail_children (is-FullSplat c.in-FullSplat.is))
+
+pub walk_filter-returns-in-None : goal.walk_filter-returns-in-None
+walk_filter-returns-in-None t c = nowhere (ap filter_children c.in-None.is)
+
+pub walk_else_branch-returns-in-None : goal.walk_else_branch-returns-in-None
+walk_else_branch-returns-in-None t c = nowhere (ap else_children c.in-None.is)

@@ -1,0 +1,82 @@
+-- What a comment says that silences rules, as `# tflint-ignore: terraform_deprecated_index,
+-- terraform_typed_variables # why`.
+-- TFLint, Annotations.
+use Rattle.std.specs.Prelude.{ℕ, ◌-◌, nat_le, nat_lt, not, ◌&&◌, ◌||◌, ◌==◌, Bool, List, [], ◌∷◌, take, drop, length, slice_index, codes, if◌then◌else◌}
+use Rattle.std.specs.List.{prefix_len, list_all, list_any}
+use Rattle.std.specs.Str.{bytes_eq}
+use Rattle.hcl_token.specs.declared.kind.Kind.{Kind}
+use Rattle.hcl_token.specs.declared.kind.Kind.TheVariants.{LineComment, InlineComment}
+use Rattle.tf_rules.specs.declared.rule.Rule.{Rule}
+use Rattle.tf_rules.specs.Table.{name_of}
+use Rattle.tf_findings.specs.declared.silencing.class.ByteClass.{ByteClass}
+use Rattle.tf_findings.specs.declared.silencing.class.ByteClass.TheVariants.{Whitespace, NameByte, NotComma, NotHash}
+
+-- a space or a tab; an ASCII letter, a digit, `_` or `-`; anything but a comma; anything but `#`
+abbrev pub is_in_class : ByteClass → ℕ → Bool
+is_in_class Whitespace b = b == 32 || b == 9
+is_in_class NameByte b = (nat_le 97 b && nat_le b 122)
+    || ((nat_le 65 b && nat_le b 90) || ((nat_le 48 b && nat_le b 57) || (b == 95 || b == 45)))
+is_in_class NotComma b = not (b == 44)
+is_in_class NotHash b = not (b == 35)
+
+-- how many bytes at the front are of the class
+abbrev pub class_prefix_len : ByteClass → List ℕ → ℕ
+class_prefix_len class = prefix_len (is_in_class class)
+
+abbrev pub skip_whitespace : List ℕ → List ℕ
+skip_whitespace t = drop (class_prefix_len Whitespace t) t
+
+abbrev pub is_all_whitespace : List ℕ → Bool
+is_all_whitespace t = class_prefix_len Whitespace t == length t
+
+abbrev pub ends_in_whitespace : List ℕ → Bool
+ends_in_whitespace t = nat_lt 0 (length t) && is_in_class Whitespace (slice_index t (length t - 1))
+
+abbrev pub cons_to_first : ℕ → List (List ℕ) → List (List ℕ)
+cons_to_first b [] = []
+cons_to_first b (p ∷ ps) = (b ∷ p) ∷ ps
+
+-- the parts of a text between its commas
+abbrev pub split_commas : List ℕ → List (List ℕ)
+split_commas [] = [] ∷ []
+split_commas (b ∷ bs) = if b == 44 then [] ∷ split_commas bs else cons_to_first b (split_commas bs)
+
+-- the name at the front of a part, behind blanks
+abbrev pub leading_name : List ℕ → List ℕ
+leading_name part = take (class_prefix_len NameByte (skip_whitespace part)) (skip_whitespace part)
+
+-- whether a part is a name with any blanks round it
+abbrev pub is_name : List ℕ → Bool
+is_name part = nat_lt 0 (class_prefix_len NameByte (skip_whitespace part))
+    && is_all_whitespace (drop (class_prefix_len NameByte (skip_whitespace part)) (skip_whitespace part))
+
+-- whether a part names the rule, or all
+abbrev pub names_rule : Rule → List ℕ → Bool
+names_rule rule part = bytes_eq (leading_name part) (name_of rule) || bytes_eq (leading_name part) (codes "all")
+
+-- what stands before the first `#`
+abbrev pub list_part : List ℕ → List ℕ
+list_part t = take (class_prefix_len NotHash t) t
+
+-- Behind the word: names parted by commas, of which one means the rule. A reason behind `#` has at
+-- least one blank before it.
+abbrev pub list_names : Rule → List ℕ → Bool
+list_names rule t =
+    (class_prefix_len NotHash t == length t || ends_in_whitespace (list_part t))
+    && (list_all is_name (split_commas (list_part t)) && list_any (names_rule rule) (split_commas (list_part t)))
+
+-- what a comment holds says it: blanks, the word `tflint-ignore:`, and the list
+abbrev pub body_silences : Rule → List ℕ → Bool
+body_silences rule t = bytes_eq (take 14 (skip_whitespace t)) (codes "tflint-ignore:")
+    && list_names rule (drop 14 (skip_whitespace t))
+
+-- a comment without what opens and closes it; other tokens hold nothing
+abbrev pub comment_body : Kind → List ℕ → List ℕ
+comment_body LineComment spelling =
+    if slice_index spelling 0 == 35 then drop 1 spelling else drop 2 spelling
+comment_body InlineComment spelling = take (length spelling - 4) (drop 2 spelling)
+comment_body _ spelling = []
+
+-- whether a token is a comment that silences the rule
+abbrev pub silences : Kind → List ℕ → Rule → Bool
+silences kind spelling rule = body_silences rule (comment_body kind spelling)

@@ -1,0 +1,372 @@
+//! The walk over expressions and templates.
+
+ghost use Rattle.std.specs.Prelude.{◌≡◌, [], ◌∷◌, map, false, OnOk};
+ghost use Rattle.std.specs.List.{flat_map};
+ghost use Rattle.hcl_grammar.specs.declared.tree.ExprKind.{out-ExprKind};
+ghost use Rattle.hcl_grammar.specs.declared.tree.Operation.{Operation};
+ghost use Rattle.hcl_grammar.specs.declared.tree.Primary.{out-Primary};
+ghost use Rattle.hcl_grammar.specs.declared.tree.Tail.{out-Tail};
+ghost use Rattle.hcl_grammar.specs.declared.tree.Part.{out-Part};
+ghost use Rattle.tf_rules.specs.declared.role.Role.TheVariants as role;
+ghost use Rattle.tf_findings.specs.Inner.Collects.{Collects};
+ghost use Rattle.tf_rules.specs.Preorder.{Node, expr, term, tail, part, elem_children, expr_kind_children, primary_children, nodes_of_tails, filter_children, else_children, part_children, for_tuple_children, for_object_children, if_children, splat_after, tail_children};
+
+use hcl_grammar::tree::{
+    Elem, Expr, ExprKind, ForDirective, ForObject, ForTuple, IfDirective, Operation, Part, Primary,
+    Tail, Template, Term,
+};
+use hcl_grammar::{Boxed, Items};
+use std::alloc::AllocError;
+use tf_rules::{Finding, LintContext, Role, check_expr, check_tail, check_term};
+
+#[cycle(expressions)]
+pub fn walk_expr(
+    cx: &LintContext<'_, '_>,
+    role: Role,
+    e: &Expr,
+    found: &mut Vec<Finding>,
+) -> Result<(), AllocError>
+    ensures { OnOk result
+        (Collects cx.now.rules cx.now.scanned.now.pairs
+        (expr role e.now ∷ []) found.old.items found.new.items) }
+{
+    check_expr(cx, role, e, found)?;
+    walk_expr_kind(cx, role, &e.kind, found)?;
+    Ok(())
+}
+
+#[cycle(expressions)]
+fn walk_expr_kind(
+    cx: &LintContext<'_, '_>,
+    role: Role,
+    kind: &ExprKind,
+    found: &mut Vec<Finding>,
+) -> Result<(), AllocError>
+    ensures { OnOk result
+        (Collects cx.now.rules cx.now.scanned.now.pairs
+        (expr_kind_children role (out-ExprKind kind.now)) found.old.items found.new.items) }
+{
+    match kind {
+        ExprKind::Conditional(c, then_branch, else_branch) => {
+            walk_boxed(cx, Role::Elsewhere, c, found)?;
+            walk_boxed(cx, Role::Elsewhere, then_branch, found)?;
+            walk_boxed(cx, Role::Elsewhere, else_branch, found)?;
+            Ok(())
+        }
+        ExprKind::Binary(head, rest) => {
+            walk_boxed(cx, Role::Elsewhere, head, found)?;
+            walk_operations(cx, rest.get(), found)?;
+            Ok(())
+        }
+        ExprKind::Unary(_, operand) => {
+            walk_boxed(cx, Role::Elsewhere, operand, found)?;
+            Ok(())
+        }
+        ExprKind::Postfix(t, other_tails) => {
+            walk_term(cx, Role::Elsewhere, t.get(), found)?;
+            walk_tails(cx, other_tails.get(), found)?;
+            Ok(())
+        }
+        ExprKind::Term(t) => {
+            walk_term(cx, role, t, found)?;
+            Ok(())
+        }
+    }
+}
+
+#[cycle(expressions)]
+fn walk_boxed(
+    cx: &LintContext<'_, '_>,
+    role: Role,
+    e: &Boxed<Expr>,
+    found: &mut Vec<Finding>,
+) -> Result<(), AllocError>
+    ensures { OnOk result
+        (Collects cx.now.rules cx.now.scanned.now.pairs
+        (expr role e.now ∷ []) found.old.items found.new.items) }
+{
+    walk_expr(cx, role, e.get(), found)
+}
+
+#[cycle(expressions)]
+fn walk_operations(
+    cx: &LintContext<'_, '_>,
+    operations: &Items<Operation>,
+    found: &mut Vec<Finding>,
+) -> Result<(), AllocError>
+    ensures { OnOk result
+        (Collects cx.now.rules cx.now.scanned.now.pairs
+        (map (λ (l : Operation). expr role.Elsewhere l.operand) operations.now) found.old.items
+        found.new.items) }
+{
+    for link in operations.as_slice() {
+        walk_expr(cx, Role::Elsewhere, &link.operand, found)?;
+    }
+    Ok(())
+}
+
+#[cycle(expressions)]
+fn walk_tails(
+    cx: &LintContext<'_, '_>,
+    tails: &Items<Tail>,
+    found: &mut Vec<Finding>,
+) -> Result<(), AllocError>
+    ensures { OnOk result
+        (Collects cx.now.rules cx.now.scanned.now.pairs
+        (nodes_of_tails false tails.now) found.old.items found.new.items) }
+{
+    let mut splat = false;
+    for t in tails.as_slice() {
+        walk_tail(cx, splat, t, found)?;
+        splat = splat_after(splat, t);
+    }
+    Ok(())
+}
+
+#[cycle(expressions)]
+fn walk_tail(
+    cx: &LintContext<'_, '_>,
+    splat: bool,
+    t: &Tail,
+    found: &mut Vec<Finding>,
+) -> Result<(), AllocError>
+    ensures { OnOk result
+        (Collects cx.now.rules cx.now.scanned.now.pairs
+        (tail splat t.now ∷ []) found.old.items found.new.items) }
+{
+    check_tail(cx, splat, t, found)?;
+    walk_tail_children(cx, t, found)?;
+    Ok(())
+}
+
+#[cycle(expressions)]
+fn walk_tail_children(
+    cx: &LintContext<'_, '_>,
+    t: &Tail,
+    found: &mut Vec<Finding>,
+) -> Result<(), AllocError>
+    ensures { OnOk result
+        (Collects cx.now.rules cx.now.scanned.now.pairs
+        (tail_children (out-Tail t.now)) found.old.items found.new.items) }
+{
+    match t {
+        Tail::Name(_) => Ok(()),
+        Tail::LegacyIndex(_) => Ok(()),
+        Tail::AttributeSplat => Ok(()),
+        Tail::FullSplat => Ok(()),
+        Tail::Index(e) => walk_boxed(cx, Role::Index, e, found),
+    }
+}
+
+#[cycle(expressions)]
+fn walk_exprs(
+    cx: &LintContext<'_, '_>,
+    role: Role,
+    es: &Items<Expr>,
+    found: &mut Vec<Finding>,
+) -> Result<(), AllocError>
+    ensures { OnOk result
+        (Collects cx.now.rules cx.now.scanned.now.pairs
+        (map (expr role) es.now) found.old.items found.new.items) }
+{
+    for e in es.as_slice() {
+        walk_expr(cx, role, e, found)?;
+    }
+    Ok(())
+}
+
+#[cycle(expressions)]
+fn walk_elems(
+    cx: &LintContext<'_, '_>,
+    xs: &Items<Elem>,
+    found: &mut Vec<Finding>,
+) -> Result<(), AllocError>
+    ensures { OnOk result
+        (Collects cx.now.rules cx.now.scanned.now.pairs
+        (flat_map elem_children xs.now) found.old.items found.new.items) }
+{
+    for x in xs.as_slice() {
+        walk_expr(cx, Role::ObjectKey, &x.key, found)?;
+        walk_expr(cx, Role::ObjectValue, &x.value, found)?;
+    }
+    Ok(())
+}
+
+#[cycle(expressions)]
+fn walk_filter(
+    cx: &LintContext<'_, '_>,
+    filter: &Option<Boxed<Expr>>,
+    found: &mut Vec<Finding>,
+) -> Result<(), AllocError>
+    ensures { OnOk result
+        (Collects cx.now.rules cx.now.scanned.now.pairs
+        (filter_children filter.now) found.old.items found.new.items) }
+{
+    match filter {
+        Some(e) => walk_expr(cx, Role::Elsewhere, e.get(), found),
+        None => Ok(()),
+    }
+}
+
+#[cycle(expressions)]
+fn walk_term(
+    cx: &LintContext<'_, '_>,
+    role: Role,
+    t: &Term,
+    found: &mut Vec<Finding>,
+) -> Result<(), AllocError>
+    ensures { OnOk result
+        (Collects cx.now.rules cx.now.scanned.now.pairs
+        (term role t.now ∷ []) found.old.items found.new.items) }
+{
+    check_term(cx, role, t, found)?;
+    walk_primary(cx, &t.kind, found)?;
+    Ok(())
+}
+
+#[cycle(expressions)]
+fn walk_primary(
+    cx: &LintContext<'_, '_>,
+    primary: &Primary,
+    found: &mut Vec<Finding>,
+) -> Result<(), AllocError>
+    ensures { OnOk result
+        (Collects cx.now.rules cx.now.scanned.now.pairs
+        (primary_children (out-Primary primary.now)) found.old.items found.new.items) }
+{
+    match primary {
+        Primary::Number => Ok(()),
+        Primary::Identifier => Ok(()),
+        Primary::Call(c) => walk_exprs(cx, Role::Argument, &c.get().arguments, found),
+        Primary::Tuple(es) => walk_exprs(cx, Role::Element, es.get(), found),
+        Primary::Object(xs) => walk_elems(cx, xs.get(), found),
+        Primary::ForTuple(f) => walk_for_tuple(cx, f.get(), found),
+        Primary::ForObject(f) => walk_for_object(cx, f.get(), found),
+        Primary::Quoted(t) => walk_parts(cx, &t.get().parts, found),
+        Primary::Heredoc(t) => walk_parts(cx, &t.get().parts, found),
+        Primary::Parens(e) => walk_boxed(cx, Role::Parentheses, e, found),
+    }
+}
+
+#[cycle(expressions)]
+fn walk_for_tuple(
+    cx: &LintContext<'_, '_>,
+    f: &ForTuple,
+    found: &mut Vec<Finding>,
+) -> Result<(), AllocError>
+    ensures { OnOk result
+        (Collects cx.now.rules cx.now.scanned.now.pairs
+        (for_tuple_children f.now) found.old.items found.new.items) }
+{
+    walk_expr(cx, Role::Elsewhere, &f.intro.collection, found)?;
+    walk_expr(cx, Role::Elsewhere, &f.value, found)?;
+    walk_filter(cx, &f.filter, found)?;
+    Ok(())
+}
+
+#[cycle(expressions)]
+fn walk_for_object(
+    cx: &LintContext<'_, '_>,
+    f: &ForObject,
+    found: &mut Vec<Finding>,
+) -> Result<(), AllocError>
+    ensures { OnOk result
+        (Collects cx.now.rules cx.now.scanned.now.pairs
+        (for_object_children f.now) found.old.items found.new.items) }
+{
+    walk_expr(cx, Role::Elsewhere, &f.intro.collection, found)?;
+    walk_expr(cx, Role::Elsewhere, &f.key, found)?;
+    walk_expr(cx, Role::Elsewhere, &f.value, found)?;
+    walk_filter(cx, &f.filter, found)?;
+    Ok(())
+}
+
+#[cycle(expressions)]
+fn walk_parts(
+    cx: &LintContext<'_, '_>,
+    parts: &Items<Part>,
+    found: &mut Vec<Finding>,
+) -> Result<(), AllocError>
+    ensures { OnOk result
+        (Collects cx.now.rules cx.now.scanned.now.pairs
+        (map part parts.now) found.old.items found.new.items) }
+{
+    for x in parts.as_slice() {
+        walk_part(cx, x, found)?;
+    }
+    Ok(())
+}
+
+#[cycle(expressions)]
+fn walk_part(cx: &LintContext<'_, '_>, x: &Part, found: &mut Vec<Finding>) -> Result<(), AllocError>
+    ensures { OnOk result
+        (Collects cx.now.rules cx.now.scanned.now.pairs
+        (part_children (out-Part x.now)) found.old.items found.new.items) }
+{
+    match x {
+        Part::Literal(_) => Ok(()),
+        Part::Interp(e) => walk_boxed(cx, Role::Interpolation, e, found),
+        Part::If(d) => walk_if_directive(cx, d.get(), found),
+        Part::For(d) => walk_for_directive(cx, d.get(), found),
+    }
+}
+
+#[cycle(expressions)]
+fn walk_if_directive(
+    cx: &LintContext<'_, '_>,
+    d: &IfDirective,
+    found: &mut Vec<Finding>,
+) -> Result<(), AllocError>
+    ensures { OnOk result
+        (Collects cx.now.rules cx.now.scanned.now.pairs
+        (if_children d.now) found.old.items found.new.items) }
+{
+    walk_expr(cx, Role::Elsewhere, &d.condition, found)?;
+    walk_parts(cx, &d.then_branch.parts, found)?;
+    walk_else_branch(cx, &d.else_branch, found)?;
+    Ok(())
+}
+
+#[cycle(expressions)]
+fn walk_else_branch(
+    cx: &LintContext<'_, '_>,
+    else_branch: &Option<Template>,
+    found: &mut Vec<Finding>,
+) -> Result<(), AllocError>
+    ensures { OnOk result
+        (Collects cx.now.rules cx.now.scanned.now.pairs
+        (else_children else_branch.now) found.old.items found.new.items) }
+{
+    match else_branch {
+        Some(t) => walk_parts(cx, &t.parts, found),
+        None => Ok(()),
+    }
+}
+
+#[cycle(expressions)]
+fn walk_for_directive(
+    cx: &LintContext<'_, '_>,
+    d: &ForDirective,
+    found: &mut Vec<Finding>,
+) -> Result<(), AllocError>
+    ensures { OnOk result
+        (Collects cx.now.rules cx.now.scanned.now.pairs
+        (expr role.Elsewhere d.now.intro.collection
+        ∷ map part d.now.body.parts) found.old.items found.new.items) }
+{
+    walk_expr(cx, Role::Elsewhere, &d.intro.collection, found)?;
+    walk_parts(cx, &d.body.parts, found)?;
+    Ok(())
+}
+
+fn splat_after(splat: bool, tail: &Tail) -> bool
+    ensures { result ≡ splat_after splat (out-Tail tail.now) }
+{
+    match tail {
+        Tail::Name(_) => splat,
+        Tail::LegacyIndex(_) => splat,
+        Tail::AttributeSplat => true,
+        Tail::FullSplat => false,
+        Tail::Index(_) => false,
+    }
+}

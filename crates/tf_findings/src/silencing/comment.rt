@@ -1,0 +1,169 @@
+//! What a comment silences.
+
+ghost use Rattle.std.specs.Prelude.{◌≡◌, ◌==◌, ◌&&◌, ◌||◌, ◌<◌, ◌≤◌, ◌+◌, ℕ, List, false, length, take, drop, codes};
+ghost use Rattle.std.specs.List.{list_all, list_any};
+ghost use Rattle.std.specs.Str.{bytes_eq};
+ghost use Rattle.tf_rules.specs.declared.rule.Rule.{Rule};
+ghost use Rattle.tf_rules.specs.RuleSets.{has_rule};
+ghost use Rattle.tf_rules.specs.Rules.CommentSyntax.{is_line_comment};
+ghost use Rattle.tf_findings.specs.Comments.{skip_whitespace, is_all_whitespace, ends_in_whitespace, split_commas, leading_name, is_name, names_rule, list_names, body_silences, comment_body, silences};
+ghost use Rattle.tf_findings.specs.Inner.Annotations.{option_has};
+
+use crate::silencing::class::{ByteClass, class_prefix_len, is_in_class};
+use hcl_token::Kind;
+use tf_rules::RuleSet;
+
+fn skip_whitespace(t: &[u8]) -> &[u8]
+    ensures { result.now ≡ skip_whitespace t.now }
+{
+    &t[class_prefix_len(ByteClass::Whitespace, t)..]
+}
+
+fn is_all_whitespace(t: &[u8]) -> bool
+    ensures { result ≡ is_all_whitespace t.now }
+{
+    class_prefix_len(ByteClass::Whitespace, t) == t.len()
+}
+
+fn ends_in_whitespace(t: &[u8]) -> bool
+    ensures { result ≡ ends_in_whitespace t.now }
+{
+    !t.is_empty() && is_in_class(ByteClass::Whitespace, t[t.len() - 1])
+}
+
+fn leading_name(part: &[u8]) -> &[u8]
+    ensures { result.now ≡ leading_name part.now }
+{
+    let trimmed = skip_whitespace(part);
+    &trimmed[..class_prefix_len(ByteClass::NameByte, trimmed)]
+}
+
+fn is_name(part: &[u8]) -> bool
+    ensures { result ≡ is_name part.now }
+{
+    let trimmed = skip_whitespace(part);
+    let n = class_prefix_len(ByteClass::NameByte, trimmed);
+    n > 0 && is_all_whitespace(&trimmed[n..])
+}
+
+fn is_all(name: &[u8]) -> bool
+    ensures { result ≡ bytes_eq name.now (codes "all") }
+{
+    name == b"all".as_slice()
+}
+
+/// The rules that a part names.
+fn item_rules(part: &[u8]) -> RuleSet
+    ensures { (rule : Rule) → has_rule result rule ≡ names_rule rule part.now }
+{
+    let name = leading_name(part);
+    if is_all(name) {
+        return RuleSet::all();
+    }
+    RuleSet::from_name(name)
+}
+
+/// The rules that are named between commas; none where one part is no name.
+fn listed_rules(t: &[u8]) -> Option<RuleSet>
+    ensures { (rule : Rule)
+        → option_has result rule
+        ≡ (list_all is_name (split_commas t.now) && list_any (names_rule rule) (split_commas t.now)) }
+{
+    let mut rest = t;
+    let mut rules = RuleSet::none();
+    loop {
+        let n = class_prefix_len(ByteClass::NotComma, rest);
+        let part = first_bytes(rest, n);
+        if !is_name(part) {
+            return None;
+        }
+        rules = rules.union(item_rules(part));
+        if n >= rest.len() {
+            return Some(rules);
+        }
+        rest = after_separator(rest, n);
+    }
+}
+
+fn first_bytes(t: &[u8], n: usize) -> &[u8]
+    requires { n ≤ length t.now }
+    ensures { result.now ≡ take n t.now }
+{
+    &t[..n]
+}
+
+fn after_separator(t: &[u8], n: usize) -> &[u8]
+    requires { n < length t.now }
+    ensures value { result.now ≡ drop (n + 1) t.now }
+    ensures less { length result.now < length t.now }
+{
+    &t[n + 1..]
+}
+
+/// The rules of the list behind the word, up to the reason behind `#`, if there is one.
+fn list_rules(t: &[u8]) -> Option<RuleSet>
+    ensures { (rule : Rule) → option_has result rule ≡ list_names rule t.now }
+{
+    let n = class_prefix_len(ByteClass::NotHash, t);
+    let listing = first_bytes(t, n);
+    if n == t.len() || ends_in_whitespace(listing) {
+        return listed_rules(listing);
+    }
+    None
+}
+
+fn body_rules(t: &[u8]) -> Option<RuleSet>
+    ensures { (rule : Rule) → option_has result rule ≡ body_silences rule t.now }
+{
+    match skip_whitespace(t).strip_prefix(b"tflint-ignore:".as_slice()) {
+        Some(rest) => list_rules(rest),
+        None => None,
+    }
+}
+
+/// A comment without what opens and closes it; nothing for other tokens.
+fn comment_body(kind: Kind, spelling: &[u8]) -> &[u8]
+    ensures { result.now ≡ comment_body kind spelling.now }
+{
+    match kind {
+        Kind::LineComment => {
+            if !spelling.is_empty() && spelling[0] == b'#' {
+                return &spelling[1..];
+            }
+            &spelling[spelling.len().min(2)..]
+        }
+        Kind::InlineComment => {
+            if spelling.len() < 4 {
+                return b"";
+            }
+            &spelling[2..spelling.len() - 2]
+        }
+        _ => b"",
+    }
+}
+
+/// Whether a token of the kind is a comment: no other can silence anything.
+pub fn is_comment(kind: Kind) -> bool
+    ensures silences_none { (spelling : List ℕ) (rule : Rule) → result ≡ false
+        → silences kind spelling rule ≡ false }
+    ensures other { result ≡ false → is_line_comment kind ≡ false }
+{
+    matches!(kind, Kind::LineComment | Kind::InlineComment)
+}
+
+/// The rules that a token silences, if it is a comment that silences any.
+pub fn silenced_rules(kind: Kind, spelling: &[u8]) -> Option<RuleSet>
+    ensures { (rule : Rule) → option_has result rule ≡ silences kind spelling.now rule }
+{
+    body_rules(comment_body(kind, spelling))
+}
+
+/// Whether a token is a comment that silences anything.
+pub fn silences_any(kind: Kind, spelling: &[u8]) -> bool
+    ensures { (rule : Rule) → result ≡ false → silences kind spelling.now rule ≡ false }
+{
+    match silenced_rules(kind, spelling) {
+        None => false,
+        Some(_) => true,
+    }
+}

@@ -1,0 +1,173 @@
+//! Findings without those that a comment silences.
+
+ghost use Rattle.std.specs.Prelude.{◌≡◌, ◌<◌, ◌≤◌, ◌+◌, ◌++◌, [], ◌∷◌, ℕ, not, nat_lt, filter, length, take, drop, IfOk, if◌then◌else◌};
+ghost use Rattle.hcl_token.specs.Place.{line_of};
+ghost use Rattle.tf_rules.specs.declared.rule.Rule.{Rule};
+ghost use Rattle.tf_rules.specs.Findings.{AreValidFindings};
+ghost use Rattle.tf_findings.specs.Silencing.{is_silenced, is_silenced_on};
+ghost use Rattle.tf_findings.specs.Inner.Annotations.{AreLinesIncreasing, AreIncreasing, is_silenced_by, silences_among, CanSilence};
+
+use crate::silencing::annotation::Annotation;
+use crate::silencing::annotations::annotations_of;
+use hcl_scan::Scanned;
+use std::alloc::{AllocError, Global};
+use tf_rules::{Finding, Rule};
+
+/// Whether a line lies behind the one that follows a mark's.
+fn is_out_of_reach(line: usize, annotation: &Annotation) -> bool
+    ensures { result ≡ nat_lt (annotation.now.line + 1) line }
+{
+    line > annotation.line && line - annotation.line > 1
+}
+
+/// The marks from the first on that can silence anything on this line.
+fn annotations_from(annotations: &[Annotation], line: usize) -> &[Annotation]
+    requires { (b : ℕ) × AreLinesIncreasing 0 annotations.now b }
+    ensures order { (b : ℕ) × AreLinesIncreasing 0 result.now b }
+    ensures next { CanSilence line result.now }
+    ensures same { (rule : Rule) (l : ℕ) → line ≤ l
+        → is_silenced_by rule l result.now ≡ is_silenced_by rule l annotations.now }
+{
+    let mut rest = annotations;
+    while let Some((annotation, others)) = rest.split_first() {
+        if !is_out_of_reach(line, annotation) {
+            return rest;
+        }
+        rest = others;
+    }
+    rest
+}
+
+/// Returns the marks that can silence something on `line` or on later lines. `rest` is the previous
+/// answer, for line `reached`, so that rising lines take one pass.
+fn annotations_at<'m>(
+    annotations: &'m [Annotation],
+    rest: &'m [Annotation],
+    last_line: usize,
+    line: usize,
+) -> &'m [Annotation]
+    requires all { (b : ℕ) × AreLinesIncreasing 0 annotations.now b }
+    requires order { (b : ℕ) × AreLinesIncreasing 0 rest.now b }
+    requires same { (rule : Rule) (l : ℕ) → last_line ≤ l
+        → is_silenced_by rule l rest.now ≡ is_silenced_by rule l annotations.now }
+    ensures order { (b : ℕ) × AreLinesIncreasing 0 result.now b }
+    ensures next { CanSilence line result.now }
+    ensures same { (rule : Rule) (l : ℕ) → line ≤ l
+        → is_silenced_by rule l result.now ≡ is_silenced_by rule l annotations.now }
+{
+    if line < last_line {
+        // Never where findings stand by place: it keeps the answer right for others.
+        return annotations_from(annotations, line);
+    }
+    annotations_from(rest, line)
+}
+
+fn first_covers(annotations: &[Annotation], rule: Rule, line: usize) -> bool
+    ensures { result ≡ is_silenced_by rule line (take 1 annotations.now) }
+{
+    match annotations.split_first() {
+        None => false,
+        Some((annotation, _)) => annotation.covers(rule, line),
+    }
+}
+
+/// Whether one of the marks, of which the first two alone can, silences what the rule finds on this
+/// line.
+fn is_silenced_by(annotations: &[Annotation], rule: Rule, line: usize) -> bool
+    requires { CanSilence line annotations.now }
+    ensures { result ≡ is_silenced_by rule line annotations.now }
+{
+    match annotations.split_first() {
+        None => false,
+        Some((annotation, others)) => annotation.covers(rule, line)
+            || first_covers(others, rule, line),
+    }
+}
+
+/// Puts a finding behind the first `kept` of a list, if it is not silenced, and answers how many
+/// these are then.
+fn retain_one(found: &mut [Finding], kept: usize, f: Finding, is_silenced: bool) -> usize
+    requires { kept < length found.old }
+    ensures retained { take result found.new
+        ≡ take kept found.old ++ (if is_silenced then [] else f ∷ []) }
+    ensures rest_unchanged { (n : ℕ) → kept < n → drop n found.new ≡ drop n found.old }
+    ensures within { result ≤ kept + 1 }
+{
+    if is_silenced {
+        return kept;
+    }
+    found[kept] = f;
+    kept + 1
+}
+
+/// Puts the findings that none of the marks silences to the front of a list, in the same order, and
+/// answers how many these are.
+fn retain_unsilenced(
+    scanned: &Scanned<'_>,
+    found: &mut [Finding],
+    annotations: &[Annotation],
+) -> usize
+    requires valid { AreValidFindings (length scanned.now.pairs) found.old }
+    requires order { (b : ℕ) × AreLinesIncreasing 0 annotations.now b }
+    ensures { take result found.new
+        ≡ filter (λ f. not
+        (is_silenced_by f.rule (line_of scanned.now.pairs f.first) annotations.now)) found.old }
+{
+    let mut kept = 0;
+    let mut rest = annotations;
+    let mut last_line = 0;
+    let mut lines = scanned.lines();
+    for i in 0..found.len() {
+        let f = found[i];
+        let line = lines.of(f.first());
+        rest = annotations_at(annotations, rest, last_line, line);
+        last_line = line;
+        kept = retain_one(found, kept, f, is_silenced_by(rest, f.rule(), line));
+    }
+    kept
+}
+
+/// The findings that none of the marks silences.
+fn unsilenced(
+    scanned: &Scanned<'_>,
+    found: Vec<Finding>,
+    annotations: &[Annotation],
+) -> Vec<Finding>
+    requires valid { AreValidFindings (length scanned.now.pairs) found.items }
+    requires order { (b : ℕ) × AreLinesIncreasing 0 annotations.now b }
+    ensures { result.items
+        ≡ filter (λ f. not
+        (is_silenced_by f.rule (line_of scanned.now.pairs f.first) annotations.now)) found.items }
+{
+    let mut remaining = found;
+    let kept = retain_unsilenced(scanned, &mut remaining, annotations);
+    remaining.truncate(kept);
+    remaining
+}
+
+/// The findings that no comment of the text silences, in the same order.
+///
+/// The tokens that silence anything are told by their numbers. Where there is one, it takes one pass
+/// over the findings, if these stand by place. These stay in their list.
+///
+/// TFLint, Annotations.
+pub fn remove_silenced(
+    alloc: Global,
+    scanned: &Scanned<'_>,
+    found: Vec<Finding>,
+    silencing_tokens: &[usize],
+) -> Result<Vec<Finding>, AllocError>
+    requires valid { AreValidFindings (length scanned.now.pairs) found.items }
+    requires order { AreIncreasing 0 silencing_tokens.now (length scanned.now.pairs) }
+    requires silence { (rule : Rule) (line : ℕ)
+        → silences_among scanned.now.pairs rule line silencing_tokens.now
+        ≡ is_silenced_on scanned.now.pairs rule line }
+    ensures { IfOk result
+        (λ kept. kept.items ≡ filter (λ f. not (is_silenced scanned.now.pairs f)) found.items) }
+{
+    if silencing_tokens.is_empty() {
+        return Ok(found);
+    }
+    let annotations = annotations_of(alloc, scanned, silencing_tokens)?;
+    Ok(unsilenced(scanned, found, annotations.as_slice()))
+}
