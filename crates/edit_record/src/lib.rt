@@ -1,7 +1,10 @@
-//! The text of a journal: how it is written to a file, and read from one.
+//! Exact edits of a text, the journal of the commands that made them, and the journal's text.
 //!
-//! The format is this project's own. Version 2 is written; version 1, in which a record was a row
-//! of steps, is still read, and becomes version 2. Places and lengths count bytes from 0.
+//! A list of edits (`lists`) says which bytes of a text of a known length become which, and can be
+//! applied and undone. Two lists become one (`squashes`), or change their order (`swaps`), so that
+//! a command in the middle can be undone. The journal's text has a format of its own; version 2 is
+//! written, versions 1 and 2 are read. Offsets and lengths count bytes from 0; steps, edits and
+//! records are numbered from 0.
 #![tactic(auto)]
 
 mod decoder;

@@ -1,4 +1,4 @@
--- The nodes of a tree, each made of what its production has. `first` and `after_if_next`: the number of its
+-- The nodes of a tree, each made of what its production has. `first` and `past`: the number of its
 -- first token, and the one past its last.
 use Rattle.std.specs.Prelude.{ℕ, Bool, List, [], ◌∷◌, Option}
 use Rattle.hcl_grammar.specs.declared.tree.Attribute.{Attribute}

@@ -1,5 +1,5 @@
 -- What stands in a tree, and over which tokens: each node over those from its number `first` up to
--- its number `after_if_next`, without what is dropped.
+-- its number `past`, without what is dropped.
 use Rattle.std.specs.Prelude.{ℕ, Bool, List, [], ◌∷◌, ◌++◌, map, Option, Some, None}
 use Rattle.std.specs.List.{flat_map}
 use Rattle.hcl_grammar.specs.declared.tree.Attribute.{Attribute}

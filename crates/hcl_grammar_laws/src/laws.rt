@@ -31,7 +31,7 @@ pub fn no_glue()
 {}
 
 /// Each node that stands in the tree of a list of tokens is derived by those from its `first` up to
-/// its `after_if_next`, without those that are dropped.
+/// its `past`, without those that are dropped.
 pub fn nodes_span_their_tokens()
     ensures { NodesSpanTheirTokens }
 {}

@@ -1,10 +1,8 @@
-//! Formatting of texts that parse: their layout has the same tokens and the same tree, and is its
-//! own layout.
+//! The layout of Terraform texts by the Terraform style conventions: gaps between tokens change,
+//! and nothing else.
 //!
-//! `layout` answers the edits that lay out a text with its tree, `is_laid_out` whether it is its
-//! own layout; `layout_of_parsed`, `is_parsed_laid_out` and `formatted_text`, which answers the text
-//! of the layout, want no tree, only that there is one. `laws` says what holds of the layouts of
-//! texts.
+//! `gaps` lays out any list of tokens; the calls at the root lay out a text that parses, which
+//! keeps its tokens and its tree. `laws` states what holds of every layout.
 #![tactic(auto)]
 
 mod format;

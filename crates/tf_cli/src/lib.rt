@@ -1,4 +1,5 @@
-//! What the words of the command line of `tfk` ask for.
+//! The command line of `tfk`: its arguments to a task, the texts of its help, and an outcome to an
+//! exit status.
 #![tactic(auto)]
 
 mod command_line;

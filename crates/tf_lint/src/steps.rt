@@ -186,7 +186,7 @@ fn next_state<'o>(
     requires count_within_limit { count + max_fixes order.now ≤ MAX_TEXT * 16 }
     ensures advanced { IfOk result (λ state. (p : Parsed) × IsFixState order.now count p state) }
     ensures text { IfOk result (λ state. state.text ≡ text) }
-    ensures rules { IfOk result (λ state. state.before.rules ≡ previous.rules) }
+    ensures rules { IfOk result (λ state. state.previous.rules ≡ previous.rules) }
     ensures fault { IfErr result (λ fault. RefusesFrom previous.rules order.now text.items by fault) }
 {
     let made = relint_step(alloc, &text, old_text, previous, token_buffer, replaced, by)?;
@@ -225,14 +225,14 @@ fn run_steps(
     ensures made { (order : List Rule) (count : ℕ) (p : Parsed) (all : EditList) (old : List ℕ)
         → IsFixState order count p state.entry → LeadsTo edits all old state.entry.text.items
         → IfOk result (λ ended. (more : EditList) × LeadsTo ended.edits more old ended.text.items
-        × FixesFrom state.entry.before.rules order state.entry.text.items all count
+        × FixesFrom state.entry.previous.rules order state.entry.text.items all count
         (rewrite_by more ended)) }
     ensures kept { IfOk result (λ ended. is_some ended.edits ≡ is_some edits) }
     ensures left { IfOk result
-        (λ ended. IsRemaining state.entry.before.rules ended.text.items ended.left) }
+        (λ ended. IsRemaining state.entry.previous.rules ended.text.items ended.left) }
     ensures fault { (order : List Rule) (count : ℕ) (p : Parsed) (by : Rule)
         → IsFixState order count p state.entry
-        → IfErr result (RefusesFrom state.entry.before.rules order state.entry.text.items by) }
+        → IfErr result (RefusesFrom state.entry.previous.rules order state.entry.text.items by) }
 {
     let FixState {
         text,

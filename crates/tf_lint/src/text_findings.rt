@@ -93,9 +93,9 @@ fn finish_body(
 ) -> Result<TextFindings, ParseFault>
     requires { (ms : List Member) × AreBodyFindings rules scanned.now.pairs ms read }
     ensures are { (ms : List Member) → AreBodyFindings rules scanned.now.pairs ms read
-        → IfOk result (λ old_members. AreFindings rules scanned.now.pairs ms old_members.found.items) }
-    ensures members { IfOk result (λ old_members. old_members.members ≡ read.members) }
-    ensures valid { IfOk result (λ old_members. AreValidFindings (length scanned.now.pairs) old_members.found.items) }
+        → IfOk result (λ linted. AreFindings rules scanned.now.pairs ms linted.found.items) }
+    ensures members { IfOk result (λ linted. linted.members ≡ read.members) }
+    ensures valid { IfOk result (λ linted. AreValidFindings (length scanned.now.pairs) linted.found.items) }
     ensures fault { IfErr result (λ fault. fault ≡ Memory) }
 {
     let members = read.members;
@@ -128,10 +128,10 @@ pub fn lint_tokens(
     requires { AreLintedMembers rules old.now.pairs old_members.now }
     // The text parses, and this is what the rules find in its tree.
     ensures found { IfOk result
-        (λ old_members. (t : Tree) × IsFile (tokens_of scanned.now.pairs) MAX_NESTING t
-        × AreFindings rules scanned.now.pairs t.body.members old_members.found.items) }
-    ensures members { IfOk result (λ old_members. AreLintedMembers rules scanned.now.pairs old_members.members.items) }
-    ensures valid { IfOk result (λ old_members. AreValidFindings (length scanned.now.pairs) old_members.found.items) }
+        (λ linted. (t : Tree) × IsFile (tokens_of scanned.now.pairs) MAX_NESTING t
+        × AreFindings rules scanned.now.pairs t.body.members linted.found.items) }
+    ensures members { IfOk result (λ linted. AreLintedMembers rules scanned.now.pairs linted.members.items) }
+    ensures valid { IfOk result (λ linted. AreValidFindings (length scanned.now.pairs) linted.found.items) }
     // A text that parses is not refused, unless memory runs out.
     ensures only { (t : Tree) → Parses scanned.now.text t → IfErr result IsMemory }
     // Where the tokens follow the grammar with more constructs in one another, the fault is that.

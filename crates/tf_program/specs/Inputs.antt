@@ -21,7 +21,7 @@ use Rattle.tf_cli.specs.declared.outcome.FileOutcome.{FileOutcome}
 abbrev pub IsOutcomeOf : FileOutcome → ℕ → Type 0
 IsOutcomeOf FileOutcome.Nothing count = count ≡ 0
 IsOutcomeOf FileOutcome.Issue count = 0 < count
-IsOutcomeOf FileOutcome.NotLaidOut count = ⊥
+IsOutcomeOf FileOutcome.NotFormatted count = ⊥
 
 -- ---- fmt, with --check and without; lint
 
@@ -35,7 +35,7 @@ Formats file_outcome source target =
 abbrev pub Checks : FileOutcome → Source → Type 0
 Checks FileOutcome.Nothing source = streaming.ChecksStream true source
 Checks FileOutcome.Issue source = ⊥
-Checks FileOutcome.NotLaidOut source = streaming.ChecksStream false source
+Checks FileOutcome.NotFormatted source = streaming.ChecksStream false source
 
 -- From the source came a whole text, and to the target went the lines of its issues.
 abbrev pub Lints : List ℕ → RuleSet → FileOutcome → Source → Target → Type 0

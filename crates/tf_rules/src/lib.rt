@@ -1,5 +1,6 @@
-//! What each rule finds: a module a rule in `rules`, at the nodes of a syntax tree (`node`), at the
-//! blocks of a text (`top`), and at its comments.
+//! The rules, sets of rules, findings as data, and what each rule finds: a module a rule in
+//! `rules`, at the nodes of a syntax tree (`node`), at top-level blocks (`top_level`) and at
+//! comments.
 #![tactic(auto)]
 
 mod attributes;

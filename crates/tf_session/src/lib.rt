@@ -1,8 +1,10 @@
-//! Texts with their journals: read from two readers, worked on, and written to two writers, the
-//! journal first.
+//! Sessions over a Terraform text and its journal, and whole texts and journals from readers and to
+//! writers.
 //!
-//! Every reader and writer is handed over in a fresh `Told`, which keeps whether a call of it
-//! failed.
+//! A `Session` is a text with the journal of the commands that changed it; `run` does several
+//! commands. The streams read a text, or a text and its journal, run a command, and write the
+//! result, the journal first. Every reader and writer is handed over in a fresh `Told`, which keeps
+//! whether a call of it failed. `laws` states what holds of whole runs.
 #![tactic(auto)]
 
 mod command;

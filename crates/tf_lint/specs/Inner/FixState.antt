@@ -13,7 +13,7 @@ use Rattle.tf_lint.specs.declared.steps.FixState.{FixState}
 -- findings were mended before
 pub record IsFixState (order : List Rule) (count : ℕ) (p : Parsed) (turned : FixState) : Type 0 where
   pub reads : IsParseOf turned.text.items p
-  pub before : IsPreviousOf p turned.before
-  pub findings_are : RulesFind turned.before.rules p turned.found.items
+  pub previous : IsPreviousOf p turned.previous
+  pub findings_are : RulesFind turned.previous.rules p turned.found.items
   pub sound : AreValidFindings (length p.scanned.pairs) turned.found.items
-  pub passes : IsFirstChange turned.before.rules order p count turned.found_change
+  pub passes : IsFirstChange turned.previous.rules order p count turned.found_change

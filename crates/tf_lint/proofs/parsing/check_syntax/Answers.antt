@@ -21,4 +21,4 @@ returns-clause-fault c =
     subst (λ (fault : FixFault). IsReadFault c.args.text.now fault) (sym c.from.ensures)
     (not_parsed c.args.text.now c.in_ok-scanned.scanned.pairs c.in_ok-scanned.scanned.last c.in-Err.fault c.in_ok-scanned.ensures.tokenization
     (λ t p. subst (λ (r : Result (Unit {0}) ParseFault). IfErr r IsMemory) (sym (c.in-Err.ensures.only t (subst (λ (x : List ℕ). Parses x t) (sym c.in_ok-scanned.ensures.text) p))) tt)
-    (λ d t h. deep c.in-Err.fault (c.in-Err.ensures.too_deep d t h)))
+    (λ d t h. deep c.in-Err.fault (c.in-Err.ensures.deeper d t h)))

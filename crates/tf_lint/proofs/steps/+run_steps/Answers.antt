@@ -31,18 +31,18 @@ pub compose-requires : goal.compose-requires
 compose-requires n c =
     let (order, count, p, is) = c.requires.advanced in
     let (all, old, leads) = c.requires.leads_to in
-    let turns = step_transforms c.args.turned.before.rules order p c.args.turned.text.items count c.in-Changed.fixed c.in-Changed.change c.in-Changed.by c.in-Changed.rest c.args.turned.found_change is.reads.0 c.in-Changed.is is.passes in
-    (all, old, c.args.turned.text.items, c.in-Changed.change.text.items, leads, turns)
+    let turns = step_transforms c.args.state.previous.rules order p c.args.state.text.items count c.in-Changed.fixed c.in-Changed.change c.in-Changed.by c.in-Changed.rest c.args.state.found_change is.reads.0 c.in-Changed.is is.passes in
+    (all, old, c.args.state.text.items, c.in-Changed.change.text.items, leads, turns)
 
 pub run_steps-requires : goal.run_steps-requires
 run_steps-requires n c =
-    let (order, count, p, is) = c.requires.state in
+    let (order, count, p, is) = c.requires.advanced in
     let (all, old, leads) = c.requires.leads_to in
     let text = c.args.state.text.items in
     let change = c.in-Changed.change in
     let next = c.in_ok-next-in-Changed.next in
     let composed = c.in_ok-composed-in-Changed.composed in
-    let (q, told) = c.in_ok-next-in-Changed.ensures.state in
+    let (q, told) = c.in_ok-next-in-Changed.ensures.advanced in
     let turns = step_transforms c.args.state.previous.rules order p text count c.in-Changed.fixed change c.in-Changed.by c.in-Changed.rest c.args.state.found_change is.reads.0 c.in-Changed.is is.passes in
     let (more, joins, on) = c.in_ok-composed-in-Changed.ensures.composed all old text change.text.items leads turns in
     let less = fewer next.previous.rules c.in-Changed.rest.now q c.in-Changed.fixed next.found_change told.passes in
@@ -56,7 +56,7 @@ returns-in-NoChange-clause-made n c = λ order count p all old is leads.
 
 pub returns-in-NoChange-clause-left : goal.returns-in-NoChange-clause-left
 returns-in-NoChange-clause-left n c =
-    let (order, count, p, is) = c.requires.state in (p, is.reads, is.previous.tokens, is.findings_are, is.sound)
+    let (order, count, p, is) = c.requires.advanced in (p, is.reads, is.previous.tokens, is.findings_are, is.sound)
 
 pub returns-in_err-next-in-Changed-clause-fault : goal.returns-in_err-next-in-Changed-clause-fault
 returns-in_err-next-in-Changed-clause-fault n c = λ order count p by is.
@@ -75,7 +75,7 @@ returns-in_ok-next-in-Changed-clause-made n c = λ order count p all old is lead
     let rest = c.in-Changed.rest in
     let fixed = c.in-Changed.fixed in
     let next = c.in_ok-next-in-Changed.next in
-    let (q, told) = c.in_ok-next-in-Changed.ensures.state in
+    let (q, told) = c.in_ok-next-in-Changed.ensures.advanced in
     let to = subst (IsFirstChange rules order p count) c.in-Changed.is is.passes in
     let turns = step_transforms rules order p text count fixed change c.in-Changed.by rest c.args.state.found_change is.reads.0 c.in-Changed.is is.passes in
     let (more, joins, on) = c.in_ok-composed-in-Changed.ensures.composed all old text change.text.items leads turns in
@@ -100,7 +100,7 @@ returns-in_ok-next-in-Changed-clause-fault n c = λ order count p by is.
     let rest = c.in-Changed.rest in
     let fixed = c.in-Changed.fixed in
     let next = c.in_ok-next-in-Changed.next in
-    let (q, told) = c.in_ok-next-in-Changed.ensures.state in
+    let (q, told) = c.in_ok-next-in-Changed.ensures.advanced in
     let to = subst (IsFirstChange rules order p count) c.in-Changed.is is.passes in
     let by_rules = subst (λ (r : RuleSet). IfErr c.run_steps.result (RefusesFrom r rest.now next.text.items c.in-Changed.by)) c.in_ok-next-in-Changed.ensures.rules (c.run_steps.ensures.fault rest.now fixed q c.in-Changed.by told) in
     let by_text = subst (λ (t : Vec ℕ). IfErr c.run_steps.result (RefusesFrom rules rest.now t.items c.in-Changed.by)) c.in_ok-next-in-Changed.ensures.text by_rules in

@@ -24,7 +24,7 @@ returns-clause-advanced c =
       p,
       record {
         reads = subst (λ (t : List ℕ). IsParseOf t p) c.deref.ensures.value reads;
-        previous = c.into_previous-previous.ensures.previous p is;
+        previous = c.into_previous-previous.ensures.before p is;
         findings_are = subst (λ (r : RuleSet). RulesFind r p found) (sym c.into_previous-previous.ensures.rules) (subst (RulesFind made.linted.rules p) (sym c.into_previous-previous.ensures.found) is.findings_are);
         sound = subst (AreValidFindings (length p.scanned.pairs)) (sym c.into_previous-previous.ensures.found) is.sound;
         passes = subst (λ (r : RuleSet). IsFirstChange r c.args.order.now p c.args.count c.in_ok-found_change.found_change) (sym c.into_previous-previous.ensures.rules) (c.in_ok-found_change.ensures.found_change p is);

@@ -41,7 +41,7 @@ returns-in-NoChange-clause-outcome c =
     let found = c.into_previous-previous.ensures.found in
     let finds = finds_here linted p c.args.rules _ found c.in_ok-linted.ensures.rules h in (
       none_changed c.args.rules c.args.text.now p c.in-NoChange.fixed c.into_previous-previous.result.1.items reads finds (subst (IsFirstChange c.args.rules all_rules p 0) c.in-NoChange.is told),
-      (p, reads, (c.into_previous-previous.ensures.previous p h).tokens, finds, subst (AreValidFindings (length p.scanned.pairs)) (sym found) h.sound),
+      (p, reads, (c.into_previous-previous.ensures.before p h).tokens, finds, subst (AreValidFindings (length p.scanned.pairs)) (sym found) h.sound),
     )
 
 pub returns-in_err-first-in-Changed-clause-fault : goal.returns-in_err-first-in-Changed-clause-fault
@@ -85,8 +85,8 @@ run_steps-requires c =
     let turns = step_transforms c.args.rules p c.args.text.now c.in-Changed.fixed change c.in-Changed.by c.in-Changed.rest reads to in
     let leads : LeadsTo c.first_edits-edits.result change.edits c.args.text.now change.text.items = record { kept_are = c.first_edits-edits.ensures.edits; valid = c.edits_are_valid.ensures; transforms = turns } in
     record {
-      turned = (c.in-Changed.rest.now, c.in-Changed.fixed, q, turned);
-      leads = (change.edits, c.args.text.now, subst (λ (t : Vec ℕ). LeadsTo c.first_edits-edits.result change.edits c.args.text.now t.items) (sym c.in_ok-first-in-Changed.ensures.text) leads);
+      advanced = (c.in-Changed.rest.now, c.in-Changed.fixed, q, turned);
+      leads_to = (change.edits, c.args.text.now, subst (λ (t : Vec ℕ). LeadsTo c.first_edits-edits.result change.edits c.args.text.now t.items) (sym c.in_ok-first-in-Changed.ensures.text) leads);
     }
 
 pub returns-in_ok-ended-in-Changed-clause-outcome : goal.returns-in_ok-ended-in-Changed-clause-outcome

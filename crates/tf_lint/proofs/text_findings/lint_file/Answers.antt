@@ -24,17 +24,17 @@ returns-in_err-expect_end-clause-fault c =
     let ts = tokens_of c.args.scanned.now.pairs in
     let i = c.args.at.now in
     let f = c.in_err-expect_end.field-0.0 in
-    let old_members = c.in_ok-members.ensures.old_members in
+    let linted = c.in_ok-members.ensures.members_linted in
     residual c.from_residual-in_err-expect_end.result f (λ (e : TokenFault). e ≢ Memory → spec.file ts MAX_NESTING i ≡ Err e) c.from_residual-in_err-expect_end.ensures
-    (λ _. end_refused ts MAX_NESTING i old_members.0 f c.eat-is_mark.new.at c.lint_body.new.at c.eat-is_comment.new.at (rw c.new-reader.ensures at c.eat-is_mark.ensures.after) old_members.1 (rw c.new-reader.ensures at c.eat-is_comment.ensures.after) (rw c.new-reader.ensures at c.in_err-expect_end.ensures))
+    (λ _. end_refused ts MAX_NESTING i linted.0 f c.eat-is_mark.new.at c.lint_body.new.at c.eat-is_comment.new.at (rw c.new-reader.ensures at c.eat-is_mark.ensures.after) linted.1 (rw c.new-reader.ensures at c.eat-is_comment.ensures.after) (rw c.new-reader.ensures at c.in_err-expect_end.ensures))
 
 pub returns-clause-found : goal.returns-clause-found
 returns-clause-found c =
     let ts = tokens_of c.args.scanned.now.pairs in
     let i = c.args.at.now in
-    let old_members = c.in_ok-members.ensures.old_members in
+    let linted = c.in_ok-members.ensures.members_linted in
     let j = c.lint_body.new.at in (
-      file_tree ts MAX_NESTING i old_members.0 j,
-      file_read ts MAX_NESTING i old_members.0 c.eat-is_mark.new.at j c.eat-is_comment.new.at c.expect_end.new.at (rw c.new-reader.ensures at c.eat-is_mark.ensures.after) old_members.1 (rw c.new-reader.ensures at c.eat-is_comment.ensures.after) (rw c.new-reader.ensures at c.in_ok-expect_end.ensures),
-      subst (λ (ms : List Member). AreBodyFindings c.args.rules c.args.scanned.now.pairs ms c.in_ok-members.members) (sym (its_members ts MAX_NESTING i old_members.0 j)) old_members.2,
+      file_tree ts MAX_NESTING i linted.0 j,
+      file_read ts MAX_NESTING i linted.0 c.eat-is_mark.new.at j c.eat-is_comment.new.at c.expect_end.new.at (rw c.new-reader.ensures at c.eat-is_mark.ensures.after) linted.1 (rw c.new-reader.ensures at c.eat-is_comment.ensures.after) (rw c.new-reader.ensures at c.in_ok-expect_end.ensures),
+      subst (λ (ms : List Member). AreBodyFindings c.args.rules c.args.scanned.now.pairs ms c.in_ok-members.members) (sym (its_members ts MAX_NESTING i linted.0 j)) linted.2,
     )

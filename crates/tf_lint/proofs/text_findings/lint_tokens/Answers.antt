@@ -14,8 +14,8 @@ returns-in-Ok-clause-found c =
     let ts = tokens_of pairs in
     let read = c.in-Ok.ensures.found in
     let derived = (c.file_parser_is_exact.ensures ts MAX_NESTING (Ok read.0) _ read.1).derived in
-    if_ok c.finish_body.result (λ (old_members : TextFindings). AreFindings c.args.rules pairs read.0.body.members old_members.found.items) _
-    (λ old_members are. (read.0, derived, are)) (c.finish_body.ensures.are read.0.body.members read.2)
+    if_ok c.finish_body.result (λ (linted : TextFindings). AreFindings c.args.rules pairs read.0.body.members linted.found.items) _
+    (λ linted are. (read.0, derived, are)) (c.finish_body.ensures.are read.0.body.members read.2)
 
 pub returns-in-Err-clause-only : goal.returns-in-Err-clause-only
 returns-in-Err-clause-only c = λ t p.
