@@ -1,4 +1,4 @@
--- What the check tries anyway: with an answer here, a wrong body is refused without a second search.
+-- What the check tries anyway: with an answer here, a mutant is refused without a second search.
 use Rattle.std.proofs.Common.{rules, arith}
 use Rattle.std.proofs.lemmas.Grind.{common_steps}
 use Rattle.tf_findings.proofs.order.order.Goals as goal

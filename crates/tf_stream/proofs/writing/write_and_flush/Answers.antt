@@ -17,6 +17,6 @@ loop-sent-preserved g c =
       fresh = c.in-Ok.ensures.failed.0 some ∙ c.loop-sent.invariant.fresh;
     }
 
--- what the check tries anyway: with an answer here, a wrong body is refused without a second search
+-- what the check tries anyway: with an answer here, a mutant is refused without a second search
 pub returns-in-Err-clause-fault : goal.returns-in-Err-clause-fault
 returns-in-Err-clause-fault g c = first_of (search rules, grind (arith, common_steps))

@@ -45,6 +45,6 @@ returns-in-Err-clause-refused c =
     subst (λ (fault : Fault). RefusesRevert (text_of c.args.self.now) records fault) (sym c.from.ensures)
     (subst (λ (t : List ℕ). RefusesRevert t records (fault_of_refused c.in-Err.refused)) c.as_slice.ensures.value refuses)
 
--- what the check tries anyway: with an answer here, a wrong body is refused without a second search
+-- what the check tries anyway: with an answer here, a mutant is refused without a second search
 pub returns-in-Err-clause-journal : goal.returns-in-Err-clause-journal
 returns-in-Err-clause-journal c = first_of (search rules, grind (arith, common_steps))
