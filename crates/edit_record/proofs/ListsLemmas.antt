@@ -5,6 +5,7 @@ pub mod Parts
 pub mod Pairs
 pub mod Composition
 pub mod FirstMismatch
+pub mod ResultIsUnique
 pub mod JournalResults
 pub mod PieceLemmas
 pub mod ListLemmas

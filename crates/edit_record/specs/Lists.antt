@@ -2,6 +2,7 @@ pub mod Pieces
 pub mod Validity
 pub mod PieceEdits
 pub mod ChangeResults
+pub mod Apply
 pub mod Sequence
 pub mod Journal
 pub mod JournalResults

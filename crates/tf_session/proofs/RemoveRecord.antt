@@ -3,7 +3,7 @@ use Rattle.std.proofs.Common.{◌≡◌, ◌∙◌, ◌↔◌, ◌≤◌, ◌<�
 use Rattle.std.proofs.lemmas.List.{take_more, take-append-drop, length-take-le, length-map, length-drop, take_all}
 use Rattle.std.specs.Global.{Vec}
 use Rattle.edit_record.specs.Lists.Journal.{JournalEntry}
-use Rattle.edit_record.specs.Lists.Inner.Walk.{apply_edits}
+use Rattle.edit_record.specs.Lists.Apply.{apply_edits}
 use Rattle.edit_record.specs.Lists.Pieces.{EditList, Transforms}
 use Rattle.edit_record.specs.Lists.ChangeResults.{IsChangeResult, AgreesWith, HasExpectedLen}
 use Rattle.edit_record.specs.declared.lists.change.Refused.{Refused}

@@ -8,7 +8,7 @@ use Rattle.edit_record.specs.declared.lists.direction.Direction.{Direction}
 use Rattle.edit_record.specs.declared.lists.direction.Direction.TheVariants.{Forward, Backward}
 use Rattle.edit_record.specs.Lists.Pieces.{EditEntry, EditList, old_text, new_text, changed_entries, removed_len, added_len}
 use Rattle.edit_record.specs.Lists.ChangeResults.{IsChangeResult, HasExpectedLen, expected_len, AppliesTo, IsFirstMismatch}
-use Rattle.edit_record.specs.Lists.Inner.Walk.{read_bytes, written_bytes, prepend, matches_at, walk, apply_edits}
+use Rattle.edit_record.specs.Lists.Apply.{read_bytes, written_bytes, prepend, matches_at, walk, apply_edits}
 use Rattle.edit_record.specs.Lists.Inner.Walks.{Walks, SameRest}
 use Rattle.edit_record.specs.Lists.Inner.WalkExact.{matches_at_true, matches_at_again, prepend_err, walks_from_pieces, pieces_from_walks, flip}
 use Rattle.edit_record.specs.Lists.Inner.Exact.{forward_exact, backward_exact}
@@ -68,11 +68,11 @@ refuses_walk direction i from (d ∷ es) t f e =
 
 -- ---- refusals
 
-applies_from_walks : (direction : Direction) (es : List EditEntry) (t u : List ℕ) → Walks direction 0 es SameRest t u → AppliesTo direction es t
+pub applies_from_walks : (direction : Direction) (es : List EditEntry) (t u : List ℕ) → Walks direction 0 es SameRest t u → AppliesTo direction es t
 applies_from_walks Forward es t u g = let p = pieces_from_walks 0 es t u g in record { pieces = p.pieces; side_is = p.old_is; edits_are = p.edits_are }
 applies_from_walks Backward es t u g = let p = pieces_from_walks 0 es u t (flip Backward 0 es t u g) in record { pieces = p.pieces; side_is = p.new_is; edits_are = p.edits_are }
 
-walks_from_applies : (direction : Direction) (es : List EditEntry) (t : List ℕ) → AppliesTo direction es t → (u : List ℕ) × Walks direction 0 es SameRest t u
+pub walks_from_applies : (direction : Direction) (es : List EditEntry) (t : List ℕ) → AppliesTo direction es t → (u : List ℕ) × Walks direction 0 es SameRest t u
 walks_from_applies Forward es t h = (new_text h.pieces, rw (← h.edits_are, ← h.side_is) (walks_from_pieces 0 h.pieces))
 walks_from_applies Backward es t h = (old_text h.pieces, rw (← h.edits_are, ← h.side_is) (flip Forward 0 (changed_entries 0 h.pieces) (old_text h.pieces) (new_text h.pieces) (walks_from_pieces 0 h.pieces)))
 

@@ -11,7 +11,7 @@ use Rattle.edit_record.specs.Lists.Sequence.{◌>>=◌}
 use Rattle.edit_record.specs.Lists.ChangeResults.{IsChangeResult, IsChangeCallResult, AgreesWith, HasExpectedLen}
 use Rattle.edit_record.specs.Lists.Journal.{JournalEntry, record_forward, record_backward, journal_forward, journal_backward}
 use Rattle.edit_record.specs.Lists.JournalResults.{IsFirstRefusal, IsJournalResult, IsJournalCallResult, MayAllocate, first_record}
-use Rattle.edit_record.specs.Lists.Inner.Walk.{apply_edits}
+use Rattle.edit_record.specs.Lists.Apply.{apply_edits}
 use Rattle.edit_record.specs.Lists.Inner.Exact.{forward_exact, backward_exact, walks_from_transforms}
 use Rattle.edit_record.specs.Lists.Inner.WalkExact.{lengths}
 use Rattle.edit_record.specs.Lists.Inner.JournalExact.{record_applies, journal_applies, journal_undoes}
@@ -25,6 +25,12 @@ called direction e t (Ok v) g m = subst (IsChangeResult direction e t) g (answer
 called direction e t (Err Memory) g m = m refl
 called direction e t (Err (Length a b)) g m = subst (IsChangeResult direction e t) g (answers direction e t)
 called direction e t (Err (Differs a b)) g m = subst (IsChangeResult direction e t) g (answers direction e t)
+
+-- a call that ran out of memory was given a text of the length that the edits require
+pub given_len : (direction : Direction) (e : EditList) (t : List ℕ) (f : Refused) → IsChangeCallResult direction e t (Err f) → f ≡ Memory → HasExpectedLen direction e t
+given_len direction e t Memory h is = h
+given_len direction e t (Length a b) h is = absurd cc
+given_len direction e t (Differs a b) h is = absurd cc
 
 -- edits that have an answer were given a text of their length
 pub worked : (direction : Direction) (e : EditList) (t u : List ℕ) → apply_edits direction e t ≡ Ok u → HasExpectedLen direction e t

@@ -5,7 +5,7 @@ use Rattle.edit_record.specs.declared.lists.direction.Direction.{Direction}
 use Rattle.edit_record.specs.declared.lists.direction.Direction.TheVariants.{Forward, Backward}
 use Rattle.edit_record.specs.Lists.Pieces.{EditEntry, removed_len, added_len}
 use Rattle.edit_record.specs.Lists.Validity.{AreDisjoint}
-use Rattle.edit_record.specs.Lists.Inner.Walk.{read_bytes}
+use Rattle.edit_record.specs.Lists.Apply.{read_bytes}
 
 -- what a read of the element at i says of the rest
 pub drop_item : {X : Type 0} (xs : List X) (i : ℕ) (x : X) → i < length xs → x ≡ get_or xs i x → drop i xs ≡ x ∷ drop (i + 1) xs

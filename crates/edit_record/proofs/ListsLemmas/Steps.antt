@@ -5,7 +5,7 @@ use Rattle.std.proofs.lemmas.List.{take_rest}
 use Rattle.edit_record.specs.declared.lists.change.Refused.{Refused}
 use Rattle.edit_record.specs.declared.lists.direction.Direction.{Direction}
 use Rattle.edit_record.specs.Lists.Pieces.{EditEntry}
-use Rattle.edit_record.specs.Lists.Inner.Walk.{read_bytes, written_bytes, prepend, matches_at, walk}
+use Rattle.edit_record.specs.Lists.Apply.{read_bytes, written_bytes, prepend, matches_at, walk}
 use Rattle.edit_record.specs.Lists.Inner.WalkExact.{matches_at_is}
 
 pub behind-behind : (a b : List ℕ) (r : Result (List ℕ) Refused) → prepend a (prepend b r) ≡ prepend (a ++ b) r

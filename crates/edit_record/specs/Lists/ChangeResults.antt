@@ -58,6 +58,12 @@ IsChangeCallResult direction e t (Err (Differs step edit)) =
     IsChangeResult direction e t (Err (Differs step edit))
 IsChangeCallResult direction e t (Err Memory) = HasExpectedLen direction e t
 
+-- A text has one result: two statements of what applying or undoing edits returns agree. So where
+-- undoing is refused, no text becomes this one.
+abbrev pub ChangeResultIsUnique : Type 0
+ChangeResultIsUnique = (direction : Direction) (e : EditList) (t : List ℕ) (r s : Result (List ℕ) Refused)
+    → IsChangeResult direction e t r → IsChangeResult direction e t s → r ≡ s
+
 -- a call answered this, unless memory ran out
 abbrev pub AgreesWith : Result (Vec ℕ) Refused → Result (List ℕ) Refused → Type 0
 AgreesWith (Ok v) answer = answer ≡ Ok v.items

@@ -1,7 +1,6 @@
 -- For proofs alone: functions that the code is proved equal to, and proofs of what the trait's laws
 -- say. What has to be believed stands in the files beside this one.
 pub mod Storage
-pub mod Walk
 pub mod Walks
 pub mod WalkExact
 pub mod Exact

@@ -5,7 +5,7 @@ use Rattle.edit_record.specs.declared.lists.change.Refused.{Refused}
 use Rattle.edit_record.specs.declared.lists.direction.Direction.TheVariants.{Forward, Backward}
 use Rattle.edit_record.specs.Lists.Pieces.{EditList, Transforms}
 use Rattle.edit_record.specs.Lists.Sequence.{TransformsInOrder, forward_all, backward_all}
-use Rattle.edit_record.specs.Lists.Inner.Walk.{apply_edits}
+use Rattle.edit_record.specs.Lists.Apply.{apply_edits}
 
 -- a record without where it lies in memory
 pub record JournalEntry : Type 0 where

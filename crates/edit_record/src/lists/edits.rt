@@ -116,12 +116,10 @@ impl Edits {
 }
 
 impl Change for Edits {
-    ghost use Rattle.std.specs.Prelude.{IfErr};
     ghost use Rattle.edit_record.specs.Lists.Pieces.{Transforms};
-    ghost use Rattle.edit_record.specs.Lists.ChangeResults.{IsChangeCallResult, AgreesWith, HasExpectedLen};
-    ghost use Rattle.edit_record.specs.Lists.Inner.Walk.{apply_edits};
+    ghost use Rattle.edit_record.specs.Lists.ChangeResults.{IsChangeCallResult, AgreesWith};
+    ghost use Rattle.edit_record.specs.Lists.Apply.{apply_edits};
     ghost use Rattle.edit_record.specs.Lists.Inner.Exact.{forward_exact, backward_exact, answer_never_memory};
-    ghost use Rattle.edit_record.specs.declared.lists.change.Refused.TheVariants.{Memory};
     ghost use Rattle.edit_record.specs.declared.lists.direction.Direction.TheVariants.{Forward, Backward};
 
     ghost turns = { Transforms };
@@ -138,7 +136,6 @@ impl Change for Edits {
 
     fn apply(&self, alloc: Global, text: &[u8]) -> Result<Vec<u8>, Refused>
         ensures agrees { AgreesWith result (apply_edits Forward self.now text.now) }
-        ensures memory { IfErr result (λ e. e ≡ Memory → HasExpectedLen Forward self.now text.now) }
         ensures pieces { IsChangeCallResult Forward self.now text.now result }
     {
         apply_edits(
@@ -153,7 +150,6 @@ impl Change for Edits {
 
     fn undo(&self, alloc: Global, text: &[u8]) -> Result<Vec<u8>, Refused>
         ensures agrees { AgreesWith result (apply_edits Backward self.now text.now) }
-        ensures memory { IfErr result (λ e. e ≡ Memory → HasExpectedLen Backward self.now text.now) }
         ensures pieces { IsChangeCallResult Backward self.now text.now result }
     {
         apply_edits(

@@ -4,11 +4,11 @@ ghost use Rattle.std.specs.Prelude.{◌≡◌, ◌≤◌, ◌↔◌, List, ℕ, 
 ghost use Rattle.edit_record.specs.Lists.Pieces.{EditEntry, EditList, Piece, Transforms, old_text};
 ghost use Rattle.edit_record.specs.Lists.Validity.{MakeIsExact, LengthsMatch, ApplyIsDeterministic};
 ghost use Rattle.edit_record.specs.Lists.PieceEdits.{ChangesAreNonempty, PiecesTransform, PiecesMakeValidEdits};
-ghost use Rattle.edit_record.specs.Lists.ChangeResults.{IsChangeResult};
+ghost use Rattle.edit_record.specs.Lists.ChangeResults.{IsChangeResult, ChangeResultIsUnique};
 ghost use Rattle.edit_record.specs.Lists.Journal.{JournalEntry, journal_forward, journal_backward};
 ghost use Rattle.edit_record.specs.Lists.JournalResults.{IsJournalResult};
 ghost use Rattle.edit_record.specs.declared.lists.edits.TheConstants.{MAX_TEXT};
-ghost use Rattle.edit_record.specs.Lists.Inner.Walk.{apply_edits};
+ghost use Rattle.edit_record.specs.Lists.Apply.{apply_edits};
 ghost use Rattle.edit_record.specs.declared.lists.direction.Direction.TheVariants.{Forward, Backward};
 
 use crate::lists::{Change, Edits};
@@ -35,6 +35,12 @@ pub fn change_is_one_to_one<C: Change>(change: &C)
 pub fn edit_results_are_exact(edits: &Edits)
     ensures forward { (t : List ℕ) → IsChangeResult Forward edits.now t (apply_edits Forward edits.now t) }
     ensures backward { (u : List ℕ) → IsChangeResult Backward edits.now u (apply_edits Backward edits.now u) }
+{}
+
+/// What edits return for a text is unique: a text that they refuse has no text on the other side,
+/// and is refused for one reason.
+pub fn change_result_is_unique()
+    ensures { ChangeResultIsUnique }
 {}
 
 /// What a journal answers about a text, forward and back: the text on the other side, or else why

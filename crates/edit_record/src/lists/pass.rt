@@ -3,7 +3,7 @@ ghost use Rattle.std.specs.Prelude.{◌≡◌, IfErr};
 ghost use Rattle.edit_record.specs.Lists.Pieces.{as_list};
 ghost use Rattle.edit_record.specs.Lists.Validity.{AreValidEdits};
 ghost use Rattle.edit_record.specs.Lists.ChangeResults.{AgreesWith, HasExpectedLen};
-ghost use Rattle.edit_record.specs.Lists.Inner.Walk.{read_bytes, written_bytes, apply_edits};
+ghost use Rattle.edit_record.specs.Lists.Apply.{read_bytes, written_bytes, apply_edits};
 ghost use Rattle.edit_record.specs.declared.lists.change.Refused.TheVariants.{Memory};
 
 use crate::lists::direction::Direction;

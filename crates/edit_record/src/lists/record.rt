@@ -52,11 +52,9 @@ impl Record {
 }
 
 impl Change for Record {
-    ghost use Rattle.std.specs.Prelude.{IfErr};
     ghost use Rattle.edit_record.specs.Lists.Journal.{record_transforms, record_forward, record_backward};
-    ghost use Rattle.edit_record.specs.Lists.ChangeResults.{IsChangeCallResult, AgreesWith, HasExpectedLen};
+    ghost use Rattle.edit_record.specs.Lists.ChangeResults.{IsChangeCallResult, AgreesWith};
     ghost use Rattle.edit_record.specs.Lists.Inner.JournalExact.{record_applies, record_undoes, record_never_memory};
-    ghost use Rattle.edit_record.specs.declared.lists.change.Refused.TheVariants.{Memory};
     ghost use Rattle.edit_record.specs.declared.lists.direction.Direction.TheVariants.{Forward, Backward};
 
     ghost turns = { record_transforms };
@@ -73,7 +71,6 @@ impl Change for Record {
 
     fn apply(&self, alloc: Global, text: &[u8]) -> Result<Vec<u8>, Refused>
         ensures agrees { AgreesWith result (record_forward self.now text.now) }
-        ensures memory { IfErr result (λ e. e ≡ Memory → HasExpectedLen Forward self.now.edits text.now) }
         ensures pieces { IsChangeCallResult Forward self.now.edits text.now result }
     {
         self.edits.apply(alloc, text)
@@ -81,7 +78,6 @@ impl Change for Record {
 
     fn undo(&self, alloc: Global, text: &[u8]) -> Result<Vec<u8>, Refused>
         ensures agrees { AgreesWith result (record_backward self.now text.now) }
-        ensures memory { IfErr result (λ e. e ≡ Memory → HasExpectedLen Backward self.now.edits text.now) }
         ensures pieces { IsChangeCallResult Backward self.now.edits text.now result }
     {
         self.edits.undo(alloc, text)

@@ -7,7 +7,7 @@ use Rattle.edit_record.specs.declared.lists.direction.Direction.{Direction}
 use Rattle.edit_record.specs.declared.lists.direction.Direction.TheVariants.{Forward, Backward}
 use Rattle.edit_record.specs.Lists.Pieces.{EditList, Transforms, removed_len, added_len}
 use Rattle.edit_record.specs.Lists.Validity.{new_len}
-use Rattle.edit_record.specs.Lists.Inner.Walk.{apply_edits, walk}
+use Rattle.edit_record.specs.Lists.Apply.{apply_edits, walk}
 use Rattle.edit_record.specs.Lists.Inner.Walks.{Walks, SameRest}
 use Rattle.edit_record.specs.Lists.Inner.WalkExact.{walks_from_pieces, pieces_from_walks, flip, lengths, walks_from_walk, walk_from_walks, walk_never_memory}
 

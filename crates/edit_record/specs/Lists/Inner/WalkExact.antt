@@ -9,7 +9,7 @@ use Rattle.edit_record.specs.declared.lists.change.Refused.TheVariants.{Differs,
 use Rattle.edit_record.specs.declared.lists.direction.Direction.{Direction}
 use Rattle.edit_record.specs.declared.lists.direction.Direction.TheVariants.{Forward, Backward}
 use Rattle.edit_record.specs.Lists.Pieces.{EditEntry, Piece, Kept, Changed, old_text, new_text, changed_entries, removed_len, added_len}
-use Rattle.edit_record.specs.Lists.Inner.Walk.{read_bytes, written_bytes, prepend, matches_at, walk}
+use Rattle.edit_record.specs.Lists.Apply.{read_bytes, written_bytes, prepend, matches_at, walk}
 use Rattle.edit_record.specs.Lists.Inner.Walks.{Walks, SameRest}
 
 pub matches_at_is : (from at : ℕ) (bytes t : List ℕ) → from ≤ at → at - from ≤ length t

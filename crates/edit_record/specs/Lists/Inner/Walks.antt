@@ -3,7 +3,7 @@
 use Rattle.std.specs.Prelude.{◌≡◌, ℕ, ◌+◌, List, [], ◌∷◌, ◌++◌, length}
 use Rattle.edit_record.specs.Lists.Pieces.{EditEntry}
 use Rattle.edit_record.specs.declared.lists.direction.Direction.{Direction}
-use Rattle.edit_record.specs.Lists.Inner.Walk.{read_bytes, written_bytes}
+use Rattle.edit_record.specs.Lists.Apply.{read_bytes, written_bytes}
 
 -- some bytes stay, the edit's bytes become others, and for what is left K holds
 pub record EditStep (direction : Direction) (from : ℕ) (e : EditEntry) (K : List ℕ → List ℕ → Type 0)

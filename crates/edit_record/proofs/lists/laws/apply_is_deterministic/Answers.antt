@@ -1,7 +1,7 @@
 use Rattle.std.proofs.Common.{◌≡◌, Ok}
 use Rattle.edit_record.specs.Lists.Validity.{ApplyIsDeterministic}
 use Rattle.edit_record.specs.Lists.Inner.Exact.{forward_exact}
-use Rattle.edit_record.specs.Lists.Inner.Walk.{apply_edits}
+use Rattle.edit_record.specs.Lists.Apply.{apply_edits}
 use Rattle.edit_record.specs.declared.lists.direction.Direction.TheVariants.{Forward}
 use Rattle.edit_record.proofs.lists.laws.apply_is_deterministic.Goals as goal
 

@@ -1,6 +1,6 @@
 use Rattle.std.proofs.Common.{◌≡◌, drop, length}
 use Rattle.edit_record.specs.Lists.Validity.{AreDisjoint}
-use Rattle.edit_record.specs.Lists.Inner.Walk.{walk, prepend}
+use Rattle.edit_record.specs.Lists.Apply.{walk, prepend}
 use Rattle.edit_record.proofs.ListsLemmas.Placed.{Room}
 use Rattle.edit_record.proofs.lists.pass.apply_edits.Given as goal
 
