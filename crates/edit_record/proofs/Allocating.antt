@@ -5,8 +5,9 @@ use Rattle.std.specs.List.{flat_map, AllByRecursion}
 use Rattle.std.proofs.lemmas.List.Concat.{flat_map-cons}
 use Rattle.edit_record.specs.Lists.Pieces.{EditEntry, EditList}
 use Rattle.edit_record.specs.Lists.Journal.{JournalEntry}
-use Rattle.edit_record.specs.Text.{space, newline, number_text, edit_text, list_text, word_text, IsValidList, steps, step_text}
-use Rattle.edit_record.specs.Decoding.{NumbersFit, FollowsHead, mark_after, ReachesFirstEdit, OldReachesFirstEdit, MayAllocate}
+use Rattle.edit_record.specs.Text.{space, newline, number_text, edit_text, list_head, list_text, word_text, steps, step_text}
+use Rattle.edit_record.specs.Lists.Validity.{IsValidList}
+use Rattle.edit_record.specs.Decoding.{NumbersFit, FollowsHead, mark_after, ReachesFirstEdit, OldReachesFirstEdit, DecodeMayAllocate}
 use Rattle.edit_record.specs.Inner.Reading.{strip, max_number, number_at, edit_at, word_at, step_at, OldHead, old_head_at}
 use Rattle.edit_record.specs.Inner.Allocating.{is_some_and, edits_allocate, edit_list_allocates, record_allocates, step_allocates, old_head_allocates, steps_allocate, old_record_allocates, allocates}
 use Rattle.edit_record.specs.Inner.ParseResults.{RecordAt}
@@ -103,7 +104,7 @@ list_opens mark t h =
     let n1 = number_takes 0 max_number newline old_len.1 count (omega arith) count_is in
     opens_at mark t old_len.1 count.1 old_len.0 count.0 n0.0 n1.0 n0.2 n1.2 h2
 
-two : (a b c rest : List ℕ) → (a ++ b ++ c) ++ rest ≡ a ++ (b ++ (c ++ rest))
+two : (a b c rest : List ℕ) → ((a ++ b) ++ c) ++ rest ≡ a ++ (b ++ (c ++ rest))
 two a b c rest = simp append_assoc
 
 -- one that stands whole, with the mark behind it
@@ -123,6 +124,12 @@ whole_opens e (f ∷ es) mark rest is made =
 
 -- ---- a record that has begun
 
+head_one : (a b rest : List ℕ) → a ++ (b ++ rest) ≡ (a ++ b) ++ rest
+head_one a b rest = sym (append_assoc a b rest)
+
+head_two : (a b c rest : List ℕ) → a ++ (b ++ (c ++ rest)) ≡ (a ++ b ++ c) ++ rest
+head_two a b c rest = simp append_assoc
+
 from_new : (t t1 t2 : List ℕ) (word : _) → t ≡ codes "tfrec 2 " ++ t1 → t1 ≡ word_text word ++ t2 → Opens (codes "end\n") t2 → ReachesFirstEdit t
 from_new t t1 t2 word e1 e2 o = record {
   word = word;
@@ -133,7 +140,8 @@ from_new t t1 t2 word e1 e2 o = record {
   next = o.next;
   next_is = o.next_is;
   rest = o.rest;
-  is = e1 ∙ ap (λ (y : List ℕ). codes "tfrec 2 " ++ y) (e2 ∙ ap (λ (y : List ℕ). word_text word ++ y) o.is);
+  is = e1 ∙ ap (λ (y : List ℕ). codes "tfrec 2 " ++ y) (e2 ∙ ap (λ (y : List ℕ). word_text word ++ y) (o.is ∙ head_one (number_text space o.old_len) (number_text newline o.count) (o.next ++ o.rest)))
+      ∙ head_one (codes "tfrec 2 ") (word_text word) (list_head o.old_len o.count ++ (o.next ++ o.rest));
 }
 
 from_old : (t t1 t2 t3 t4 : List ℕ) (word : _) (n : ℕ) → t ≡ codes "tfrec 1 " ++ t1 → t1 ≡ word_text word ++ t2 → t2 ≡ number_text newline n ++ t3 → 0 < n → n ≤ 64 → t3 ≡ codes "step " ++ t4 → Opens (mark_after n) t4 → OldReachesFirstEdit t
@@ -149,7 +157,8 @@ from_old t t1 t2 t3 t4 word n e1 e2 e3 some few e4 o = record {
   next = o.next;
   next_is = o.next_is;
   rest = o.rest;
-  is = e1 ∙ ap (λ (y : List ℕ). codes "tfrec 1 " ++ y) (e2 ∙ ap (λ (y : List ℕ). word_text word ++ y) (e3 ∙ ap (λ (y : List ℕ). number_text newline n ++ y) (e4 ∙ ap (λ (y : List ℕ). codes "step " ++ y) o.is)));
+  is = e1 ∙ ap (λ (y : List ℕ). codes "tfrec 1 " ++ y) (e2 ∙ ap (λ (y : List ℕ). word_text word ++ y) (e3 ∙ ap (λ (y : List ℕ). number_text newline n ++ y) (e4 ∙ ap (λ (y : List ℕ). codes "step " ++ y) (o.is ∙ head_one (number_text space o.old_len) (number_text newline o.count) (o.next ++ o.rest)))))
+      ∙ head_two (codes "tfrec 1 ") (word_text word) (number_text newline n) (codes "step " ++ (list_head o.old_len o.count ++ (o.next ++ o.rest)));
 }
 
 record_opens : (t : List ℕ) → record_allocates t ≡ true → ReachesFirstEdit t
@@ -206,7 +215,7 @@ old_opens t h =
       | inr b ↦ found_some (old_head_at t) _ b λ head head_is g. old_steps_open t head.0 head.1 head_is g
     ]
 
-allocates_out : (old : Bool) (t : List ℕ) → allocates old t ≡ true → MayAllocate t
+allocates_out : (old : Bool) (t : List ℕ) → allocates old t ≡ true → DecodeMayAllocate t
 allocates_out false t h = inl (record_opens t h)
 allocates_out true t h = inr (old_opens t h)
 
@@ -221,7 +230,7 @@ after_first (o ∷ others) rest = (
       ∙ append_assoc (codes "step ") (list_text o) (flat_map step_text others ++ (codes "end\n" ++ rest)),
 )
 
-record_out : (old : Bool) (t : List ℕ) (r : JournalEntry) (rest : List ℕ) → RecordAt old t r rest → MayAllocate t
+record_out : (old : Bool) (t : List ℕ) (r : JournalEntry) (rest : List ℕ) → RecordAt old t r rest → DecodeMayAllocate t
 record_out false t r rest h =
     let parts = h.0 ∙ three (codes "tfrec 2 ") (word_text r.word) (list_text r.edits) (codes "end\n") rest in
     inl (from_new t _ _ r.word parts refl (whole_opens r.edits r.edits.entries (codes "end\n") rest refl h.1))
@@ -241,12 +250,12 @@ record_out true t r rest h =
 
 -- nothing is read of the text, or it may have taken memory
 abbrev pub Begun : List ℕ → List ℕ → Type 0
-Begun text rest = (rest ≡ text) ⊎ MayAllocate text
+Begun text rest = (rest ≡ text) ⊎ DecodeMayAllocate text
 
-pub runs_out : (old : Bool) (text rest : List ℕ) → Begun text rest → allocates old rest ≡ true → MayAllocate text
+pub runs_out : (old : Bool) (text rest : List ℕ) → Begun text rest → allocates old rest ≡ true → DecodeMayAllocate text
 runs_out old text rest (inl e) h = allocates_out old text (subst (λ (x : List ℕ). allocates old x ≡ true) e h)
 runs_out old text rest (inr m) h = m
 
-pub record_taken : (old : Bool) (text rest after : List ℕ) (r : JournalEntry) → Begun text rest → RecordAt old rest r after → MayAllocate text
+pub record_taken : (old : Bool) (text rest after : List ℕ) (r : JournalEntry) → Begun text rest → RecordAt old rest r after → DecodeMayAllocate text
 record_taken old text rest after r (inl e) h = record_out old text r after (subst (λ (x : List ℕ). RecordAt old x r after) e h)
 record_taken old text rest after r (inr m) h = m

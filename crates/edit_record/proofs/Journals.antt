@@ -10,7 +10,8 @@ use Rattle.edit_record.specs.Squashes.SquashLists.{SquashAll}
 use Rattle.edit_record.proofs.SquashesLemmas.Groupings.{squash_as_one}
 use Rattle.edit_record.specs.declared.fault.DecodeStop.{DecodeStop}
 use Rattle.edit_record.specs.declared.fault.DecodeStop.TheVariants as stops
-use Rattle.edit_record.specs.Text.{IsValidList, word_text, list_text, number_text, newline, record_text, journal_text, IsCurrentText, OldRecord, steps, step_text, old_record_text, MigrateAllTo, IsOldText, IsJournalText}
+use Rattle.edit_record.specs.Text.{word_text, list_text, number_text, newline, record_text, journal_text, IsCurrentText, OldRecord, steps, step_text, old_record_text, MigrateAllTo, IsOldText, IsJournalText}
+use Rattle.edit_record.specs.Lists.Validity.{IsValidList}
 use Rattle.edit_record.specs.Inner.Reading.{record_at, old_record_at}
 use Rattle.edit_record.specs.Inner.Allocating.{allocates}
 use Rattle.edit_record.specs.Inner.ParseResults.{AgreesWith, ParsesAs, IsStopFor, OldRecordAt, RecordAt, RecordsAt, IsReadResult}

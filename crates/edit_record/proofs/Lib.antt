@@ -9,6 +9,7 @@ pub mod Steps
 pub mod Journals
 pub mod LawsOfText
 pub mod Writing
+pub mod FormerTexts
 pub mod ListsLemmas
 pub mod SquashesLemmas
 pub mod SwapsLemmas

@@ -2,10 +2,9 @@
 use Rattle.std.proofs.Common.{◌≡◌, ℕ, ◌+◌, ◌≤◌, List, [], ◌∷◌, length, Ok, refl, sym, subst, arith}
 use Rattle.std.specs.List.{AllByRecursion}
 use Rattle.edit_record.specs.Lists.Pieces.{EditEntry, EditList, as_list, removed_len, added_len}
-use Rattle.edit_record.specs.Lists.Validity.{make_edits, new_len, AreValidEdits, AreDisjoint}
+use Rattle.edit_record.specs.Lists.Validity.{make_edits, new_len, AreValidEdits, AreDisjoint, IsValidList}
 use Rattle.edit_record.specs.declared.lists.edits.TheConstants.{MAX_TEXT}
 use Rattle.edit_record.proofs.ListsLemmas.ListLemmas.{make_is_exact}
-use Rattle.edit_record.specs.Text.{IsValidList}
 use Rattle.edit_record.specs.Inner.Reading.{max_number}
 use Rattle.edit_record.proofs.Fields.{HasText}
 

@@ -7,9 +7,9 @@ use Rattle.edit_record.specs.declared.lists.edit.BadEdits.{BadEdits}
 use Rattle.edit_record.specs.declared.lists.record.Word.{Word}
 use Rattle.edit_record.specs.declared.lists.record.Word.TheVariants.{Fmt, Fix}
 use Rattle.edit_record.specs.Lists.Pieces.{EditList, as_list}
-use Rattle.edit_record.specs.Lists.Validity.{make_edits}
+use Rattle.edit_record.specs.Lists.Validity.{make_edits, IsValidList}
 use Rattle.edit_record.specs.Lists.Journal.{JournalEntry}
-use Rattle.edit_record.specs.Text.{space, newline, number_text, edit_text, list_text, word_text, record_text, IsValidList, OldRecord, steps, step_text, old_record_text}
+use Rattle.edit_record.specs.Text.{space, newline, number_text, edit_text, list_text, word_text, record_text, OldRecord, steps, step_text, old_record_text}
 use Rattle.edit_record.specs.Inner.Reading.{strip, max_number, number_at, edits_at, if_valid, edit_list_at, word_of, word_at, record_at, step_at, steps_at, OldHead, old_head_at, old_record_at}
 use Rattle.edit_record.proofs.Choices.{some_is, through, through_one, goes_on, part}
 use Rattle.edit_record.proofs.Many.{many_take, many_again}
@@ -21,7 +21,7 @@ valid_found : (r : Result EditList BadEdits) (t rest : List ℕ) (e : EditList) 
 valid_found (Ok x) t rest e h = let p = some_is (x, t) (e, rest) h in (ap (λ (y : EditList × List ℕ). Ok y.0) p, ap (λ (y : EditList × List ℕ). y.1) p)
 valid_found (Err d) t rest e h = absurd cc
 
-two : (a b c rest : List ℕ) → (a ++ b ++ c) ++ rest ≡ a ++ (b ++ (c ++ rest))
+two : (a b c rest : List ℕ) → ((a ++ b) ++ c) ++ rest ≡ a ++ (b ++ (c ++ rest))
 two a b c rest = simp append_assoc
 
 pub list_takes : (t : List ℕ) (e : EditList) (rest : List ℕ) → edit_list_at t ≡ Some (e, rest) → (t ≡ list_text e ++ rest) × IsValidList e
@@ -82,7 +82,7 @@ unfolding word_at
 word_again Fmt rest = refl
 word_again Fix rest = refl
 
-pub three : (a b c d rest : List ℕ) → (a ++ b ++ c ++ d) ++ rest ≡ a ++ (b ++ (c ++ (d ++ rest)))
+pub three : (a b c d rest : List ℕ) → ((a ++ b) ++ c ++ d) ++ rest ≡ a ++ (b ++ (c ++ (d ++ rest)))
 three a b c d rest = simp append_assoc
 
 pub record_takes : (t : List ℕ) (r : JournalEntry) (rest : List ℕ) → record_at t ≡ Some (r, rest) → (t ≡ record_text r ++ rest) × IsValidList r.edits
@@ -135,7 +135,7 @@ pub record IsOld (r : OldRecord) : Type 0 where
   pub made : AllByRecursion IsValidList (steps r)
   pub within_limit : length (steps r) ≤ 64
 
-pub four : (a b c d e rest : List ℕ) → (a ++ b ++ c ++ d ++ e) ++ rest ≡ a ++ (b ++ (c ++ (d ++ (e ++ rest))))
+pub four : (a b c d e rest : List ℕ) → ((a ++ b ++ c) ++ d ++ e) ++ rest ≡ a ++ (b ++ (c ++ (d ++ (e ++ rest))))
 four a b c d e rest = simp append_assoc
 
 found_is : (others : List EditList) (t6 : List ℕ) (found : OldRecord × List ℕ) (x y : OldHead × List ℕ) → x ≡ y

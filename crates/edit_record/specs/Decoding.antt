@@ -4,7 +4,7 @@ use Rattle.edit_record.specs.declared.lists.edits.TheConstants.{MAX_TEXT}
 use Rattle.edit_record.specs.declared.lists.record.Word.{Word}
 use Rattle.edit_record.specs.Lists.Pieces.{EditEntry}
 use Rattle.edit_record.specs.Lists.Journal.{JournalEntry}
-use Rattle.edit_record.specs.Text.{space, newline, number_text, word_text, edit_text, IsJournalText}
+use Rattle.edit_record.specs.Text.{list_head, record_head, old_record_head, edit_text, IsJournalText}
 use Rattle.edit_record.specs.declared.fault.RecordFault.{RecordFault}
 use Rattle.edit_record.specs.declared.fault.RecordFault.TheVariants as faults
 
@@ -36,9 +36,7 @@ pub record ReachesFirstEdit (text : List ℕ) : Type 0 where
   pub next : List ℕ
   pub next_is : FollowsHead old_len count (codes "end\n") next
   pub rest : List ℕ
-  pub is : text ≡ codes "tfrec 2 "
-      ++ (word_text word
-      ++ (number_text space old_len ++ (number_text newline count ++ (next ++ rest))))
+  pub is : text ≡ record_head word ++ (list_head old_len count ++ (next ++ rest))
 
 -- the mark that follows the first of so many steps
 abbrev pub mark_after : ℕ → List ℕ
@@ -58,20 +56,17 @@ pub record OldReachesFirstEdit (text : List ℕ) : Type 0 where
   pub next : List ℕ
   pub next_is : FollowsHead old_len count (mark_after steps) next
   pub rest : List ℕ
-  pub is : text ≡ codes "tfrec 1 "
-      ++ (word_text word
-      ++ (number_text newline steps
-      ++ (codes "step "
-      ++ (number_text space old_len ++ (number_text newline count ++ (next ++ rest))))))
+  pub is : text ≡ old_record_head word steps
+      ++ (codes "step " ++ (list_head old_len count ++ (next ++ rest)))
 
 -- `decode` can run out of memory on this text: it reaches the end of the first edit, or of an empty
 -- list. Before that it allocates nothing.
-abbrev pub MayAllocate : List ℕ → Type 0
-MayAllocate text = ReachesFirstEdit text ⊎ OldReachesFirstEdit text
+abbrev pub DecodeMayAllocate : List ℕ → Type 0
+DecodeMayAllocate text = ReachesFirstEdit text ⊎ OldReachesFirstEdit text
 
 -- The journal whose text this is. A fault means that it is the text of none, but for want of
 -- memory.
 abbrev pub IsDecodeResult : List ℕ → Result (List JournalEntry) RecordFault → Type 0
 IsDecodeResult text (Ok rs) = IsJournalText text rs
-IsDecodeResult text (Err faults.Memory) = MayAllocate text
+IsDecodeResult text (Err faults.Memory) = DecodeMayAllocate text
 IsDecodeResult text (Err e) = (rs : List JournalEntry) → IsJournalText text rs → ⊥

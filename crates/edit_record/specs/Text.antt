@@ -6,7 +6,7 @@ use Rattle.std.specs.List.{flat_map, AllByRecursion}
 use Rattle.edit_record.specs.declared.lists.record.Word.{Word}
 use Rattle.edit_record.specs.declared.lists.record.Word.TheVariants.{Fmt, Fix}
 use Rattle.edit_record.specs.Lists.Pieces.{EditEntry, EditList, Transforms}
-use Rattle.edit_record.specs.Lists.Validity.{AreValidEdits, new_len}
+use Rattle.edit_record.specs.Lists.Validity.{IsValidList}
 use Rattle.edit_record.specs.Lists.Sequence.{TransformsInOrder}
 use Rattle.edit_record.specs.Lists.Journal.{JournalEntry}
 use Rattle.edit_record.specs.Squashes.SquashLists.{SquashAll}
@@ -31,27 +31,28 @@ abbrev pub edit_text : EditEntry → List ℕ
 edit_text e = number_text space e.at ++ number_text space (length e.removed)
     ++ number_text newline (length e.added) ++ e.removed ++ e.added ++ newline ∷ []
 
--- a list of edits: the length of the texts that they apply to, how many they are, and the edits one
--- after another
+-- the head of a list of edits: the length of the texts that they apply to, and how many they are
+abbrev pub list_head : ℕ → ℕ → List ℕ
+list_head old_len count = number_text space old_len ++ number_text newline count
+
+-- a list of edits: its head, and the edits in order
 abbrev pub list_text : EditList → List ℕ
-list_text e = number_text space e.old_len ++ number_text newline (length e.entries)
-    ++ flat_map edit_text e.entries
+list_text e = list_head e.old_len (length e.entries) ++ flat_map edit_text e.entries
 
 -- the command that made a record
 abbrev pub word_text : Word → List ℕ
 word_text Fmt = codes "fmt "
 word_text Fix = codes "fix "
 
--- the edits are placed one behind another in texts of their length, and no text is too long:
--- `Edits` can hold them
-abbrev pub IsValidList : EditList → Type 0
-IsValidList e = AreValidEdits e.old_len (new_len e) e.entries
-
 -- ---- version 2
 
--- a record: its mark, its command, its edits, and its end
+-- the head of a record: its mark, and its command
+abbrev pub record_head : Word → List ℕ
+record_head word = codes "tfrec 2 " ++ word_text word
+
+-- a record: its head, its edits, and its end
 abbrev pub record_text : JournalEntry → List ℕ
-record_text r = codes "tfrec 2 " ++ word_text r.word ++ list_text r.edits ++ codes "end\n"
+record_text r = record_head r.word ++ list_text r.edits ++ codes "end\n"
 
 -- a journal: its records one after another, the oldest first, and nothing else
 abbrev pub journal_text : List JournalEntry → List ℕ
@@ -81,11 +82,14 @@ old_transforms old = TransformsInOrder Transforms (steps old)
 abbrev pub step_text : EditList → List ℕ
 step_text e = codes "step " ++ list_text e
 
--- a record: its mark, its command, how many steps it has, the steps one after another, and its end
+-- the head of a record: its mark, its command, and how many steps it has
+abbrev pub old_record_head : Word → ℕ → List ℕ
+old_record_head word count = codes "tfrec 1 " ++ word_text word ++ number_text newline count
+
+-- a record: its head, its steps in order, and its end
 abbrev pub old_record_text : OldRecord → List ℕ
 old_record_text r =
-    codes "tfrec 1 " ++ word_text r.word ++ number_text newline (length (steps r))
-    ++ flat_map step_text (steps r) ++ codes "end\n"
+    old_record_head r.word (length (steps r)) ++ flat_map step_text (steps r) ++ codes "end\n"
 
 -- A record of version 1 becomes one of today: it has 64 steps at most, and squashed from the first
 -- on they are the one list of edits of that record, which has the same command.

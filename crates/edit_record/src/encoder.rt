@@ -1,6 +1,7 @@
 //! Writing a journal.
 ghost use Rattle.std.specs.Prelude.{◌≡◌, ◌+◌, ◌-◌, ◌^◌, ◌≤◌, ◌++◌, List, length, min, decimal, codes, OnOk, IfOk, IfErr, ◌<◌};
-ghost use Rattle.edit_record.specs.Text.{IsValidList, word_text, number_text, edit_text, record_text, journal_text, IsCurrentText};
+ghost use Rattle.edit_record.specs.Text.{word_text, number_text, edit_text, record_text, journal_text, IsCurrentText};
+ghost use Rattle.edit_record.specs.Lists.Validity.{IsValidList};
 
 use crate::lists::{Edit, Journal, Record, Word};
 use itoa::Buffer;

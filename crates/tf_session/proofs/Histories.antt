@@ -4,12 +4,12 @@ use Rattle.std.proofs.lemmas.List.{length-map}
 use Rattle.edit_record.specs.declared.lists.change.Refused.{Refused}
 use Rattle.edit_record.specs.declared.lists.change.Refused.TheVariants.{Length, Differs}
 use Rattle.edit_record.specs.declared.lists.record.Word.{Word}
-use Rattle.edit_record.specs.Lists.Journal.{JournalEntry, record_transforms}
+use Rattle.edit_record.specs.Lists.Journal.{JournalEntry, record_transforms, edits_of, words_of}
 use Rattle.edit_record.specs.Lists.Sequence.{TransformsInOrder}
 use Rattle.edit_record.specs.Lists.Pieces.{EditList, Transforms}
 use Rattle.edit_record.specs.Swaps.Swap.{IsItem}
 use Rattle.edit_record.specs.Swaps.MoveToEnd.{IsMovedToEnd, MoveToEndIsUnique}
-use Rattle.edit_record.specs.Swaps.MoveToEndResult.{edits_of, words_of, LengthMismatch, FailsAt}
+use Rattle.edit_record.specs.Swaps.MoveToEndResult.{LengthMismatch, FailsAt}
 use Rattle.tf_session.specs.declared.command.Command.{Command}
 use Rattle.tf_session.specs.declared.command.Command.TheVariants.{Fmt, Fix, Revert, Take}
 use Rattle.tf_session.specs.declared.command.Done.{Done}

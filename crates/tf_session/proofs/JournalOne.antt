@@ -1,12 +1,12 @@
 -- The records of a journal, one after another, turn the text at the bottom of the stack into its top; so squashed they are one list that does.
 use Rattle.std.proofs.Common.{◌≡◌, ◌∙◌, ℕ, List, [], ◌∷◌, ◌++◌, refl, sym, ap, subst}
 use Rattle.std.proofs.lemmas.List.{map_push}
-use Rattle.edit_record.specs.Lists.Journal.{JournalEntry}
+use Rattle.edit_record.specs.Lists.Journal.{JournalEntry, edits_of}
 use Rattle.edit_record.specs.Lists.Validity.{LengthsMatch}
 use Rattle.edit_record.specs.Lists.Sequence.{TransformsInOrder}
 use Rattle.edit_record.specs.Lists.Pieces.{EditList, Transforms}
 use Rattle.edit_record.specs.Squashes.SquashLists.{SquashAllIsUnique}
-use Rattle.tf_session.specs.JournalLaws.{edit_lists_of, SquashToOne, JournalSquashesToOne}
+use Rattle.tf_session.specs.JournalLaws.{SquashToOne, JournalSquashesToOne}
 use Rattle.tf_session.specs.Machine.{StackEntry, initial_stack}
 use Rattle.tf_session.specs.Records.{IsJournalOfStack}
 use Rattle.tf_session.specs.RunLaws.{completed_commands, completed_replies}
@@ -17,12 +17,12 @@ turns_push : (cs : List EditList) (c : EditList) (t u v : List ℕ) → Transfor
 turns_push [] c t u v all one = (v, subst (λ (x : List ℕ). Transforms c x v) (sym all) one, refl)
 turns_push (d ∷ cs) c t u v all one = (all.0, all.1, turns_push cs c all.0 u v all.2 one)
 
-journal_turn : (records : List JournalEntry) (top : List ℕ) (below : List StackEntry) → IsJournalOfStack records top below → TransformsInOrder Transforms (edit_lists_of records) (bottom top below) top
-journal_turn records top [] h = subst (λ (rs : List JournalEntry). TransformsInOrder Transforms (edit_lists_of rs) top top) (sym h) refl
+journal_turn : (records : List JournalEntry) (top : List ℕ) (below : List StackEntry) → IsJournalOfStack records top below → TransformsInOrder Transforms (edits_of records) (bottom top below) top
+journal_turn records top [] h = subst (λ (rs : List JournalEntry). TransformsInOrder Transforms (edits_of rs) top top) (sym h) refl
 journal_turn records top (under ∷ rest) h =
     let earlier = journal_turn h.0 under.text rest h.5 in
-    let all = turns_push (edit_lists_of h.0) h.1.edits (bottom under.text rest) under.text top earlier h.3.transforms in
-    let same : edit_lists_of records ≡ edit_lists_of h.0 ++ h.1.edits ∷ [] = ap edit_lists_of h.2 ∙ map_push (λ (r : JournalEntry). r.edits) h.0 h.1 in
+    let all = turns_push (edits_of h.0) h.1.edits (bottom under.text rest) under.text top earlier h.3.transforms in
+    let same : edits_of records ≡ edits_of h.0 ++ h.1.edits ∷ [] = ap edits_of h.2 ∙ map_push (λ (r : JournalEntry). r.edits) h.0 h.1 in
     subst (λ (cs : List EditList). TransformsInOrder Transforms cs (bottom under.text rest) top) (sym same) all
 
 -- texts that go by some lists, then by one, then by others
@@ -61,5 +61,5 @@ journal_is_one lengths squash_as_one text commands replies end records run stand
     let ran = refused_do_not_count (initial_stack text) end commands replies run in
     let lowest = same_bottoms (initial_stack text) end (completed_commands commands replies) (completed_replies replies) ran in
     let all = journal_turn records end.top end.below stands in
-    let from_text = subst (λ (t : List ℕ). TransformsInOrder Transforms (edit_lists_of records) t end.top) lowest all in
+    let from_text = subst (λ (t : List ℕ). TransformsInOrder Transforms (edits_of records) t end.top) lowest all in
     become_one lengths squash_as_one text end.top first others (subst (λ (cs : List EditList). TransformsInOrder Transforms cs text end.top) same from_text)

@@ -1,12 +1,12 @@
 -- A take has one answer: where one of its swaps is refused, no other outcome is possible.
 use Rattle.std.proofs.Common.{◌≡◌, ◌∙◌, ◌<◌, ◌+◌, ◌⊎◌, ℕ, zero, suc, List, [], ◌∷◌, ◌++◌, length, take, Ok, Err, refl, sym, ap, subst, arith, length-append, inl, inr}
 use Rattle.std.proofs.lemmas.List.{length-map}
-use Rattle.edit_record.specs.Lists.Journal.{JournalEntry}
+use Rattle.edit_record.specs.Lists.Journal.{JournalEntry, edits_of, words_of}
 use Rattle.edit_record.specs.Lists.Validity.{ApplyIsDeterministic}
 use Rattle.edit_record.specs.Lists.Pieces.{EditList, Transforms}
 use Rattle.edit_record.specs.Swaps.Swap.{IsItem, SwapTo, SwapIsUnique}
 use Rattle.edit_record.specs.Swaps.MoveToEnd.{IsMovedToEnd, MoveToEndIsUnique}
-use Rattle.edit_record.specs.Swaps.MoveToEndResult.{edits_of, words_of, SomeMeet, SwapIsTooLong, FailsAt}
+use Rattle.edit_record.specs.Swaps.MoveToEndResult.{SomeMeet, SwapIsTooLong, FailsAt}
 use Rattle.tf_session.specs.declared.command.Done.{Done}
 use Rattle.tf_session.specs.declared.command.Fault.{Fault}
 use Rattle.tf_session.specs.declared.command.Fault.TheVariants.{Scan, Parse, FixBroken, TooLong, NoRecord, Refused, Memory, Blocked}

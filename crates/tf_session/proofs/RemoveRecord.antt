@@ -2,17 +2,17 @@
 use Rattle.std.proofs.Common.{◌≡◌, ◌∙◌, ◌↔◌, ◌≤◌, ◌<◌, ◌+◌, ◌-◌, ℕ, zero, suc, List, [], ◌∷◌, ◌++◌, length, take, drop, get_or, Result, Ok, Err, IfOk, IfErr, refl, sym, ap, subst, arith, append_assoc, inl, inr}
 use Rattle.std.proofs.lemmas.List.{take_more, take-append-drop, length-take-le, length-map, length-drop, take_all}
 use Rattle.std.specs.Global.{Vec}
-use Rattle.edit_record.specs.Lists.Journal.{JournalEntry}
+use Rattle.edit_record.specs.Lists.Journal.{JournalEntry, edits_of, words_of}
 use Rattle.edit_record.specs.Lists.Apply.{apply_edits}
 use Rattle.edit_record.specs.Lists.Pieces.{EditList, Transforms}
-use Rattle.edit_record.specs.Lists.ChangeResults.{IsChangeResult, AgreesWith, HasExpectedLen}
+use Rattle.edit_record.specs.Lists.ChangeResults.{IsChangeCallResult, AgreesWith}
 use Rattle.edit_record.specs.declared.lists.change.Refused.{Refused}
 use Rattle.edit_record.specs.declared.lists.direction.Direction.TheVariants.{Backward}
 use Rattle.edit_record.specs.declared.swaps.reorder.MoveFault.{MoveFault}
 use Rattle.edit_record.specs.declared.swaps.reorder.MoveFault.TheVariants.{Length, Blocked, TooLong, Memory}
 use Rattle.edit_record.specs.Swaps.Swap.{IsItem}
 use Rattle.edit_record.specs.Swaps.MoveToEnd.{IsMovedToEnd}
-use Rattle.edit_record.specs.Swaps.MoveToEndResult.{edits_of, words_of, IsMoveToEndResult}
+use Rattle.edit_record.specs.Swaps.MoveToEndResult.{IsMoveToEndResult}
 use Rattle.tf_session.specs.Faults.{fault_of_refused}
 use Rattle.tf_lint.specs.Steps.{texts_differ}
 use Rattle.tf_session.specs.Machine.{done}
@@ -32,14 +32,14 @@ no_old : (e : EditList) (u v : List ℕ) (refused : Refused) → Undoes e → ap
 no_old e u v refused exact is turns = let other : apply_edits Backward e u ≡ Ok v = (exact v u).1 turns in absurd cc
 
 -- why undoing is refused
-pub cannot : (e : EditList) (u : List ℕ) (result : Result (Vec ℕ) Refused) → Undoes e → IsChangeResult Backward e u (apply_edits Backward e u) → AgreesWith result (apply_edits Backward e u)
-    → IfErr result (λ refused. refused ≡ Refused.Memory → HasExpectedLen Backward e u) → IfErr result (λ refused. CannotUndo e u refused)
-cannot e u (Ok old) exact answers is memory = tt
-cannot e u (Err (Refused.Length expected found)) exact answers is memory =
-    (subst (λ (a : Result (List ℕ) Refused). IsChangeResult Backward e u a) is answers, λ v. no_old e u v (Refused.Length expected found) exact is)
-cannot e u (Err (Refused.Differs step edit)) exact answers is memory =
-    (subst (λ (a : Result (List ℕ) Refused). IsChangeResult Backward e u a) is answers, λ v. no_old e u v (Refused.Differs step edit) exact is)
-cannot e u (Err Refused.Memory) exact answers is memory = memory refl
+pub cannot : (e : EditList) (u : List ℕ) (result : Result (Vec ℕ) Refused) → Undoes e → AgreesWith result (apply_edits Backward e u)
+    → IsChangeCallResult Backward e u result → IfErr result (λ refused. CannotUndo e u refused)
+cannot e u (Ok old) exact is pieces = tt
+cannot e u (Err (Refused.Length expected found)) exact is pieces =
+    (pieces, λ v. no_old e u v (Refused.Length expected found) exact is)
+cannot e u (Err (Refused.Differs step edit)) exact is pieces =
+    (pieces, λ v. no_old e u v (Refused.Differs step edit) exact is)
+cannot e u (Err Refused.Memory) exact is pieces = pieces
 
 -- the slice behind record n
 abbrev pub rest_of : ℕ → List JournalEntry → List JournalEntry

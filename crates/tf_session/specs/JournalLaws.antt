@@ -1,6 +1,6 @@
 -- The records of a journal as one list of edits.
-use Rattle.std.specs.Prelude.{◌≡◌, ℕ, List, ◌∷◌, ◌++◌, map, Result}
-use Rattle.edit_record.specs.Lists.Journal.{JournalEntry}
+use Rattle.std.specs.Prelude.{◌≡◌, ℕ, List, ◌∷◌, ◌++◌, Result}
+use Rattle.edit_record.specs.Lists.Journal.{JournalEntry, edits_of}
 use Rattle.edit_record.specs.Lists.Validity.{new_len}
 use Rattle.edit_record.specs.Lists.Pieces.{EditList, Transforms}
 use Rattle.edit_record.specs.Squashes.SquashLists.{SquashAll}
@@ -10,10 +10,6 @@ use Rattle.tf_session.specs.declared.command.Done.{Done}
 use Rattle.tf_session.specs.declared.command.Fault.{Fault}
 use Rattle.tf_session.specs.Machine.{Stack, initial_stack, StackRun}
 use Rattle.tf_session.specs.Records.{IsJournalOfStack}
-
--- the edits of each record, the oldest first
-abbrev pub edit_lists_of : List JournalEntry → List EditList
-edit_lists_of records = map (λ (r : JournalEntry). r.edits) records
 
 -- The lists, squashed from the first on, each into the result so far, become one that turns the one
 -- text into the other. On the way each goes on from those before it, so squashing it is refused for
@@ -30,5 +26,5 @@ abbrev pub JournalSquashesToOne : Type 0
 JournalSquashesToOne = (text : List ℕ) (commands : List Command) (replies : List (Result Done Fault))
     (end : Stack) (records : List JournalEntry)
     → StackRun (initial_stack text) commands replies end → IsJournalOfStack records end.top end.below
-    → (first : EditList) (others : List EditList) → edit_lists_of records ≡ first ∷ others
+    → (first : EditList) (others : List EditList) → edits_of records ≡ first ∷ others
     → SquashToOne text end.top first others

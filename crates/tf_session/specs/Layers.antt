@@ -4,9 +4,8 @@
 use Rattle.std.specs.Prelude.{◌≡◌, ◌≢◌, ℕ, List, [], ◌∷◌, ◌++◌, map, Result, Ok, Err, if◌then◌else◌, MatchBool}
 use Rattle.edit_record.specs.declared.lists.record.Word.{Word}
 use Rattle.edit_record.specs.Lists.Pieces.{EditList, Transforms}
-use Rattle.edit_record.specs.Lists.Journal.{JournalEntry}
+use Rattle.edit_record.specs.Lists.Journal.{JournalEntry, edits_of, words_of}
 use Rattle.edit_record.specs.Swaps.MoveToEnd.{IsMovedToEnd}
-use Rattle.edit_record.specs.Swaps.MoveToEndResult.{edits_of, words_of}
 use Rattle.tf_session.specs.declared.command.Command.{Command}
 use Rattle.tf_session.specs.declared.command.Command.TheVariants.{Fmt, Fix, Revert, Take}
 use Rattle.tf_session.specs.declared.command.Done.{Done}

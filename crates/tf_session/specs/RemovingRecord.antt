@@ -4,12 +4,12 @@
 use Rattle.std.specs.Prelude.{◌≡◌, ◌+◌, ◌<◌, ◌⊎◌, ℕ, List, ◌++◌, length, Err}
 use Rattle.edit_record.specs.Lists.Pieces.{EditList, Transforms}
 use Rattle.edit_record.specs.Lists.ChangeResults.{IsChangeResult, HasExpectedLen}
-use Rattle.edit_record.specs.Lists.Journal.{JournalEntry}
+use Rattle.edit_record.specs.Lists.Journal.{JournalEntry, edits_of, words_of}
 use Rattle.edit_record.specs.declared.lists.change.Refused.{Refused}
 use Rattle.edit_record.specs.declared.lists.direction.Direction.TheVariants.{Backward}
 use Rattle.edit_record.specs.declared.swaps.reorder.MoveFault.{MoveFault}
 use Rattle.edit_record.specs.Swaps.MoveToEnd.{IsMovedToEnd}
-use Rattle.edit_record.specs.Swaps.MoveToEndResult.{edits_of, words_of, LengthMismatch, SomeMeet, SwapIsTooLong, FailsAt, MoveMayAllocate}
+use Rattle.edit_record.specs.Swaps.MoveToEndResult.{LengthMismatch, SomeMeet, SwapIsTooLong, FailsAt, MoveMayAllocate}
 use Rattle.tf_session.specs.declared.command.Done.{Done}
 use Rattle.tf_session.specs.declared.command.Fault.{Fault}
 use Rattle.tf_lint.specs.Steps.{texts_differ}

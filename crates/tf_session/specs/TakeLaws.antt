@@ -1,7 +1,7 @@
 -- Laws of the machine with take, over lists of commands.
 use Rattle.std.specs.Prelude.{◌≡◌, ◌+◌, ℕ, List, [], ◌∷◌, length, replicate, Result}
 use Rattle.edit_record.specs.Lists.Pieces.{EditList, Transforms}
-use Rattle.edit_record.specs.Swaps.MoveToEndResult.{edits_of}
+use Rattle.edit_record.specs.Lists.Journal.{edits_of}
 use Rattle.tf_session.specs.declared.command.Command.{Command}
 use Rattle.tf_session.specs.declared.command.Command.TheVariants.{Revert}
 use Rattle.tf_session.specs.declared.command.Done.{Done}

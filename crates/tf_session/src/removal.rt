@@ -8,7 +8,7 @@ ghost use Rattle.tf_session.specs.Machine.{done};
 ghost use Rattle.tf_session.specs.RemovingRecord.{RemovesRecord, RefusesRemoval, CannotUndo, removal_fault, counted_records};
 
 use crate::command::Fault;
-use edit_record::lists::laws::{edit_results_are_exact, undo_is_exact};
+use edit_record::lists::laws::undo_is_exact;
 use edit_record::lists::{Change as _, Edits, Record, Refused};
 use edit_record::swaps::{MoveFault, move_to_end};
 use std::alloc::Global;
@@ -90,7 +90,6 @@ fn undo_edits(alloc: Global, edits: &Edits, text: &[u8]) -> Result<Vec<u8>, Refu
     ensures refused { IfErr result (λ refused. CannotUndo edits.now text.now refused) }
 {
     undo_is_exact(edits);
-    edit_results_are_exact(edits);
     edits.undo(alloc, text)
 }
 

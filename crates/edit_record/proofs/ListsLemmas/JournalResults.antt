@@ -10,7 +10,7 @@ use Rattle.edit_record.specs.Lists.Pieces.{EditList}
 use Rattle.edit_record.specs.Lists.Sequence.{◌>>=◌}
 use Rattle.edit_record.specs.Lists.ChangeResults.{IsChangeResult, IsChangeCallResult, AgreesWith, HasExpectedLen}
 use Rattle.edit_record.specs.Lists.Journal.{JournalEntry, record_forward, record_backward, journal_forward, journal_backward}
-use Rattle.edit_record.specs.Lists.JournalResults.{IsFirstRefusal, IsJournalResult, IsJournalCallResult, MayAllocate, first_record}
+use Rattle.edit_record.specs.Lists.JournalResults.{IsFirstRefusal, IsJournalResult, IsJournalCallResult, JournalMayAllocate, first_record}
 use Rattle.edit_record.specs.Lists.Apply.{apply_edits}
 use Rattle.edit_record.specs.Lists.Inner.Exact.{forward_exact, backward_exact, walks_from_transforms}
 use Rattle.edit_record.specs.Lists.Inner.WalkExact.{lengths}
@@ -113,16 +113,16 @@ forward_answers rs t = forward_is rs t (journal_forward rs t) refl
 pub backward_answers : (rs : List JournalEntry) (u : List ℕ) → IsJournalResult Backward rs u (journal_backward rs u)
 backward_answers rs u = backward_is rs u (journal_backward rs u) refl
 
-journal_called : (direction : Direction) (rs : List JournalEntry) (t : List ℕ) (a : Result (List ℕ) Refused) (r : Result (Vec ℕ) Refused) → IsJournalResult direction rs t a → AgreesWith r a → IfErr r (λ f. f ≡ Memory → MayAllocate direction rs t) → IsJournalCallResult direction rs t r
+journal_called : (direction : Direction) (rs : List JournalEntry) (t : List ℕ) (a : Result (List ℕ) Refused) (r : Result (Vec ℕ) Refused) → IsJournalResult direction rs t a → AgreesWith r a → IfErr r (λ f. f ≡ Memory → JournalMayAllocate direction rs t) → IsJournalCallResult direction rs t r
 journal_called direction rs t a (Ok v) h g m = subst (IsJournalResult direction rs t) g h
 journal_called direction rs t a (Err Memory) h g m = m refl
 journal_called direction rs t a (Err (Length b c)) h g m = subst (IsJournalResult direction rs t) g h
 journal_called direction rs t a (Err (Differs b c)) h g m = subst (IsJournalResult direction rs t) g h
 
-pub applied_so : (rs : List JournalEntry) (t : List ℕ) (r : Result (Vec ℕ) Refused) → AgreesWith r (journal_forward rs t) → IfErr r (λ f. f ≡ Memory → MayAllocate Forward rs t) → IsJournalCallResult Forward rs t r
+pub applied_so : (rs : List JournalEntry) (t : List ℕ) (r : Result (Vec ℕ) Refused) → AgreesWith r (journal_forward rs t) → IfErr r (λ f. f ≡ Memory → JournalMayAllocate Forward rs t) → IsJournalCallResult Forward rs t r
 applied_so rs t r = journal_called Forward rs t (journal_forward rs t) r (forward_answers rs t)
 
-pub undone_so : (rs : List JournalEntry) (u : List ℕ) (r : Result (Vec ℕ) Refused) → AgreesWith r (journal_backward rs u) → IfErr r (λ f. f ≡ Memory → MayAllocate Backward rs u) → IsJournalCallResult Backward rs u r
+pub undone_so : (rs : List JournalEntry) (u : List ℕ) (r : Result (Vec ℕ) Refused) → AgreesWith r (journal_backward rs u) → IfErr r (λ f. f ≡ Memory → JournalMayAllocate Backward rs u) → IsJournalCallResult Backward rs u r
 undone_so rs u r = journal_called Backward rs u (journal_backward rs u) r (backward_answers rs u)
 
 -- the record that works first was given a text of its length, so memory may be taken
@@ -135,7 +135,7 @@ last_works [] r = refl
 last_works (x ∷ []) r = refl
 last_works (x ∷ y ∷ rs) r = last_works (y ∷ rs) r
 
-pub last_given : (rs : List JournalEntry) (x : JournalEntry) (t : List ℕ) → 1 ≤ length rs → x ≡ get_or rs (length rs - 1) x → HasExpectedLen Backward x.edits t → MayAllocate Backward rs t
+pub last_given : (rs : List JournalEntry) (x : JournalEntry) (t : List ℕ) → 1 ≤ length rs → x ≡ get_or rs (length rs - 1) x → HasExpectedLen Backward x.edits t → JournalMayAllocate Backward rs t
 last_given rs x t n is h r e =
     let works : first_record Backward rs ≡ Some x = ap (first_record Backward) (last_item record_backward rs x n is) ∙ last_works (take (length rs - 1) rs) x in
     let same : x ≡ r = cc in

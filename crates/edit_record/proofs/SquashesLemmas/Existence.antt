@@ -5,10 +5,10 @@ use Rattle.std.proofs.lemmas.Bool.{false≢true}
 use Rattle.std.proofs.lemmas.Slice.Eq.{bytes_eq-Decides}
 use Rattle.std.specs.Prelude.{bytes_eq}
 use Rattle.edit_record.specs.Lists.Pieces.{EditEntry, EditList, as_list}
-use Rattle.edit_record.specs.Lists.Validity.{AreValidEdits, new_len}
+use Rattle.edit_record.specs.Lists.Validity.{AreValidEdits, new_len, IsValidList}
 use Rattle.edit_record.specs.Lists.Inner.WalkExact.{lengths}
 use Rattle.edit_record.specs.Lists.Inner.Exact.{walks_from_transforms}
-use Rattle.edit_record.specs.Squashes.Squash.{AreComposable, IsSquash, IsValidList, ComposableListsSquash}
+use Rattle.edit_record.specs.Squashes.Squash.{AreComposable, IsSquash, ComposableListsSquash}
 use Rattle.edit_record.specs.Squashes.Inner.Merge.{State, initial, common_len, cancel_common, prepare_next, take_next, finish_edit}
 use Rattle.edit_record.proofs.SquashesLemmas.Merged.{Kept, Progress, progress_start, takes_one, goes_on, contradicts, ends_well}
 

@@ -2,10 +2,10 @@
 use Rattle.std.proofs.Common.{◌≡◌, ℕ, zero, suc, ◌+◌, ◌≤◌, ◌<◌, List, [], ◌∷◌, ◌++◌, length, take, get_or, Option, Some, None, Err, refl, sym, ap, ◌∙◌, subst, arith}
 use Rattle.std.proofs.lemmas.List.{take_more, map_push, take-map, take_all}
 use Rattle.edit_record.specs.Lists.Pieces.{EditList}
-use Rattle.edit_record.specs.Lists.Journal.{JournalEntry}
-use Rattle.edit_record.specs.Swaps.Swap.{IsItem, SwapTo, MayAllocate}
+use Rattle.edit_record.specs.Lists.Journal.{JournalEntry, edits_of, words_of}
+use Rattle.edit_record.specs.Swaps.Swap.{IsItem, SwapTo, SwapMayAllocate}
 use Rattle.edit_record.specs.Swaps.MoveToEnd.{IsMovedToEnd}
-use Rattle.edit_record.specs.Swaps.MoveToEndResult.{edits_of, words_of, moved_or, LengthMismatch, SomeMeet, SwapIsTooLong, CanSwap, MoveMayAllocate, FailsAt, IsMoveToEndResult}
+use Rattle.edit_record.specs.Swaps.MoveToEndResult.{moved_or, LengthMismatch, SomeMeet, SwapIsTooLong, CanSwap, MoveMayAllocate, FailsAt, IsMoveToEndResult}
 use Rattle.edit_record.specs.Swaps.Inner.MovePastResult.{IsMovePastResult}
 use Rattle.edit_record.specs.Swaps.Inner.MovingEditsView.{MovesPastRecord}
 use Rattle.edit_record.specs.declared.swaps.moving_edits.MovingEdits.{MovingEdits}
@@ -55,7 +55,7 @@ stuck first records others moved i r Refuses lt is p h = record {
   refuses = h;
 }
 
-pub may_swap : (a b : EditList) → MayAllocate a b → CanSwap a b
+pub may_swap : (a b : EditList) → SwapMayAllocate a b → CanSwap a b
 may_swap a b m = (m.lengths_match, m.apart, m.within)
 
 pub did_swap : (a b b2 a2 : EditList) → SwapTo a b b2 a2 → CanSwap a b

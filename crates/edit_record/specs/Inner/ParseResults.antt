@@ -4,8 +4,9 @@ use Rattle.edit_record.specs.Lists.Pieces.{EditList}
 use Rattle.edit_record.specs.Lists.Journal.{JournalEntry}
 use Rattle.edit_record.specs.Squashes.Squash.{IsSquash}
 use Rattle.edit_record.specs.Squashes.SquashLists.{SquashAll}
-use Rattle.edit_record.specs.Text.{IsValidList, record_text, OldRecord, old_record_text, MigratesTo, IsJournalText}
-use Rattle.edit_record.specs.Decoding.{MayAllocate}
+use Rattle.edit_record.specs.Text.{record_text, OldRecord, old_record_text, MigratesTo, IsJournalText}
+use Rattle.edit_record.specs.Lists.Validity.{IsValidList}
+use Rattle.edit_record.specs.Decoding.{DecodeMayAllocate}
 use Rattle.edit_record.specs.Inner.Reading.{steps_at, old_record_at}
 use Rattle.edit_record.specs.declared.fault.DecodeStop.{DecodeStop}
 use Rattle.edit_record.specs.declared.fault.DecodeStop.TheVariants as stops
@@ -54,7 +55,7 @@ RecordsAt old t (r ∷ rs) = (rest : List ℕ) × RecordAt old t r rest × Recor
 -- what all of it says
 abbrev pub IsReadResult : List ℕ → Result (List JournalEntry) DecodeStop → Type 0
 IsReadResult text (Ok rs) = IsJournalText text rs
-IsReadResult text (Err stops.Memory) = MayAllocate text
+IsReadResult text (Err stops.Memory) = DecodeMayAllocate text
 IsReadResult text (Err (stops.Bad kind left)) = (rs : List JournalEntry) → IsJournalText text rs → ⊥
 
 -- an old record stands at the front, and squashed it is this one

@@ -1,5 +1,5 @@
 -- Records and journals.
-use Rattle.std.specs.Prelude.{ℕ, List, Result}
+use Rattle.std.specs.Prelude.{ℕ, List, map, Result}
 use Rattle.edit_record.specs.declared.lists.record.Word.{Word}
 use Rattle.edit_record.specs.declared.lists.change.Refused.{Refused}
 use Rattle.edit_record.specs.declared.lists.direction.Direction.TheVariants.{Forward, Backward}
@@ -11,6 +11,13 @@ use Rattle.edit_record.specs.Lists.Apply.{apply_edits}
 pub record JournalEntry : Type 0 where
   pub word : Word
   pub edits : EditList
+
+-- the edits of records, and their commands
+abbrev pub edits_of : List JournalEntry → List EditList
+edits_of rs = map (λ r. r.edits) rs
+
+abbrev pub words_of : List JournalEntry → List Word
+words_of rs = map (λ r. r.word) rs
 
 -- a record turns texts by its edits
 abbrev pub record_transforms : JournalEntry → List ℕ → List ℕ → Type 0

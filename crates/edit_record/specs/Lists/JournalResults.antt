@@ -40,8 +40,8 @@ first_record Backward (r ∷ []) = Some r
 first_record Backward (r ∷ s ∷ rs) = first_record Backward (s ∷ rs)
 
 -- memory is taken only where the text has the length that the record asks for which works first
-abbrev pub MayAllocate : Direction → List JournalEntry → List ℕ → Type 0
-MayAllocate direction rs t =
+abbrev pub JournalMayAllocate : Direction → List JournalEntry → List ℕ → Type 0
+JournalMayAllocate direction rs t =
     (r : JournalEntry) → first_record direction rs ≡ Some r → HasExpectedLen direction r.edits t
 
 -- what a call on a journal answered, memory included
@@ -51,4 +51,4 @@ IsJournalCallResult direction rs t (Err (Length expected found)) =
     IsJournalResult direction rs t (Err (Length expected found))
 IsJournalCallResult direction rs t (Err (Differs step edit)) =
     IsJournalResult direction rs t (Err (Differs step edit))
-IsJournalCallResult direction rs t (Err Memory) = MayAllocate direction rs t
+IsJournalCallResult direction rs t (Err Memory) = JournalMayAllocate direction rs t

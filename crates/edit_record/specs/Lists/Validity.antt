@@ -57,6 +57,10 @@ pub record AreValidEdits (old_len new_len : ℕ) (es : List EditEntry) : Type 0 
   pub old_fits : old_len ≤ MAX_TEXT
   pub new_fits : new_len ≤ MAX_TEXT
 
+-- these are a list of edits: they are in order and disjoint, and both lengths are within the limit
+abbrev pub IsValidList : EditList → Type 0
+IsValidList e = AreValidEdits e.old_len (new_len e) e.entries
+
 -- edits are made into the list of just these edits, and that exactly where they are placed and
 -- within the limit
 abbrev pub MakeIsExact : ℕ → List EditEntry → Type 0

@@ -1,7 +1,7 @@
 -- One list of edits in the place of two, the second of which goes on from the first.
 use Rattle.std.specs.Prelude.{◌≡◌, ◌≢◌, ◌↔◌, ℕ, ◌+◌, ◌<◌, List, length, map, take, Result, Ok, Err}
 use Rattle.edit_record.specs.Lists.Pieces.{EditList, Transforms}
-use Rattle.edit_record.specs.Lists.Validity.{AreValidEdits, new_len}
+use Rattle.edit_record.specs.Lists.Validity.{IsValidList, new_len}
 use Rattle.edit_record.specs.Squashes.Groups.{extent_of, squashed_extents}
 use Rattle.edit_record.specs.declared.squashes.squash_lists.Unmet.{Unmet}
 use Rattle.edit_record.specs.declared.squashes.squash_lists.Unmet.TheVariants.{LengthsDiffer, Contradicts, Memory}
@@ -33,17 +33,13 @@ pub record IsSquash (a b c : EditList) : Type 0 where
   pub equivalent : IsComposition c a b
   pub shape : map extent_of c.entries ≡ squashed_extents a.entries b.entries
 
--- these are a list of edits: placed one behind the other, and both lengths are within the limit
-abbrev pub IsValidList : EditList → Type 0
-IsValidList e = AreValidEdits e.old_len (new_len e) e.entries
-
 -- any two lists, of which some text goes by the one and then by the other, have one in their place
 abbrev pub ComposableListsSquash : Type 0
 ComposableListsSquash = (a b : EditList) → IsValidList a → IsValidList b → AreComposable a b
     → (c : EditList) × IsValidList c × IsSquash a b c
 
 -- the lengths follow, and there is an edit: no memory is taken for any other two lists
-pub record MayAllocate (a b : EditList) : Type 0 where
+pub record SquashMayAllocate (a b : EditList) : Type 0 where
   pub lengths_match : new_len a ≡ b.old_len
   pub some : 0 < length a.entries + length b.entries
 
@@ -52,4 +48,4 @@ abbrev pub IsSquashResult : EditList → EditList → Result EditList Unmet → 
 IsSquashResult a b (Ok c) = IsSquash a b c
 IsSquashResult a b (Err LengthsDiffer) = new_len a ≢ b.old_len
 IsSquashResult a b (Err (Contradicts edit)) = (new_len a ≡ b.old_len) × IsContradiction a b edit
-IsSquashResult a b (Err Memory) = MayAllocate a b
+IsSquashResult a b (Err Memory) = SquashMayAllocate a b

@@ -1,23 +1,15 @@
 -- Taking one record's edits out of the records that follow it.
-use Rattle.std.specs.Prelude.{◌≡◌, ◌≢◌, ℕ, List, [], ◌∷◌, map, take, Option, None, Some, Result, Ok, Err}
+use Rattle.std.specs.Prelude.{◌≡◌, ◌≢◌, ℕ, List, [], ◌∷◌, take, Option, None, Some, Result, Ok, Err}
 use Rattle.std.specs.Global.{Vec}
 use Rattle.edit_record.specs.declared.lists.record.Record.{Record}
-use Rattle.edit_record.specs.declared.lists.record.Word.{Word}
 use Rattle.edit_record.specs.declared.lists.edits.Edits.{Edits}
 use Rattle.edit_record.specs.Lists.Pieces.{EditList}
 use Rattle.edit_record.specs.Lists.Validity.{new_len}
-use Rattle.edit_record.specs.Lists.Journal.{JournalEntry}
+use Rattle.edit_record.specs.Lists.Journal.{JournalEntry, edits_of, words_of}
 use Rattle.edit_record.specs.Swaps.Swap.{IsItem, FirstMeeting, NoneMeet, ExceedsLimit, IsWithinLimit}
 use Rattle.edit_record.specs.Swaps.MoveToEnd.{IsMovedToEnd}
 use Rattle.edit_record.specs.declared.swaps.reorder.MoveFault.{MoveFault}
 use Rattle.edit_record.specs.declared.swaps.reorder.MoveFault.TheVariants.{Length, Blocked, TooLong, Memory}
-
--- the edits of records, and their commands
-abbrev pub edits_of : List JournalEntry → List EditList
-edits_of rs = map (λ r. r.edits) rs
-
-abbrev pub words_of : List JournalEntry → List Word
-words_of rs = map (λ r. r.word) rs
 
 -- what the list has become, which is itself where nothing was behind it
 abbrev pub moved_or : EditList → Option EditList → EditList

@@ -104,7 +104,7 @@ pub record SwapTo (a b b2 a2 : EditList) : Type 0 where
 
 -- the two lists change places, and there is an edit to be put in its new place: no memory is taken
 -- for any other two lists
-pub record MayAllocate (a b : EditList) : Type 0 where
+pub record SwapMayAllocate (a b : EditList) : Type 0 where
   pub lengths_match : new_len a ≡ b.old_len
   pub apart : NoneMeet a b
   pub within : IsWithinLimit a b
@@ -116,4 +116,4 @@ IsSwapResult a b (Ok x) = SwapTo a b x.0 x.1
 IsSwapResult a b (Err LengthsDiffer) = new_len a ≢ b.old_len
 IsSwapResult a b (Err (Meets first second)) = (new_len a ≡ b.old_len) × FirstMeeting a b first second
 IsSwapResult a b (Err TooLong) = (new_len a ≡ b.old_len) × NoneMeet a b × ExceedsLimit a b
-IsSwapResult a b (Err Memory) = MayAllocate a b
+IsSwapResult a b (Err Memory) = SwapMayAllocate a b

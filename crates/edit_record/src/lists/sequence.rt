@@ -2,7 +2,7 @@
 ghost use Rattle.std.specs.Prelude.{◌≡◌, IfErr};
 ghost use Rattle.edit_record.specs.Lists.Sequence.{forward_all, backward_all};
 ghost use Rattle.edit_record.specs.Lists.Journal.{journal_forward, journal_backward};
-ghost use Rattle.edit_record.specs.Lists.JournalResults.{MayAllocate};
+ghost use Rattle.edit_record.specs.Lists.JournalResults.{JournalMayAllocate};
 ghost use Rattle.edit_record.specs.Lists.ChangeResults.{AgreesWith};
 ghost use Rattle.edit_record.specs.declared.lists.change.Refused.TheVariants.{Memory};
 ghost use Rattle.edit_record.specs.declared.lists.direction.Direction.TheVariants.{Forward, Backward};
@@ -44,7 +44,7 @@ pub(crate) fn apply_records(
     text: &[u8],
 ) -> Result<Vec<u8>, Refused>
     ensures agrees { AgreesWith result (journal_forward records.now text.now) }
-    ensures memory { IfErr result (λ e. e ≡ Memory → MayAllocate Forward records.now text.now) }
+    ensures memory { IfErr result (λ e. e ≡ Memory → JournalMayAllocate Forward records.now text.now) }
 {
     match records {
         [] => Ok(Vec::from_slice(alloc, text)?),
@@ -62,7 +62,7 @@ pub(crate) fn undo_records(
     text: &[u8],
 ) -> Result<Vec<u8>, Refused>
     ensures agrees { AgreesWith result (journal_backward records.now text.now) }
-    ensures memory { IfErr result (λ e. e ≡ Memory → MayAllocate Backward records.now text.now) }
+    ensures memory { IfErr result (λ e. e ≡ Memory → JournalMayAllocate Backward records.now text.now) }
 {
     match records {
         [] => Ok(Vec::from_slice(alloc, text)?),

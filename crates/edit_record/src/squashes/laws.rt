@@ -3,7 +3,8 @@
 ghost use Rattle.std.specs.Prelude.{◌≡◌, List};
 ghost use Rattle.edit_record.specs.Lists.Pieces.{EditList};
 ghost use Rattle.edit_record.specs.Squashes.SquashLists.{SquashIsAssociative, SquashAllIsUnique};
-ghost use Rattle.edit_record.specs.Squashes.Squash.{ComposableListsSquash, IsValidList, IsSquash};
+ghost use Rattle.edit_record.specs.Squashes.Squash.{ComposableListsSquash, IsSquash};
+ghost use Rattle.edit_record.specs.Lists.Validity.{IsValidList};
 
 use crate::lists::Edits;
 

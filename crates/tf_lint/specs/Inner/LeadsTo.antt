@@ -2,7 +2,7 @@
 use Rattle.std.specs.Prelude.{◌≡◌, ℕ, Bool, List, [], length, Option, IfSome, ⊤}
 use Rattle.std.specs.Option.{is_some}
 use Rattle.edit_record.specs.Lists.Pieces.{EditList, Transforms, as_list}
-use Rattle.edit_record.specs.Squashes.Squash.{IsValidList}
+use Rattle.edit_record.specs.Lists.Validity.{IsValidList}
 use Rattle.tf_rules.specs.declared.rule_set.RuleSet.{RuleSet}
 use Rattle.tf_lint.specs.declared.steps.FixOutcome.{FixOutcome}
 use Rattle.tf_lint.specs.declared.steps.FixOutcome.TheVariants.{Unchanged, Edited}

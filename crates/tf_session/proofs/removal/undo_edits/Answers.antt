@@ -7,4 +7,4 @@ returns-clause-only c = only_old c.args.edits.now c.args.text.now c.undo.result 
 
 pub returns-clause-refused : goal.returns-clause-refused
 returns-clause-refused c =
-    cannot c.args.edits.now c.args.text.now c.undo.result c.undo_is_exact.ensures (c.edit_results_are_exact.ensures.backward c.args.text.now) c.undo.ensures.agrees c.undo.ensures.memory
+    cannot c.args.edits.now c.args.text.now c.undo.result c.undo_is_exact.ensures c.undo.ensures.agrees c.undo.ensures.pieces

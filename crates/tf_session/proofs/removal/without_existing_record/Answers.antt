@@ -1,7 +1,8 @@
 -- The record is the one of this number, and the slice behind it are the records behind it.
 use Rattle.std.proofs.Common.{arith, subst, Err}
 use Rattle.edit_record.specs.Lists.Pieces.{EditList}
-use Rattle.edit_record.specs.Swaps.MoveToEndResult.{edits_of, IsMoveToEndResult}
+use Rattle.edit_record.specs.Swaps.MoveToEndResult.{IsMoveToEndResult}
+use Rattle.edit_record.specs.Lists.Journal.{edits_of}
 use Rattle.tf_session.proofs.RemoveRecord.{rest_of, made, not_back, refuses, short}
 use Rattle.tf_session.proofs.removal.without_existing_record.Goals as goal
 
