@@ -1,32 +1,35 @@
 -- Where memory is taken, the text begins with a head and the whole of what stands behind it.
-use Rattle.std.proofs.Common.{◌≡◌, ℕ, zero, suc, ◌-◌, ◌<◌, ◌≤◌, List, [], ◌∷◌, ◌++◌, length, Bool, true, false, Option, None, Some, refl, sym, ap, subst, ◌∙◌, append_assoc, arith, ◌⊎◌, inl, inr}
-use Rattle.std.specs.Prelude.{codes, is_some, ◌||◌}
+use Rattle.std.proofs.Common.{◌≡◌, ℕ, zero, suc, ◌-◌, ◌<◌, ◌≤◌, List, [], ◌∷◌, ◌++◌, length, Bool, true, false, Result, Ok, Err, refl, sym, ap, subst, ◌∙◌, append_assoc, arith, ◌⊎◌, inl, inr}
+use Rattle.std.specs.Prelude.{codes, is_ok, ◌||◌}
 use Rattle.std.specs.List.{flat_map, AllByRecursion}
 use Rattle.std.proofs.lemmas.List.Concat.{flat_map-cons}
 use Rattle.edit_record.specs.Lists.Pieces.{EditEntry, EditList}
 use Rattle.edit_record.specs.Lists.Journal.{JournalEntry}
-use Rattle.edit_record.specs.Text.{space, newline, number_text, edit_text, list_head, list_text, word_text, steps, step_text}
+use Rattle.edit_record.specs.Text.{space, newline, max_number, NumbersFit, number_text, edit_text, list_head, list_text, word_text, steps, step_text}
 use Rattle.edit_record.specs.Lists.Validity.{IsValidList}
-use Rattle.edit_record.specs.Decoding.{NumbersFit, FollowsHead, mark_after, ReachesFirstEdit, OldReachesFirstEdit, DecodeMayAllocate}
-use Rattle.edit_record.specs.Inner.Reading.{strip, max_number, number_at, edit_at, word_at, step_at, OldHead, old_head_at}
-use Rattle.edit_record.specs.Inner.Allocating.{is_some_and, edits_allocate, edit_list_allocates, record_allocates, step_allocates, old_head_allocates, steps_allocate, old_record_allocates, allocates}
+use Rattle.edit_record.specs.Decoding.{FollowsHead, mark_after, ReachesFirstEdit, OldReachesFirstEdit, DecodeMayAllocate}
+use Rattle.edit_record.specs.declared.fault.FaultKind.TheVariants.{Head}
+use Rattle.edit_record.specs.declared.fault.TextError.{TextError}
+use Rattle.edit_record.specs.Parsing.{expect, number_at, edit_at, word_at}
+use Rattle.edit_record.specs.Inner.Reading.{step_at, OldHead, old_head_at}
+use Rattle.edit_record.specs.Inner.Allocating.{is_ok_and, edits_allocate, edit_list_allocates, record_allocates, step_allocates, old_head_allocates, steps_allocate, old_record_allocates, allocates}
 use Rattle.edit_record.specs.Inner.ParseResults.{RecordAt}
-use Rattle.edit_record.proofs.Choices.{some_is, through, through_one}
+use Rattle.edit_record.proofs.Choices.{ok_is, through, through_one}
 use Rattle.edit_record.proofs.Numbers.{number_takes}
-use Rattle.edit_record.proofs.Fields.{HasText, after_takes, edit_takes, edit_fits}
+use Rattle.edit_record.proofs.Fields.{expect_takes, edit_takes, edit_fits}
 use Rattle.edit_record.proofs.Making.{has_numbers}
 use Rattle.edit_record.proofs.Records.{three, four, word_takes, step_takes}
 
 -- what is read where memory is taken
-pub found_some : {A P : Type 0} (r : Option A) (f : A → Bool) → is_some_and r f ≡ true → ((x : A) → r ≡ Some x → f x ≡ true → P) → P
-found_some None f e k = absurd cc
-found_some (Some x) f e k = k x refl e
+pub found_ok : {A P : Type 0} (r : Result A TextError) (f : A → Bool) → is_ok_and r f ≡ true → ((x : A) → r ≡ Ok x → f x ≡ true → P) → P
+found_ok (Err g) f e k = absurd cc
+found_ok (Ok x) f e k = k x refl e
 
-some_read : {A P : Type 0} (r : Option A) → is_some r ≡ true → ((x : A) → r ≡ Some x → P) → P
-some_read None e k = absurd cc
-some_read (Some x) e k = k x refl
+ok_read : {A P : Type 0} (r : Result A TextError) → is_ok r ≡ true → ((x : A) → r ≡ Ok x → P) → P
+ok_read (Err g) e k = absurd cc
+ok_read (Ok x) e k = k x refl
 
-is_read : {A : Type 0} (r : Option A) (x : A) → r ≡ Some x → is_some r ≡ true
+is_read : {A : Type 0} (r : Result A TextError) (x : A) → r ≡ Ok x → is_ok r ≡ true
 is_read r x e = rw e refl
 
 either_true : (a b : Bool) → (a || b) ≡ true → (a ≡ true) ⊎ (b ≡ true)
@@ -35,29 +38,29 @@ either_true false b e = inr e
 
 -- ---- in the loops over edits and steps
 
-pub one_allocates : (i count : ℕ) (t text : List ℕ) → i < count → (t ≡ text) ⊎ (edits_allocate count text ≡ true) → is_some (edit_at t) ≡ true → edits_allocate count text ≡ true
+pub one_allocates : (i count : ℕ) (t text : List ℕ) → i < count → (t ≡ text) ⊎ (edits_allocate count text ≡ true) → is_ok (edit_at t) ≡ true → edits_allocate count text ≡ true
 one_allocates i zero t text lt begun here = absurd (omega (arith, lt))
-one_allocates i (suc n) t text lt (inl e) here = subst (λ (x : List ℕ). is_some (edit_at x) ≡ true) e here
+one_allocates i (suc n) t text lt (inl e) here = subst (λ (x : List ℕ). is_ok (edit_at x) ≡ true) e here
 one_allocates i (suc n) t text lt (inr h) here = h
 
-pub edit_taken : (i count : ℕ) (t text : List ℕ) (x : EditEntry × List ℕ) → i < count → (t ≡ text) ⊎ (edits_allocate count text ≡ true) → edit_at t ≡ Some x → edits_allocate count text ≡ true
+pub edit_taken : (i count : ℕ) (t text : List ℕ) (x : EditEntry × List ℕ) → i < count → (t ≡ text) ⊎ (edits_allocate count text ≡ true) → edit_at t ≡ Ok x → edits_allocate count text ≡ true
 edit_taken i count t text x lt begun e = one_allocates i count t text lt begun (is_read (edit_at t) x e)
 
-step_begins : (t : List ℕ) (x : EditList × List ℕ) → step_at t ≡ Some x → is_some (strip (codes "step ") t) ≡ true
+step_begins : (t : List ℕ) (x : EditList × List ℕ) → step_at t ≡ Ok x → is_ok (expect (codes "step ") Head t) ≡ true
 unfolding step_at
-step_begins t x e = through_one (strip (codes "step ") t) _ x e λ a a_is e1. is_read (strip (codes "step ") t) a a_is
+step_begins t x e = through_one (expect (codes "step ") Head t) _ x e λ a a_is e1. is_read (expect (codes "step ") Head t) a a_is
 
-one_more_allocates : (i count : ℕ) (t text : List ℕ) → i < count → (t ≡ text) ⊎ (steps_allocate count text ≡ true) → is_some (strip (codes "step ") t) ≡ true → steps_allocate count text ≡ true
+one_more_allocates : (i count : ℕ) (t text : List ℕ) → i < count → (t ≡ text) ⊎ (steps_allocate count text ≡ true) → is_ok (expect (codes "step ") Head t) ≡ true → steps_allocate count text ≡ true
 one_more_allocates i zero t text lt begun here = absurd (omega (arith, lt))
-one_more_allocates i (suc n) t text lt (inl e) here = subst (λ (x : List ℕ). is_some (strip (codes "step ") x) ≡ true) e here
+one_more_allocates i (suc n) t text lt (inl e) here = subst (λ (x : List ℕ). is_ok (expect (codes "step ") Head x) ≡ true) e here
 one_more_allocates i (suc n) t text lt (inr h) here = h
 
 pub step_allocated : (i count : ℕ) (t text : List ℕ) → i < count → (t ≡ text) ⊎ (steps_allocate count text ≡ true) → step_allocates t ≡ true → steps_allocate count text ≡ true
 unfolding step_allocates
 step_allocated i count t text lt begun here =
-    found_some (strip (codes "step ") t) _ here λ a a_is h. one_more_allocates i count t text lt begun (is_read (strip (codes "step ") t) a a_is)
+    found_ok (expect (codes "step ") Head t) _ here λ a a_is h. one_more_allocates i count t text lt begun (is_read (expect (codes "step ") Head t) a a_is)
 
-pub step_taken : (i count : ℕ) (t text : List ℕ) (x : EditList × List ℕ) → i < count → (t ≡ text) ⊎ (steps_allocate count text ≡ true) → step_at t ≡ Some x → steps_allocate count text ≡ true
+pub step_taken : (i count : ℕ) (t text : List ℕ) (x : EditList × List ℕ) → i < count → (t ≡ text) ⊎ (steps_allocate count text ≡ true) → step_at t ≡ Ok x → steps_allocate count text ≡ true
 step_taken i count t text x lt begun e = one_more_allocates i count t text lt begun (step_begins t x e)
 
 -- ---- a list of edits that has begun
@@ -73,16 +76,13 @@ record Opens (mark t : List ℕ) : Type 0 where
   pub rest : List ℕ
   pub is : t ≡ number_text space old_len ++ (number_text newline count ++ (next ++ rest))
 
-fit : (e : EditEntry) → HasText e → NumbersFit e
-fit e h = record { at = h.at; removed = h.removed; added = h.added }
-
-first_fits : (es : List EditEntry) (f : EditEntry) (others : List EditEntry) → es ≡ f ∷ others → AllByRecursion HasText es → NumbersFit f
-first_fits es f others is h = let all : AllByRecursion HasText (f ∷ others) = subst (λ (l : List EditEntry). AllByRecursion HasText l) is h in fit f all.0
+first_fits : (es : List EditEntry) (f : EditEntry) (others : List EditEntry) → es ≡ f ∷ others → AllByRecursion NumbersFit es → NumbersFit f
+first_fits es f others is h = let all : AllByRecursion NumbersFit (f ∷ others) = subst (λ (l : List EditEntry). AllByRecursion NumbersFit l) is h in all.0
 
 opens_at : (mark t t1 t2 : List ℕ) (old_len count : ℕ) → t ≡ number_text space old_len ++ t1 → t1 ≡ number_text newline count ++ t2 → old_len ≤ max_number → count ≤ max_number → edits_allocate count t2 ≡ true → Opens mark t
 opens_at mark t t1 t2 old_len zero e1 e2 long many h = absurd cc
 opens_at mark t t1 t2 old_len (suc n) e1 e2 long many h =
-    some_read (edit_at t2) h λ x x_is.
+    ok_read (edit_at t2) h λ x x_is.
     let e3 = edit_takes t2 x.0 x.1 x_is in
     record {
       old_len = old_len;
@@ -90,7 +90,7 @@ opens_at mark t t1 t2 old_len (suc n) e1 e2 long many h =
       old_len_fits = long;
       count_fits = many;
       next = edit_text x.0;
-      next_is = (x.0, refl, fit x.0 (edit_fits t2 x.0 x.1 x_is));
+      next_is = (x.0, refl, edit_fits t2 x.0 x.1 x_is);
       rest = x.1;
       is = e1 ∙ ap (λ (y : List ℕ). number_text space old_len ++ y) (e2 ∙ ap (λ (y : List ℕ). number_text newline (suc n) ++ y) e3);
     }
@@ -98,8 +98,8 @@ opens_at mark t t1 t2 old_len (suc n) e1 e2 long many h =
 list_opens : (mark t : List ℕ) → edit_list_allocates t ≡ true → Opens mark t
 unfolding edit_list_allocates
 list_opens mark t h =
-    found_some (number_at 0 max_number space t) _ h λ old_len old_len_is h1.
-    found_some (number_at 0 max_number newline old_len.1) _ h1 λ count count_is h2.
+    found_ok (number_at 0 max_number space t) _ h λ old_len old_len_is h1.
+    found_ok (number_at 0 max_number newline old_len.1) _ h1 λ count count_is h2.
     let n0 = number_takes 0 max_number space t old_len (omega arith) old_len_is in
     let n1 = number_takes 0 max_number newline old_len.1 count (omega arith) count_is in
     opens_at mark t old_len.1 count.1 old_len.0 count.0 n0.0 n1.0 n0.2 n1.2 h2
@@ -164,20 +164,20 @@ from_old t t1 t2 t3 t4 word n e1 e2 e3 some few e4 o = record {
 record_opens : (t : List ℕ) → record_allocates t ≡ true → ReachesFirstEdit t
 unfolding record_allocates
 record_opens t h =
-    found_some (strip (codes "tfrec 2 ") t) _ h λ t1 t1_is h1.
-    found_some (word_at t1) _ h1 λ word word_is h2.
-    from_new t t1 word.1 word.0 (after_takes (codes "tfrec 2 ") t t1 t1_is) (word_takes t1 word.0 word.1 word_is) (list_opens (codes "end\n") word.1 h2)
+    found_ok (expect (codes "tfrec 2 ") Head t) _ h λ t1 t1_is h1.
+    found_ok (word_at t1) _ h1 λ word word_is h2.
+    from_new t t1 word.1 word.0 (expect_takes (codes "tfrec 2 ") Head t t1 t1_is) (word_takes t1 word.0 word.1 word_is) (list_opens (codes "end\n") word.1 h2)
 
 old_head_opens : (t : List ℕ) → old_head_allocates t ≡ true → OldReachesFirstEdit t
 unfolding old_head_allocates step_allocates
 old_head_opens t h =
-    found_some (strip (codes "tfrec 1 ") t) _ h λ t1 t1_is h1.
-    found_some (word_at t1) _ h1 λ word word_is h2.
-    found_some (number_at 1 64 newline word.1) _ h2 λ count count_is h3.
-    found_some (strip (codes "step ") count.1) _ h3 λ t4 t4_is h4.
+    found_ok (expect (codes "tfrec 1 ") Head t) _ h λ t1 t1_is h1.
+    found_ok (word_at t1) _ h1 λ word word_is h2.
+    found_ok (number_at 1 64 newline word.1) _ h2 λ count count_is h3.
+    found_ok (expect (codes "step ") Head count.1) _ h3 λ t4 t4_is h4.
     let n = number_takes 1 64 newline word.1 count (omega arith) count_is in
-    from_old t t1 word.1 count.1 t4 word.0 count.0 (after_takes (codes "tfrec 1 ") t t1 t1_is) (word_takes t1 word.0 word.1 word_is)
-    n.0 n.1 n.2 (after_takes (codes "step ") count.1 t4 t4_is) (list_opens (mark_after count.0) t4 h4)
+    from_old t t1 word.1 count.1 t4 word.0 count.0 (expect_takes (codes "tfrec 1 ") Head t t1 t1_is) (word_takes t1 word.0 word.1 word_is)
+    n.0 n.1 n.2 (expect_takes (codes "step ") Head count.1 t4 t4_is) (list_opens (mark_after count.0) t4 h4)
 
 two_marks : (n k : ℕ) → n - 1 ≡ suc k → mark_after n ≡ codes "step "
 two_marks zero k e = absurd cc
@@ -186,16 +186,16 @@ two_marks (suc (suc n)) k e = refl
 
 more_steps : {P : Type 0} (m : ℕ) (t : List ℕ) → steps_allocate m t ≡ true → ((k : ℕ) (x : List ℕ) → m ≡ suc k → t ≡ codes "step " ++ x → P) → P
 more_steps zero t h k = absurd cc
-more_steps (suc n) t h k = some_read (strip (codes "step ") t) h λ x x_is. k n x refl (after_takes (codes "step ") t x x_is)
+more_steps (suc n) t h k = ok_read (expect (codes "step ") Head t) h λ x x_is. k n x refl (expect_takes (codes "step ") Head t x x_is)
 
-old_steps_open : (t : List ℕ) (head : OldHead) (after : List ℕ) → old_head_at t ≡ Some (head, after) → steps_allocate head.others after ≡ true → OldReachesFirstEdit t
+old_steps_open : (t : List ℕ) (head : OldHead) (after : List ℕ) → old_head_at t ≡ Ok (head, after) → steps_allocate head.others after ≡ true → OldReachesFirstEdit t
 unfolding old_head_at
 old_steps_open t head after e h =
-    through_one (strip (codes "tfrec 1 ") t) _ (head, after) e λ t1 begins g1.
+    through_one (expect (codes "tfrec 1 ") Head t) _ (head, after) e λ t1 begins g1.
     through (word_at t1) _ (head, after) g1 λ word t2 word_is g2.
     through (number_at 1 64 newline t2) _ (head, after) g2 λ count t3 count_is g3.
     through (step_at t3) _ (head, after) g3 λ first t4 first_is g4.
-    let head_eq : (record { word = word; first = first; others = count - 1 }, t4) ≡ (head, after) = some_is _ _ g4 in
+    let head_eq : (record { word = word; first = first; others = count - 1 }, t4) ≡ (head, after) = ok_is _ _ g4 in
     let grown : steps_allocate (count - 1) t4 ≡ true = ap (λ (x : OldHead × List ℕ). steps_allocate x.0.others x.1) head_eq ∙ h in
     more_steps (count - 1) t4 grown λ k x count_eq step_is.
     let mark = two_marks count k count_eq in
@@ -205,14 +205,14 @@ old_steps_open t head after e h =
     let opens : Opens (codes "step ") (list_text first ++ (codes "step " ++ x)) = whole_opens first first.entries (codes "step ") x refl taken.1 in
     let opens_here : Opens (mark_after count) (list_text first ++ t4) =
     subst (λ (m : List ℕ). Opens m (list_text first ++ t4)) (sym mark) (subst (λ (y : List ℕ). Opens (codes "step ") (list_text first ++ y)) (sym step_is) opens) in
-    from_old t t1 t2 t3 (list_text first ++ t4) word count (after_takes (codes "tfrec 1 ") t t1 begins) (word_takes t1 word t2 word_is)
+    from_old t t1 t2 t3 (list_text first ++ t4) word count (expect_takes (codes "tfrec 1 ") Head t t1 begins) (word_takes t1 word t2 word_is)
     n.0 n.1 n.2 t3_is opens_here
 
 old_opens : (t : List ℕ) → old_record_allocates t ≡ true → OldReachesFirstEdit t
 old_opens t h =
     elim (either_true (old_head_allocates t) _ h) as (λ _. OldReachesFirstEdit t) [
       | inl a ↦ old_head_opens t a
-      | inr b ↦ found_some (old_head_at t) _ b λ head head_is g. old_steps_open t head.0 head.1 head_is g
+      | inr b ↦ found_ok (old_head_at t) _ b λ head head_is g. old_steps_open t head.0 head.1 head_is g
     ]
 
 allocates_out : (old : Bool) (t : List ℕ) → allocates old t ≡ true → DecodeMayAllocate t

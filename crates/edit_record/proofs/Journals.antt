@@ -1,10 +1,11 @@
 -- Records one after another, in one version or the other.
-use Rattle.std.proofs.Common.{◌≡◌, ◌↔◌, ℕ, ◌≤◌, ◌<◌, List, [], ◌∷◌, ◌++◌, length, drop, get_or, Bool, true, false, Option, None, Some, Result, Ok, Err, refl, sym, ap, subst, ◌∙◌, append_assoc, length-append, arith, inl, inr}
-use Rattle.std.specs.Prelude.{codes, ◌==◌}
+use Rattle.std.proofs.Common.{◌≡◌, ◌↔◌, ℕ, ◌≤◌, ◌<◌, List, [], ◌∷◌, ◌++◌, length, drop, get_or, Bool, true, false, Result, Ok, Err, refl, sym, ap, subst, ◌∙◌, append_assoc, length-append, arith, inl, inr}
+use Rattle.std.specs.Prelude.{codes, ◌==◌, IfErr, ⊤}
 use Rattle.std.proofs.lemmas.Bool.{eqb-true}
 use Rattle.std.specs.List.{flat_map, AllByRecursion}
 use Rattle.std.proofs.lemmas.List.{append-nil, nil_from_length}
 use Rattle.std.proofs.lemmas.List.Concat.{flat_map-cons}
+use Rattle.std.proofs.lemmas.Grind.{flat_map-append}
 use Rattle.edit_record.specs.Lists.Journal.{JournalEntry}
 use Rattle.edit_record.specs.Squashes.SquashLists.{SquashAll}
 use Rattle.edit_record.proofs.SquashesLemmas.Groupings.{squash_as_one}
@@ -12,10 +13,13 @@ use Rattle.edit_record.specs.declared.fault.DecodeStop.{DecodeStop}
 use Rattle.edit_record.specs.declared.fault.DecodeStop.TheVariants as stops
 use Rattle.edit_record.specs.Text.{word_text, list_text, number_text, newline, record_text, journal_text, IsCurrentText, OldRecord, steps, step_text, old_record_text, MigrateAllTo, IsOldText, IsJournalText}
 use Rattle.edit_record.specs.Lists.Validity.{IsValidList}
-use Rattle.edit_record.specs.Inner.Reading.{record_at, old_record_at}
+use Rattle.edit_record.specs.declared.fault.TextError.{TextError}
+use Rattle.edit_record.specs.Decoding.{IsFirstError, IsNotOld}
+use Rattle.edit_record.specs.Parsing.{record_at}
+use Rattle.edit_record.specs.Inner.Reading.{old_record_at}
 use Rattle.edit_record.specs.Inner.Allocating.{allocates}
-use Rattle.edit_record.specs.Inner.ParseResults.{AgreesWith, ParsesAs, IsStopFor, OldRecordAt, RecordAt, RecordsAt, IsReadResult}
-use Rattle.edit_record.proofs.Choices.{some_is}
+use Rattle.edit_record.specs.Inner.ParseResults.{IsRead, ParsesAs, IsStopFor, OldRecordAt, RecordAt, RecordsAt, StartsWith, IsErrorOf, IsReadResult}
+use Rattle.edit_record.proofs.Choices.{ok_is, err_ok}
 use Rattle.edit_record.proofs.Allocating.{Begun, runs_out}
 use Rattle.edit_record.proofs.Records.{three, four, record_takes, record_again, old_takes, old_again}
 
@@ -23,17 +27,14 @@ module _ {X Y : Type 0} (view : X → Y) (rest : X → List ℕ) where
   pub finds_alike : (R S : Y → List ℕ → Type 0) → ((y : Y) (t : List ℕ) → R y t ↔ S y t) → (takes : Bool) (r : Result X DecodeStop) → ParsesAs view rest takes r R → ParsesAs view rest takes r S
   finds_alike R S same takes (Ok x) h = (same (view x) (rest x)).0 h
   finds_alike R S same takes (Err stops.Memory) h = h
-  finds_alike R S same takes (Err (stops.Bad kind left)) h = λ y t s. h y t ((same y t).1 s)
+  finds_alike R S same takes (Err (stops.Bad bad)) h = λ y t s. h y t ((same y t).1 s)
 
-  pub finds_read : (read : Option (Y × List ℕ)) (takes : Bool) (r : Result X DecodeStop) → AgreesWith (λ x. (view x, rest x)) takes r read → ParsesAs view rest takes r (λ y t. read ≡ Some (y, t))
+  pub finds_read : (read : Result (Y × List ℕ) TextError) (takes : Bool) (r : Result X DecodeStop) → IsRead (λ x. (view x, rest x)) takes r read → ParsesAs view rest takes r (λ y t. read ≡ Ok (y, t))
   finds_read read takes (Ok x) h = h
   finds_read read takes (Err stops.Memory) h = h
-  finds_read read takes (Err (stops.Bad kind left)) h = λ y t s. none_some (sym h ∙ s)
-    where
-      none_some : {A : Type 0} {x : A} → None ≡ Some x → ⊥
-      none_some e = absurd cc
+  finds_read read takes (Err (stops.Bad bad)) h = λ y t s. err_ok bad _ (sym h ∙ s)
 
-pub new_alike : (t : List ℕ) (r : JournalEntry) (rest : List ℕ) → (record_at t ≡ Some (r, rest)) ↔ RecordAt false t r rest
+pub new_alike : (t : List ℕ) (r : JournalEntry) (rest : List ℕ) → (record_at t ≡ Ok (r, rest)) ↔ RecordAt false t r rest
 new_alike t r rest = (λ h. record_takes t r rest h, λ h. ap record_at h.0 ∙ record_again r rest h.1)
 
 pub old_alike : (t : List ℕ) (r : JournalEntry) (rest : List ℕ) → OldRecordAt t r rest ↔ RecordAt true t r rest
@@ -48,12 +49,12 @@ one_entered r s w e = λ i. record { word = w i; edits = e i }
 -- At a front stands one record at most.
 pub record_one : (old : Bool) (t : List ℕ) (r s : JournalEntry) (rest more : List ℕ) → RecordAt old t r rest → RecordAt old t s more → (r ≡ s) × (rest ≡ more)
 record_one false t r s rest more h k =
-    let e = some_is (r, rest) (s, more) (sym ((new_alike t r rest).1 h) ∙ (new_alike t s more).1 k) in
+    let e = ok_is (r, rest) (s, more) (sym ((new_alike t r rest).1 h) ∙ (new_alike t s more).1 k) in
     (ap (λ (x : JournalEntry × List ℕ). x.0) e, ap (λ (x : JournalEntry × List ℕ). x.1) e)
 record_one true t r s rest more h k =
     let a = (old_alike t r rest).1 h in
     let b = (old_alike t s more).1 k in
-    let e = some_is (a.0, rest) (b.0, more) (sym a.1 ∙ b.1) in
+    let e = ok_is (a.0, rest) (b.0, more) (sym a.1 ∙ b.1) in
     let old_eq = ap (λ (x : OldRecord × List ℕ). x.0) e in
     let squashed : SquashAll a.0.first a.0.others s.edits = subst (λ (x : OldRecord). SquashAll x.first x.others s.edits) (sym old_eq) b.3 in
     let edits_eq = (squash_as_one a.0.first a.0.others).one r.edits s.edits a.3 squashed in
@@ -177,13 +178,60 @@ from_journal old t rs version (inr h) = kept_old old t rs version (from_old_text
 pub version_is : (old : Bool) (t : List ℕ) → (old ≡ true → t ≡ codes "tfrec 1" ++ drop 7 t) × ((x : List ℕ) → t ≡ codes "tfrec 1" ++ x → old ≡ true) → IsVersion old t
 version_is old t h = record { is_old = h.0; else = h.1 }
 
+-- ---- the first error of a text of version 2
+
+-- the records that were read, if they are of version 2
+abbrev pub HasRead : Bool → List ℕ → List JournalEntry → List ℕ → Type 0
+HasRead true text records rest = ⊤
+HasRead false text records rest = StartsWith text records rest
+
+pub read_none : (old : Bool) (text : List ℕ) → HasRead old text [] text
+read_none true text = tt
+read_none false text = ([], record { made = tt; is = refl }, refl)
+
+all_push : (rs : List JournalEntry) (r : JournalEntry) → AllByRecursion (λ (x : JournalEntry). IsValidList x.edits) rs → IsValidList r.edits → AllByRecursion (λ (x : JournalEntry). IsValidList x.edits) (rs ++ r ∷ [])
+all_push [] r all valid = (valid, tt)
+all_push (s ∷ rs) r all valid = (all.0, all_push rs r all.1 valid)
+
+pub read_on : (old : Bool) (text : List ℕ) (records : List JournalEntry) (rest after : List ℕ) (r : JournalEntry) → HasRead old text records rest → RecordAt old rest r after → HasRead old text (records ++ r ∷ []) after
+read_on true text records rest after r so_far h = tt
+read_on false text records rest after r so_far h =
+    let is : so_far.0 ++ record_text r ≡ journal_text (records ++ r ∷ []) =
+    ap (λ (x : List ℕ). x ++ record_text r) so_far.1.is
+    ∙ ap (λ (x : List ℕ). journal_text records ++ x) (sym (append-nil (record_text r)) ∙ sym (flat_map-cons record_text r []))
+    ∙ sym (flat_map-append record_text records (r ∷ [])) in (
+      so_far.0 ++ record_text r,
+      record { made = all_push records r so_far.1.made h.1; is = is },
+      so_far.2 ∙ ap (λ (x : List ℕ). so_far.0 ++ x) h.0 ∙ sym (append_assoc so_far.0 (record_text r) after),
+    )
+
+first_error : (old : Bool) (text : List ℕ) (records : List JournalEntry) (rest : List ℕ) (bad : TextError) → IsVersion old text → HasRead old text records rest → IsErrorOf old rest (stops.Bad bad) → IsNotOld text → IsFirstError text bad
+first_error true text records rest bad version so_far error not_old = absurd (not_old (drop 7 text) (version.is_old refl))
+first_error false text records rest bad version so_far error not_old = record {
+  front = so_far.0;
+  records = records;
+  is_front = so_far.1;
+  rest = rest;
+  is = so_far.2;
+  error_is = error;
+}
+
 module _ (old : Bool) (text : List ℕ) (front : List JournalEntry) (rest : List ℕ) (so_far : Begins old text front rest) where
-  pub reads_stop : Begun text rest → IsVersion old text → 0 < length rest → (stop : DecodeStop) → IsStopFor (allocates old rest) stop (RecordAt old rest) → IsReadResult text (Err stop)
-  reads_stop begun version some stops.Memory taken = runs_out old text rest begun taken
-  reads_stop begun version some (stops.Bad kind left) none = λ rs h. begins_none old text front rest so_far some none rs (from_journal old text rs version h)
+  pub reads_stop : Begun text rest → HasRead old text front rest → IsVersion old text → 0 < length rest → (stop : DecodeStop) → IsStopFor (allocates old rest) stop (RecordAt old rest) → IsErrorOf old rest stop → IsReadResult text (Err stop)
+  reads_stop begun read version some stops.Memory taken error = runs_out old text rest begun taken
+  reads_stop begun read version some (stops.Bad bad) none error = (
+    λ rs h. begins_none old text front rest so_far some none rs (from_journal old text rs version h),
+    first_error old text front rest bad version read error,
+  )
 
   pub reads_all : rest ≡ [] → IsReadResult text (Ok front)
   reads_all done = journal_from old text front (begins_all old text front rest so_far done)
+
+-- the error of the one record
+pub new_error : {X : Type 0} (view : X → JournalEntry × List ℕ) (takes : Bool) (t : List ℕ) (r : Result X DecodeStop) → IsRead view takes r (record_at t) → IfErr r (λ stop. IsErrorOf false t stop)
+new_error view takes t (Ok x) h = tt
+new_error view takes t (Err stops.Memory) h = tt
+new_error view takes t (Err (stops.Bad bad)) h = h
 
 pub some_left : (t : List ℕ) → false ≡ (length t == 0) → 0 < length t
 some_left t e = grind (arith, e)

@@ -9,7 +9,7 @@ use Rattle.edit_record.specs.Lists.Journal.{JournalEntry, journal_transforms}
 use Rattle.edit_record.proofs.SquashesLemmas.Groupings.{squash_as_one}
 use Rattle.edit_record.specs.Text.{record_text, journal_text, IsCurrentText, OldRecord, MigratesTo, MigrateAllTo, old_transforms, IsJournalText}
 use Rattle.edit_record.specs.Lists.Validity.{IsValidList}
-use Rattle.edit_record.specs.Inner.Reading.{strip}
+use Rattle.edit_record.specs.Parsing.{strip}
 use Rattle.edit_record.specs.Inner.ParseResults.{RecordsAt}
 use Rattle.edit_record.proofs.Fields.{after_takes, after_again}
 use Rattle.edit_record.proofs.Journals.{record_one, IsVersion, not_empty, from_journal, from_text, text_from}

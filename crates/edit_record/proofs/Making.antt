@@ -5,8 +5,7 @@ use Rattle.edit_record.specs.Lists.Pieces.{EditEntry, EditList, as_list, removed
 use Rattle.edit_record.specs.Lists.Validity.{make_edits, new_len, AreValidEdits, AreDisjoint, IsValidList}
 use Rattle.edit_record.specs.declared.lists.edits.TheConstants.{MAX_TEXT}
 use Rattle.edit_record.proofs.ListsLemmas.ListLemmas.{make_is_exact}
-use Rattle.edit_record.specs.Inner.Reading.{max_number}
-use Rattle.edit_record.proofs.Fields.{HasText}
+use Rattle.edit_record.specs.Text.{max_number, NumbersFit}
 
 pub valid_is : (old_len : ℕ) (es : List EditEntry) (e : EditList) → make_edits old_len es ≡ Ok e → (as_list old_len es ≡ e) × IsValidList e
 valid_is old_len es e h =
@@ -21,7 +20,7 @@ room : (old_len from : ℕ) (es : List EditEntry) → AreDisjoint old_len from e
 room old_len from [] p = omega (arith, p)
 room old_len from (e ∷ es) p = let r = room old_len (e.at + length e.removed) es p.1 in let q = p.0.later in omega arith
 
-have_text : (old_len from : ℕ) (es : List EditEntry) → AreDisjoint old_len from es → old_len ≤ MAX_TEXT → added_len es ≤ MAX_TEXT → AllByRecursion HasText es × (length es ≤ removed_len es + added_len es)
+have_text : (old_len from : ℕ) (es : List EditEntry) → AreDisjoint old_len from es → old_len ≤ MAX_TEXT → added_len es ≤ MAX_TEXT → AllByRecursion NumbersFit es × (length es ≤ removed_len es + added_len es)
 have_text old_len from [] p old_fits new_fits = (tt, omega arith)
 have_text old_len from (e ∷ es) p old_fits new_fits =
     let i = have_text old_len (e.at + length e.removed) es p.1 old_fits (omega (arith, new_fits)) in
@@ -33,7 +32,7 @@ have_text old_len from (e ∷ es) p old_fits new_fits =
 pub record HasNumbers (e : EditList) : Type 0 where
   pub old_len : e.old_len ≤ max_number
   pub count : length e.entries ≤ max_number
-  pub edits : AllByRecursion HasText e.entries
+  pub edits : AllByRecursion NumbersFit e.entries
 
 pub has_numbers : (e : EditList) → IsValidList e → HasNumbers e
 has_numbers e m =

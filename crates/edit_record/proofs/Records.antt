@@ -9,28 +9,31 @@ use Rattle.edit_record.specs.declared.lists.record.Word.TheVariants.{Fmt, Fix}
 use Rattle.edit_record.specs.Lists.Pieces.{EditList, as_list}
 use Rattle.edit_record.specs.Lists.Validity.{make_edits, IsValidList}
 use Rattle.edit_record.specs.Lists.Journal.{JournalEntry}
-use Rattle.edit_record.specs.Text.{space, newline, number_text, edit_text, list_text, word_text, record_text, OldRecord, steps, step_text, old_record_text}
-use Rattle.edit_record.specs.Inner.Reading.{strip, max_number, number_at, edits_at, if_valid, edit_list_at, word_of, word_at, record_at, step_at, steps_at, OldHead, old_head_at, old_record_at}
-use Rattle.edit_record.proofs.Choices.{some_is, through, through_one, goes_on, part}
+use Rattle.edit_record.specs.Text.{space, newline, max_number, number_text, edit_text, list_text, word_text, record_text, OldRecord, steps, step_text, old_record_text}
+use Rattle.edit_record.specs.declared.fault.FaultKind.TheVariants.{Head, End}
+use Rattle.edit_record.specs.declared.fault.TextError.{TextError}
+use Rattle.edit_record.specs.Parsing.{strip, expect, number_at, edits_at, if_valid, edit_list_at, word_of, bare_word_at, word_at, record_at}
+use Rattle.edit_record.specs.Inner.Reading.{step_at, steps_at, OldHead, old_head_at, old_record_at}
+use Rattle.edit_record.proofs.Choices.{ok_is, through, through_one, goes_on, part}
 use Rattle.edit_record.proofs.Many.{many_take, many_again}
 use Rattle.edit_record.proofs.Numbers.{number_takes, number_again}
-use Rattle.edit_record.proofs.Fields.{after_takes, edits_take, edits_again}
+use Rattle.edit_record.proofs.Fields.{after_takes, expect_takes, edits_take, edits_again}
 use Rattle.edit_record.proofs.Making.{valid_is, valid_again, has_numbers}
 
-valid_found : (r : Result EditList BadEdits) (t rest : List ℕ) (e : EditList) → if_valid r t ≡ Some (e, rest) → (r ≡ Ok e) × (t ≡ rest)
-valid_found (Ok x) t rest e h = let p = some_is (x, t) (e, rest) h in (ap (λ (y : EditList × List ℕ). Ok y.0) p, ap (λ (y : EditList × List ℕ). y.1) p)
-valid_found (Err d) t rest e h = absurd cc
+valid_found : (left : ℕ) (r : Result EditList BadEdits) (t rest : List ℕ) (e : EditList) → if_valid left r t ≡ Ok (e, rest) → (r ≡ Ok e) × (t ≡ rest)
+valid_found left (Ok x) t rest e h = let p = ok_is (x, t) (e, rest) h in (ap (λ (y : EditList × List ℕ). Ok y.0) p, ap (λ (y : EditList × List ℕ). y.1) p)
+valid_found left (Err d) t rest e h = absurd cc
 
 two : (a b c rest : List ℕ) → ((a ++ b) ++ c) ++ rest ≡ a ++ (b ++ (c ++ rest))
 two a b c rest = simp append_assoc
 
-pub list_takes : (t : List ℕ) (e : EditList) (rest : List ℕ) → edit_list_at t ≡ Some (e, rest) → (t ≡ list_text e ++ rest) × IsValidList e
+pub list_takes : (left : ℕ) (t : List ℕ) (e : EditList) (rest : List ℕ) → edit_list_at left t ≡ Ok (e, rest) → (t ≡ list_text e ++ rest) × IsValidList e
 unfolding edit_list_at
-list_takes t e rest h =
+list_takes left t e rest h =
     through (number_at 0 max_number space t) _ (e, rest) h λ old_len t1 old_len_is h1.
     through (number_at 0 max_number newline t1) _ (e, rest) h1 λ count t2 count_is h2.
     through (edits_at count t2) _ (e, rest) h2 λ es t3 es_is h3.
-    let m = valid_found (make_edits old_len es) t3 rest e h3 in
+    let m = valid_found left (make_edits old_len es) t3 rest e h3 in
     let i = valid_is old_len es e m.0 in
     let n0 = (number_takes 0 max_number space t (old_len, t1) (omega arith) old_len_is).0 in
     let n1 = (number_takes 0 max_number newline t1 (count, t2) (omega arith) count_is).0 in
@@ -39,45 +42,47 @@ list_takes t e rest h =
     let whole = part (number_text space old_len) t t1 _ n0 (part (number_text newline (length es)) t1 t2 _ m1 es_take.0) ∙ sym (two (number_text space old_len) (number_text newline (length es)) (flat_map edit_text es) t3) in
     (subst (λ (x : EditList). t ≡ list_text x ++ rest) i.0 (whole ∙ ap (λ (x : List ℕ). list_text (as_list old_len es) ++ x) m.1), i.1)
 
-pub list_again : (e : EditList) (rest : List ℕ) → IsValidList e → edit_list_at (list_text e ++ rest) ≡ Some (e, rest)
+pub list_again : (left : ℕ) (e : EditList) (rest : List ℕ) → IsValidList e → edit_list_at left (list_text e ++ rest) ≡ Ok (e, rest)
 unfolding edit_list_at
-list_again e rest made_e =
+list_again left e rest made_e =
     let n = has_numbers e made_e in
     let t2 = flat_map edit_text e.entries ++ rest in
     let t1 = number_text newline (length e.entries) ++ t2 in
     let t0 = number_text space e.old_len ++ t1 in
-    let last : if_valid (make_edits e.old_len e.entries) rest ≡ Some (e, rest) = rw (valid_again e made_e) refl in
-    let read : edit_list_at t0 ≡ Some (e, rest) =
+    let last : if_valid left (make_edits e.old_len e.entries) rest ≡ Ok (e, rest) = rw (valid_again e made_e) refl in
+    let read : edit_list_at left t0 ≡ Ok (e, rest) =
     goes_on (number_at 0 max_number space t0) _ (e.old_len, t1) _ (number_again 0 max_number space e.old_len t1 (omega arith) refl (omega arith) n.old_len)
     (goes_on (number_at 0 max_number newline t1) _ (length e.entries, t2) _ (number_again 0 max_number newline (length e.entries) t2 (omega arith) refl (omega arith) n.count)
     (goes_on (edits_at (length e.entries) t2) _ (e.entries, rest) _ (edits_again e.entries rest n.edits) last)) in
-    ap edit_list_at (two (number_text space e.old_len) (number_text newline (length e.entries)) (flat_map edit_text e.entries) rest) ∙ read
+    ap (edit_list_at left) (two (number_text space e.old_len) (number_text newline (length e.entries)) (flat_map edit_text e.entries) rest) ∙ read
 
 -- the word without the space behind it
 bare : Word → List ℕ
 bare Fmt = codes "fmt"
 bare Fix = codes "fix"
 
-word_found : (fmt fix : Option (List ℕ)) (t t1 : List ℕ) (w : Word) → strip (codes "fmt") t ≡ fmt → strip (codes "fix") t ≡ fix → word_of fmt fix ≡ Some (w, t1) → t ≡ bare w ++ t1
+word_found : (fmt fix fmt_part fix_part : Option (List ℕ)) (left : ℕ) (t t1 : List ℕ) (w : Word) → strip (codes "fmt") t ≡ fmt → strip (codes "fix") t ≡ fix → word_of fmt fix fmt_part fix_part left ≡ Ok (w, t1) → t ≡ bare w ++ t1
 unfolding bare
-word_found (Some x) fix t t1 w fmt_is fix_is e = subst (λ (y : Word × List ℕ). t ≡ bare y.0 ++ y.1) (some_is (Fmt, x) (w, t1) e) (after_takes (codes "fmt") t x fmt_is)
-word_found None (Some x) t t1 w fmt_is fix_is e = subst (λ (y : Word × List ℕ). t ≡ bare y.0 ++ y.1) (some_is (Fix, x) (w, t1) e) (after_takes (codes "fix") t x fix_is)
-word_found None None t t1 w fmt_is fix_is e = absurd cc
+word_found (Some x) fix fmt_part fix_part left t t1 w fmt_is fix_is e = subst (λ (y : Word × List ℕ). t ≡ bare y.0 ++ y.1) (ok_is (Fmt, x) (w, t1) e) (after_takes (codes "fmt") t x fmt_is)
+word_found None (Some x) fmt_part fix_part left t t1 w fmt_is fix_is e = subst (λ (y : Word × List ℕ). t ≡ bare y.0 ++ y.1) (ok_is (Fix, x) (w, t1) e) (after_takes (codes "fix") t x fix_is)
+word_found None None (Some x) fix_part left t t1 w fmt_is fix_is e = absurd cc
+word_found None None None (Some x) left t t1 w fmt_is fix_is e = absurd cc
+word_found None None None None left t t1 w fmt_is fix_is e = absurd cc
 
 with_space : (w : Word) (rest : List ℕ) → bare w ++ (space ∷ rest) ≡ word_text w ++ rest
 unfolding bare
 with_space Fmt rest = refl
 with_space Fix rest = refl
 
-pub word_takes : (t : List ℕ) (w : Word) (rest : List ℕ) → word_at t ≡ Some (w, rest) → t ≡ word_text w ++ rest
+pub word_takes : (t : List ℕ) (w : Word) (rest : List ℕ) → word_at t ≡ Ok (w, rest) → t ≡ word_text w ++ rest
 unfolding word_at
 word_takes t w rest e =
-    through (word_of (strip (codes "fmt") t) (strip (codes "fix") t)) _ (w, rest) e λ word t1 word_is e1.
-    through_one (strip (space ∷ []) t1) _ (w, rest) e1 λ t2 space_is e2.
-    let whole = part (bare word) t t1 _ (word_found _ _ t t1 word refl refl word_is) (after_takes (space ∷ []) t1 t2 space_is) ∙ with_space word t2 in
-    subst (λ (y : Word × List ℕ). t ≡ word_text y.0 ++ y.1) (some_is (word, t2) (w, rest) e2) whole
+    through (bare_word_at t) _ (w, rest) e λ word t1 word_is e1.
+    through_one (expect (space ∷ []) Head t1) _ (w, rest) e1 λ t2 space_is e2.
+    let whole = part (bare word) t t1 _ (word_found _ _ _ _ _ t t1 word refl refl word_is) (expect_takes (space ∷ []) Head t1 t2 space_is) ∙ with_space word t2 in
+    subst (λ (y : Word × List ℕ). t ≡ word_text y.0 ++ y.1) (ok_is (word, t2) (w, rest) e2) whole
 
-pub word_again : (w : Word) (rest : List ℕ) → word_at (word_text w ++ rest) ≡ Some (w, rest)
+pub word_again : (w : Word) (rest : List ℕ) → word_at (word_text w ++ rest) ≡ Ok (w, rest)
 unfolding word_at
 word_again Fmt rest = refl
 word_again Fix rest = refl
@@ -85,48 +90,48 @@ word_again Fix rest = refl
 pub three : (a b c d rest : List ℕ) → ((a ++ b) ++ c ++ d) ++ rest ≡ a ++ (b ++ (c ++ (d ++ rest)))
 three a b c d rest = simp append_assoc
 
-pub record_takes : (t : List ℕ) (r : JournalEntry) (rest : List ℕ) → record_at t ≡ Some (r, rest) → (t ≡ record_text r ++ rest) × IsValidList r.edits
+pub record_takes : (t : List ℕ) (r : JournalEntry) (rest : List ℕ) → record_at t ≡ Ok (r, rest) → (t ≡ record_text r ++ rest) × IsValidList r.edits
 unfolding record_at
 record_takes t r rest h =
-    through_one (strip (codes "tfrec 2 ") t) _ (r, rest) h λ t1 head_is h1.
+    through_one (expect (codes "tfrec 2 ") Head t) _ (r, rest) h λ t1 head_is h1.
     through (word_at t1) _ (r, rest) h1 λ word t2 word_is h2.
-    through (edit_list_at t2) _ (r, rest) h2 λ edits t3 edits_are h3.
-    through_one (strip (codes "end\n") t3) _ (r, rest) h3 λ t4 end_is h4.
+    through (edit_list_at (length t) t2) _ (r, rest) h2 λ edits t3 edits_are h3.
+    through_one (expect (codes "end\n") End t3) _ (r, rest) h3 λ t4 end_is h4.
     let found : JournalEntry × List ℕ = (record { word = word; edits = edits }, t4) in
-    let l = list_takes t2 edits t3 edits_are in
-    let rest_is = part (word_text word) t1 t2 _ (word_takes t1 word t2 word_is) (part (list_text edits) t2 t3 _ l.0 (after_takes (codes "end\n") t3 t4 end_is)) in
-    let whole = part (codes "tfrec 2 ") t t1 _ (after_takes (codes "tfrec 2 ") t t1 head_is) rest_is
+    let l = list_takes (length t) t2 edits t3 edits_are in
+    let rest_is = part (word_text word) t1 t2 _ (word_takes t1 word t2 word_is) (part (list_text edits) t2 t3 _ l.0 (expect_takes (codes "end\n") End t3 t4 end_is)) in
+    let whole = part (codes "tfrec 2 ") t t1 _ (expect_takes (codes "tfrec 2 ") Head t t1 head_is) rest_is
     ∙ sym (three (codes "tfrec 2 ") (word_text word) (list_text edits) (codes "end\n") t4) in
-    subst (λ (y : JournalEntry × List ℕ). (t ≡ record_text y.0 ++ y.1) × IsValidList y.0.edits) (some_is found (r, rest) h4) (whole, l.1)
+    subst (λ (y : JournalEntry × List ℕ). (t ≡ record_text y.0 ++ y.1) × IsValidList y.0.edits) (ok_is found (r, rest) h4) (whole, l.1)
 
-pub record_again : (r : JournalEntry) (rest : List ℕ) → IsValidList r.edits → record_at (record_text r ++ rest) ≡ Some (r, rest)
+pub record_again : (r : JournalEntry) (rest : List ℕ) → IsValidList r.edits → record_at (record_text r ++ rest) ≡ Ok (r, rest)
 unfolding record_at
 record_again r rest made_r =
     let t3 = codes "end\n" ++ rest in
     let t2 = list_text r.edits ++ t3 in
     let t1 = word_text r.word ++ t2 in
     let t0 = codes "tfrec 2 " ++ t1 in
-    let read : record_at t0 ≡ Some (r, rest) =
+    let read : record_at t0 ≡ Ok (r, rest) =
     goes_on (word_at t1) _ (r.word, t2) _ (word_again r.word t2)
-    (goes_on (edit_list_at t2) _ (r.edits, t3) _ (list_again r.edits t3 made_r) refl) in
+    (goes_on (edit_list_at (length t0) t2) _ (r.edits, t3) _ (list_again (length t0) r.edits t3 made_r) refl) in
     ap record_at (three (codes "tfrec 2 ") (word_text r.word) (list_text r.edits) (codes "end\n") rest) ∙ read
 
-pub step_takes : (t : List ℕ) (e : EditList) (rest : List ℕ) → step_at t ≡ Some (e, rest) → (t ≡ step_text e ++ rest) × IsValidList e
+pub step_takes : (t : List ℕ) (e : EditList) (rest : List ℕ) → step_at t ≡ Ok (e, rest) → (t ≡ step_text e ++ rest) × IsValidList e
 unfolding step_at
 step_takes t e rest h =
-    through_one (strip (codes "step ") t) _ (e, rest) h λ t1 head_is h1.
-    let l = list_takes t1 e rest h1 in
-    (part (codes "step ") t t1 _ (after_takes (codes "step ") t t1 head_is) l.0, l.1)
+    through_one (expect (codes "step ") Head t) _ (e, rest) h λ t1 head_is h1.
+    let l = list_takes (length t) t1 e rest h1 in
+    (part (codes "step ") t t1 _ (expect_takes (codes "step ") Head t t1 head_is) l.0, l.1)
 
-pub step_again : (e : EditList) (rest : List ℕ) → IsValidList e → step_at (step_text e ++ rest) ≡ Some (e, rest)
+pub step_again : (e : EditList) (rest : List ℕ) → IsValidList e → step_at (step_text e ++ rest) ≡ Ok (e, rest)
 unfolding step_at
-step_again e rest made_e = list_again e rest made_e
+step_again e rest made_e = list_again (length (step_text e ++ rest)) e rest made_e
 
-pub steps_take : (n : ℕ) (t : List ℕ) (es : List EditList) (rest : List ℕ) → steps_at n t ≡ Some (es, rest) → (t ≡ flat_map step_text es ++ rest) × (length es ≡ n) × AllByRecursion IsValidList es
+pub steps_take : (n : ℕ) (t : List ℕ) (es : List EditList) (rest : List ℕ) → steps_at n t ≡ Ok (es, rest) → (t ≡ flat_map step_text es ++ rest) × (length es ≡ n) × AllByRecursion IsValidList es
 unfolding steps_at
 steps_take = many_take step_at step_text IsValidList step_takes
 
-pub steps_again : (es : List EditList) (rest : List ℕ) → AllByRecursion IsValidList es → steps_at (length es) (flat_map step_text es ++ rest) ≡ Some (es, rest)
+pub steps_again : (es : List EditList) (rest : List ℕ) → AllByRecursion IsValidList es → steps_at (length es) (flat_map step_text es ++ rest) ≡ Ok (es, rest)
 unfolding steps_at
 steps_again = many_again step_at step_text IsValidList step_again
 
@@ -142,17 +147,17 @@ found_is : (others : List EditList) (t6 : List ℕ) (found : OldRecord × List �
     → (record { word = y.0.word; first = y.0.first; others = others }, t6) ≡ found → (record { word = x.0.word; first = x.0.first; others = others }, t6) ≡ found
 found_is others t6 found x y e h = subst (λ (z : OldHead × List ℕ). (record { word = z.0.word; first = z.0.first; others = others }, t6) ≡ found) (sym e) h
 
-pub old_takes : (t : List ℕ) (r : OldRecord) (rest : List ℕ) → old_record_at t ≡ Some (r, rest) → (t ≡ old_record_text r ++ rest) × IsOld r
+pub old_takes : (t : List ℕ) (r : OldRecord) (rest : List ℕ) → old_record_at t ≡ Ok (r, rest) → (t ≡ old_record_text r ++ rest) × IsOld r
 unfolding old_record_at old_head_at
 old_takes t r rest h =
     through (old_head_at t) _ (r, rest) h λ head t4 head_is h1.
     through (steps_at head.others t4) _ (r, rest) h1 λ others t5 others_are h2.
-    through_one (strip (codes "end\n") t5) _ (r, rest) h2 λ t6 end_is h3.
-    through_one (strip (codes "tfrec 1 ") t) _ (head, t4) head_is λ t1 begins g1.
+    through_one (expect (codes "end\n") End t5) _ (r, rest) h2 λ t6 end_is h3.
+    through_one (expect (codes "tfrec 1 ") Head t) _ (head, t4) head_is λ t1 begins g1.
     through (word_at t1) _ (head, t4) g1 λ word t2 word_is g2.
     through (number_at 1 64 newline t2) _ (head, t4) g2 λ count t3 count_is g3.
     through (step_at t3) _ (head, t4) g3 λ first t4' first_is g4.
-    let head_eq : (record { word = word; first = first; others = count - 1 }, t4') ≡ (head, t4) = some_is _ _ g4 in
+    let head_eq : (record { word = word; first = first; others = count - 1 }, t4') ≡ (head, t4) = ok_is _ _ g4 in
     let old : OldRecord = record { word = word; first = first; others = others } in
     let n = number_takes 1 64 newline t2 (count, t3) (omega arith) count_is in
     let count_eq : count - 1 ≡ head.others = ap (λ (x : OldHead × List ℕ). x.0.others) head_eq in
@@ -164,14 +169,14 @@ old_takes t r rest h =
     ∙ ap (λ (y : List ℕ). y ++ t5) (sym (flat_map-cons step_text first others)) in
     let count_of : count ≡ length (steps old) = omega (arith, n.1, ss.1, count_eq) in
     let m2 : t2 ≡ number_text newline (length (steps old)) ++ t3 = n.0 ∙ ap (λ (k : ℕ). number_text newline k ++ t3) count_of in
-    let rest_is = part (word_text word) t1 t2 _ (word_takes t1 word t2 word_is) (part (number_text newline (length (steps old))) t2 t3 _ m2 (part (flat_map step_text (steps old)) t3 t5 _ all_are (after_takes (codes "end\n") t5 t6 end_is))) in
-    let whole = part (codes "tfrec 1 ") t t1 _ (after_takes (codes "tfrec 1 ") t t1 begins) rest_is
+    let rest_is = part (word_text word) t1 t2 _ (word_takes t1 word t2 word_is) (part (number_text newline (length (steps old))) t2 t3 _ m2 (part (flat_map step_text (steps old)) t3 t5 _ all_are (expect_takes (codes "end\n") End t5 t6 end_is))) in
+    let whole = part (codes "tfrec 1 ") t t1 _ (expect_takes (codes "tfrec 1 ") Head t t1 begins) rest_is
     ∙ sym (four (codes "tfrec 1 ") (word_text word) (number_text newline (length (steps old))) (flat_map step_text (steps old)) (codes "end\n") t6) in
     let old_is : IsOld old = record { made = (s.1, ss.2); within_limit = omega (arith, n.2, count_of) } in
-    let found_eq : (old, t6) ≡ (r, rest) = found_is others t6 (r, rest) (record { word = word; first = first; others = count - 1 }, t4') (head, t4) head_eq (some_is (record { word = head.word; first = head.first; others = others }, t6) (r, rest) h3) in
+    let found_eq : (old, t6) ≡ (r, rest) = found_is others t6 (r, rest) (record { word = word; first = first; others = count - 1 }, t4') (head, t4) head_eq (ok_is (record { word = head.word; first = head.first; others = others }, t6) (r, rest) h3) in
     subst (λ (y : OldRecord × List ℕ). (t ≡ old_record_text y.0 ++ y.1) × IsOld y.0) found_eq (whole, old_is)
 
-pub old_again : (r : OldRecord) (rest : List ℕ) → IsOld r → old_record_at (old_record_text r ++ rest) ≡ Some (r, rest)
+pub old_again : (r : OldRecord) (rest : List ℕ) → IsOld r → old_record_at (old_record_text r ++ rest) ≡ Ok (r, rest)
 unfolding old_record_at old_head_at
 old_again r rest old =
     let t5 = codes "end\n" ++ rest in
@@ -182,15 +187,15 @@ old_again r rest old =
     let t0 = codes "tfrec 1 " ++ t1 in
     let some : 1 ≤ length (steps r) = omega arith in
     let others : length r.others ≡ length (steps r) - 1 = omega arith in
-    let first_is : step_at t3 ≡ Some (r.first, t4) =
+    let first_is : step_at t3 ≡ Ok (r.first, t4) =
     ap step_at (ap (λ (y : List ℕ). y ++ t5) (flat_map-cons step_text r.first r.others) ∙ append_assoc (step_text r.first) (flat_map step_text r.others) t5) ∙ step_again r.first t4 old.made.0 in
-    let others_are : steps_at (length (steps r) - 1) t4 ≡ Some (r.others, t5) = ap (λ (k : ℕ). steps_at k t4) (sym others) ∙ steps_again r.others t5 old.made.1 in
+    let others_are : steps_at (length (steps r) - 1) t4 ≡ Ok (r.others, t5) = ap (λ (k : ℕ). steps_at k t4) (sym others) ∙ steps_again r.others t5 old.made.1 in
     let head : OldHead = record { word = r.word; first = r.first; others = length (steps r) - 1 } in
-    let head_is : old_head_at t0 ≡ Some (head, t4) =
+    let head_is : old_head_at t0 ≡ Ok (head, t4) =
     goes_on (word_at t1) _ (r.word, t2) _ (word_again r.word t2)
     (goes_on (number_at 1 64 newline t2) _ (length (steps r), t3) _ (number_again 1 64 newline (length (steps r)) t3 (omega arith) refl some old.within_limit)
     (goes_on (step_at t3) _ (r.first, t4) _ first_is refl)) in
-    let read : old_record_at t0 ≡ Some (r, rest) =
+    let read : old_record_at t0 ≡ Ok (r, rest) =
     goes_on (old_head_at t0) _ (head, t4) _ head_is
     (goes_on (steps_at (length (steps r) - 1) t4) _ (r.others, t5) _ others_are refl) in
     ap old_record_at (four (codes "tfrec 1 ") (word_text r.word) (number_text newline (length (steps r))) (flat_map step_text (steps r)) (codes "end\n") rest) ∙ read

@@ -1,22 +1,16 @@
 -- What decode answers.
-use Rattle.std.specs.Prelude.{◌≡◌, ℕ, zero, suc, ◌<◌, ◌≤◌, ◌⊎◌, List, ◌++◌, length, codes, Result, Ok, Err}
+use Rattle.std.specs.Prelude.{◌≡◌, ◌≢◌, ℕ, zero, suc, ◌-◌, ◌<◌, ◌≤◌, ◌⊎◌, List, ◌++◌, length, codes, Result, Ok, Err}
 use Rattle.edit_record.specs.declared.lists.edits.TheConstants.{MAX_TEXT}
 use Rattle.edit_record.specs.declared.lists.record.Word.{Word}
 use Rattle.edit_record.specs.Lists.Pieces.{EditEntry}
 use Rattle.edit_record.specs.Lists.Journal.{JournalEntry}
-use Rattle.edit_record.specs.Text.{list_head, record_head, old_record_head, edit_text, IsJournalText}
+use Rattle.edit_record.specs.Text.{max_number, NumbersFit, list_head, record_head, old_record_head, edit_text, IsCurrentText, IsJournalText}
+use Rattle.edit_record.specs.Parsing.{record_at}
+use Rattle.edit_record.specs.declared.fault.FaultKind.{FaultKind}
+use Rattle.edit_record.specs.declared.fault.FaultKind.TheVariants as kinds
+use Rattle.edit_record.specs.declared.fault.TextError.{TextError}
 use Rattle.edit_record.specs.declared.fault.RecordFault.{RecordFault}
 use Rattle.edit_record.specs.declared.fault.RecordFault.TheVariants as faults
-
--- the greatest number that is read: no list has more edits than twice the most bytes of a text
-abbrev pub max_number : ℕ
-max_number = 33554432
-
--- the numbers of an edit are no greater
-pub record NumbersFit (e : EditEntry) : Type 0 where
-  pub at : e.at ≤ max_number
-  pub removed : length e.removed ≤ max_number
-  pub added : length e.added ≤ max_number
 
 -- `next` follows the head of a list of n edits of texts of length `old_len`: the text of its first
 -- edit, or, if n is 0, the mark after the list. An empty list is valid if `old_len` is within the
@@ -64,9 +58,41 @@ pub record OldReachesFirstEdit (text : List ℕ) : Type 0 where
 abbrev pub DecodeMayAllocate : List ℕ → Type 0
 DecodeMayAllocate text = ReachesFirstEdit text ⊎ OldReachesFirstEdit text
 
--- The journal whose text this is. A fault means that it is the text of none, but for want of
--- memory.
+-- the error of a kind at a place
+abbrev pub fault_at : FaultKind → ℕ → RecordFault
+fault_at kinds.Head at = faults.BadHead at
+fault_at kinds.Number at = faults.BadNumber at
+fault_at kinds.CutShort at = faults.CutShort at
+fault_at kinds.Edits at = faults.BadEdits at
+fault_at kinds.End at = faults.BadEnd at
+fault_at kinds.Steps at = faults.BadSteps at
+
+-- the error of a text of this length
+abbrev pub fault_in : ℕ → TextError → RecordFault
+fault_in len e = fault_at e.kind (len - e.left)
+
+-- The first error of a text of version 2: the text begins with the text of some records, and what
+-- follows them is no record, for this reason.
+pub record IsFirstError (text : List ℕ) (error : TextError) : Type 0 where
+  pub front : List ℕ
+  pub records : List JournalEntry
+  pub is_front : IsCurrentText front records
+  pub rest : List ℕ
+  pub is : text ≡ front ++ rest
+  pub error_is : record_at rest ≡ Err error
+
+-- the first record is not of version 1
+abbrev pub IsNotOld : List ℕ → Type 0
+IsNotOld text = (rest : List ℕ) → text ≢ codes "tfrec 1" ++ rest
+
+-- This is the text of no journal, and the first error of it, if it is not of version 1, is this one.
+abbrev pub IsDecodeError : List ℕ → RecordFault → Type 0
+IsDecodeError text fault =
+    ((rs : List JournalEntry) → IsJournalText text rs → ⊥)
+    × (IsNotOld text → (e : TextError) × (fault ≡ fault_in (length text) e) × IsFirstError text e)
+
+-- the journal whose text this is, or why it is the text of none; or memory ran out
 abbrev pub IsDecodeResult : List ℕ → Result (List JournalEntry) RecordFault → Type 0
 IsDecodeResult text (Ok rs) = IsJournalText text rs
 IsDecodeResult text (Err faults.Memory) = DecodeMayAllocate text
-IsDecodeResult text (Err e) = (rs : List JournalEntry) → IsJournalText text rs → ⊥
+IsDecodeResult text (Err fault) = IsDecodeError text fault

@@ -1,4 +1,5 @@
 pub mod Text
+pub mod Parsing
 pub mod Decoding
 pub mod Inner
 pub mod Lists

@@ -21,6 +21,10 @@ space = 32
 abbrev pub newline : ℕ
 newline = 10
 
+-- the greatest number that is read: no list has more edits than twice the most bytes of a text
+abbrev pub max_number : ℕ
+max_number = 33554432
+
 -- a number in decimal, without leading zeros, and the byte behind it
 abbrev pub number_text : ℕ → ℕ → List ℕ
 number_text stop n = decimal n ++ stop ∷ []
@@ -30,6 +34,12 @@ number_text stop n = decimal n ++ stop ∷ []
 abbrev pub edit_text : EditEntry → List ℕ
 edit_text e = number_text space e.at ++ number_text space (length e.removed)
     ++ number_text newline (length e.added) ++ e.removed ++ e.added ++ newline ∷ []
+
+-- the numbers of an edit are within the limit
+pub record NumbersFit (e : EditEntry) : Type 0 where
+  pub at : e.at ≤ max_number
+  pub removed : length e.removed ≤ max_number
+  pub added : length e.added ≤ max_number
 
 -- the head of a list of edits: the length of the texts that they apply to, and how many they are
 abbrev pub list_head : ℕ → ℕ → List ℕ

@@ -1,13 +1,14 @@
 //! Reading a journal.
-ghost use Rattle.std.specs.Prelude.{◌≡◌, ◌≤◌, IsTrue, ◌↔◌, List, ℕ, ◌++◌, codes};
+ghost use Rattle.std.specs.Prelude.{IfErr};
 ghost use Rattle.edit_record.specs.Decoding.{IsDecodeResult};
-ghost use Rattle.edit_record.specs.Inner.ParseResults.{AgreesWith, ParsesAs, IsSquashOrStop, SquashAt, OldRecordAt, RecordAt, IsReadResult};
+ghost use Rattle.edit_record.specs.Inner.ParseResults.{IsRead, ParsesAs, IsErrorOf, IsSquashOrStop, SquashAt, OldRecordAt, RecordAt, IsReadResult};
 ghost use Rattle.edit_record.specs.Inner.Allocating.{record_allocates, step_allocates, old_head_allocates, steps_allocate, old_record_allocates, allocates};
-ghost use Rattle.edit_record.specs.Inner.Reading.{record_at, step_at, old_head_at};
+ghost use Rattle.edit_record.specs.Parsing.{record_at};
+ghost use Rattle.edit_record.specs.Inner.Reading.{step_at, old_head_at};
 ghost use Rattle.edit_record.specs.Inner.OldHead.{head_view};
 
 use crate::RecordFault;
-use crate::fault::{DecodeStop, FaultKind};
+use crate::fault::{DecodeStop, FaultKind, TextError};
 use crate::lists::{Edits, Journal, Record, Word};
 use crate::readers::{expect, list_of_edits, number, word};
 use crate::squashes::{Unmet, squash};
@@ -17,9 +18,9 @@ use std::alloc::Global;
 const MAX_STEPS: usize = 64;
 
 /// A record of version 2.
-#[tactic(auto, unfolding(crate::specs::Inner::Reading::record_at, crate::specs::Inner::Allocating::record_allocates))]
+#[tactic(auto, unfolding(crate::specs::Parsing::record_at, crate::specs::Inner::Allocating::record_allocates))]
 fn record(alloc: Global, text: &[u8]) -> Result<(Record, &[u8]), DecodeStop>
-    ensures { AgreesWith (λ x. (x.0, x.1.now)) (record_allocates text.now) result (record_at text.now) }
+    ensures { IsRead (λ x. (x.0, x.1.now)) (record_allocates text.now) result (record_at text.now) }
 {
     let rest = expect(b"tfrec 2 ", FaultKind::Head, text)?;
     let (word, rest) = word(rest)?;
@@ -31,7 +32,7 @@ fn record(alloc: Global, text: &[u8]) -> Result<(Record, &[u8]), DecodeStop>
 /// A step of a record of version 1.
 #[tactic(auto, unfolding(crate::specs::Inner::Reading::step_at, crate::specs::Inner::Allocating::step_allocates))]
 fn step(alloc: Global, text: &[u8]) -> Result<(Edits, &[u8]), DecodeStop>
-    ensures { AgreesWith (λ x. (x.0, x.1.now)) (step_allocates text.now) result (step_at text.now) }
+    ensures { IsRead (λ x. (x.0, x.1.now)) (step_allocates text.now) result (step_at text.now) }
 {
     let rest = expect(b"step ", FaultKind::Head, text)?;
     list_of_edits(alloc, text.len(), rest)
@@ -69,7 +70,10 @@ fn squash_two(
     match squash(alloc, first, second) {
         Ok(edits) => Ok(edits),
         Err(Unmet::Memory) => Err(DecodeStop::Memory),
-        Err(_) => Err(DecodeStop::Bad(FaultKind::Steps, left)),
+        Err(_) => Err(DecodeStop::Bad(TextError {
+            kind: FaultKind::Steps,
+            left,
+        })),
     }
 }
 
@@ -84,7 +88,7 @@ struct OldHead {
 /// What stands before the second step of a record of version 1.
 #[tactic(auto, unfolding(crate::specs::Inner::Reading::old_head_at, crate::specs::Inner::Allocating::old_head_allocates))]
 fn old_head(alloc: Global, text: &[u8]) -> Result<(OldHead, &[u8]), DecodeStop>
-    ensures { AgreesWith (λ x. (head_view x.0, x.1.now)) (old_head_allocates text.now) result
+    ensures { IsRead (λ x. (head_view x.0, x.1.now)) (old_head_allocates text.now) result
         (old_head_at text.now) }
 {
     let rest = expect(b"tfrec 1 ", FaultKind::Head, text)?;
@@ -117,7 +121,9 @@ fn old_record(alloc: Global, text: &[u8]) -> Result<(Record, &[u8]), DecodeStop>
 
 /// A record of version 1, if `old`, or of version 2.
 fn record_of_version(alloc: Global, old: bool, text: &[u8]) -> Result<(Record, &[u8]), DecodeStop>
-    ensures { ParsesAs (λ x. x.0) (λ x. x.1.now) (allocates old text.now) result (RecordAt old text.now) }
+    ensures parses { ParsesAs (λ x. x.0) (λ x. x.1.now) (allocates old text.now) result
+        (RecordAt old text.now) }
+    ensures error { IfErr result (λ e. IsErrorOf old text.now e) }
 {
     if old {
         old_record(alloc, text)

@@ -1,6 +1,6 @@
 //! What is wrong with a text, for callers and for the readers of its parts.
 ghost use Rattle.std.specs.Prelude.{◌≡◌};
-ghost use Rattle.edit_record.specs.declared.fault.DecodeStop.TheVariants.{Memory};
+ghost use Rattle.edit_record.specs.declared.fault.DecodeStop.TheVariants.{Memory, Bad};
 
 use std::alloc::{AllocError, AllocFailed};
 use thiserror::Error;
@@ -47,26 +47,32 @@ pub(crate) enum FaultKind {
     Steps,
 }
 
-/// Why a reader stopped.
+/// An error of a text, with the number of bytes from there to the end of the text.
+#[derive(Clone, Copy)]
+pub(crate) struct TextError {
+    pub(crate) kind: FaultKind,
+    pub(crate) left: usize,
+}
+
+/// Why a reader that allocates stopped.
 #[derive(Clone, Copy)]
 pub(crate) enum DecodeStop {
     Memory,
-    /// The kind of the fault, and the number of bytes from the fault to the end of the text.
-    Bad(FaultKind, usize),
+    Bad(TextError),
 }
 
 impl DecodeStop {
-    ghost use Rattle.edit_record.specs.Inner.Faults.{MemoryMatches};
+    ghost use Rattle.edit_record.specs.Inner.Faults.{fault_of};
 
-    /// The fault in a text of this length.
+    /// Returns the fault in a text of this length.
     pub(crate) fn into_fault(self, len: usize) -> RecordFault
-        ensures { MemoryMatches self result }
+        ensures { result ≡ fault_of self len }
     {
         match self {
             DecodeStop::Memory => RecordFault::Memory,
-            DecodeStop::Bad(kind, left) => {
-                let at = len.saturating_sub(left);
-                match kind {
+            DecodeStop::Bad(error) => {
+                let at = len.saturating_sub(error.left);
+                match error.kind {
                     FaultKind::Head => RecordFault::BadHead { at },
                     FaultKind::Number => RecordFault::BadNumber { at },
                     FaultKind::CutShort => RecordFault::CutShort { at },
@@ -76,6 +82,14 @@ impl DecodeStop {
                 }
             }
         }
+    }
+}
+
+impl From<TextError> for DecodeStop {
+    ghost from_gives = { λ error e. e ≡ Bad error };
+
+    fn from(error: TextError) -> DecodeStop {
+        DecodeStop::Bad(error)
     }
 }
 

@@ -1,58 +1,70 @@
-//! Readers of the parts of a record. Each answers what stands at the front, and the rest of the
-//! text.
-ghost use Rattle.std.specs.Prelude.{◌≡◌, ◌<◌, ◌^◌, ◌*◌, ◌+◌, length, codes, option_map, IfOk, ◌≤◌, false, is_some};
-ghost use Rattle.edit_record.specs.Inner.ParseResults.{AgreesWith};
+//! Readers of the parts of a record. Each returns the part that a text begins with, and the rest of
+//! the text.
+ghost use Rattle.std.specs.Prelude.{◌≡◌, ◌<◌, ◌^◌, option_map, IfOk, ◌≤◌, is_ok};
+ghost use Rattle.edit_record.specs.Inner.ParseResults.{IsParsed, IsRead};
 ghost use Rattle.edit_record.specs.Inner.Allocating.{edits_allocate, edit_list_allocates};
-ghost use Rattle.edit_record.specs.Inner.Reading.{strip, number_at, bytes_at, edit_at, edits_at, edit_list_at, word_of, word_at};
+ghost use Rattle.edit_record.specs.Lists.Validity.{make_edits};
+ghost use Rattle.edit_record.specs.Parsing.{strip, expect, number_at, bytes_at, edit_at, edits_at, if_valid, edit_list_at, bare_word_at, word_at};
+ghost use Rattle.edit_record.specs.declared.fault.FaultKind.{FaultKind};
 
-use crate::fault::{DecodeStop, FaultKind};
+use crate::fault::{DecodeStop, FaultKind, TextError};
 use crate::lists::{Edit, Edits, Word};
 use std::alloc::Global;
 
-/// The greatest number of a text: twice the most bytes of a text, since the edits of a list are no
-/// more than the bytes that they remove and add.
+/// The greatest number that is read: twice the most bytes of a text, since the edits of a list are
+/// no more than the bytes that they remove and add.
 const MAX_NUMBER: usize = 33_554_432;
 
-/// What stands behind these bytes, if they stand at the front.
-fn strip<'t>(expected: &[u8], text: &'t [u8]) -> Option<&'t [u8]>
-    ensures { option_map (λ x. x.now) result ≡ strip expected.now text.now }
+/// The text ends too early.
+const CUT_SHORT: TextError = TextError {
+    kind: FaultKind::CutShort,
+    left: 0,
+};
+
+/// Returns the bytes after `prefix`, if the text begins with it.
+fn strip<'t>(prefix: &[u8], text: &'t [u8]) -> Option<&'t [u8]>
+    ensures { option_map (λ x. x.now) result ≡ strip prefix.now text.now }
 {
-    text.strip_prefix(expected)
+    text.strip_prefix(prefix)
 }
 
-/// Skips `expected` and returns the rest of the text. If the text ends within `expected`, the fault
+/// Skips `expected` and returns the rest of the text. If the text ends within `expected`, the error
 /// is `CutShort`; if it has other bytes, it is `kind`.
 pub(crate) fn expect<'t>(
     expected: &[u8],
     kind: FaultKind,
     text: &'t [u8],
-) -> Result<&'t [u8], DecodeStop>
-    ensures { AgreesWith (λ x. x.now) false result (strip expected.now text.now) }
+) -> Result<&'t [u8], TextError>
+    ensures { IsParsed (λ x. x.now) result (expect expected.now kind text.now) }
 {
-    match strip(expected, text) {
-        Some(rest) => Ok(rest),
-        None => {
-            if expected.starts_with(text) {
-                Err(DecodeStop::Bad(FaultKind::CutShort, 0))
-            } else {
-                Err(DecodeStop::Bad(kind, text.len()))
-            }
-        }
+    if let Some(rest) = strip(expected, text) {
+        return Ok(rest);
     }
+    if strip(text, expected).is_some() {
+        return Err(CUT_SHORT);
+    }
+    Err(TextError {
+        kind,
+        left: text.len(),
+    })
 }
 
-/// A number from `least` to `limit`, with this byte behind it.
-#[tactic(auto, unfolding(crate::specs::Inner::Reading::number_at))]
+/// Reads a number from `min` to `max` that `terminator` follows, and skips both.
+#[tactic(auto, unfolding(crate::specs::Parsing::number_at))]
 pub(crate) fn number(
     min: usize,
     max: usize,
     terminator: u8,
     text: &[u8],
-) -> Result<(usize, &[u8]), DecodeStop>
+) -> Result<(usize, &[u8]), TextError>
     requires { max < 2 ^ 32 }
-    ensures agrees { AgreesWith (λ x. (x.0, x.1.now)) false result (number_at min max terminator text.now) }
+    ensures agrees { IsParsed (λ x. (x.0, x.1.now)) result (number_at min max terminator text.now) }
     ensures least { IfOk result (λ x. min ≤ x.0) }
 {
+    let bad = TextError {
+        kind: FaultKind::Number,
+        left: text.len(),
+    };
     let mut some = false;
     let mut value = 0usize;
     let mut remaining = text;
@@ -60,45 +72,47 @@ pub(crate) fn number(
         let digit = *digit;
         if !digit.is_ascii_digit() {
             if !some || value < min {
-                return Err(DecodeStop::Bad(FaultKind::Number, text.len()));
+                return Err(bad);
             }
             if digit != terminator {
-                return Err(DecodeStop::Bad(FaultKind::Head, remaining.len()));
+                return Err(TextError {
+                    kind: FaultKind::Head,
+                    left: remaining.len(),
+                });
             }
             return Ok((value, rest));
         }
         if some && value == 0 {
-            return Err(DecodeStop::Bad(FaultKind::Number, text.len()));
+            return Err(bad);
         }
         value = value * 10 + (digit - b'0') as usize;
         if value > max {
-            return Err(DecodeStop::Bad(FaultKind::Number, text.len()));
+            return Err(bad);
         }
         some = true;
         remaining = rest;
     }
     if some && value < min {
-        return Err(DecodeStop::Bad(FaultKind::Number, text.len()));
+        return Err(bad);
     }
-    Err(DecodeStop::Bad(FaultKind::CutShort, 0))
+    Err(CUT_SHORT)
 }
 
-/// So many bytes, and those behind them.
-#[tactic(auto, unfolding(crate::specs::Inner::Reading::bytes_at))]
-fn bytes(count: usize, text: &[u8]) -> Result<(&[u8], &[u8]), DecodeStop>
-    ensures { AgreesWith (λ x. (x.0.now, x.1.now)) false result (bytes_at count text.now) }
+/// Splits the text after `count` bytes.
+#[tactic(auto, unfolding(crate::specs::Parsing::bytes_at))]
+fn bytes(count: usize, text: &[u8]) -> Result<(&[u8], &[u8]), TextError>
+    ensures { IsParsed (λ x. (x.0.now, x.1.now)) result (bytes_at count text.now) }
 {
     if text.len() < count {
-        return Err(DecodeStop::Bad(FaultKind::CutShort, 0));
+        return Err(CUT_SHORT);
     }
     Ok(text.split_at(count))
 }
 
-/// An edit. Its bytes are copied once they are all there, with the line end behind them.
-#[tactic(auto, unfolding(crate::specs::Inner::Reading::edit_at))]
+/// Reads an edit. It allocates only after all bytes of the edit, and its line end, are read.
+#[tactic(auto, unfolding(crate::specs::Parsing::edit_at))]
 fn edit(alloc: Global, text: &[u8]) -> Result<(Edit, &[u8]), DecodeStop>
-    ensures { AgreesWith (λ x. (x.0, x.1.now)) (is_some (edit_at text.now)) result
-        (edit_at text.now) }
+    ensures { IsRead (λ x. (x.0, x.1.now)) (is_ok (edit_at text.now)) result (edit_at text.now) }
 {
     let (at, rest) = number(0, MAX_NUMBER, b' ', text)?;
     let (removed, rest) = number(0, MAX_NUMBER, b' ', rest)?;
@@ -109,10 +123,10 @@ fn edit(alloc: Global, text: &[u8]) -> Result<(Edit, &[u8]), DecodeStop>
     Ok((Edit::new(alloc, at, removed, added)?, rest))
 }
 
-/// So many edits. No memory is taken before they are there.
-#[tactic(auto, unfolding(crate::specs::Inner::Reading::edits_at))]
+/// Reads `count` edits. It allocates only after the first of them is read.
+#[tactic(auto, unfolding(crate::specs::Parsing::edits_at))]
 fn edits(alloc: Global, count: usize, text: &[u8]) -> Result<(Vec<Edit>, &[u8]), DecodeStop>
-    ensures { AgreesWith (λ x. (x.0.items, x.1.now)) (edits_allocate count text.now) result
+    ensures { IsRead (λ x. (x.0.items, x.1.now)) (edits_allocate count text.now) result
         (edits_at count text.now) }
 {
     let mut edits = Vec::new(alloc);
@@ -125,39 +139,52 @@ fn edits(alloc: Global, count: usize, text: &[u8]) -> Result<(Vec<Edit>, &[u8]),
     Ok((edits, rest))
 }
 
-/// Parses a list of edits. If `Edits::make` refuses them, the fault is `BadEdits`, placed `left`
-/// bytes before the end of the text.
-#[tactic(auto, unfolding(crate::specs::Inner::Reading::edit_list_at, crate::specs::Inner::Allocating::edit_list_allocates))]
+/// Makes a list of the edits. If `Edits::make` refuses them, the error is `left` bytes before the
+/// end of the text.
+fn checked_list(old_len: usize, edits: Vec<Edit>, left: usize) -> Result<Edits, TextError>
+    ensures { (rest : _) → IsParsed (λ x. (x, rest)) result
+        (if_valid left (make_edits old_len edits.items) rest) }
+{
+    match Edits::make(old_len, edits) {
+        Ok(list) => Ok(list),
+        Err(_) => Err(TextError {
+            kind: FaultKind::Edits,
+            left,
+        }),
+    }
+}
+
+/// Reads a list of edits. If the edits are no list, the error is `left` bytes before the end of the
+/// text.
+#[tactic(auto, unfolding(crate::specs::Parsing::edit_list_at, crate::specs::Inner::Allocating::edit_list_allocates))]
 pub(crate) fn list_of_edits(
     alloc: Global,
     left: usize,
     text: &[u8],
 ) -> Result<(Edits, &[u8]), DecodeStop>
-    ensures { AgreesWith (λ x. (x.0, x.1.now)) (edit_list_allocates text.now) result (edit_list_at text.now) }
+    ensures { IsRead (λ x. (x.0, x.1.now)) (edit_list_allocates text.now) result
+        (edit_list_at left text.now) }
 {
     let (old_len, rest) = number(0, MAX_NUMBER, b' ', text)?;
     let (count, rest) = number(0, MAX_NUMBER, b'\n', rest)?;
     let (edits, rest) = edits(alloc, count, rest)?;
-    match Edits::make(old_len, edits) {
-        Ok(list) => Ok((list, rest)),
-        Err(_) => Err(DecodeStop::Bad(FaultKind::Edits, left)),
-    }
+    let list = checked_list(old_len, edits, left)?;
+    Ok((list, rest))
 }
 
-/// A command's word, and the space behind it.
-#[tactic(auto, unfolding(crate::specs::Inner::Reading::word_at))]
-pub(crate) fn word(text: &[u8]) -> Result<(Word, &[u8]), DecodeStop>
-    ensures { AgreesWith (λ x. (x.0, x.1.now)) false result (word_at text.now) }
+/// Reads the word of a command and the space that follows it.
+#[tactic(auto, unfolding(crate::specs::Parsing::word_at))]
+pub(crate) fn word(text: &[u8]) -> Result<(Word, &[u8]), TextError>
+    ensures { IsParsed (λ x. (x.0, x.1.now)) result (word_at text.now) }
 {
     let (word, rest) = bare_word(text)?;
     let rest = expect(b" ", FaultKind::Head, rest)?;
     Ok((word, rest))
 }
 
-/// A command's word.
-fn bare_word(text: &[u8]) -> Result<(Word, &[u8]), DecodeStop>
-    ensures { AgreesWith (λ x. (x.0, x.1.now)) false result
-        (word_of (strip (codes "fmt") text.now) (strip (codes "fix") text.now)) }
+/// Reads the word of a command.
+fn bare_word(text: &[u8]) -> Result<(Word, &[u8]), TextError>
+    ensures { IsParsed (λ x. (x.0, x.1.now)) result (bare_word_at text.now) }
 {
     if let Some(rest) = strip(b"fmt", text) {
         return Ok((Word::Fmt, rest));
@@ -165,8 +192,11 @@ fn bare_word(text: &[u8]) -> Result<(Word, &[u8]), DecodeStop>
     if let Some(rest) = strip(b"fix", text) {
         return Ok((Word::Fix, rest));
     }
-    if b"fmt".starts_with(text) || b"fix".starts_with(text) {
-        return Err(DecodeStop::Bad(FaultKind::CutShort, 0));
+    if strip(text, b"fmt").is_some() || strip(text, b"fix").is_some() {
+        return Err(CUT_SHORT);
     }
-    Err(DecodeStop::Bad(FaultKind::Head, text.len()))
+    Err(TextError {
+        kind: FaultKind::Head,
+        left: text.len(),
+    })
 }

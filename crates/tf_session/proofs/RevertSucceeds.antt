@@ -50,13 +50,13 @@ read_fault ReadFault.Endless never = absurd (never refl)
 -- ---- what is read for the journal is the text of one
 
 decoding : (fault : RecordFault) (bytes : List ℕ) (records : List JournalEntry) → IsJournalText bytes records → IsDecodeResult bytes (Err fault) → is_from_outside (run_fault_of_record fault) ≡ true
-decoding (BadHead at) bytes records is d = absurd (d records is)
-decoding (BadNumber at) bytes records is d = absurd (d records is)
-decoding (CutShort at) bytes records is d = absurd (d records is)
-decoding (BadEdits at) bytes records is d = absurd (d records is)
-decoding (BadEnd at) bytes records is d = absurd (d records is)
+decoding (BadHead at) bytes records is d = absurd (d.0 records is)
+decoding (BadNumber at) bytes records is d = absurd (d.0 records is)
+decoding (CutShort at) bytes records is d = absurd (d.0 records is)
+decoding (BadEdits at) bytes records is d = absurd (d.0 records is)
+decoding (BadEnd at) bytes records is d = absurd (d.0 records is)
 decoding RecordFault.Memory bytes records is d = refl
-decoding (BadSteps at) bytes records is d = absurd (d records is)
+decoding (BadSteps at) bytes records is d = absurd (d.0 records is)
 
 -- ---- the last record stands
 

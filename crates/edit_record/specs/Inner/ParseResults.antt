@@ -1,30 +1,37 @@
 -- What a reader of the code answers.
-use Rattle.std.specs.Prelude.{◌≡◌, ℕ, List, [], ◌∷◌, ◌++◌, Option, Some, None, Result, Ok, Err, Bool, true, false}
+use Rattle.std.specs.Prelude.{◌≡◌, ℕ, List, [], ◌∷◌, ◌++◌, Result, Ok, Err, Bool, true, false, ⊤}
 use Rattle.edit_record.specs.Lists.Pieces.{EditList}
 use Rattle.edit_record.specs.Lists.Journal.{JournalEntry}
 use Rattle.edit_record.specs.Squashes.Squash.{IsSquash}
 use Rattle.edit_record.specs.Squashes.SquashLists.{SquashAll}
-use Rattle.edit_record.specs.Text.{record_text, OldRecord, old_record_text, MigratesTo, IsJournalText}
+use Rattle.edit_record.specs.Text.{record_text, OldRecord, old_record_text, MigratesTo, IsCurrentText, IsJournalText}
 use Rattle.edit_record.specs.Lists.Validity.{IsValidList}
-use Rattle.edit_record.specs.Decoding.{DecodeMayAllocate}
+use Rattle.edit_record.specs.Decoding.{DecodeMayAllocate, IsFirstError, IsNotOld}
+use Rattle.edit_record.specs.Parsing.{record_at}
+use Rattle.edit_record.specs.declared.fault.TextError.{TextError}
 use Rattle.edit_record.specs.Inner.Reading.{steps_at, old_record_at}
 use Rattle.edit_record.specs.declared.fault.DecodeStop.{DecodeStop}
 use Rattle.edit_record.specs.declared.fault.DecodeStop.TheVariants as stops
 
--- a reader stopped: there was no memory, which this text takes, or there is nothing to be read
-abbrev pub IsStop : {Y : Type 0} → Bool → DecodeStop → Option Y → Type 0
+-- what a reader that takes no memory returned, seen by view, is what is read
+abbrev pub IsParsed : {X Y : Type 0} → (X → Y) → Result X TextError → Result Y TextError → Type 0
+IsParsed view (Ok x) read = read ≡ Ok (view x)
+IsParsed view (Err e) read = read ≡ Err e
+
+-- a reader stopped: memory ran out, which this text takes, or this is the error
+abbrev pub IsStop : {Y : Type 0} → Bool → DecodeStop → Result Y TextError → Type 0
 IsStop takes stops.Memory read = takes ≡ true
-IsStop takes (stops.Bad kind left) read = read ≡ None
+IsStop takes (stops.Bad e) read = read ≡ Err e
 
--- what a reader found, seen by view, is what is read
-abbrev pub AgreesWith : {X Y : Type 0} → (X → Y) → Bool → Result X DecodeStop → Option Y → Type 0
-AgreesWith view takes (Ok x) read = read ≡ Some (view x)
-AgreesWith view takes (Err e) read = IsStop takes e read
+-- what a reader that takes memory returned, seen by view, is what is read
+abbrev pub IsRead : {X Y : Type 0} → (X → Y) → Bool → Result X DecodeStop → Result Y TextError → Type 0
+IsRead view takes (Ok x) read = read ≡ Ok (view x)
+IsRead view takes (Err e) read = IsStop takes e read
 
--- the same for what stands at a front by a relation
+-- a reader of what is at the start of a text by a relation stopped
 abbrev pub IsStopFor : {Y : Type 0} → Bool → DecodeStop → (Y → List ℕ → Type 0) → Type 0
 IsStopFor takes stops.Memory R = takes ≡ true
-IsStopFor {Y = Y} takes (stops.Bad kind left) R = (y : Y) (rest : List ℕ) → R y rest → ⊥
+IsStopFor {Y = Y} takes (stops.Bad e) R = (y : Y) (rest : List ℕ) → R y rest → ⊥
 
 abbrev pub ParsesAs : {X Y : Type 0} → (X → Y) → (X → List ℕ) → Bool → Result X DecodeStop
     → (Y → List ℕ → Type 0) → Type 0
@@ -35,12 +42,12 @@ ParsesAs view rest takes (Err e) R = IsStopFor takes e R
 abbrev pub IsSquashOrStop : EditList → EditList → Result EditList DecodeStop → Type 0
 IsSquashOrStop a b (Ok c) = IsSquash a b c
 IsSquashOrStop a b (Err stops.Memory) = Unit {0}
-IsSquashOrStop a b (Err (stops.Bad kind left)) = (c : EditList) → IsSquash a b c → ⊥
+IsSquashOrStop a b (Err (stops.Bad e)) = (c : EditList) → IsSquash a b c → ⊥
 
 -- so many lists go on from the first, and squash with it to e
 abbrev pub SquashAt : EditList → ℕ → List ℕ → EditList → List ℕ → Type 0
 SquashAt first n t e rest =
-    (others : List EditList) × (steps_at n t ≡ Some (others, rest)) × SquashAll first others e
+    (others : List EditList) × (steps_at n t ≡ Ok (others, rest)) × SquashAll first others e
 
 -- a record stands at the front, in version 2 or in version 1, in which it is what the old one
 -- becomes
@@ -52,13 +59,24 @@ abbrev pub RecordsAt : Bool → List ℕ → List JournalEntry → Type 0
 RecordsAt old t [] = t ≡ []
 RecordsAt old t (r ∷ rs) = (rest : List ℕ) × RecordAt old t r rest × RecordsAt old rest rs
 
+-- the text begins with the text of these records of version 2
+abbrev pub StartsWith : List ℕ → List JournalEntry → List ℕ → Type 0
+StartsWith text records rest = (front : List ℕ) × IsCurrentText front records × (text ≡ front ++ rest)
+
+-- of a record of version 2, this is the error
+abbrev pub IsErrorOf : Bool → List ℕ → DecodeStop → Type 0
+IsErrorOf true t stop = ⊤
+IsErrorOf false t stops.Memory = ⊤
+IsErrorOf false t (stops.Bad e) = record_at t ≡ Err e
+
 -- what all of it says
 abbrev pub IsReadResult : List ℕ → Result (List JournalEntry) DecodeStop → Type 0
 IsReadResult text (Ok rs) = IsJournalText text rs
 IsReadResult text (Err stops.Memory) = DecodeMayAllocate text
-IsReadResult text (Err (stops.Bad kind left)) = (rs : List JournalEntry) → IsJournalText text rs → ⊥
+IsReadResult text (Err (stops.Bad e)) =
+    ((rs : List JournalEntry) → IsJournalText text rs → ⊥) × (IsNotOld text → IsFirstError text e)
 
 -- an old record stands at the front, and squashed it is this one
 abbrev pub OldRecordAt : List ℕ → JournalEntry → List ℕ → Type 0
-OldRecordAt t r rest = (old : OldRecord) × (old_record_at t ≡ Some (old, rest)) × (old.word ≡ r.word)
+OldRecordAt t r rest = (old : OldRecord) × (old_record_at t ≡ Ok (old, rest)) × (old.word ≡ r.word)
     × SquashAll old.first old.others r.edits

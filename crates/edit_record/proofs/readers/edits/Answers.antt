@@ -1,6 +1,6 @@
 use Rattle.std.proofs.Common.{◌≡◌, ◌++◌, ◌∷◌, [], inr}
 use Rattle.std.proofs.lemmas.Result.{err_from_is_err_and}
-use Rattle.edit_record.specs.Inner.Reading.{repeat_at, edit_at, edits_at}
+use Rattle.edit_record.specs.Parsing.{repeat_at, edit_at, edits_at}
 use Rattle.edit_record.proofs.Allocating.{one_allocates, edit_taken}
 use Rattle.edit_record.proofs.Many.{one_more, no_more, all_done}
 use Rattle.edit_record.proofs.readers.edits.Goals as goal

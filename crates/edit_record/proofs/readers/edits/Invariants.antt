@@ -1,5 +1,5 @@
 use Rattle.std.proofs.Common.{◌≡◌, ◌-◌, ◌⊎◌, true}
-use Rattle.edit_record.specs.Inner.Reading.{repeat_at, edit_at}
+use Rattle.edit_record.specs.Parsing.{repeat_at, edit_at}
 use Rattle.edit_record.specs.Inner.Allocating.{edits_allocate}
 use Rattle.edit_record.proofs.Many.{with_prefix}
 use Rattle.edit_record.proofs.readers.edits.Given as goal
