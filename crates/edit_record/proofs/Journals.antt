@@ -208,9 +208,9 @@ read_on false text records rest after r so_far h =
 first_error : (old : Bool) (text : List ℕ) (records : List JournalEntry) (rest : List ℕ) (bad : TextError) → IsVersion old text → HasRead old text records rest → IsErrorOf old rest (stops.Bad bad) → IsNotOld text → IsFirstError text bad
 first_error true text records rest bad version so_far error not_old = absurd (not_old (drop 7 text) (version.is_old refl))
 first_error false text records rest bad version so_far error not_old = record {
-  front = so_far.0;
+  done = so_far.0;
   records = records;
-  is_front = so_far.1;
+  is_done = so_far.1;
   rest = rest;
   is = so_far.2;
   error_is = error;

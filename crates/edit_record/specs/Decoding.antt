@@ -1,4 +1,4 @@
--- What decode answers.
+-- What `decode` returns.
 use Rattle.std.specs.Prelude.{◌≡◌, ◌≢◌, ℕ, zero, suc, ◌-◌, ◌<◌, ◌≤◌, ◌⊎◌, List, ◌++◌, length, codes, Result, Ok, Err}
 use Rattle.edit_record.specs.declared.lists.edits.TheConstants.{MAX_TEXT}
 use Rattle.edit_record.specs.declared.lists.record.Word.{Word}
@@ -19,8 +19,8 @@ abbrev pub FollowsHead : ℕ → ℕ → List ℕ → List ℕ → Type 0
 FollowsHead old_len zero mark next = (next ≡ mark) × (old_len ≤ MAX_TEXT)
 FollowsHead old_len (suc n) mark next = (e : EditEntry) × (next ≡ edit_text e) × NumbersFit e
 
--- The text begins with the head of a record, and the whole of what stands behind it. Each number is
--- within its limit.
+-- The text begins with the head of a record, and with the whole of what follows the head. Each
+-- number is within its limit.
 pub record ReachesFirstEdit (text : List ℕ) : Type 0 where
   pub word : Word
   pub old_len : ℕ
@@ -32,12 +32,13 @@ pub record ReachesFirstEdit (text : List ℕ) : Type 0 where
   pub rest : List ℕ
   pub is : text ≡ record_head word ++ (list_head old_len count ++ (next ++ rest))
 
--- the mark that follows the first of so many steps
+-- the mark that follows the first of n steps
 abbrev pub mark_after : ℕ → List ℕ
 mark_after (suc (suc n)) = codes "step "
 mark_after n = codes "end\n"
 
--- the same in version 1, whose head goes on to the first edit of the first step
+-- The text begins with the head of a record of version 1, and with the whole of what follows the
+-- head of its first step.
 pub record OldReachesFirstEdit (text : List ℕ) : Type 0 where
   pub word : Word
   pub steps : ℕ
@@ -71,21 +72,22 @@ fault_at kinds.Steps at = faults.BadSteps at
 abbrev pub fault_in : ℕ → TextError → RecordFault
 fault_in len e = fault_at e.kind (len - e.left)
 
--- The first error of a text of version 2: the text begins with the text of some records, and what
--- follows them is no record, for this reason.
+-- The first error of a text of version 2: the text begins with some records, and what follows them
+-- is no record, for this reason.
 pub record IsFirstError (text : List ℕ) (error : TextError) : Type 0 where
-  pub front : List ℕ
+  pub done : List ℕ
   pub records : List JournalEntry
-  pub is_front : IsCurrentText front records
+  pub is_done : IsCurrentText done records
   pub rest : List ℕ
-  pub is : text ≡ front ++ rest
+  pub is : text ≡ done ++ rest
   pub error_is : record_at rest ≡ Err error
 
 -- the first record is not of version 1
 abbrev pub IsNotOld : List ℕ → Type 0
 IsNotOld text = (rest : List ℕ) → text ≢ codes "tfrec 1" ++ rest
 
--- This is the text of no journal, and the first error of it, if it is not of version 1, is this one.
+-- This is the text of no journal, and the first error of it, if it is not of version 1, is this
+-- one.
 abbrev pub IsDecodeError : List ℕ → RecordFault → Type 0
 IsDecodeError text fault =
     ((rs : List JournalEntry) → IsJournalText text rs → ⊥)

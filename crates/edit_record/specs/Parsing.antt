@@ -1,5 +1,5 @@
--- How a record of version 2 is read, as functions: what is at the start of a text and the bytes after
--- it, or the first error. They say which error `decode` returns.
+-- How a record of version 2 is read, as functions: what is at the start of a text and the bytes
+-- after it, or the first error. They say which error `decode` returns.
 use Rattle.std.specs.Prelude.{ℕ, zero, suc, ◌+◌, ◌-◌, ◌*◌, List, [], ◌∷◌, length, take, drop, Option, None, Some, Result, Ok, Err, Bool, true, false, codes, nat_lt, nat_le, ◌==◌, ◌&&◌, if◌then◌else◌}
 use Rattle.edit_record.specs.declared.lists.edit.BadEdits.{BadEdits}
 use Rattle.edit_record.specs.declared.lists.record.Word.{Word}
@@ -31,8 +31,8 @@ strip [] t = Some t
 strip (c ∷ p) [] = None
 strip (c ∷ p) (b ∷ t) = if c == b then strip p t else None
 
--- The bytes after `p`. If the text is only a part of `p` it is cut short; if it has other bytes, the
--- error is of the kind that is given, and is where `p` was to begin.
+-- The bytes after `p`. If the text is only a part of `p` it is cut short; if it has other bytes,
+-- the error is of the kind that is given, and is where `p` was to begin.
 abbrev pub expected : Option (List ℕ) → Option (List ℕ) → FaultKind → ℕ → Result (List ℕ) TextError
 expected (Some rest) is_part kind left = Ok rest
 expected None (Some more) kind left = cut_short
@@ -94,8 +94,8 @@ abbrev pub if_valid : ℕ → Result EditList BadEdits → List ℕ → Result (
 if_valid left (Ok e) t = Ok (e, t)
 if_valid left (Err d) t = error Edits left
 
--- A list of edits. If these are no list, the error is where the record begins, which is `left` bytes
--- before the end.
+-- A list of edits. If these are no list, the error is where the record begins, which is `left`
+-- bytes before the end.
 unfoldable pub edit_list_at : ℕ → List ℕ → Result (EditList × List ℕ) TextError
 edit_list_at left t = do
   old_len ← number_at 0 max_number space t

@@ -13,7 +13,7 @@ use Rattle.edit_record.specs.Squashes.SquashLists.{SquashAll}
 
 -- ---- what both versions have
 
--- the byte behind a word, and behind a number that is not the last of its line
+-- the byte after a word, and after a number that is not the last of its line
 abbrev pub space : ℕ
 space = 32
 
@@ -25,7 +25,7 @@ newline = 10
 abbrev pub max_number : ℕ
 max_number = 33554432
 
--- a number in decimal, without leading zeros, and the byte behind it
+-- a number in decimal, without leading zeros, and the byte that ends it
 abbrev pub number_text : ℕ → ℕ → List ℕ
 number_text stop n = decimal n ++ stop ∷ []
 
@@ -75,8 +75,8 @@ pub record IsCurrentText (text : List ℕ) (rs : List JournalEntry) : Type 0 whe
 
 -- ---- version 1
 
--- a record of version 1: the steps of one command, at least one, each a list of edits that goes on
--- from the one before
+-- a record of version 1: the steps of one command, at least one, each a list of edits that follows
+-- the one before
 pub record OldRecord : Type 0 where
   pub word : Word
   pub first : EditList

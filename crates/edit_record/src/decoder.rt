@@ -17,7 +17,7 @@ use std::alloc::Global;
 /// The most steps of a record of version 1.
 const MAX_STEPS: usize = 64;
 
-/// A record of version 2.
+/// Reads a record of version 2.
 #[tactic(auto, unfolding(crate::specs::Parsing::record_at, crate::specs::Inner::Allocating::record_allocates))]
 fn record(alloc: Global, text: &[u8]) -> Result<(Record, &[u8]), DecodeStop>
     ensures { IsRead (λ x. (x.0, x.1.now)) (record_allocates text.now) result (record_at text.now) }
@@ -29,7 +29,7 @@ fn record(alloc: Global, text: &[u8]) -> Result<(Record, &[u8]), DecodeStop>
     Ok((Record::make(word, edits), rest))
 }
 
-/// A step of a record of version 1.
+/// Reads a step of a record of version 1.
 #[tactic(auto, unfolding(crate::specs::Inner::Reading::step_at, crate::specs::Inner::Allocating::step_allocates))]
 fn step(alloc: Global, text: &[u8]) -> Result<(Edits, &[u8]), DecodeStop>
     ensures { IsRead (λ x. (x.0, x.1.now)) (step_allocates text.now) result (step_at text.now) }
@@ -38,7 +38,7 @@ fn step(alloc: Global, text: &[u8]) -> Result<(Edits, &[u8]), DecodeStop>
     list_of_edits(alloc, text.len(), rest)
 }
 
-/// Parses `count` further steps and squashes each into the result so far, beginning with `first`.
+/// Reads `count` further steps, and squashes `first` and these, each with the result before it.
 fn squash_steps(
     alloc: Global,
     first: Edits,
@@ -58,7 +58,8 @@ fn squash_steps(
     Ok((edits, rest))
 }
 
-/// The two steps as one. Where they are none, the fault has `left` bytes behind it.
+/// Squashes two steps. If they cannot follow each other, the error is `left` bytes before the end
+/// of the text.
 fn squash_two(
     alloc: Global,
     first: &Edits,
@@ -67,25 +68,26 @@ fn squash_two(
 ) -> Result<Edits, DecodeStop>
     ensures { IsSquashOrStop first.now second.now result }
 {
+    let bad = TextError {
+        kind: FaultKind::Steps,
+        left,
+    };
     match squash(alloc, first, second) {
         Ok(edits) => Ok(edits),
         Err(Unmet::Memory) => Err(DecodeStop::Memory),
-        Err(_) => Err(DecodeStop::Bad(TextError {
-            kind: FaultKind::Steps,
-            left,
-        })),
+        Err(_) => Err(DecodeStop::Bad(bad)),
     }
 }
 
-/// What stands before the second step of a record of version 1.
+/// The part of a record of version 1 before its second step.
 struct OldHead {
     word: Word,
     first: Edits,
-    /// How many others there are.
+    /// The number of further steps.
     others: usize,
 }
 
-/// What stands before the second step of a record of version 1.
+/// Reads the part of a record of version 1 before its second step.
 #[tactic(auto, unfolding(crate::specs::Inner::Reading::old_head_at, crate::specs::Inner::Allocating::old_head_allocates))]
 fn old_head(alloc: Global, text: &[u8]) -> Result<(OldHead, &[u8]), DecodeStop>
     ensures { IsRead (λ x. (head_view x.0, x.1.now)) (old_head_allocates text.now) result
@@ -104,7 +106,7 @@ fn old_head(alloc: Global, text: &[u8]) -> Result<(OldHead, &[u8]), DecodeStop>
     Ok((head, rest))
 }
 
-/// A record of version 1, with its steps squashed into one list.
+/// Reads a record of version 1 and squashes its steps into one list.
 fn old_record(alloc: Global, text: &[u8]) -> Result<(Record, &[u8]), DecodeStop>
     ensures { ParsesAs (λ x. x.0) (λ x. x.1.now) (old_record_allocates text.now) result (OldRecordAt text.now) }
 {
@@ -119,7 +121,7 @@ fn old_record(alloc: Global, text: &[u8]) -> Result<(Record, &[u8]), DecodeStop>
     Ok((Record::make(word, edits), rest))
 }
 
-/// A record of version 1, if `old`, or of version 2.
+/// Reads a record of version 1, if `old`, or of version 2.
 fn record_of_version(alloc: Global, old: bool, text: &[u8]) -> Result<(Record, &[u8]), DecodeStop>
     ensures parses { ParsesAs (λ x. x.0) (λ x. x.1.now) (allocates old text.now) result
         (RecordAt old text.now) }
@@ -132,7 +134,7 @@ fn record_of_version(alloc: Global, old: bool, text: &[u8]) -> Result<(Record, &
     }
 }
 
-/// All the records. The mark of the first one decides the version.
+/// Reads all records. The mark of the first one decides the version.
 fn records(alloc: Global, text: &[u8]) -> Result<Journal, DecodeStop>
     ensures { IsReadResult text.now result }
 {
@@ -147,15 +149,18 @@ fn records(alloc: Global, text: &[u8]) -> Result<Journal, DecodeStop>
     Ok(journal)
 }
 
-/// The journal with this text.
+/// Returns the journal whose text this is.
 ///
 /// A text is all of version 2, which [`encode`](crate::encode) writes, or all of version 1, in
-/// which a record is a row of steps; these are squashed into one list of edits. The first record
-/// decides the version. Each journal has one spelling in version 2. Anything else is refused with
-/// the first fault from left to right.
+/// which a record has steps; these are squashed into one list of edits. The first record decides
+/// the version. Each journal has one text in version 2.
 ///
-/// It is one pass over the text. Nothing is reserved by a number that the text names, and no memory
-/// is taken before the first edit has been read whole.
+/// It is one pass over the text. No capacity is reserved by a number that the text has, and nothing
+/// is allocated before the first edit is read.
+///
+/// # Errors
+///
+/// Any other text is refused with its first error from left to right.
 pub fn decode(alloc: Global, text: &[u8]) -> Result<Journal, RecordFault>
     ensures { IsDecodeResult text.now result }
 {

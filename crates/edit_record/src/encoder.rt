@@ -7,7 +7,7 @@ use crate::lists::{Edit, Journal, Record, Word};
 use itoa::Buffer;
 use std::alloc::{AllocError, Global};
 
-/// How many digits a number has.
+/// Returns the number of decimal digits.
 fn digit_count(number: usize) -> usize
     ensures is { result ≡ length (decimal number) }
     ensures short { result ≤ 40 }
@@ -15,7 +15,7 @@ fn digit_count(number: usize) -> usize
     Buffer::new().format(number).len()
 }
 
-/// How many bytes the text of an edit has.
+/// Returns the length of the text of an edit.
 fn edit_len(edit: &Edit) -> usize
     ensures { result ≡ min (length (edit_text edit.now)) (2 ^ 64 - 1) }
 {
@@ -25,7 +25,7 @@ fn edit_len(edit: &Edit) -> usize
     numbers.saturating_add(removed).saturating_add(added)
 }
 
-/// How many bytes the text of a record has.
+/// Returns the length of the text of a record.
 fn record_len(rec: &Record) -> usize
     ensures { result ≡ min (length (record_text rec.now)) (2 ^ 64 - 1) }
 {
@@ -38,8 +38,8 @@ fn record_len(rec: &Record) -> usize
     len
 }
 
-/// How many bytes the text of a journal has, up to the greatest number that there is. It takes no
-/// memory.
+/// Returns the length of the text of a journal, or the greatest `usize` if it is longer. It
+/// allocates nothing.
 pub fn encoded_len(journal: &Journal) -> usize
     ensures { result ≡ min (length (journal_text journal.now)) (2 ^ 64 - 1) }
 {
@@ -112,14 +112,14 @@ fn write_record(out: &mut Vec<u8>, rec: &Record) -> Result<(), AllocError>
     Ok(())
 }
 
-/// The text of a journal, in version 2: its records one after another, the oldest first. A record
+/// Returns the text of a journal, in version 2: its records in order, the oldest first. A record
 /// is the line `tfrec 2 COMMAND LENGTH EDITS` (the command `fmt` or `fix`, the length of the texts
 /// that it applies to, and how many edits follow), the edits, and the line `end`. An edit is the
 /// line `PLACE REMOVED ADDED` (its place, and how many bytes it removes and adds), these bytes, and
 /// a line end. Numbers are decimal without leading zeros.
 ///
-/// The room is reserved once, so only that can be refused. The text of an empty journal has no
-/// bytes.
+/// The capacity is reserved once, so only that allocation can fail. The text of an empty journal
+/// has no bytes.
 pub fn encode(alloc: Global, journal: &Journal) -> Result<Vec<u8>, AllocError>
     ensures text { IfOk result (λ text. IsCurrentText text.items journal.now) }
     ensures allocates { IfErr result (λ _. 0 < length journal.now) }

@@ -1,25 +1,36 @@
-//! Laws of the text of journals: functions that do nothing, for callers whose proofs want what
-//! their clauses say.
+//! Laws of the text of journals. The functions do nothing: a call makes a law's clause available to
+//! the proof of its caller.
 ghost use Rattle.std.specs.Prelude.{◌≡◌, ◌↔◌, ◌++◌, List, ℕ};
 ghost use Rattle.edit_record.specs.Lists.Journal.{JournalEntry, journal_transforms};
 ghost use Rattle.edit_record.specs.Lists.Sequence.{TransformsInOrder};
 ghost use Rattle.edit_record.specs.Text.{IsCurrentText, IsJournalText, OldRecord, MigrateAllTo, old_transforms};
 
-/// A text is that of one journal at most, in whichever version it is.
+pub use crate::lists::laws::{
+    apply_is_deterministic, apply_is_exact, change_is_one_to_one, change_result_is_unique,
+    edit_results_are_exact, journal_results_are_exact, make_is_exact, pieces_make_valid_edits,
+    pieces_transform, transformed_lengths_match, undo_is_exact,
+};
+pub use crate::squashes::laws::{
+    composable_lists_squash, edits_are_valid, squash_all_is_unique, squash_is_associative,
+    squash_is_unique,
+};
+pub use crate::swaps::laws::{move_to_end_is_unique, swap_is_unique};
+
+/// A text is the text of one journal at most, of either version.
 pub fn text_is_unambiguous()
     ensures { (text : List ℕ) (rs ss : List JournalEntry) → IsJournalText text rs → IsJournalText text ss
         → rs ≡ ss }
 {}
 
-/// Where the text of some records, followed by anything, is the text of a journal, that journal
-/// begins with these records, and what follows is the text of its others.
+/// If the text of some records, followed by more bytes, is the text of a journal, then the journal
+/// begins with these records, and the bytes are the text of the others.
 pub fn text_prefix_is_unambiguous()
     ensures { (front more : List ℕ) (rs ss : List JournalEntry) → IsCurrentText front rs
         → IsCurrentText (front ++ more) ss
         → (others : List JournalEntry) × (ss ≡ rs ++ others) × IsCurrentText more others }
 {}
 
-/// Old records and what they migrated turn the same texts into each other.
+/// Old records and those that they migrate to turn the same texts into each other.
 pub fn migration_preserves_meaning()
     ensures { (olds : List OldRecord) (rs : List JournalEntry) → MigrateAllTo olds rs → (t u : List ℕ)
         → journal_transforms rs t u ↔ TransformsInOrder old_transforms olds t u }

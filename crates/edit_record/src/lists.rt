@@ -1,9 +1,9 @@
 //! Lists of exact edits of a text, which can be applied and undone.
 //!
-//! A list of edits says of a text of a known length which bytes become which. It is applied only to
-//! a text in which each of its edits stands, and undone only in one that has what each edit put
-//! there; any other text is refused.
-//! All places and lengths count bytes from 0, and steps and edits are numbered from 0.
+//! A list of edits says which bytes of a text of a known length are replaced by which. It is
+//! applied only to a text that has the bytes that each edit removes, and undone only in a text that
+//! has the bytes that each edit adds; any other text is refused. All places and lengths count bytes
+//! from 0, and steps and edits are numbered from 0.
 
 mod change;
 mod direction;

@@ -1,4 +1,4 @@
-//! One list of edits in the place of two, the second of which goes on from what the first made.
+//! The composition of two lists of edits, the second of which follows the first.
 
 pub mod laws;
 mod merge;

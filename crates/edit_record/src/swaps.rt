@@ -1,8 +1,8 @@
-//! Two lists of edits, the second of which goes on from what the first makes, in the other order.
+//! Swapping two lists of edits, the second of which follows the first.
 //!
-//! This is how one command is taken out of the middle: its edits change places with those of each
-//! later command, and are then the last, where they can be undone. Places and lengths count bytes
-//! from 0, edits and records count from 0.
+//! This is how one command is undone out of order: its edits are swapped with those of each later
+//! command, are then the last, and can be undone. Places and lengths count bytes from 0; edits and
+//! records are numbered from 0.
 
 pub mod laws;
 mod moving_edits;

@@ -6,7 +6,7 @@ use Rattle.std.proofs.lemmas.List.{length-drop, length-take-le, map-append}
 use Rattle.edit_record.specs.Lists.Pieces.{EditEntry}
 use Rattle.edit_record.specs.Lists.Validity.{AreDisjoint}
 use Rattle.edit_record.specs.Squashes.Inner.Merge.{State, finish_edit, skip_kept, with_first, with_second, common_len, cancel_common, gap, joins_first, joins_second, first_is_next, prepare_next, initial, MergeInvariant, OneIsDone}
-use Rattle.edit_record.specs.Squashes.Groups.{Side, added_spans, removed_spans, Span, Group, empty_group, with_next, next_touches, next_start, first_comes_next, groups_of, Extent, extent_of, other_len_to, cons_nonempty, group_extents, squashed_extents}
+use Rattle.edit_record.specs.Squashes.Groups.{Side, added_spans, removed_spans, Span, Group, empty_group, with_next, next_touches, next_start, first_span_is_next, groups_of, Extent, extent_of, other_len_to, cons_nonempty, group_extents, squashed_extents}
 use Rattle.edit_record.proofs.SquashesLemmas.Soundness.{apart_first, apart_second}
 
 -- as many bytes that stay before the first edit
@@ -174,7 +174,7 @@ module _ (la lb : ℕ) (a b : List EditEntry) where
       let later = p.0.later in let mid_is = g.mid_is in
       joins_is s.has_first e.at s.second_end (e.at - s.second_end) g.mid (length s.first_pending) (length s.second_pending) (omega arith) (omega arith) (omega arith)
 
-  same_leads : (s : State) (g : Making s) (xs ys : List EditEntry) → AreDisjoint la (s.first_end + length s.second_pending) xs → AreDisjoint lb (s.second_end + length s.first_pending) ys → first_comes_next (added_spans s.first_end g.mid xs) (removed_spans ys) ≡ first_is_next (finish_edit s) xs ys
+  same_leads : (s : State) (g : Making s) (xs ys : List EditEntry) → AreDisjoint la (s.first_end + length s.second_pending) xs → AreDisjoint lb (s.second_end + length s.first_pending) ys → first_span_is_next (added_spans s.first_end g.mid xs) (removed_spans ys) ≡ first_is_next (finish_edit s) xs ys
   same_leads s g [] ys p q = refl
   same_leads s g (x ∷ xs) [] p q = refl
   same_leads s g (x ∷ xs) (y ∷ ys) p q =

@@ -1,4 +1,4 @@
--- A reader's stop as a fault of the text.
+-- The public error for a reader's stop.
 use Rattle.std.specs.Prelude.{◌≡◌, ℕ}
 use Rattle.edit_record.specs.Decoding.{fault_in}
 use Rattle.edit_record.specs.declared.fault.RecordFault.{RecordFault}

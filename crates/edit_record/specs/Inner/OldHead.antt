@@ -1,4 +1,4 @@
--- The front of an old record in the code.
+-- The code's head of an old record, as the parser on lists has it.
 use Rattle.edit_record.specs.Inner.Reading.{OldHead}
 use Rattle.edit_record.specs.declared.decoder.OldHead.{OldHead as Head}
 

@@ -1,4 +1,4 @@
--- What a reader of the code answers.
+-- What the readers of the code return.
 use Rattle.std.specs.Prelude.{◌≡◌, ℕ, List, [], ◌∷◌, ◌++◌, Result, Ok, Err, Bool, true, false, ⊤}
 use Rattle.edit_record.specs.Lists.Pieces.{EditList}
 use Rattle.edit_record.specs.Lists.Journal.{JournalEntry}
@@ -38,19 +38,18 @@ abbrev pub ParsesAs : {X Y : Type 0} → (X → Y) → (X → List ℕ) → Bool
 ParsesAs view rest takes (Ok x) R = R (view x) (rest x)
 ParsesAs view rest takes (Err e) R = IsStopFor takes e R
 
--- two lists as one
+-- two lists squashed into one, or why they are not
 abbrev pub IsSquashOrStop : EditList → EditList → Result EditList DecodeStop → Type 0
 IsSquashOrStop a b (Ok c) = IsSquash a b c
 IsSquashOrStop a b (Err stops.Memory) = Unit {0}
 IsSquashOrStop a b (Err (stops.Bad e)) = (c : EditList) → IsSquash a b c → ⊥
 
--- so many lists go on from the first, and squash with it to e
+-- n lists follow the first, and squash with it to e
 abbrev pub SquashAt : EditList → ℕ → List ℕ → EditList → List ℕ → Type 0
 SquashAt first n t e rest =
     (others : List EditList) × (steps_at n t ≡ Ok (others, rest)) × SquashAll first others e
 
--- a record stands at the front, in version 2 or in version 1, in which it is what the old one
--- becomes
+-- the text begins with a record: of version 2, or of version 1, which it migrates from
 abbrev pub RecordAt : Bool → List ℕ → JournalEntry → List ℕ → Type 0
 RecordAt false t r rest = (t ≡ record_text r ++ rest) × IsValidList r.edits
 RecordAt true t r rest = (old : OldRecord) × (t ≡ old_record_text old ++ rest) × MigratesTo old r
@@ -61,7 +60,7 @@ RecordsAt old t (r ∷ rs) = (rest : List ℕ) × RecordAt old t r rest × Recor
 
 -- the text begins with the text of these records of version 2
 abbrev pub StartsWith : List ℕ → List JournalEntry → List ℕ → Type 0
-StartsWith text records rest = (front : List ℕ) × IsCurrentText front records × (text ≡ front ++ rest)
+StartsWith text records rest = (done : List ℕ) × IsCurrentText done records × (text ≡ done ++ rest)
 
 -- of a record of version 2, this is the error
 abbrev pub IsErrorOf : Bool → List ℕ → DecodeStop → Type 0
@@ -69,14 +68,14 @@ IsErrorOf true t stop = ⊤
 IsErrorOf false t stops.Memory = ⊤
 IsErrorOf false t (stops.Bad e) = record_at t ≡ Err e
 
--- what all of it says
+-- the journal of the whole text, or why there is none
 abbrev pub IsReadResult : List ℕ → Result (List JournalEntry) DecodeStop → Type 0
 IsReadResult text (Ok rs) = IsJournalText text rs
 IsReadResult text (Err stops.Memory) = DecodeMayAllocate text
 IsReadResult text (Err (stops.Bad e)) =
     ((rs : List JournalEntry) → IsJournalText text rs → ⊥) × (IsNotOld text → IsFirstError text e)
 
--- an old record stands at the front, and squashed it is this one
+-- the text begins with an old record, whose steps squash to this one
 abbrev pub OldRecordAt : List ℕ → JournalEntry → List ℕ → Type 0
 OldRecordAt t r rest = (old : OldRecord) × (old_record_at t ≡ Ok (old, rest)) × (old.word ≡ r.word)
     × SquashAll old.first old.others r.edits

@@ -1,4 +1,5 @@
--- The answer as a function of the text: one walk over a text and the edits, from either side.
+-- Applying and undoing edits as a function of the text: one walk over the text and the edits.
+-- `IsChangeResult` says by pieces what it returns (law `edit_results_are_exact`).
 use Rattle.std.specs.Prelude.{ℕ, ◌+◌, ◌-◌, List, [], ◌∷◌, ◌++◌, length, take, drop, Bool, Result, Ok, Err, nat_le, ◌==◌, ◌&&◌, if◌then◌else◌}
 use Rattle.std.specs.Str.{bytes_eq}
 use Rattle.edit_record.specs.declared.lists.change.Refused.{Refused}
@@ -17,19 +18,19 @@ abbrev pub written_bytes : Direction → EditEntry → List ℕ
 written_bytes Forward e = e.added
 written_bytes Backward e = e.removed
 
--- the answer with these bytes in front
+-- the result with these bytes before it
 abbrev pub prepend : List ℕ → Result (List ℕ) Refused → Result (List ℕ) Refused
-prepend front (Ok rest) = Ok (front ++ rest)
-prepend front (Err r) = Err r
+prepend bytes (Ok rest) = Ok (bytes ++ rest)
+prepend bytes (Err r) = Err r
 
--- the gap is there, and the bytes stand behind it
+-- the text has the gap, and then these bytes
 abbrev pub matches_at : ℕ → ℕ → List ℕ → List ℕ → Bool
 matches_at from at bytes t =
     nat_le from at && (nat_le (at - from) (length t)
     && bytes_eq bytes (take (length bytes) (drop (at - from) t)))
 
--- The text on the other side of t, of which the first byte has the old place from. Or the first
--- edit whose bytes don't stand; the first of these has the number i.
+-- The other text for t, whose first byte is at offset `from` of the old text; or the first edit
+-- whose bytes t does not have. The first edit of the list has the number i.
 abbrev pub walk : Direction → ℕ → ℕ → List EditEntry → List ℕ → Result (List ℕ) Refused
 walk direction i from [] t = Ok t
 walk direction i from (e ∷ es) t =
@@ -39,7 +40,7 @@ walk direction i from (e ∷ es) t =
     (drop (length (read_bytes direction e)) (drop (e.at - from) t)))
     else Err (Differs 0 i)
 
--- what becomes of a text; backwards, what it came from
+-- the new text of an old one, or, backward, the old text of a new one
 abbrev pub apply_edits : Direction → EditList → List ℕ → Result (List ℕ) Refused
 apply_edits Forward e t =
     if length t == e.old_len then walk Forward 0 0 e.entries t

@@ -1,4 +1,4 @@
--- What applying and undoing edits answers about a text, in terms of pieces.
+-- What applying and undoing edits returns for a text, in terms of pieces.
 use Rattle.std.specs.Prelude.{◌≡◌, ℕ, ◌+◌, ◌<◌, List, length, take, ⊤, Result, Ok, Err}
 use Rattle.std.specs.Global.{Vec}
 use Rattle.edit_record.specs.declared.lists.change.Refused.{Refused}
@@ -13,7 +13,8 @@ abbrev pub side_of : Direction → List Piece → List ℕ
 side_of Forward = old_text
 side_of Backward = new_text
 
--- the edits stand in a text: it is that side of pieces that change as they say
+-- The edits apply to a text: it is the side that is read of some pieces, and the edits are the
+-- pieces that change.
 pub record AppliesTo (direction : Direction) (es : List EditEntry) (text : List ℕ) : Type 0 where
   pub pieces : List Piece
   pub side_is : side_of direction pieces ≡ text
@@ -37,8 +38,7 @@ abbrev pub HasExpectedLen : Direction → EditList → List ℕ → Type 0
 HasExpectedLen Forward e t = length t ≡ e.old_len
 HasExpectedLen Backward e u = length u + removed_len e.entries ≡ e.old_len + added_len e.entries
 
--- the text on the other side, or else that the length differs, or else the lowest edit that does
--- not stand
+-- the text on the other side; else that the length differs; else the first edit that does not match
 abbrev pub IsChangeResult : Direction → EditList → List ℕ → Result (List ℕ) Refused → Type 0
 IsChangeResult Forward e t (Ok u) = Transforms e t u
 IsChangeResult Backward e u (Ok t) = Transforms e t u
@@ -48,8 +48,8 @@ IsChangeResult direction e t (Err (Differs step edit)) =
     (step ≡ 0) × HasExpectedLen direction e t × IsFirstMismatch direction e.entries t edit
 IsChangeResult direction e t (Err Memory) = ⊥
 
--- What a call on edits answered: the text on the other side, or why there is none; or memory ran
--- out, and that only over a text of the right length.
+-- What a call on edits returned: the text on the other side, or why there is none; or memory ran
+-- out, which can only be for a text of the expected length.
 abbrev pub IsChangeCallResult : Direction → EditList → List ℕ → Result (Vec ℕ) Refused → Type 0
 IsChangeCallResult direction e t (Ok v) = IsChangeResult direction e t (Ok v.items)
 IsChangeCallResult direction e t (Err (Length expected found)) =
@@ -64,7 +64,7 @@ abbrev pub ChangeResultIsUnique : Type 0
 ChangeResultIsUnique = (direction : Direction) (e : EditList) (t : List ℕ) (r s : Result (List ℕ) Refused)
     → IsChangeResult direction e t r → IsChangeResult direction e t s → r ≡ s
 
--- a call answered this, unless memory ran out
+-- a call returned this, unless memory ran out
 abbrev pub AgreesWith : Result (Vec ℕ) Refused → Result (List ℕ) Refused → Type 0
 AgreesWith (Ok v) answer = answer ≡ Ok v.items
 AgreesWith (Err Memory) answer = ⊤

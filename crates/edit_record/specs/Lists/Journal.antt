@@ -7,7 +7,7 @@ use Rattle.edit_record.specs.Lists.Pieces.{EditList, Transforms}
 use Rattle.edit_record.specs.Lists.Sequence.{TransformsInOrder, forward_all, backward_all}
 use Rattle.edit_record.specs.Lists.Apply.{apply_edits}
 
--- a record without where it lies in memory
+-- a record's value
 pub record JournalEntry : Type 0 where
   pub word : Word
   pub edits : EditList
@@ -23,7 +23,7 @@ words_of rs = map (λ r. r.word) rs
 abbrev pub record_transforms : JournalEntry → List ℕ → List ℕ → Type 0
 record_transforms r t u = Transforms r.edits t u
 
--- and answers by them, forward and back; so its one step is step 0
+-- a record applies and undoes its edits; so its one step is step 0
 abbrev pub record_forward : JournalEntry → List ℕ → Result (List ℕ) Refused
 record_forward r t = apply_edits Forward r.edits t
 
@@ -34,8 +34,8 @@ record_backward r u = apply_edits Backward r.edits u
 abbrev pub journal_transforms : List JournalEntry → List ℕ → List ℕ → Type 0
 journal_transforms = TransformsInOrder record_transforms
 
--- and answers by them: its first record first, and back its last; a refusal counts steps inside the
--- record that refused
+-- a journal applies its records from the first on, and undoes them from the last; a refusal numbers
+-- the steps within the record that refuses
 abbrev pub journal_forward : List JournalEntry → List ℕ → Result (List ℕ) Refused
 journal_forward = forward_all record_forward
 

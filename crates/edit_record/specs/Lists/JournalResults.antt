@@ -1,4 +1,4 @@
--- What applying and undoing a journal answers about a text, by its records and the pieces of texts.
+-- What applying and undoing a journal returns for a text, by its records and the pieces of texts.
 use Rattle.std.specs.Prelude.{◌≡◌, ℕ, List, [], ◌∷◌, ◌++◌, Option, None, Some, Result, Ok, Err}
 use Rattle.std.specs.Global.{Vec}
 use Rattle.edit_record.specs.declared.lists.change.Refused.{Refused}
@@ -8,8 +8,8 @@ use Rattle.edit_record.specs.declared.lists.direction.Direction.TheVariants.{For
 use Rattle.edit_record.specs.Lists.ChangeResults.{IsChangeResult, HasExpectedLen}
 use Rattle.edit_record.specs.Lists.Journal.{JournalEntry, journal_transforms}
 
--- the text that a record is given: those before it made it of t, or, going back, those behind it
--- gave it back from t
+-- The input of a record: the records before it made it of t, or, backward, undoing those after it
+-- on t gives it.
 abbrev pub IsInputOf : Direction → List JournalEntry → List JournalEntry → List ℕ → List ℕ → Type 0
 IsInputOf Forward before after t input = journal_transforms before t input
 IsInputOf Backward before after t input = journal_transforms after input t
@@ -39,12 +39,12 @@ first_record Backward [] = None
 first_record Backward (r ∷ []) = Some r
 first_record Backward (r ∷ s ∷ rs) = first_record Backward (s ∷ rs)
 
--- memory is taken only where the text has the length that the record asks for which works first
+-- memory can run out only for a text of the length that the first record to work expects
 abbrev pub JournalMayAllocate : Direction → List JournalEntry → List ℕ → Type 0
 JournalMayAllocate direction rs t =
     (r : JournalEntry) → first_record direction rs ≡ Some r → HasExpectedLen direction r.edits t
 
--- what a call on a journal answered, memory included
+-- what a call on a journal returned, memory included
 abbrev pub IsJournalCallResult : Direction → List JournalEntry → List ℕ → Result (Vec ℕ) Refused → Type 0
 IsJournalCallResult direction rs t (Ok v) = IsJournalResult direction rs t (Ok v.items)
 IsJournalCallResult direction rs t (Err (Length expected found)) =

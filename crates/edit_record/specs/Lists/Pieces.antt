@@ -1,4 +1,4 @@
--- Edits, and which texts they turn into which: a text is cut into pieces that are kept and pieces
+-- Edits, and which texts they turn into which: a text consists of pieces that are kept and pieces
 -- that change.
 use Rattle.std.specs.Prelude.{◌≡◌, ℕ, ◌+◌, List, [], ◌∷◌, ◌++◌, length}
 
@@ -16,7 +16,7 @@ pub record EditList : Type 0 where
 abbrev pub as_list : ℕ → List EditEntry → EditList
 as_list old_len es = record { old_len = old_len; entries = es }
 
--- a part of a text, with what becomes of it
+-- a part of a text, kept or changed
 pub data Piece : Type 0 where
   Kept : (bytes : List ℕ) → Piece
   Changed : (removed added : List ℕ) → Piece
@@ -33,8 +33,7 @@ new_text [] = []
 new_text (Kept b ∷ ps) = b ++ new_text ps
 new_text (Changed r n ∷ ps) = n ++ new_text ps
 
--- the pieces that change, each with how many old bytes stand before it; from stand before the first
--- piece
+-- the pieces that change, each with its offset in the old text; the first piece is at `from`
 abbrev pub changed_entries : ℕ → List Piece → List EditEntry
 changed_entries from [] = []
 changed_entries from (Kept b ∷ ps) = changed_entries (from + length b) ps

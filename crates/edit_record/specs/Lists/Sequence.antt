@@ -2,13 +2,13 @@
 use Rattle.std.specs.Prelude.{◌≡◌, ℕ, List, [], ◌∷◌, Result, Ok, Err}
 use Rattle.edit_record.specs.declared.lists.change.Refused.{Refused}
 
--- the changes turn t into u: some text lies between each two of them
+-- the changes turn t into u: there is a text between each two of them
 abbrev pub TransformsInOrder : {C : Type 0} → (C → List ℕ → List ℕ → Type 0) → List C → List ℕ → List ℕ
     → Type 0
 TransformsInOrder turns [] t u = t ≡ u
 TransformsInOrder turns (c ∷ cs) t u = (between : List ℕ) × turns c t between × TransformsInOrder turns cs between u
 
--- what comes of an answer by one more change
+-- the result of one more change after a result
 infixl 10 ◌>>=◌
 abbrev pub ◌>>=◌ : Result (List ℕ) Refused → (List ℕ → Result (List ℕ) Refused)
     → Result (List ℕ) Refused

@@ -9,7 +9,7 @@ use Rattle.edit_record.specs.Lists.Pieces.{as_list, EditEntry, EditList, Transfo
 abbrev pub new_len : EditList → ℕ
 new_len e = (e.old_len + added_len e.entries) - removed_len e.entries
 
--- what is wrong with the edit of this number, where the one before it ends at from
+-- what is wrong with the edit of this number, if the one before it ends at `from`
 abbrev pub edit_fault : ℕ → ℕ → ℕ → EditEntry → Option BadEdits
 edit_fault old_len from i e =
     if (length e.removed == 0) && (length e.added == 0) then Some (EmptyEdit i)
@@ -17,7 +17,7 @@ edit_fault old_len from i e =
     else (if nat_lt old_len (e.at + length e.removed) then Some (PastEnd i)
     else None))
 
--- the first fault of edits, of which the first has the number i
+-- the first error of edits, of which the first has the number i
 abbrev pub first_fault : ℕ → ℕ → ℕ → List EditEntry → Option BadEdits
 first_fault old_len from i [] = None
 first_fault old_len from i (e ∷ es) =
@@ -44,7 +44,7 @@ pub record IsValidAfter (old_len from : ℕ) (e : EditEntry) : Type 0 where
   pub within : e.at + length e.removed ≤ old_len
   pub some : 0 < length e.removed + length e.added
 
--- each edit is placed behind the one before
+-- each edit follows the one before
 abbrev pub AreDisjoint : ℕ → ℕ → List EditEntry → Type 0
 AreDisjoint old_len from [] = from ≤ old_len
 AreDisjoint old_len from (e ∷ es) =
@@ -61,8 +61,7 @@ pub record AreValidEdits (old_len new_len : ℕ) (es : List EditEntry) : Type 0 
 abbrev pub IsValidList : EditList → Type 0
 IsValidList e = AreValidEdits e.old_len (new_len e) e.entries
 
--- edits are made into the list of just these edits, and that exactly where they are placed and
--- within the limit
+-- edits are made into the list of just these edits if and only if they are valid
 abbrev pub MakeIsExact : ℕ → List EditEntry → Type 0
 MakeIsExact old_len es = (e : EditList)
     → (make_edits old_len es ≡ Ok e) ↔ ((e ≡ as_list old_len es) × AreValidEdits old_len (new_len e) es)

@@ -29,7 +29,7 @@ removed_spans (e ∷ es) =
 
 -- What a group of edits has of one of the lists: whether there is an edit of it; where the last one
 -- ends in the text between, or else where the group begins; and how many bytes the text on the
--- list's other side has from the begin to there.
+-- list's other side has from the start to there.
 pub record Side : Type 0 where
   pub some : Bool
   pub end : ℕ
@@ -64,13 +64,13 @@ abbrev pub next_start : List Span → ℕ
 next_start [] = 0
 next_start (x ∷ xs) = x.from
 
-abbrev pub first_comes_next : List Span → List Span → Bool
-first_comes_next [] ys = false
-first_comes_next (x ∷ xs) [] = true
-first_comes_next (x ∷ xs) (y ∷ ys) = nat_le x.from y.from
+abbrev pub first_span_is_next : List Span → List Span → Bool
+first_span_is_next [] ys = false
+first_span_is_next (x ∷ xs) [] = true
+first_span_is_next (x ∷ xs) (y ∷ ys) = nat_le x.from y.from
 
 -- The groups of n edits that are left, xs of the first list and ys of the second; g is made first.
--- The next edit of either list comes into it if it overlaps or touches one of the other list in it.
+-- The next edit of either list joins it if it overlaps or touches one of the other list in it.
 -- If neither does, g is done, and the next edit begins another group.
 abbrev pub groups_of : ℕ → Group → List Span → List Span → List Group
 groups_of zero g xs ys = g ∷ []
@@ -81,7 +81,7 @@ groups_of (suc n) g xs ys =
     groups_of n (record h { second = with_next ys h.second }) xs (drop 1 ys) in
     if next_touches xs g.second then first g
     else (if next_touches ys g.first then second g
-    else g ∷ (if first_comes_next xs ys then first (empty_group (next_start xs)) else second (empty_group (next_start ys))))
+    else g ∷ (if first_span_is_next xs ys then first (empty_group (next_start xs)) else second (empty_group (next_start ys))))
 
 -- where an edit is, and how much it removes and adds
 pub record Extent : Type 0 where
@@ -92,7 +92,7 @@ pub record Extent : Type 0 where
 abbrev pub extent_of : EditEntry → Extent
 extent_of e = record { at = e.at; removed = length e.removed; added = length e.added }
 
--- how many bytes the other text has from the group's begin to a place behind the last edit
+-- how many bytes the other text has from the group's start to a place after the last edit
 abbrev pub other_len_to : ℕ → Side → ℕ
 other_len_to to side = side.other + (to - side.end)
 

@@ -1,11 +1,11 @@
--- One list of edits taken out of a row of lists, each of which goes on from the one before.
+-- One list of edits moved to the end of the lists that follow it.
 use Rattle.std.specs.Prelude.{◌≡◌, ◌↔◌, ℕ, List, [], ◌∷◌}
 use Rattle.edit_record.specs.Lists.Pieces.{EditList, Transforms}
 use Rattle.edit_record.specs.Lists.Sequence.{TransformsInOrder}
 use Rattle.edit_record.specs.Swaps.Swap.{SwapTo}
 
--- a changes places with each list behind it in turn: these become cs, and behind them all a has
--- become last
+-- a is swapped with each list that follows it in turn: these become cs, and a, after them all,
+-- becomes `last`
 abbrev pub IsMovedToEnd : EditList → List EditList → List EditList → EditList → Type 0
 IsMovedToEnd a [] [] last = a ≡ last
 IsMovedToEnd a [] (c ∷ cs) last = ⊥
@@ -13,8 +13,8 @@ IsMovedToEnd a (b ∷ bs) [] last = ⊥
 IsMovedToEnd a (b ∷ bs) (c ∷ cs) last =
     (next : EditList) × SwapTo a b c next × IsMovedToEnd next bs cs last
 
--- there is one such row at most, and by it and then last the same texts turn into each other as by
--- a and then the others
+-- there are such lists in one way at most, and they and then `last` turn the same texts as a and
+-- then the others
 pub record MovesToEndUniquely (a : EditList) (bs : List EditList) : Type 0 where
   pub one : (cs ds : List EditList) (last other : EditList) → IsMovedToEnd a bs cs last
       → IsMovedToEnd a bs ds other → (cs ≡ ds) × (last ≡ other)
@@ -22,6 +22,6 @@ pub record MovesToEndUniquely (a : EditList) (bs : List EditList) : Type 0 where
       → ((u : List ℕ) × Transforms a t u × TransformsInOrder Transforms bs u v)
       ↔ ((w : List ℕ) × TransformsInOrder Transforms cs t w × Transforms last w v)
 
--- this holds of every list, and of all that are behind it
+-- this holds of every list, and of any that follow it
 abbrev pub MoveToEndIsUnique : Type 0
 MoveToEndIsUnique = (a : EditList) (bs : List EditList) → MovesToEndUniquely a bs

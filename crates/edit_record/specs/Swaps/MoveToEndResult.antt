@@ -1,4 +1,4 @@
--- Taking one record's edits out of the records that follow it.
+-- What `move_to_end` returns.
 use Rattle.std.specs.Prelude.{◌≡◌, ◌≢◌, ℕ, List, [], ◌∷◌, take, Option, None, Some, Result, Ok, Err}
 use Rattle.std.specs.Global.{Vec}
 use Rattle.edit_record.specs.declared.lists.record.Record.{Record}
@@ -11,13 +11,13 @@ use Rattle.edit_record.specs.Swaps.MoveToEnd.{IsMovedToEnd}
 use Rattle.edit_record.specs.declared.swaps.reorder.MoveFault.{MoveFault}
 use Rattle.edit_record.specs.declared.swaps.reorder.MoveFault.TheVariants.{Length, Blocked, TooLong, Memory}
 
--- what the list has become, which is itself where nothing was behind it
+-- the moved list, or the list itself if no record follows it
 abbrev pub moved_or : EditList → Option EditList → EditList
 moved_or a None = a
 moved_or a (Some m) = m
 
--- why two lists do not change places: the second is for texts of another length, or edits meet, or
--- a text would be too long
+-- why two lists cannot be swapped: the second is for texts of another length, edits meet, or a text
+-- would be too long
 abbrev pub LengthMismatch : EditList → EditList → ℕ → ℕ → Type 0
 LengthMismatch a b expected found = (new_len a ≢ b.old_len) × (expected ≡ b.old_len) × (found ≡ new_len a)
 
@@ -27,7 +27,7 @@ SomeMeet a b = (new_len a ≡ b.old_len) × (i : ℕ) × (j : ℕ) × FirstMeeti
 abbrev pub SwapIsTooLong : EditList → EditList → Type 0
 SwapIsTooLong a b = (new_len a ≡ b.old_len) × NoneMeet a b × ExceedsLimit a b
 
--- behind the first k lists a has become one that does not change places with the next list
+-- moved after the first k lists, a is a list that cannot be swapped with the next one
 pub record FailsAt (a : EditList) (bs : List EditList) (k : ℕ)
     (Refuses : EditList → EditList → Type 0) : Type 0 where
   pub swapped_lists : List EditList
@@ -37,17 +37,17 @@ pub record FailsAt (a : EditList) (bs : List EditList) (k : ℕ)
   pub next_is : IsItem k next bs
   pub refuses : Refuses moved_edits next
 
--- nothing is in the way of two lists that are to change places
+-- two lists can be swapped
 abbrev pub CanSwap : EditList → EditList → Type 0
 CanSwap a b = (new_len a ≡ b.old_len) × NoneMeet a b × IsWithinLimit a b
 
--- no memory is taken where there is no record, nor where the first one refuses
+-- `move_to_end` allocates nothing if there is no record, or the first one cannot be swapped
 abbrev pub MoveMayAllocate : EditList → List JournalEntry → Type 0
 MoveMayAllocate a [] = ⊥
 MoveMayAllocate a (r ∷ rs) = CanSwap a r.edits
 
--- What take_out answers: the records as they are without a before them, with their commands, and
--- what a has become behind them all; or the first record that refuses, and why.
+-- What `move_to_end` returns: the records as they are without a before them, with their commands,
+-- and a as it is after them all; or the first record that cannot be swapped, and why.
 abbrev pub IsMoveToEndResult : EditList → List JournalEntry → Result (Vec Record × Option Edits) MoveFault
     → Type 0
 IsMoveToEndResult a rs (Ok x) =

@@ -1,5 +1,5 @@
--- Two lists of edits, the second of which goes on from what the first makes, in the other order.
--- What changing places means for exact edits is this project's own, and is defined here.
+-- Swapping two lists of edits, the second of which follows the first. What this means for exact
+-- edits is this project's own, and is defined here.
 use Rattle.std.specs.Prelude.{◌≡◌, ◌≢◌, ◌↔◌, ◌⊎◌, ℕ, zero, suc, ◌+◌, ◌≤◌, ◌<◌, List, [], ◌∷◌, length, sum_by, Bool, nat_lt, if◌then◌else◌, Result, Ok, Err}
 use Rattle.edit_record.specs.Lists.Pieces.{EditEntry, EditList, Transforms, removed_len, added_len}
 use Rattle.edit_record.specs.Lists.Validity.{new_len}
@@ -53,8 +53,8 @@ len_before y xs = sum_by (λ x. if is_before x y then x.len else 0) xs
 abbrev pub other_len_before : Span → List Span → ℕ
 other_len_before y xs = sum_by (λ x. if is_before x y then x.other else 0) xs
 
--- The edit in its new place: it removes and adds the same bytes, and its place goes by what the
--- edits of the other list that stand before it remove and add.
+-- The edit in its new place: it removes and adds the same bytes, and is moved by the bytes that the
+-- edits of the other list before it remove and add.
 pub record IsRelocated (others : List Span) (span : Span) (old new : EditEntry) : Type 0 where
   pub at : new.at + len_before span others ≡ old.at + other_len_before span others
   pub removed : new.removed ≡ old.removed
@@ -79,7 +79,7 @@ pub record IsSwap (a b b2 a2 : EditList) : Type 0 where
   pub equivalent : (t v : List ℕ)
       → ((u : List ℕ) × Transforms a t u × Transforms b u v) ↔ ((u : List ℕ) × Transforms b2 t u × Transforms a2 u v)
 
--- two lists change places in one way at most
+-- two lists can be swapped in one way at most
 abbrev pub SwapIsUnique : Type 0
 SwapIsUnique =
     (a b b2 a2 d2 c2 : EditList) → IsSwap a b b2 a2 → IsSwap a b d2 c2 → (b2 ≡ d2) × (a2 ≡ c2)
@@ -92,25 +92,24 @@ ExceedsLimit a b = MAX_TEXT + removed_len b.entries < a.old_len + added_len b.en
 abbrev pub IsWithinLimit : EditList → EditList → Type 0
 IsWithinLimit a b = a.old_len + added_len b.entries ≤ MAX_TEXT + removed_len b.entries
 
--- a and b change places, and are then b2 and a2: b goes on from a, no edits meet, and the text
--- between is not too long in the other order
+-- a and b are swapped to b2 and a2: the lengths match, no edits meet, and the text between is not
+-- too long in the other order
 pub record SwapTo (a b b2 a2 : EditList) : Type 0 where
   pub lengths_match : new_len a ≡ b.old_len
   pub apart : NoneMeet a b
   pub within : IsWithinLimit a b
   pub swap : IsSwap a b b2 a2
 
--- ---- what swap answers
+-- ---- what `swap` returns
 
--- the two lists change places, and there is an edit to be put in its new place: no memory is taken
--- for any other two lists
+-- the two lists can be swapped, and have an edit: `swap` allocates for no other two lists
 pub record SwapMayAllocate (a b : EditList) : Type 0 where
   pub lengths_match : new_len a ≡ b.old_len
   pub apart : NoneMeet a b
   pub within : IsWithinLimit a b
   pub some : 0 < length a.entries + length b.entries
 
--- the lists in the other order, or why they do not change places
+-- the lists in the other order, or why they cannot be swapped
 abbrev pub IsSwapResult : EditList → EditList → Result (EditList × EditList) SwapFault → Type 0
 IsSwapResult a b (Ok x) = SwapTo a b x.0 x.1
 IsSwapResult a b (Err LengthsDiffer) = new_len a ≢ b.old_len

@@ -9,14 +9,14 @@ use thiserror::Error;
 /// Why a change was not applied or undone.
 #[derive(Clone, Copy, Debug, PartialEq, Eq, Error)]
 pub enum Refused {
-    /// The text has another length than the change asks, in bytes.
+    /// The text has another length than the change requires, in bytes.
     #[error("record expects {expected} bytes, found {found}")]
     Length { expected: usize, found: usize },
     /// The text does not have the bytes that an edit expects. `edit` is the first such edit; steps
     /// and edits are numbered from 0.
     #[error("record does not stand, step {step} edit {edit}")]
     Differs { step: usize, edit: usize },
-    /// There was no memory for the other text.
+    /// Memory for the other text ran out.
     #[error("out of memory")]
     Memory,
 }
@@ -45,27 +45,27 @@ pub trait Change {
     /// The change turns the first text into the second.
     ghost turns: { Self → List ℕ → List ℕ → Type 0 };
 
-    /// The new text of an old one, or why there is none.
+    /// The new text of an old one, or why there is none, as a function.
     ghost forward: { Self → List ℕ → Result (List ℕ) Refused };
 
-    /// The old text of a new one, or why there is none.
+    /// The old text of a new one, or why there is none, as a function.
     ghost backward: { Self → List ℕ → Result (List ℕ) Refused };
 
-    /// The new text of this old one.
+    /// Returns the new text of this old one.
     fn apply(&self, alloc: Global, text: &[u8]) -> Result<Vec<u8>, Refused>
         ensures { AgreesWith result (forward self.now text.now) };
 
-    /// The old text of this new one.
+    /// Returns the old text of this new one.
     fn undo(&self, alloc: Global, text: &[u8]) -> Result<Vec<u8>, Refused>
         ensures { AgreesWith result (backward self.now text.now) };
 
-    /// A text has a new one exactly where the change turns it into that.
+    /// A text has a new one if and only if the change turns it into that.
     ghost applies: { (c : Self) (t u : List ℕ) → (forward c t ≡ Ok u) ↔ turns c t u };
 
-    /// A text has an old one exactly where the change turns that into it.
+    /// A text has an old one if and only if the change turns that into it.
     ghost undoes: { (c : Self) (t u : List ℕ) → (backward c u ≡ Ok t) ↔ turns c t u };
 
-    /// Want of memory is no answer about texts, so a call may state it only where it met it.
+    /// The functions of texts never return Memory: only a call does, whose allocation failed.
     ghost never_memory: { (c : Self) (t : List ℕ)
         → (forward c t ≢ Err Memory) × (backward c t ≢ Err Memory) };
 }

@@ -1,6 +1,6 @@
-//! Which way texts go by edits.
+//! The direction of a pass over a text.
 
-/// From the old text to the new one, or back.
+/// Whether edits are applied or undone.
 #[derive(Clone, Copy)]
 pub enum Direction {
     Forward,

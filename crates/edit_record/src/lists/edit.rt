@@ -23,7 +23,8 @@ pub struct Edit {
 // A text full of issues has an edit for each, most of a few bytes.
 const _: () = prove!(size_of::<Edit>() == 24);
 
-/// The removed bytes followed by the added ones. The first `removed_end` bytes are the removed ones.
+/// The removed bytes followed by the added ones. The first `removed_end` bytes are the removed
+/// ones.
 #[derive(Drop)]
 enum Storage {
     Inline {
@@ -53,7 +54,7 @@ impl Model for Edit {
 }
 
 impl Edit {
-    /// The edit that removes `removed` at `at`, and adds `added` there.
+    /// Makes the edit that removes `removed` at `at`, and adds `added` there.
     pub fn new(alloc: Global, at: usize, removed: &[u8], added: &[u8]) -> Result<Self, AllocError>
         ensures edit { IfOk result
             (λ e. e ≡ record { at = at; removed = removed.now; added = added.now }) }
@@ -69,21 +70,21 @@ impl Edit {
         Ok(Edit { at, storage })
     }
 
-    /// Where the edit stands in the old text, in bytes from 0.
+    /// Returns the edit's offset in the old text, in bytes from 0.
     pub fn at(&self) -> usize
         ensures { result ≡ self.now.at }
     {
         self.at
     }
 
-    /// Puts the edit at another place. It takes no memory.
+    /// Moves the edit to another offset. It allocates nothing.
     pub fn set_at(&mut self, at: usize)
         ensures { self.new ≡ record { at = at; removed = self.old.removed; added = self.old.added } }
     {
         self.at = at;
     }
 
-    /// The bytes that go.
+    /// Returns the bytes that the edit removes.
     pub fn removed(&self) -> &[u8]
         ensures { result.now ≡ self.now.removed }
     {
@@ -97,7 +98,7 @@ impl Edit {
         }
     }
 
-    /// The bytes that come in their place.
+    /// Returns the bytes that the edit adds in their place.
     pub fn added(&self) -> &[u8]
         ensures { result.now ≡ self.now.added }
     {
@@ -112,7 +113,7 @@ impl Edit {
     }
 }
 
-/// Both texts in the edit itself.
+/// Stores both texts in the edit itself.
 fn store_inline(removed: &[u8], added: &[u8]) -> Storage
     requires { length removed.now + length added.now ≤ INLINE_CAPACITY }
     ensures removed { removed_of result ≡ removed.now }
@@ -131,7 +132,7 @@ fn store_inline(removed: &[u8], added: &[u8]) -> Storage
     }
 }
 
-/// Both texts in memory of their own.
+/// Stores both texts on the heap.
 fn store_on_heap(alloc: Global, removed: &[u8], added: &[u8]) -> Result<Storage, AllocError>
     ensures removed { IfOk result (λ storage. removed_of storage ≡ removed.now) }
     ensures added { IfOk result (λ storage. added_of storage ≡ added.now) }
@@ -164,10 +165,10 @@ pub enum BadEdits {
     /// The edit removes nothing and adds nothing.
     #[error("edit {0} removes nothing and adds nothing")]
     EmptyEdit(usize),
-    /// The edit begins before the one before it ends.
+    /// The edit begins before the previous one ends.
     #[error("edit {0} begins before the end of the one before")]
     OutOfOrder(usize),
-    /// The edit ends past the end of the text.
+    /// The edit ends after the end of the text.
     #[error("edit {0} ends past the end of the text")]
     PastEnd(usize),
     /// The old text or the new one is longer than a text can be.

@@ -9,7 +9,7 @@ use std::marker::Model;
 /// The most bytes of a text, old or new: 16 MiB.
 pub const MAX_TEXT: usize = 16_777_216;
 
-/// A list of edits of texts of one length, in order and apart. Edits may touch.
+/// A list of edits of texts of one length, in order and disjoint. Edits may touch.
 #[derive(Debug, Drop)]
 pub struct Edits {
     old_len: usize,
@@ -32,10 +32,13 @@ impl Edits {
     ghost use Rattle.edit_record.specs.Lists.Pieces.{as_list, removed_len, added_len};
     ghost use Rattle.edit_record.specs.Lists.Validity.{make_edits, AreValidEdits, new_len};
 
-    /// The edits as a list for texts of `old_len` bytes. A text has at most [`MAX_TEXT`] bytes.
+    /// Makes a list of the edits, for texts of `old_len` bytes. A text has at most [`MAX_TEXT`]
+    /// bytes.
     ///
-    /// Refused are, in this order: an old length over that; the first edit that is empty, begins
-    /// before the end of the one before, or ends past the text; and a new length over the limit.
+    /// # Errors
+    ///
+    /// In this order: an old length over the limit; the first edit that is empty, begins before the
+    /// end of the previous one, or ends after the end of the text; a new length over the limit.
     pub fn make(old_len: usize, edits: Vec<Edit>) -> Result<Self, BadEdits>
         ensures { result ≡ make_edits old_len edits.items }
     {
@@ -70,7 +73,7 @@ impl Edits {
         })
     }
 
-    /// The edits as a list, where it is known that they are one: nothing is tested again.
+    /// Makes a list of edits that are known to be valid: nothing is tested at run time.
     pub fn from_valid(old_len: usize, new_len: usize, edits: Vec<Edit>) -> Self
         requires { AreValidEdits old_len new_len edits.items }
         ensures { result ≡ as_list old_len edits.items }
@@ -82,15 +85,15 @@ impl Edits {
         }
     }
 
-    /// The length of the texts that these edits apply to.
+    /// Returns the length of the texts that these edits apply to.
     pub fn old_len(&self) -> usize
         ensures { result ≡ self.now.old_len }
     {
         self.old_len
     }
 
-    /// The length of the texts that they make: the old one, less what is removed, and what is
-    /// added.
+    /// Returns the length of the texts that they make: the old one, less the removed bytes, plus
+    /// the added ones.
     pub fn new_len(&self) -> usize
         ensures { result + removed_len self.now.entries
             ≡ self.now.old_len + added_len self.now.entries }
@@ -98,7 +101,7 @@ impl Edits {
         self.new_len
     }
 
-    /// The edits, in order.
+    /// Returns the edits, in order.
     pub fn edits(&self) -> &[Edit]
         ensures same { result.now ≡ self.now.entries }
         ensures disjoint { AreValidEdits self.now.old_len (new_len self.now) result.now }
@@ -106,7 +109,7 @@ impl Edits {
         self.edits.as_slice()
     }
 
-    /// The same, handed out.
+    /// Returns the edits, in order, by value.
     pub fn into_edits(self) -> Vec<Edit>
         ensures same { result.items ≡ self.entries }
         ensures disjoint { AreValidEdits self.old_len (new_len self) result.items }

@@ -5,7 +5,7 @@ use crate::lists::{Change, Record, Refused};
 use std::alloc::{AllocFailed, Global};
 use std::marker::Model;
 
-/// What commands did to a text, in order: the first record is the oldest.
+/// The records of the commands that changed a text, the oldest first.
 #[derive(Debug, Drop)]
 pub struct Journal {
     records: Vec<Record>,
@@ -21,7 +21,7 @@ impl Model for Journal {
 }
 
 impl Journal {
-    /// A journal with no records. It takes memory only once it grows.
+    /// Makes a journal with no records. It allocates only when a record is added.
     pub fn empty(alloc: Global) -> Self
         ensures { result ≡ [] }
     {
@@ -30,8 +30,11 @@ impl Journal {
         }
     }
 
-    /// Adds a record at the end. Where memory is wanting it hands the record back, and the journal
-    /// is as before.
+    /// Adds a record at the end.
+    ///
+    /// # Errors
+    ///
+    /// If memory runs out the error has the record, and the journal is as before.
     pub fn push(&mut self, last: Record) -> Result<(), AllocFailed<Record>>
         ensures ok { OnOk result (self.new ≡ self.old ++ last ∷ []) }
         ensures unchanged { OnErr result (self.new ≡ self.old) }
@@ -40,7 +43,7 @@ impl Journal {
         self.records.push(last)
     }
 
-    /// Takes the last record off, if there is one.
+    /// Removes the last record and returns it, if there is one.
     pub fn pop(&mut self) -> Option<Record>
         ensures rest { self.old ≡ self.new ++ option_to_list result }
         ensures none { IsNone result → self.old ≡ [] }
@@ -48,8 +51,8 @@ impl Journal {
         self.records.pop()
     }
 
-    /// Puts these in the place of the records from this number on, counted from 0. It takes no
-    /// memory, since there are as many of them at most.
+    /// Replaces the records from this number on, counted from 0. It allocates nothing, since there
+    /// are no more of the others than of those.
     pub fn replace_from(&mut self, from: usize, others: Vec<Record>)
         requires { from + length others.items ≤ length self.old }
         ensures { self.new ≡ take from self.old ++ others.items }
@@ -59,7 +62,7 @@ impl Journal {
         let _ = self.records.append(&mut others);
     }
 
-    /// The records, from the oldest on.
+    /// Returns the records, the oldest first.
     pub fn records(&self) -> &[Record]
         ensures { result.now ≡ self.now }
     {

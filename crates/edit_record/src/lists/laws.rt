@@ -1,5 +1,5 @@
-//! Laws of changes and of edits: functions that do nothing, for callers whose proofs want what
-//! their clauses say.
+//! Laws of changes and of edits. The functions do nothing: a call makes a law's clause available to
+//! the proof of its caller.
 ghost use Rattle.std.specs.Prelude.{◌≡◌, ◌≤◌, ◌↔◌, List, ℕ, Ok, length};
 ghost use Rattle.edit_record.specs.Lists.Pieces.{EditEntry, EditList, Piece, Transforms, old_text};
 ghost use Rattle.edit_record.specs.Lists.Validity.{MakeIsExact, LengthsMatch, ApplyIsDeterministic};
@@ -13,12 +13,12 @@ ghost use Rattle.edit_record.specs.declared.lists.direction.Direction.TheVariant
 
 use crate::lists::{Change, Edits};
 
-/// A text has a new one exactly where the change turns it into that.
+/// A text has a new one if and only if the change turns it into that.
 pub fn apply_is_exact<C: Change>(change: &C)
     ensures { (t u : List ℕ) → (C.forward change.now t ≡ Ok u) ↔ C.turns change.now t u }
 {}
 
-/// A text has an old one exactly where the change turns that into it.
+/// A text has an old one if and only if the change turns that into it.
 pub fn undo_is_exact<C: Change>(change: &C)
     ensures { (t u : List ℕ) → (C.backward change.now u ≡ Ok t) ↔ C.turns change.now t u }
 {}
@@ -43,8 +43,8 @@ pub fn change_result_is_unique()
     ensures { ChangeResultIsUnique }
 {}
 
-/// What a journal answers about a text, forward and back: the text on the other side, or else why
-/// the first record that refuses the text which it is given does so.
+/// What applying and undoing a journal returns: the text on the other side, or why the first record
+/// that refuses its input does so.
 pub fn journal_results_are_exact()
     ensures forward { (rs : List JournalEntry) (t : List ℕ)
         → IsJournalResult Forward rs t (journal_forward rs t) }
@@ -57,13 +57,13 @@ pub fn transformed_lengths_match()
     ensures { (e : EditList) (t u : List ℕ) → Transforms e t u → LengthsMatch e t u }
 {}
 
-/// Any edits turn a text into one at most.
+/// Edits turn a text into one text at most.
 pub fn apply_is_deterministic()
     ensures { ApplyIsDeterministic }
 {}
 
-/// `Edits::make` accepts exactly the edits that are placed one behind the other, not empty, and
-/// within the limit.
+/// `Edits::make` accepts edits if and only if they are in order, disjoint, not empty, and within
+/// the limit.
 pub fn make_is_exact()
     ensures { (old_len : ℕ) (es : List EditEntry) → MakeIsExact old_len es }
 {}

@@ -10,7 +10,7 @@ use crate::lists::direction::Direction;
 use crate::lists::{Edit, Refused};
 use std::alloc::Global;
 
-/// The bytes of an edit on the side that is read.
+/// Returns the bytes of an edit that the text must have.
 fn read_bytes(direction: Direction, edit: &Edit) -> &[u8]
     ensures { result.now ≡ read_bytes direction edit.now }
 {
@@ -20,7 +20,7 @@ fn read_bytes(direction: Direction, edit: &Edit) -> &[u8]
     }
 }
 
-/// The bytes of an edit on the side that is written.
+/// Returns the bytes of an edit that replace these.
 fn written_bytes(direction: Direction, edit: &Edit) -> &[u8]
     ensures { result.now ≡ written_bytes direction edit.now }
 {

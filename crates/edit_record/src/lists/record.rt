@@ -11,7 +11,7 @@ pub enum Word {
     Fix,
 }
 
-/// What one command did to the text. Its edits are its only step, which has the number 0.
+/// The change that one command made to a text. Its edits are its only step, number 0.
 #[derive(Debug, Drop)]
 pub struct Record {
     word: Word,
@@ -29,21 +29,21 @@ impl Model for Record {
 impl Record {
     ghost use Rattle.edit_record.specs.Lists.Journal.{JournalEntry};
 
-    /// The record of a command that made these edits.
+    /// Makes the record of a command that made these edits.
     pub fn make(word: Word, edits: Edits) -> Self
         ensures { result ≡ record { word = word; edits = edits } }
     {
         Record { word, edits }
     }
 
-    /// The command.
+    /// Returns the command.
     pub fn word(&self) -> Word
         ensures { result ≡ self.now.word }
     {
         self.word
     }
 
-    /// Its edits.
+    /// Returns the edits.
     pub fn edits(&self) -> &Edits
         ensures { result.now ≡ self.now.edits }
     {

@@ -55,7 +55,8 @@ pub(crate) fn apply_records(
     }
 }
 
-/// The same of records, from the last to the first.
+/// Undoes `records` from the last to the first, as [`undo_all`] does, but does not copy `text`
+/// first: if its length is not the one that the last record expects, nothing is allocated.
 pub(crate) fn undo_records(
     alloc: Global,
     records: &[Record],

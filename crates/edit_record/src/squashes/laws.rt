@@ -1,5 +1,5 @@
-//! Laws of squashing: functions that do nothing, for callers whose proofs want what their clauses
-//! say.
+//! Laws of squashing. The functions do nothing: a call makes a law's clause available to the proof
+//! of its caller.
 ghost use Rattle.std.specs.Prelude.{◌≡◌, List};
 ghost use Rattle.edit_record.specs.Lists.Pieces.{EditList};
 ghost use Rattle.edit_record.specs.Squashes.SquashLists.{SquashIsAssociative, SquashAllIsUnique};
@@ -14,26 +14,27 @@ pub fn squash_is_unique(first: &Edits, second: &Edits)
         → c ≡ d }
 {}
 
-/// What is held as edits is a list of edits.
+/// The value of an `Edits` is a valid list of edits.
 pub fn edits_are_valid(edits: &Edits)
     ensures { IsValidList edits.now }
 {
     let _ = edits.edits();
 }
 
-/// Two lists squash to one wherever some text goes by the first and then by the second.
+/// Two valid lists squash to a valid list if the first turns some text into one that the second
+/// turns.
 pub fn composable_lists_squash()
     ensures { ComposableListsSquash }
 {}
 
-/// Squashing three lists is the same whichever two come first: both groupings turn the same texts
-/// into each other, and if the one exists so does the other.
+/// Squashing is associative: both groupings of three lists turn the same texts into each other, and
+/// if the one exists so does the other.
 pub fn squash_is_associative(a: &Edits, b: &Edits, c: &Edits)
     ensures { SquashIsAssociative a.now b.now c.now }
 {}
 
-/// A list and any others that go on from it, squashed from the first on, become one list at most.
-/// It turns exactly the texts that go by all of them.
+/// A list and any others that follow it, squashed in order, become one list at most. It turns a
+/// text into another if and only if all of them in order do.
 pub fn squash_all_is_unique()
     ensures { (first : EditList) (others : List EditList) → SquashAllIsUnique first others }
 {}

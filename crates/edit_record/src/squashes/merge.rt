@@ -1,4 +1,4 @@
-//! Two lists of edits on the way to one: the state between two steps, and the steps.
+//! The merge of two lists of edits: the state between two steps, and the steps.
 ghost use Rattle.std.specs.Prelude.{◌≡◌, ◌↔◌, ◌+◌, ◌-◌, ◌^◌, ◌<◌, ◌≤◌, length, take, IfOk, OnOk, IsTrue};
 ghost use Rattle.edit_record.specs.Squashes.Inner.Merge.{finish_edit, skip_kept, with_first, with_second, common_len, cancel_common, reaches, gap, StartsFrom, IsReady, prepare_next, start_edit, joins_first, joins_second, first_is_next, take_next, IsReadyFor, initial};
 ghost use Rattle.edit_record.specs.Squashes.Inner.MergeState.{state};
@@ -40,14 +40,14 @@ impl<'a> Merge<'a> {
         }
     }
 
-    /// The edits that are done.
+    /// Returns the finished edits.
     pub(crate) fn into_edits(self) -> Vec<Edit>
         ensures { result.items ≡ self.entry.out.items }
     {
         self.out
     }
 
-    /// Takes the next edit, and answers what is left of both lists.
+    /// Takes the next edit, and returns the edits that are left of both lists.
     pub(crate) fn take_next(
         &mut self,
         xs: &'a [Edit],
@@ -78,7 +78,7 @@ impl<'a> Merge<'a> {
         }
     }
 
-    /// Ends the edit that is being made.
+    /// Finishes the edit that is being built.
     pub(crate) fn finish_edit(&mut self, alloc: Global) -> Result<(), AllocError>
         requires first_fits { self.old.first_end + length self.old.second_pending.now < 2 ^ 64 }
         requires second_fits { self.old.second_end + length self.old.first_pending.now < 2 ^ 64 }
@@ -102,7 +102,7 @@ impl<'a> Merge<'a> {
         Ok(())
     }
 
-    /// Passes bytes that both lists keep.
+    /// Skips bytes that both lists keep.
     fn skip_kept(&mut self, n: usize)
         requires at_fits { self.old.at + n < 2 ^ 64 }
         requires first_fits { self.old.first_end + n < 2 ^ 64 }
@@ -231,7 +231,7 @@ impl<'a> Merge<'a> {
     }
 }
 
-/// Whether the next edit begins within these bytes or right behind them.
+/// Returns whether the next edit begins within these bytes, or at their end.
 fn reaches(edits: &[Edit], from: usize, left: &[u8]) -> bool
     requires { StartsFrom from edits.now }
     ensures { result ≡ reaches edits.now from (length left.now) }
@@ -242,7 +242,7 @@ fn reaches(edits: &[Edit], from: usize, left: &[u8]) -> bool
     }
 }
 
-/// How many bytes stand before the next edit.
+/// Returns the number of bytes before the next edit.
 fn gap(from: usize, edits: &[Edit]) -> usize
     requires { StartsFrom from edits.now }
     ensures { result ≡ gap from edits.now }

@@ -9,7 +9,7 @@ use crate::squashes::merge::Merge;
 use std::alloc::{AllocError, Global};
 use thiserror::Error;
 
-/// Why two lists of edits do not become one.
+/// Why two lists of edits do not squash.
 #[derive(Clone, Copy, Debug, PartialEq, Eq, Error)]
 pub enum Unmet {
     /// The texts that the first list makes have another length than those that the second applies
@@ -20,7 +20,7 @@ pub enum Unmet {
     /// there. It is the lowest such edit.
     #[error("edit {edit} of the second list contradicts the first")]
     Contradicts { edit: usize },
-    /// There was no memory for the edits.
+    /// Memory for the edits ran out.
     #[error("out of memory")]
     Memory,
 }
@@ -33,15 +33,15 @@ impl From<AllocError> for Unmet {
     }
 }
 
-/// One list of edits that does what `first` and then `second` do.
+/// Returns one list of edits that does what `first` and then `second` do.
 ///
 /// Edits of the one list and of the other that overlap or touch in the text between become one
-/// edit; the others stay, with places in the first text. An edit that is left with nothing to
-/// remove and nothing to add is dropped, and one that puts back what it removes is kept, since it
-/// says what bytes stand there. The result is never too long.
+/// edit; the others stay, with offsets in the first text. An edit that removes nothing and adds
+/// nothing is dropped. One that adds the bytes that it removes is kept, since it says which bytes
+/// the text has there. The result is never too long.
 ///
-/// It takes one pass over both lists, and builds no text. Where neither has an edit it takes no
-/// memory.
+/// It takes one pass over both lists, and builds no text. If neither has an edit it allocates
+/// nothing.
 pub fn squash(alloc: Global, first: &Edits, second: &Edits) -> Result<Edits, Unmet>
     ensures { IsSquashResult first.now second.now result }
 {
@@ -52,7 +52,7 @@ pub fn squash(alloc: Global, first: &Edits, second: &Edits) -> Result<Edits, Unm
     Ok(Edits::from_valid(first.old_len(), second.new_len(), edits))
 }
 
-/// The edits in the place of both lists. Where these have none, no memory is taken.
+/// Merges the edits of both lists. If these have none, nothing is allocated.
 fn merge_lists(alloc: Global, first: &Edits, second: &Edits) -> Result<Vec<Edit>, Unmet>
     requires { new_len first.now ≡ second.now.old_len }
     ensures merges { IsMergeResult first.now second.now result }
@@ -65,7 +65,7 @@ fn merge_lists(alloc: Global, first: &Edits, second: &Edits) -> Result<Vec<Edit>
     merge_nonempty(alloc, first, second)
 }
 
-/// The edits in the place of both lists.
+/// Merges the edits of both lists.
 fn merge_nonempty<'a>(
     alloc: Global,
     first: &'a Edits,

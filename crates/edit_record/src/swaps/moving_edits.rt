@@ -1,4 +1,4 @@
-//! Edits on their way after records.
+//! Edits that are moved after many small records.
 ghost use Rattle.std.specs.Prelude.{◌≡◌, ℕ, true, false, length, IfOk};
 ghost use Rattle.std.specs.List.{AllByRecursion};
 ghost use Rattle.edit_record.specs.Lists.Validity.{new_len};
@@ -10,10 +10,10 @@ use crate::swaps::MoveFault;
 use crate::swaps::relative_ends::{EndOffset, Partition, end_of, partition_before, shift_from};
 use std::alloc::{AllocError, Global};
 
-/// Edits on their way after records.
+/// Edits that are moved after records.
 ///
-/// Where they end is kept apart from them, so that an edit of a record moves all that follow it in
-/// a few steps.
+/// The ends of the edits are stored apart from them, so that an edit of a record moves all edits
+/// that follow it in a few steps.
 #[derive(Drop)]
 pub(crate) struct MovingEdits {
     old_len: usize,
@@ -42,7 +42,7 @@ impl MovingEdits {
         })
     }
 
-    /// One record without the edits before it, which are after it then.
+    /// Moves the edits after one record, and returns the record without them before it.
     pub(crate) fn move_past(
         &mut self,
         alloc: Global,
@@ -99,7 +99,7 @@ impl MovingEdits {
         false
     }
 
-    /// The edits of a list where they are before these edits, which come after them.
+    /// Moves these edits after those of a list, and returns the list's edits in their new places.
     fn move_past_each(&mut self, alloc: Global, second: &Edits) -> Result<Vec<Edit>, AllocError>
         requires well_formed { IsWellFormed self.old }
         requires lengths_match { new_len (edits_now self.old) ≡ second.now.old_len }
@@ -132,7 +132,7 @@ impl MovingEdits {
         Ok(seconds)
     }
 
-    /// The edits where they are now.
+    /// Returns the edits in their present places.
     pub(crate) fn into_edits(self) -> Edits
         requires { IsWellFormed self }
         ensures { result ≡ edits_now self }
@@ -148,7 +148,7 @@ impl MovingEdits {
     }
 }
 
-/// Where the edits of a list end.
+/// Returns the ends of the edits of a list.
 fn ends(alloc: Global, edits: &Edits) -> Result<Vec<EndOffset>, AllocError>
     ensures ends { IfOk result (λ v. ends_of v.items ≡ ends_at 0 0 edits.now.entries) }
     ensures len { IfOk result (λ v. length v.items ≡ length edits.now.entries) }
@@ -167,7 +167,7 @@ fn ends(alloc: Global, edits: &Edits) -> Result<Vec<EndOffset>, AllocError>
     Ok(ends)
 }
 
-/// Puts each edit where it ends.
+/// Sets the place of each edit by its end.
 fn set_places(edits: &mut [Edit], ends: &[EndOffset])
     requires len { length ends.now ≡ length edits.old }
     requires small { AllByRecursion IsSmall (ends_of ends.now) }

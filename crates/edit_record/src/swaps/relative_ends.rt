@@ -1,4 +1,4 @@
-//! Where the edits of a list end, kept so that all from one on move in a few steps.
+//! The ends of the edits of a list, in a form in which all from one on move in a few steps.
 //!
 //! The middle edit of a run of edits is written by how far it ends after the run's start, that is
 //! after the end of the last edit before the run; the edits before and after it are two runs in
@@ -38,7 +38,7 @@ pub(crate) struct Partition {
     pub(crate) next: Option<usize>,
 }
 
-/// The edits that end before this place of the text that they make.
+/// Returns the edits that end before this place of the text that they make.
 pub(crate) fn partition_before(run: &[EndOffset], at: usize) -> Partition
     requires { AllByRecursion IsSmall (ends_of run.now) }
     ensures { IsPartition at (ends_of run.now) result.count result.last result.next }
@@ -66,7 +66,7 @@ pub(crate) fn partition_before(run: &[EndOffset], at: usize) -> Partition
     }
 }
 
-/// Where the edit of this number ends.
+/// Returns the end of the edit of this number.
 pub(crate) fn end_of(run: &[EndOffset], number: usize) -> EndOffset
     requires in_range { number < length run.now }
     requires small { AllByRecursion IsSmall (ends_of run.now) }
@@ -96,7 +96,8 @@ pub(crate) fn end_of(run: &[EndOffset], number: usize) -> EndOffset
     }
 }
 
-/// The edits from this one on end so much later, and so many bytes earlier in both texts.
+/// Moves the ends of the edits from this one on: `later` bytes later, and `earlier` bytes earlier
+/// in both texts.
 pub(crate) fn shift_from(run: &mut [EndOffset], from: usize, later: EndOffset, earlier: usize)
     requires small { AllByRecursion IsSmall (ends_of run.old) }
     requires later { IsSmall later }

@@ -1,4 +1,4 @@
-//! Taking one record's edits out of a row of records.
+//! Moving one record's edits to the end of the records that follow it.
 ghost use Rattle.std.specs.Prelude.{◌≡◌, ◌<◌, ◌≤◌, length};
 ghost use Rattle.edit_record.specs.Swaps.Inner.MovePastResult.{IsMovePastResult};
 ghost use Rattle.edit_record.specs.Swaps.MoveToEndResult.{IsMoveToEndResult, moved_or};
@@ -10,7 +10,7 @@ use crate::swaps::{SwapFault, swap};
 use std::alloc::{AllocError, AllocFailed, Global};
 use thiserror::Error;
 
-/// Why edits cannot be moved past the records that follow them.
+/// Why edits cannot be moved after the records that follow them.
 #[derive(Clone, Copy, Debug, PartialEq, Eq, Error)]
 pub enum MoveFault {
     /// A record applies to texts of another length than the one before it makes.
@@ -22,7 +22,7 @@ pub enum MoveFault {
     /// A text without the edits is too long.
     #[error("the text is too long")]
     TooLong,
-    /// There was no memory for the records.
+    /// Memory for the records ran out.
     #[error("out of memory")]
     Memory,
 }
@@ -43,21 +43,20 @@ impl<T: Drop> From<AllocFailed<T>> for MoveFault {
     }
 }
 
-/// Returns the records that follow `first`, as they are without it, and what it has become after
-/// them all (`None`: itself, since none follows).
+/// Returns the records that follow `first`, as they are without it, and the edits of `first` as
+/// they are after them all (`None`: unchanged, since no record follows).
 ///
-/// The edits change places with those of each record in turn, and each record keeps its command.
-/// Undoing what `first` has become on the last text gives the text without it. Nothing that was
-/// lent is changed.
+/// The edits are swapped with those of each record in turn, and each record keeps its command.
+/// Undoing the moved edits on the last text gives the text without `first`.
 ///
-/// The edits of `first` and those of the first record are gone over once, and so for each record
-/// after it that is as large; after these each edit of a record takes a search among the edits of
-/// `first`, by halves.
+/// There is one pass over the edits of `first` for the first record, and for each record after it
+/// that is as large; after these each edit of a record takes a binary search among the edits of
+/// `first`.
 ///
 /// # Errors
 ///
-/// Of the first record that refuses, counted from 0. Memory is asked for a record once nothing
-/// else stands against it.
+/// Of the first record that refuses, counted from 0. Nothing is allocated for a record that
+/// refuses.
 pub fn move_to_end(
     alloc: Global,
     first: &Edits,
@@ -89,8 +88,8 @@ pub fn move_to_end(
     Ok((reordered, Some(moving.into_edits())))
 }
 
-/// How many records come before one with fewer edits than a tenth of those that are taken out: it
-/// is faster to go over both lists for these than to search. The first record is one of them.
+/// Returns the number of records before one with fewer edits than a tenth of those that are moved:
+/// for these a pass over both lists is faster than a search. The first record is one of them.
 fn leading(first: &Edits, records: &[Record]) -> usize
     requires { 0 < length records.now }
     ensures some { 0 < result }
@@ -105,7 +104,7 @@ fn leading(first: &Edits, records: &[Record]) -> usize
     records.len()
 }
 
-/// One record without the edits before it, and the edits after it.
+/// Swaps the edits and a record: returns the record without them before it, and the edits after it.
 fn move_past(
     alloc: Global,
     edits: &Edits,

@@ -11,7 +11,7 @@ use crate::swaps::swap_state::SwapState;
 use std::alloc::{AllocError, AllocFailed, Global};
 use thiserror::Error;
 
-/// Why two lists of edits do not change places.
+/// Why two lists of edits cannot be swapped.
 #[derive(Clone, Copy, Debug, PartialEq, Eq, Error)]
 pub enum SwapFault {
     /// The texts that the first list makes have another length than those that the second applies
@@ -25,7 +25,7 @@ pub enum SwapFault {
     /// The text between, in the other order, is too long.
     #[error("the text between is too long")]
     TooLong,
-    /// There was no memory for the edits.
+    /// Memory for the edits ran out.
     #[error("out of memory")]
     Memory,
 }
@@ -46,17 +46,20 @@ impl<T: Drop> From<AllocFailed<T>> for SwapFault {
     }
 }
 
-/// The two lists in the other order: what `second` does, for the texts that `first` applies to, and
-/// then what `first` does.
+/// Returns the two lists in the other order: what `second` does, for the texts that `first` applies
+/// to, and then what `first` does.
 ///
-/// Each edit removes and adds the same bytes as before; its place (bytes from 0) goes by what the
-/// edits of the other list before it remove and add. Where an edit of the one list overlaps or
-/// touches one of the other in the text between, the lists do not change places, and `Meets` names
-/// the two, each counted from 0 in its list. `TooLong` means that the text between would have more
-/// than [`MAX_TEXT`] bytes in the other order.
+/// Each edit removes and adds the same bytes as before; its place (bytes from 0) is moved by the
+/// bytes that the edits of the other list before it remove and add.
 ///
-/// It takes one pass over both lists, and where they change places another, which alone takes
-/// memory. It builds no text.
+/// It takes one pass over both lists, and, if they can be swapped, another, which alone allocates.
+/// It builds no text.
+///
+/// # Errors
+///
+/// If an edit of the one list overlaps or touches one of the other in the text between, `Meets`
+/// names the two, each numbered from 0 in its list. `TooLong` means that the text between would
+/// have more than [`MAX_TEXT`] bytes in the other order.
 pub fn swap(alloc: Global, first: &Edits, second: &Edits) -> Result<(Edits, Edits), SwapFault>
     ensures { IsSwapResult first.now second.now result }
 {
@@ -75,8 +78,8 @@ pub fn swap(alloc: Global, first: &Edits, second: &Edits) -> Result<(Edits, Edit
     Ok(swap_disjoint(alloc, first, second)?)
 }
 
-/// The lowest edits that meet, if any do: by their number in the second list, and then in the
-/// first. It takes no memory.
+/// Returns the lowest edits that meet, if any do: by their number in the second list, and then in
+/// the first. It allocates nothing.
 fn first_meeting(alloc: Global, first: &Edits, second: &Edits) -> Option<(usize, usize)>
     requires { new_len first.now ≡ second.now.old_len }
     ensures meet { IfSome result (λ m. FirstMeeting first.now second.now m.0 m.1) }
@@ -99,7 +102,7 @@ fn first_meeting(alloc: Global, first: &Edits, second: &Edits) -> Option<(usize,
     None
 }
 
-/// Whether the text between is too long in the other order.
+/// Returns whether the text between is too long in the other order.
 fn exceeds_limit(first: &Edits, second: &Edits) -> bool
     ensures { IsTrue result ↔ ExceedsLimit first.now second.now }
 {
@@ -108,7 +111,7 @@ fn exceeds_limit(first: &Edits, second: &Edits) -> bool
     first.old_len() + second.new_len() > MAX_TEXT + second.old_len()
 }
 
-/// The two lists in the other order, where they change places.
+/// Returns two lists that can be swapped in the other order.
 fn swap_disjoint(alloc: Global, first: &Edits, second: &Edits) -> Result<(Edits, Edits), AllocError>
     requires lengths_match { new_len first.now ≡ second.now.old_len }
     requires apart { NoneMeet first.now second.now }
@@ -124,7 +127,7 @@ fn swap_disjoint(alloc: Global, first: &Edits, second: &Edits) -> Result<(Edits,
     Ok((before, after))
 }
 
-/// Both lists in the other order, edit by edit.
+/// Swaps both lists, edit by edit.
 fn swap_edits<'a>(
     alloc: Global,
     first: &'a Edits,

@@ -1,4 +1,4 @@
-//! Two lists of edits on the way to the other order: the state between two steps, and the steps.
+//! Swapping two lists of edits: the state between two steps, and the steps.
 ghost use Rattle.std.specs.Prelude.{◌≡◌, ◌↔◌, ◌+◌, ◌-◌, ◌^◌, ◌<◌, ◌≤◌, length, IfOk, IsTrue};
 ghost use Rattle.edit_record.specs.Swaps.Inner.SwapState.{relocate, first_is_next, second_is_next, take_first, take_second, skip_first, skip_second, HoldsInvariant, initial};
 ghost use Rattle.edit_record.specs.Swaps.Inner.SwapStateView.{state};
@@ -6,7 +6,7 @@ ghost use Rattle.edit_record.specs.Swaps.Inner.SwapStateView.{state};
 use crate::lists::Edit;
 use std::alloc::{AllocError, Global};
 
-/// Two lists of edits on the way to the other order.
+/// The state between two steps: the edits that are done, and the offsets after them.
 #[derive(Drop)]
 pub(crate) struct SwapState {
     old_at: usize,
@@ -16,7 +16,7 @@ pub(crate) struct SwapState {
     firsts: Vec<Edit>,
 }
 
-/// The edit behind another place.
+/// Returns the edit as far after `to` as it was after `from`.
 fn relocate(alloc: Global, edit: &Edit, from: usize, to: usize) -> Result<Edit, AllocError>
     requires later { from ≤ edit.now.at }
     requires fits { to + (edit.now.at - from) < 2 ^ 64 }
@@ -39,7 +39,8 @@ impl SwapState {
         }
     }
 
-    /// The next edit of the first list ends before the next one of the second begins.
+    /// Returns whether the next edit of the first list ends before the next one of the second
+    /// begins.
     pub(crate) fn first_is_next(&self, xs: &[Edit], ys: &[Edit]) -> bool
         requires { HoldsInvariant (state self.now) xs.now ys.now }
         ensures { result ≡ first_is_next (state self.now) xs.now ys.now }
@@ -53,7 +54,8 @@ impl SwapState {
         }
     }
 
-    /// The next edit of the second list ends before the next one of the first begins.
+    /// Returns whether the next edit of the second list ends before the next one of the first
+    /// begins.
     pub(crate) fn second_is_next(&self, xs: &[Edit], ys: &[Edit]) -> bool
         requires { HoldsInvariant (state self.now) xs.now ys.now }
         ensures { result ≡ second_is_next (state self.now) xs.now ys.now }
@@ -67,7 +69,7 @@ impl SwapState {
         }
     }
 
-    /// Takes the next edit of the first list, and answers what is left of it.
+    /// Takes the next edit of the first list, and returns the edits after it.
     pub(crate) fn take_first<'a>(
         &mut self,
         alloc: Global,
@@ -89,7 +91,7 @@ impl SwapState {
         }
     }
 
-    /// Takes the next edit of the second list, and answers what is left of it.
+    /// Takes the next edit of the second list, and returns the edits after it.
     pub(crate) fn take_second<'a>(
         &mut self,
         alloc: Global,
@@ -111,8 +113,7 @@ impl SwapState {
         }
     }
 
-    /// Passes the next edit of the first list, of which nothing is kept, and answers what is left
-    /// of it.
+    /// Skips the next edit of the first list without storing it, and returns the edits after it.
     pub(crate) fn skip_first<'a>(&mut self, xs: &'a [Edit], ys: &[Edit]) -> &'a [Edit]
         requires { HoldsInvariant (state self.old) xs.now ys.now }
         ensures { (state self.new, result.now)
@@ -148,7 +149,7 @@ impl SwapState {
         }
     }
 
-    /// The length of the text between in the other order, once both lists are done.
+    /// Returns the length of the text between in the other order, once both lists are done.
     pub(crate) fn swapped_len(&self, old_len: usize) -> usize
         requires within { self.now.old_at ≤ old_len }
         requires small { old_len + self.now.other_at < 2 ^ 64 }
@@ -157,7 +158,7 @@ impl SwapState {
         old_len - self.old_at + self.other_at
     }
 
-    /// The edits in the other order: those of the second list, and those of the first.
+    /// Returns the edits in the other order: those of the second list, and those of the first.
     pub(crate) fn into_edits(self) -> (Vec<Edit>, Vec<Edit>)
         ensures seconds { result.0.items ≡ self.seconds.items }
         ensures firsts { result.1.items ≡ self.firsts.items }

@@ -139,10 +139,10 @@ matches_at_true from at bytes t e =
           ∙ ap (λ (x : List ℕ). take (at - from) t ++ x) (prefix_is bytes (drop (at - from) t) same);
     }
 
-prepend_ok : (front u : List ℕ) (r : Result (List ℕ) Refused) → prepend front r ≡ Ok u
-    → (x : List ℕ) × (r ≡ Ok x) × (u ≡ front ++ x)
-prepend_ok front u (Ok x) e = (x, refl, cc)
-prepend_ok front u (Err d) e = absurd cc
+prepend_ok : (bytes u : List ℕ) (r : Result (List ℕ) Refused) → prepend bytes r ≡ Ok u
+    → (x : List ℕ) × (r ≡ Ok x) × (u ≡ bytes ++ x)
+prepend_ok bytes u (Ok x) e = (x, refl, cc)
+prepend_ok bytes u (Err d) e = absurd cc
 
 pub walks_from_walk : (direction : Direction) (i from : ℕ) (es : List EditEntry) (t u : List ℕ)
     → walk direction i from es t ≡ Ok u → Walks direction from es SameRest t u
@@ -206,12 +206,12 @@ walk_from_walks direction i from (d ∷ es) t u g =
     (ap (λ (x : List ℕ). Ok x)
     (append_assoc g.kept (written_bytes direction d) g.u_rest ∙ sym g.u_is))
 
--- ---- want of memory is no answer of the walk
+-- ---- the walk never returns Memory
 
-pub prepend_err : (front : List ℕ) (f : Refused) (r : Result (List ℕ) Refused)
-    → prepend front r ≡ Err f → r ≡ Err f
-prepend_err front f (Ok x) e = absurd cc
-prepend_err front f (Err d) e = e
+pub prepend_err : (bytes : List ℕ) (f : Refused) (r : Result (List ℕ) Refused)
+    → prepend bytes r ≡ Err f → r ≡ Err f
+prepend_err bytes f (Ok x) e = absurd cc
+prepend_err bytes f (Err d) e = e
 
 pub walk_never_memory : (direction : Direction) (i from : ℕ) (es : List EditEntry) (t : List ℕ)
     → walk direction i from es t ≢ Err Memory

@@ -1,4 +1,4 @@
--- Edits as a relation of texts, one edit after another: Turning.antt shows that it is the one by
+-- Edits as a relation of texts, one edit after another. WalkExact shows that it is the relation by
 -- pieces.
 use Rattle.std.specs.Prelude.{◌≡◌, ℕ, ◌+◌, List, [], ◌∷◌, ◌++◌, length}
 use Rattle.edit_record.specs.Lists.Pieces.{EditEntry}
@@ -24,6 +24,6 @@ Walks direction from [] K t u = K from t u
 Walks direction from (e ∷ es) K t u =
     EditStep direction from e (Walks direction (e.at + length e.removed) es K) t u
 
--- behind the edits the texts are one
+-- after the edits the texts are the same
 abbrev pub SameRest : ℕ → List ℕ → List ℕ → Type 0
 SameRest from t u = t ≡ u

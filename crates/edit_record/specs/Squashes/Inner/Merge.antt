@@ -1,5 +1,5 @@
--- How the merge goes: the state between two steps, and each step as a function. What it comes to is
--- said in Squash.antt and Shape.antt, which know nothing of this.
+-- The merge: the state between two steps, and each step as a function. Its result is defined in
+-- Squash and Groups, which do not depend on this.
 use Rattle.std.specs.Prelude.{◌≡◌, ℕ, ◌+◌, ◌-◌, ◌≤◌, List, [], ◌∷◌, ◌++◌, length, take, drop, min, ⊤, Bool, true, false, nat_le, ◌==◌, ◌&&◌, if◌then◌else◌}
 use Rattle.edit_record.specs.Lists.Pieces.{EditEntry, removed_len, added_len}
 use Rattle.edit_record.specs.declared.lists.edits.TheConstants.{MAX_TEXT}
@@ -17,14 +17,14 @@ pub record State : Type 0 where
   -- removed and the first has not reached
   pub first_pending : List ℕ
   pub second_pending : List ℕ
-  -- the places behind these, in the old text of the first list and in that of the second
+  -- the offsets after these, in the old text of the first list and in that of the second
   pub first_end : ℕ
   pub second_end : ℕ
   -- which lists have a part in the edit that is being made
   pub has_first : Bool
   pub has_second : Bool
 
--- a nonempty edit goes to the end of the list
+-- the edits with one more, if it is not empty
 abbrev pub push_nonempty : List EditEntry → EditEntry → List EditEntry
 push_nonempty out e = if (length e.removed == 0) && (length e.added == 0) then out else out ++ e ∷ []
 
@@ -51,8 +51,7 @@ finish_edit s = record {
 abbrev pub skip_kept : ℕ → State → State
 skip_kept n s = record s { at = s.at + n; first_end = s.first_end + n; second_end = s.second_end + n }
 
--- the next edit of the first list comes in, behind bytes that the second removed and the first
--- keeps
+-- with the next edit of the first list, after bytes that the second removed and the first keeps
 abbrev pub with_first : EditEntry → State → State
 with_first e s = record s {
   removed = s.removed ++ take (e.at - s.first_end) s.second_pending ++ e.removed;
@@ -62,7 +61,7 @@ with_first e s = record s {
   has_first = true;
 }
 
--- the next edit of the second list comes in, behind bytes that the first added and the second keeps
+-- with the next edit of the second list, after bytes that the first added and the second keeps
 abbrev pub with_second : EditEntry → State → State
 with_second e s = record s {
   added = s.added ++ take (e.at - s.second_end) s.first_pending ++ e.added;
@@ -72,18 +71,18 @@ with_second e s = record s {
   has_second = true;
 }
 
--- how many bytes meet
+-- how many bytes the first list added and the second removed
 abbrev pub common_len : State → ℕ
 common_len s = min (length s.first_pending) (length s.second_pending)
 
--- they are passed
+-- without these bytes
 abbrev pub cancel_common : State → State
 cancel_common s = record s {
   first_pending = drop (common_len s) s.first_pending;
   second_pending = drop (common_len s) s.second_pending;
 }
 
--- the next edit begins within n bytes or right behind them
+-- the next edit begins within n bytes, or at their end
 abbrev pub reaches : List EditEntry → ℕ → ℕ → Bool
 reaches [] from n = false
 reaches (e ∷ es) from n = nat_le (e.at - from) n
@@ -103,12 +102,12 @@ first_is_next s [] ys = false
 first_is_next s (x ∷ xs) [] = true
 first_is_next s (x ∷ xs) (y ∷ ys) = nat_le (x.at - s.first_end) (y.at - s.second_end)
 
--- how many bytes stand before the next edit
+-- how many bytes are before the next edit
 abbrev pub gap : ℕ → List EditEntry → ℕ
 gap from [] = 0
 gap from (e ∷ es) = e.at - from
 
--- where no edit joins, the one that is made ends, and another begins at the next edit
+-- if no edit joins, the one that is made ends, and another begins at the next edit
 abbrev pub start_edit : State → List EditEntry → List EditEntry → Bool × State
 start_edit s xs ys = if first_is_next s xs ys then (true, skip_kept (gap s.first_end xs) s)
     else (false, skip_kept (gap s.second_end ys) s)
@@ -156,7 +155,7 @@ abbrev pub CanTake : Bool → State → List EditEntry → List EditEntry → Ty
 CanTake true s xs ys = CanTakeFirst s xs
 CanTake false s xs ys = CanTakeSecond s xs ys
 
--- one edit is taken, and this is left
+-- the state with the next edit, and the edits that are left
 abbrev pub take_next : Bool → State → List EditEntry → List EditEntry → State × List EditEntry × List EditEntry
 take_next true s [] ys = (s, [], ys)
 take_next true s (e ∷ xs) ys = (with_first e s, xs, ys)

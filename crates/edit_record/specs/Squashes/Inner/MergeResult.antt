@@ -1,4 +1,4 @@
--- What the merge of two lists answers.
+-- What the merge of two lists returns.
 use Rattle.std.specs.Prelude.{Result, Ok, Err, ⊤}
 use Rattle.std.specs.Global.{Vec}
 use Rattle.edit_record.specs.Lists.Pieces.{EditEntry, EditList, as_list}
@@ -7,7 +7,7 @@ use Rattle.edit_record.specs.Squashes.Squash.{IsSquash, IsContradiction}
 use Rattle.edit_record.specs.declared.squashes.squash_lists.Unmet.{Unmet}
 use Rattle.edit_record.specs.declared.squashes.squash_lists.Unmet.TheVariants.{LengthsDiffer, Contradicts, Memory}
 
--- where the lengths follow it answers what squash does, and that the edits are a list of edits
+-- if the lengths match it returns what `squash` does, and the edits are valid
 abbrev pub IsMergeResult : EditList → EditList → Result (Vec EditEntry) Unmet → Type 0
 IsMergeResult a b (Ok c) =
     AreValidEdits a.old_len (new_len b) c.items

@@ -1,4 +1,4 @@
--- The state in the code.
+-- The code's state, as the steps on lists have it.
 use Rattle.edit_record.specs.declared.squashes.merge.Merge.{Merge}
 use Rattle.edit_record.specs.Squashes.Inner.Merge.{State}
 

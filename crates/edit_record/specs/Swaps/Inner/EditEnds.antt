@@ -10,7 +10,7 @@ with_ends (x ∷ xs) [] = []
 with_ends (x ∷ xs) (e ∷ es) =
     record { at = e.old - length x.removed; removed = x.removed; added = x.added } ∷ with_ends xs es
 
--- where edits end, after others that add and remove so many bytes
+-- where edits end, after others that add `added` bytes and remove `removed`
 abbrev pub ends_at : ℕ → ℕ → List EditEntry → List EndOffset
 ends_at added removed [] = []
 ends_at added removed (x ∷ xs) =

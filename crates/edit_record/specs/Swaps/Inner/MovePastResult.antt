@@ -1,4 +1,4 @@
--- One record of a row, taken past the edits before it.
+-- What moving edits after one record returns.
 use Rattle.std.specs.Prelude.{◌≡◌, ℕ, Result, Ok, Err}
 use Rattle.edit_record.specs.declared.lists.record.Record.{Record}
 use Rattle.edit_record.specs.declared.lists.edits.Edits.{Edits}

@@ -1,4 +1,4 @@
--- Edits whose places are kept apart from them.
+-- Edits whose places are stored apart from them.
 use Rattle.std.specs.Prelude.{◌≡◌, ℕ, List, length, Result, Ok, Err}
 use Rattle.edit_record.specs.declared.lists.record.Record.{Record}
 use Rattle.edit_record.specs.Lists.Journal.{JournalEntry}
@@ -22,7 +22,7 @@ pub record IsWellFormed (m : MovingEdits) : Type 0 where
   pub ends : ends_of m.ends.items ≡ ends_at 0 0 (with_ends m.edits.items (ends_of m.ends.items))
   pub len : length m.ends.items ≡ length m.edits.items
 
--- all edits of b have gone before those of a
+-- the edits of b are before those of a
 pub record HasMovedPast (a b : EditList) (us : List EditEntry) (m n : MovingEdits) : Type 0 where
   pub place : State
   pub exchange : IsSwapDone a b place
@@ -33,7 +33,7 @@ pub record HasMovedPast (a b : EditList) (us : List EditEntry) (m n : MovingEdit
   pub old_len : n.old_len ≡ m.old_len
   pub new_len : n.new_len ≡ m.new_len
 
--- what one record answers
+-- what moving edits after one record returns
 abbrev pub MovesPastRecord : EditList → JournalEntry → ℕ → MovingEdits → Result Record MoveFault → Type 0
 MovesPastRecord a r k n (Ok before) = SwapTo a r.edits before.edits (edits_now n) × (before.word ≡ r.word) × IsWellFormed n
 MovesPastRecord a r k n (Err (Length expected found)) = LengthMismatch a r.edits expected found

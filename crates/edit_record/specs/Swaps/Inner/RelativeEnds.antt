@@ -38,7 +38,8 @@ abbrev pub NextEndsAt : ℕ → List EndOffset → Option ℕ → Type 0
 NextEndsAt at [] next = next ≡ None
 NextEndsAt at (e ∷ es) next = (next ≡ Some e.new) × (at ≤ e.new)
 
--- so many edits come first, of which the last ends before the place, and the next one does not
+-- the edits that end before the place: how many they are, where the last one ends, and the next
+-- edit
 pub record IsPartition (at : ℕ) (es : List EndOffset) (count : ℕ) (last : EndOffset)
     (next : Option ℕ) : Type 0 where
   pub front : List EndOffset
@@ -55,7 +56,7 @@ pub record IsEndOf (es : List EndOffset) (number : ℕ) (end : EndOffset) : Type
   pub cut : es ≡ front ++ end ∷ back
   pub number_is : number ≡ length front
 
--- so much later, and so many bytes earlier
+-- `later` bytes later, and `earlier` bytes earlier
 abbrev pub shifted : EndOffset → ℕ → EndOffset → EndOffset
 shifted later earlier e =
     record { old = (e.old + later.old) - earlier; new = (e.new + later.new) - earlier }
@@ -63,12 +64,12 @@ shifted later earlier e =
 abbrev pub shifted_from : ℕ → EndOffset → ℕ → List EndOffset → List EndOffset
 shifted_from from later earlier es = take from es ++ map (shifted later earlier) (drop from es)
 
--- it is at least so many bytes after the other
+-- e is at least d bytes after f
 abbrev pub EndsAfterBy : ℕ → EndOffset → EndOffset → Type 0
 EndsAfterBy d f e = (f.old + d ≤ e.old) × (f.new + d ≤ e.new)
 
--- the edits from this one on end at least so many bytes after the start, and after all edits
--- before this one
+-- the edits from this one on end at least d bytes after the start, and after all edits before this
+-- one
 pub record CanShift (d from : ℕ) (es : List EndOffset) : Type 0 where
   pub start : AllByRecursion (EndsAfterBy d no_offset) (drop from es)
   pub after_others : AllByRecursion (λ f. AllByRecursion (EndsAfterBy d f) (drop from es)) (take from es)

@@ -1,23 +1,23 @@
--- Two lists of edits on the way to the other order: what is done, and how each step changes it.
+-- Swapping two lists of edits: the state between two steps, and each step as a function.
 use Rattle.std.specs.Prelude.{◌≡◌, ◌↔◌, ℕ, ◌+◌, ◌-◌, ◌^◌, ◌≤◌, ◌<◌, List, [], ◌∷◌, ◌++◌, length, Bool, true, false, nat_lt}
 use Rattle.edit_record.specs.Lists.Pieces.{EditEntry, EditList, Transforms, as_list, removed_len, added_len}
 use Rattle.edit_record.specs.Lists.Validity.{AreDisjoint, AreValidEdits, new_len}
 use Rattle.edit_record.specs.Swaps.Swap.{NoneMeet, AreRelocated}
 use Rattle.edit_record.specs.Squashes.Groups.{added_spans, removed_spans}
 
--- the next edit begins behind from
+-- the next edit begins after `from`
 abbrev pub StartsFrom : ℕ → List EditEntry → Type 0
 StartsFrom from [] = Unit {0}
 StartsFrom from (e ∷ es) = from < e.at
 
--- the edit as it is behind to, with as many bytes between
+-- the edit, as far after `to` as it was after `from`
 abbrev pub relocate : ℕ → EditEntry → ℕ → EditEntry
 relocate from e to = record { at = to + (e.at - from); removed = e.removed; added = e.added }
 
--- xs and ys are left of a list and of one that goes on from it, us and vs of the two in the other
--- order; these are the places behind what is done, in the old text, in the text between, and in the
--- text between of the other order. The moves say of which list the next edit is: it ends before the
--- next one of the other list begins.
+-- xs and ys are the edits that are left of a list and of one that follows it, us and vs those of
+-- the two in the other order. The offsets are those after the edits that are done: in the old text,
+-- in the text between, and in the text between of the other order. The moves say of which list the
+-- next edit is: it ends before the next one of the other list begins.
 abbrev pub IsSwapTrace : List Bool → ℕ → ℕ → ℕ → List EditEntry → List EditEntry → List EditEntry → List EditEntry
     → Type 0
 IsSwapTrace [] old mid other [] [] [] [] = Unit {0}
@@ -31,7 +31,7 @@ IsSwapTrace (false ∷ ms) old mid other xs (y ∷ ys) (u ∷ us) vs =
     (other + (y.at - mid) + length y.added) xs ys us vs
 IsSwapTrace _ old mid other _ _ _ _ = ⊥
 
--- what is done, and the places behind it
+-- the edits that are done, and the offsets after them
 pub record State : Type 0 where
   pub old : ℕ
   pub mid : ℕ
@@ -39,8 +39,7 @@ pub record State : Type 0 where
   pub us : List EditEntry
   pub vs : List EditEntry
 
--- the next edit of the first list ends before the next one of the second begins, and the other way
--- round
+-- whether the next edit of the one list ends before the next edit of the other begins
 abbrev pub first_is_next : State → List EditEntry → List EditEntry → Bool
 first_is_next s [] ys = false
 first_is_next s (x ∷ xs) [] = true
@@ -77,11 +76,11 @@ abbrev pub take_second : State → List EditEntry → List EditEntry → State �
 take_second s xs [] = (s, [])
 take_second s xs (y ∷ ys) = (with_second y s, ys)
 
--- a place with other edits done
+-- the state with other edits done
 abbrev pub with_edits : List EditEntry → List EditEntry → State → State
 with_edits us vs s = record { old = s.old; mid = s.mid; other = s.other; us = us; vs = vs }
 
--- the places behind the next edit of either list, of which nothing is kept
+-- the offsets after the next edit of either list, which is not stored
 abbrev pub skip_first : State → List EditEntry → State × List EditEntry
 skip_first s [] = (s, [])
 skip_first s (x ∷ xs) = (with_edits s.us s.vs (with_first x s), xs)

@@ -1,4 +1,4 @@
--- The place in the code.
+-- The code's state, as the steps on lists have it.
 use Rattle.edit_record.specs.declared.swaps.swap_state.SwapState.{SwapState}
 use Rattle.edit_record.specs.Swaps.Inner.SwapState.{State}
 
