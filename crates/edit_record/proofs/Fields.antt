@@ -1,5 +1,5 @@
 -- Bytes and edits: what is read is written so, and what is written so is read.
-use Rattle.std.proofs.Common.{◌≡◌, ℕ, ◌≤◌, List, [], ◌∷◌, ◌++◌, length, take, drop, Bool, true, false, cond, Option, None, Some, Result, Ok, Err, refl, sym, ap, subst, ◌∙◌, append_assoc, length-append, arith, eq-eqb}
+use Rattle.std.proofs.Common.{◌≡◌, ℕ, ◌≤◌, List, [], ◌∷◌, ◌++◌, length, take, drop, Bool, true, false, cond, Option, None, Some, Ok, refl, sym, ap, subst, ◌∙◌, append_assoc, length-append, arith, eq-eqb}
 use Rattle.std.specs.Prelude.{nat_lt, ◌==◌, ◌≢◌, MatchOption, option_map}
 use Rattle.std.specs.Borrow.{Bor}
 use Rattle.std.specs.List.{flat_map, AllByRecursion}
@@ -10,7 +10,6 @@ use Rattle.edit_record.specs.Lists.Pieces.{EditEntry}
 use Rattle.edit_record.specs.Text.{space, newline, max_number, NumbersFit, number_text, edit_text}
 use Rattle.edit_record.specs.declared.fault.FaultKind.{FaultKind}
 use Rattle.edit_record.specs.declared.fault.FaultKind.TheVariants.{End}
-use Rattle.edit_record.specs.declared.fault.TextError.{TextError}
 use Rattle.edit_record.specs.Parsing.{strip, expected, expect, number_at, bytes_at, edit_at, edits_at}
 use Rattle.edit_record.proofs.Choices.{err_else, ok_is, through, through_one, goes_on, part}
 use Rattle.edit_record.proofs.Many.{many_take, many_again}

@@ -1,5 +1,5 @@
 -- The texts of lists and records as they were spelled out before their heads had names.
-use Rattle.std.proofs.Common.{◌≡◌, List, ℕ, ◌++◌, length, append_assoc}
+use Rattle.std.proofs.Common.{◌≡◌, ◌++◌, length, append_assoc}
 use Rattle.std.specs.Prelude.{codes}
 use Rattle.std.specs.List.{flat_map}
 use Rattle.edit_record.specs.Lists.Pieces.{EditList}

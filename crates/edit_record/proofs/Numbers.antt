@@ -1,12 +1,12 @@
 -- Numbers in decimal: what is read is written so, and what is written so is read.
-use Rattle.std.proofs.Common.{◌≡◌, ℕ, ◌+◌, ◌/◌, ◌%◌, ◌^◌, ◌≤◌, ◌<◌, List, [], ◌∷◌, ◌++◌, length, Bool, true, false, cond, Result, Ok, Err, refl, sym, ap, subst, ◌∙◌, append_assoc, arith, eq-eqb, inl, inr, ◌&&◌}
+use Rattle.std.proofs.Common.{◌≡◌, ℕ, ◌+◌, ◌/◌, ◌%◌, ◌^◌, ◌≤◌, ◌<◌, List, [], ◌∷◌, ◌++◌, length, Bool, true, false, cond, Ok, refl, sym, ap, subst, ◌∙◌, append_assoc, arith, eq-eqb, inl, inr, ◌&&◌}
 use Rattle.std.specs.Prelude.{decimal, nat_lt, nat_le, ◌==◌}
 use Rattle.std.proofs.lemmas.Bool.{leb-true, eqb-true, ltb-false, le-leb, le-ltb}
 use Rattle.std.proofs.lemmas.Fmt.{decimal_step, decimal_digit, decimal_by_steps}
 use Rattle.edit_record.specs.Text.{number_text}
 use Rattle.edit_record.specs.declared.fault.FaultKind.TheVariants.{Head, Number}
 use Rattle.edit_record.specs.Parsing.{cut_short, error, is_digit, with_digit, number_on, number_at}
-use Rattle.edit_record.proofs.Choices.{chosen, err_else, ok_if, both_true, ok_is, err_ok}
+use Rattle.edit_record.proofs.Choices.{chosen, err_else, ok_if, both_true, ok_is}
 
 -- what is read of a number, behind the digits of value
 pub record Takes (least limit stop value : ℕ) (t : List ℕ) (x : ℕ × List ℕ) : Type 0 where

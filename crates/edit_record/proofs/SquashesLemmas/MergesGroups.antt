@@ -6,7 +6,7 @@ use Rattle.std.proofs.lemmas.List.{length-drop, length-take-le, map-append}
 use Rattle.edit_record.specs.Lists.Pieces.{EditEntry}
 use Rattle.edit_record.specs.Lists.Validity.{AreDisjoint}
 use Rattle.edit_record.specs.Squashes.Inner.Merge.{State, finish_edit, skip_kept, with_first, with_second, common_len, cancel_common, gap, joins_first, joins_second, first_is_next, prepare_next, initial, MergeInvariant, OneIsDone}
-use Rattle.edit_record.specs.Squashes.Groups.{Side, added_spans, removed_spans, Span, Group, empty_group, with_next, next_touches, next_start, first_span_is_next, groups_of, Extent, extent_of, other_len_to, cons_nonempty, group_extents, squashed_extents}
+use Rattle.edit_record.specs.Squashes.Groups.{Side, added_spans, removed_spans, Span, Group, empty_group, with_next, next_touches, next_start, first_span_is_next, groups_of, Extent, extent_of, cons_nonempty, group_extents, squashed_extents}
 use Rattle.edit_record.proofs.SquashesLemmas.Soundness.{apart_first, apart_second}
 
 -- as many bytes that stay before the first edit

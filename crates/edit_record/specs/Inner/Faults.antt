@@ -1,5 +1,5 @@
 -- The public error for a reader's stop.
-use Rattle.std.specs.Prelude.{◌≡◌, ℕ}
+use Rattle.std.specs.Prelude.{ℕ}
 use Rattle.edit_record.specs.Decoding.{fault_in}
 use Rattle.edit_record.specs.declared.fault.RecordFault.{RecordFault}
 use Rattle.edit_record.specs.declared.fault.RecordFault.TheVariants as faults

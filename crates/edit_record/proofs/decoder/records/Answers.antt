@@ -4,7 +4,7 @@ use Rattle.std.proofs.lemmas.Bool.Decides.{Decides-eqb}
 use Rattle.std.proofs.lemmas.Result.{err_from_is_err_and}
 use Rattle.std.proofs.lemmas.Slice.Eq.{starts_is}
 use Rattle.edit_record.proofs.Allocating.{record_taken}
-use Rattle.edit_record.proofs.Journals.{record_shorter, begins_on, version_is, read_none, read_on, reads_stop, reads_all, some_left, none_left}
+use Rattle.edit_record.proofs.Journals.{record_shorter, begins_on, version_is, read_on, reads_stop, reads_all, some_left, none_left}
 use Rattle.edit_record.proofs.decoder.records.Goals as goal
 
 pub returns-in_err-record : goal.returns-in_err-record
