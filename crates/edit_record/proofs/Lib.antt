@@ -8,7 +8,6 @@ pub mod Allocating
 pub mod Steps
 pub mod Journals
 pub mod LawsOfText
-pub mod Writing
 pub mod FormerTexts
 pub mod ListsLemmas
 pub mod SquashesLemmas

@@ -5,3 +5,4 @@ pub mod Allocating
 pub mod ParseResults
 pub mod Faults
 pub mod OldHead
+pub mod PartText

@@ -1,11 +1,64 @@
 //! Writing a journal.
-ghost use Rattle.std.specs.Prelude.{◌≡◌, ◌+◌, ◌-◌, ◌^◌, ◌≤◌, ◌++◌, List, length, min, decimal, codes, OnOk, IfOk, IfErr, ◌<◌};
-ghost use Rattle.edit_record.specs.Text.{word_text, number_text, edit_text, record_text, journal_text, IsCurrentText};
+ghost use Rattle.std.specs.Prelude.{◌≡◌, ◌+◌, ◌-◌, ◌^◌, ◌≤◌, ◌++◌, List, length, min, decimal, OnOk, IfOk, IfErr, ◌<◌};
+ghost use Rattle.std.specs.List.{flat_map};
+ghost use Rattle.edit_record.specs.Text.{word_text, edit_text, list_head, record_head, record_text, journal_text, IsCurrentText};
+ghost use Rattle.edit_record.specs.Inner.PartText.{part_text};
 ghost use Rattle.edit_record.specs.Lists.Validity.{IsValidList};
 
 use crate::lists::{Edit, Journal, Record, Word};
 use itoa::Buffer;
 use std::alloc::{AllocError, Global};
+
+/// A part of a record's text. A record is described once, by its parts: they are written, and their
+/// lengths are added.
+#[derive(Clone, Copy)]
+enum Part<'a> {
+    Bytes(&'a [u8]),
+    /// A number in decimal, and the byte that ends it.
+    Number(usize, u8),
+}
+
+fn word_bytes(word: Word) -> &'static [u8]
+    ensures { result.now ≡ word_text word }
+{
+    match word {
+        Word::Fmt => b"fmt ",
+        Word::Fix => b"fix ",
+    }
+}
+
+/// Returns the parts of the head of a record and of its list of edits.
+fn head_parts(rec: &Record) -> [Part<'_>; 4]
+    ensures { flat_map part_text result
+        ≡ record_head rec.now.word ++ list_head rec.now.edits.old_len (length rec.now.edits.entries) }
+{
+    let list = rec.edits();
+    [
+        Part::Bytes(b"tfrec 2 "),
+        Part::Bytes(word_bytes(rec.word())),
+        Part::Number(list.old_len(), b' '),
+        Part::Number(list.edits().len(), b'\n'),
+    ]
+}
+
+/// Returns the parts of an edit.
+fn edit_parts(edit: &Edit) -> [Part<'_>; 6]
+    ensures { flat_map part_text result ≡ edit_text edit.now }
+{
+    let removed = edit.removed();
+    let added = edit.added();
+    [
+        Part::Number(edit.at(), b' '),
+        Part::Number(removed.len(), b' '),
+        Part::Number(added.len(), b'\n'),
+        Part::Bytes(removed),
+        Part::Bytes(added),
+        Part::Bytes(b"\n"),
+    ]
+}
+
+/// The last part of a record.
+const END: &[u8] = b"end\n";
 
 /// Returns the number of decimal digits.
 fn digit_count(number: usize) -> usize
@@ -15,25 +68,33 @@ fn digit_count(number: usize) -> usize
     Buffer::new().format(number).len()
 }
 
-/// Returns the length of the text of an edit.
-fn edit_len(edit: &Edit) -> usize
-    ensures { result ≡ min (length (edit_text edit.now)) (2 ^ 64 - 1) }
+/// Returns the length of the text of some parts.
+fn parts_len(parts: &[Part]) -> usize
+    ensures { result ≡ min (length (flat_map part_text parts.now)) (2 ^ 64 - 1) }
 {
-    let removed = edit.removed().len();
-    let added = edit.added().len();
-    let numbers = digit_count(edit.at()) + digit_count(removed) + digit_count(added) + 4;
-    numbers.saturating_add(removed).saturating_add(added)
+    let mut len = 0usize;
+    for part in parts {
+        len = len.saturating_add(part_len(*part));
+    }
+    len
+}
+
+fn part_len(part: Part) -> usize
+    ensures { result ≡ length (part_text part.entry) }
+{
+    match part {
+        Part::Bytes(bytes) => bytes.len(),
+        Part::Number(number, _) => digit_count(number) + 1,
+    }
 }
 
 /// Returns the length of the text of a record.
 fn record_len(rec: &Record) -> usize
     ensures { result ≡ min (length (record_text rec.now)) (2 ^ 64 - 1) }
 {
-    let list = rec.edits();
-    let edits = list.edits();
-    let mut len = 18 + digit_count(list.old_len()) + digit_count(edits.len());
-    for edit in edits {
-        len = len.saturating_add(edit_len(edit));
+    let mut len = parts_len(&head_parts(rec)).saturating_add(END.len());
+    for edit in rec.edits().edits() {
+        len = len.saturating_add(parts_len(&edit_parts(edit)));
     }
     len
 }
@@ -50,48 +111,25 @@ pub fn encoded_len(journal: &Journal) -> usize
     len
 }
 
-fn write_number(out: &mut Vec<u8>, number: usize, stop: u8) -> Result<(), AllocError>
-    ensures { OnOk result (out.new.items ≡ out.old.items ++ number_text stop number) }
+fn write_parts(out: &mut Vec<u8>, parts: &[Part]) -> Result<(), AllocError>
+    ensures { OnOk result (out.new.items ≡ out.old.items ++ flat_map part_text parts.now) }
 {
-    out.extend_from_slice(Buffer::new().format(number).as_bytes())?;
-    out.push(stop)?;
+    for part in parts {
+        write_part(out, *part)?;
+    }
     Ok(())
 }
 
-fn write_numbers(
-    out: &mut Vec<u8>,
-    at: usize,
-    removed: usize,
-    added: usize,
-) -> Result<(), AllocError>
-    ensures { OnOk result
-        (out.new.items ≡ out.old.items ++ number_text 32 at ++ number_text 32 removed
-        ++ number_text 10 added) }
+fn write_part(out: &mut Vec<u8>, part: Part) -> Result<(), AllocError>
+    ensures { OnOk result (out.new.items ≡ out.old.items ++ part_text part.entry) }
 {
-    write_number(out, at, b' ')?;
-    write_number(out, removed, b' ')?;
-    write_number(out, added, b'\n')?;
-    Ok(())
-}
-
-fn write_edit(out: &mut Vec<u8>, edit: &Edit) -> Result<(), AllocError>
-    ensures { OnOk result (out.new.items ≡ out.old.items ++ edit_text edit.now) }
-{
-    let removed = edit.removed();
-    let added = edit.added();
-    write_numbers(out, edit.at(), removed.len(), added.len())?;
-    out.extend_from_slice(removed)?;
-    out.extend_from_slice(added)?;
-    out.push(b'\n')?;
-    Ok(())
-}
-
-fn word_bytes(word: Word) -> &'static [u8]
-    ensures { result.now ≡ word_text word }
-{
-    match word {
-        Word::Fmt => b"fmt ",
-        Word::Fix => b"fix ",
+    match part {
+        Part::Bytes(bytes) => out.extend_from_slice(bytes),
+        Part::Number(number, stop) => {
+            out.extend_from_slice(Buffer::new().format(number).as_bytes())?;
+            out.push(stop)?;
+            Ok(())
+        }
     }
 }
 
@@ -99,16 +137,11 @@ fn write_record(out: &mut Vec<u8>, rec: &Record) -> Result<(), AllocError>
     ensures text { OnOk result (out.new.items ≡ out.old.items ++ record_text rec.now) }
     ensures made { OnOk result (IsValidList rec.now.edits) }
 {
-    let list = rec.edits();
-    let edits = list.edits();
-    out.extend_from_slice(b"tfrec 2 ")?;
-    out.extend_from_slice(word_bytes(rec.word()))?;
-    write_number(out, list.old_len(), b' ')?;
-    write_number(out, edits.len(), b'\n')?;
-    for edit in edits {
-        write_edit(out, edit)?;
+    write_parts(out, &head_parts(rec))?;
+    for edit in rec.edits().edits() {
+        write_parts(out, &edit_parts(edit))?;
     }
-    out.extend_from_slice(b"end\n")?;
+    out.extend_from_slice(END)?;
     Ok(())
 }
 

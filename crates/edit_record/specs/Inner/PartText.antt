@@ -1,0 +1,9 @@
+-- The text of a part that the code writes.
+use Rattle.std.specs.Prelude.{ℕ, List}
+use Rattle.edit_record.specs.Text.{number_text}
+use Rattle.edit_record.specs.declared.encoder.Part.{Part}
+use Rattle.edit_record.specs.declared.encoder.Part.TheVariants.{Bytes, Number}
+
+abbrev pub part_text : Part → List ℕ
+part_text (Bytes bytes) = bytes.now
+part_text (Number n stop) = number_text stop n
