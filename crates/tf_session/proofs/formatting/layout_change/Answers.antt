@@ -17,5 +17,5 @@ returns-in-Ok-clause-short c =
 
 pub returns-in-Err-clause-fault : goal.returns-in-Err-clause-fault
 returns-in-Err-clause-fault c =
-    let memory = only_memory _ c.in_ok-edits.edits c.args.scanned.now.text c.text.result.now c.requires.0 c.in-Err.refused c.apply_is_exact.ensures (c.in_ok-edits.ensures.edits c.requires.0 c.requires.1) c.text.ensures.text c.in-Err.ensures.gives in
+    let memory = only_memory _ c.in_ok-edits.edits c.args.scanned.now.text c.text.result.now c.requires.0 c.in-Err.refused c.apply_is_exact.ensures (c.in_ok-edits.ensures.edits c.requires.0 c.requires.1) c.text.ensures.text c.in-Err.ensures.agrees in
     inl (c.from.ensures ∙ ap fault_of_refused memory)
