@@ -40,7 +40,7 @@ pub stays : ParsedTokensAreApart → LaidOutIsText → OneLayout → (text new :
 stays apart is_text one text new p reads layout short same =
     let cut = p.scanned in
     let here = subst (λ (x : List ℕ). IsLayout x new) reads.0 layout in
-    let made : IsLayout text (layout_text cut) = record { pairs = cut.pairs; last = cut.last; tokenization = subst (λ (x : List ℕ). IsTokenization x cut.pairs cut.last) reads.0 reads.1; made = refl } in
+    let made : IsLayout text (layout_text cut) = record { pairs = cut.pairs; last = cut.last; tokenization = subst (λ (x : List ℕ). IsTokenization x cut.pairs cut.last) reads.0 reads.1; text_is = refl } in
     let kept : layout_text cut ≡ cut.text = one text (layout_text cut) new made here ∙ same ∙ sym reads.0 in
     let laid = (is_text cut reads.1 (apart cut.text cut.pairs cut.last MAX_NESTING p.tree reads.1 reads.2)).1 kept in
     record {

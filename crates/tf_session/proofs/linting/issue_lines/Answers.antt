@@ -12,7 +12,7 @@ use Rattle.tf_session.proofs.linting.issue_lines.Goals as goal
 pub returns-in-Ok-clause-lines : goal.returns-in-Ok-clause-lines
 returns-in-Ok-clause-lines c =
     let (p, reads, h) = c.in_ok-searched.ensures.searched in
-    let s = c.in_ok-searched.linted in
+    let s = c.in_ok-searched.searched in
     let fs = s.found.items in
     let finds = subst (λ (rules : RuleSet). RulesFind rules p fs) c.in_ok-searched.ensures.rules h.findings_are in
     let found = c.as_slice-found.ensures.value in
