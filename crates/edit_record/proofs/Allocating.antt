@@ -11,7 +11,7 @@ use Rattle.edit_record.specs.Decoding.{FollowsHead, mark_after, ReachesFirstEdit
 use Rattle.edit_record.specs.declared.fault.FaultKind.TheVariants.{Head}
 use Rattle.edit_record.specs.declared.fault.TextError.{TextError}
 use Rattle.edit_record.specs.Parsing.{expect, number_at, edit_at, word_at}
-use Rattle.edit_record.specs.Inner.Reading.{step_at, OldHead, old_head_at}
+use Rattle.edit_record.specs.OldParsing.{step_at, OldHead, old_head_at}
 use Rattle.edit_record.specs.Inner.Allocating.{is_ok_and, edits_allocate, edit_list_allocates, record_allocates, step_allocates, old_head_allocates, steps_allocate, old_record_allocates, allocates}
 use Rattle.edit_record.specs.Inner.ParseResults.{RecordAt}
 use Rattle.edit_record.proofs.Choices.{ok_is, through, through_one}

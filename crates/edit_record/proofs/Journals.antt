@@ -11,14 +11,14 @@ use Rattle.edit_record.specs.Squashes.SquashLists.{SquashAll}
 use Rattle.edit_record.proofs.SquashesLemmas.Groupings.{squash_as_one}
 use Rattle.edit_record.specs.declared.fault.DecodeStop.{DecodeStop}
 use Rattle.edit_record.specs.declared.fault.DecodeStop.TheVariants as stops
-use Rattle.edit_record.specs.Text.{word_text, list_text, number_text, newline, record_text, journal_text, IsCurrentText, OldRecord, steps, step_text, old_record_text, MigrateAllTo, IsOldText, IsJournalText}
+use Rattle.edit_record.specs.Text.{word_text, list_text, number_text, newline, record_text, journal_text, IsCurrentText, OldRecord, steps, step_text, old_record_text, MigratesTo, MigrateAllTo, IsOldText, IsJournalText}
 use Rattle.edit_record.specs.Lists.Validity.{IsValidList}
 use Rattle.edit_record.specs.declared.fault.TextError.{TextError}
-use Rattle.edit_record.specs.Decoding.{IsFirstError, IsNotOld}
+use Rattle.edit_record.specs.Decoding.{RecordError, IsVersion, IsFirstError}
 use Rattle.edit_record.specs.Parsing.{record_at}
-use Rattle.edit_record.specs.Inner.Reading.{old_record_at}
+use Rattle.edit_record.specs.OldParsing.{old_record_at, OldRecordError}
 use Rattle.edit_record.specs.Inner.Allocating.{allocates}
-use Rattle.edit_record.specs.Inner.ParseResults.{IsRead, ParsesAs, IsStopFor, OldRecordAt, RecordAt, RecordsAt, StartsWith, IsErrorOf, IsReadResult}
+use Rattle.edit_record.specs.Inner.ParseResults.{IsRead, ParsesAs, IsStopFor, OldRecordAt, RecordAt, RecordsAt, StartsWith, HasError, IsReadResult}
 use Rattle.edit_record.proofs.Choices.{ok_is, err_ok}
 use Rattle.edit_record.proofs.Allocating.{Begun, runs_out}
 use Rattle.edit_record.proofs.Records.{three, four, record_takes, record_again, old_takes, old_again}
@@ -148,10 +148,6 @@ from_old_text t (old ∷ olds) (r ∷ rs) migrated is =
     (flat_map old_record_text olds, (old, is ∙ flat_map-cons old_record_text old olds, migrated.0), from_old_text (flat_map old_record_text olds) olds rs migrated.1 refl)
 
 -- the version is told by the head of the first record
-pub record IsVersion (old : Bool) (t : List ℕ) : Type 0 where
-  pub is_old : old ≡ true → t ≡ codes "tfrec 1" ++ drop 7 t
-  pub else : (x : List ℕ) → t ≡ codes "tfrec 1" ++ x → old ≡ true
-
 pub journal_from : (old : Bool) (t : List ℕ) (rs : List JournalEntry) → RecordsAt old t rs → IsJournalText t rs
 journal_from false t rs h = inl (text_from t rs h)
 journal_from true t rs h = inr (old_text_from t rs h)
@@ -169,69 +165,78 @@ kept_old : (old : Bool) (t : List ℕ) (rs : List JournalEntry) → IsVersion ol
 unfolding head_of
 kept_old true t rs version h = h
 kept_old false t [] version h = h
-kept_old false t (r ∷ rs) version h = let b = record_begins true t r h.0 h.1 in let e = version.else (32 ∷ b.0) b.1 in absurd cc
+kept_old false t (r ∷ rs) version h = let b = record_begins true t r h.0 h.1 in let e = version.if_old (32 ∷ b.0) b.1 in absurd cc
 
 pub from_journal : (old : Bool) (t : List ℕ) (rs : List JournalEntry) → IsVersion old t → IsJournalText t rs → RecordsAt old t rs
 from_journal old t rs version (inl h) = kept_new old t rs version (from_text t rs h.made h.is)
 from_journal old t rs version (inr h) = kept_old old t rs version (from_old_text t h.olds rs h.migrated h.is)
 
 pub version_is : (old : Bool) (t : List ℕ) → (old ≡ true → t ≡ codes "tfrec 1" ++ drop 7 t) × ((x : List ℕ) → t ≡ codes "tfrec 1" ++ x → old ≡ true) → IsVersion old t
-version_is old t h = record { is_old = h.0; else = h.1 }
+version_is old t h = record { is_old = h.0; if_old = h.1 }
 
 -- ---- the first error of a text of version 2
 
--- the records that were read, if they are of version 2
-abbrev pub HasRead : Bool → List ℕ → List JournalEntry → List ℕ → Type 0
-HasRead true text records rest = ⊤
-HasRead false text records rest = StartsWith text records rest
-
-pub read_none : (old : Bool) (text : List ℕ) → HasRead old text [] text
-read_none true text = tt
+pub read_none : (old : Bool) (text : List ℕ) → StartsWith old text [] text
 read_none false text = ([], record { made = tt; is = refl }, refl)
+read_none true text = ([], record { olds = []; migrated = tt; is = refl }, refl)
 
 all_push : (rs : List JournalEntry) (r : JournalEntry) → AllByRecursion (λ (x : JournalEntry). IsValidList x.edits) rs → IsValidList r.edits → AllByRecursion (λ (x : JournalEntry). IsValidList x.edits) (rs ++ r ∷ [])
 all_push [] r all valid = (valid, tt)
 all_push (s ∷ rs) r all valid = (all.0, all_push rs r all.1 valid)
 
-pub read_on : (old : Bool) (text : List ℕ) (records : List JournalEntry) (rest after : List ℕ) (r : JournalEntry) → HasRead old text records rest → RecordAt old rest r after → HasRead old text (records ++ r ∷ []) after
-read_on true text records rest after r so_far h = tt
-read_on false text records rest after r so_far h =
-    let is : so_far.0 ++ record_text r ≡ journal_text (records ++ r ∷ []) =
-    ap (λ (x : List ℕ). x ++ record_text r) so_far.1.is
-    ∙ ap (λ (x : List ℕ). journal_text records ++ x) (sym (append-nil (record_text r)) ∙ sym (flat_map-cons record_text r []))
-    ∙ sym (flat_map-append record_text records (r ∷ [])) in (
-      so_far.0 ++ record_text r,
-      record { made = all_push records r so_far.1.made h.1; is = is },
-      so_far.2 ∙ ap (λ (x : List ℕ). so_far.0 ++ x) h.0 ∙ sym (append_assoc so_far.0 (record_text r) after),
-    )
+migrate_push : (olds : List OldRecord) (rs : List JournalEntry) (old : OldRecord) (r : JournalEntry) → MigrateAllTo olds rs → MigratesTo old r → MigrateAllTo (olds ++ old ∷ []) (rs ++ r ∷ [])
+migrate_push [] [] old r all m = (m, tt)
+migrate_push [] (s ∷ rs) old r all m = absurd all
+migrate_push (o ∷ olds) [] old r all m = absurd all
+migrate_push (o ∷ olds) (s ∷ rs) old r all m = (all.0, migrate_push olds rs old r all.1 m)
 
-first_error : (old : Bool) (text : List ℕ) (records : List JournalEntry) (rest : List ℕ) (bad : TextError) → IsVersion old text → HasRead old text records rest → IsErrorOf old rest (stops.Bad bad) → IsNotOld text → IsFirstError text bad
-first_error true text records rest bad version so_far error not_old = absurd (not_old (drop 7 text) (version.is_old refl))
-first_error false text records rest bad version so_far error not_old = record {
-  done = so_far.0;
-  records = records;
-  is_done = so_far.1;
-  rest = rest;
-  is = so_far.2;
-  error_is = error;
-}
+-- the text of one more
+text_push : {X : Type 0} (text : X → List ℕ) (xs : List X) (x : X) (done : List ℕ) → done ≡ flat_map text xs → done ++ text x ≡ flat_map text (xs ++ x ∷ [])
+text_push text xs x done is =
+    ap (λ (y : List ℕ). y ++ text x) is
+    ∙ ap (λ (y : List ℕ). flat_map text xs ++ y) (sym (append-nil (text x)) ∙ sym (flat_map-cons text x []))
+    ∙ sym (flat_map-append text xs (x ∷ []))
+
+more_read : (text done one rest after : List ℕ) → text ≡ done ++ rest → rest ≡ one ++ after → text ≡ (done ++ one) ++ after
+more_read text done one rest after is h = is ∙ ap (λ (x : List ℕ). done ++ x) h ∙ sym (append_assoc done one after)
+
+pub read_on : (old : Bool) (text : List ℕ) (records : List JournalEntry) (rest after : List ℕ) (r : JournalEntry) → StartsWith old text records rest → RecordAt old rest r after → StartsWith old text (records ++ r ∷ []) after
+read_on false text records rest after r so_far h = (
+  so_far.0 ++ record_text r,
+  record { made = all_push records r so_far.1.made h.1; is = text_push record_text records r so_far.0 so_far.1.is },
+  more_read text so_far.0 (record_text r) rest after so_far.2 h.0,
+)
+read_on true text records rest after r so_far h = (
+  so_far.0 ++ old_record_text h.0,
+  record {
+    olds = so_far.1.olds ++ h.0 ∷ [];
+    migrated = migrate_push so_far.1.olds records h.0 r so_far.1.migrated h.2;
+    is = text_push old_record_text so_far.1.olds h.0 so_far.0 so_far.1.is;
+  },
+  more_read text so_far.0 (old_record_text h.0) rest after so_far.2 h.1,
+)
 
 module _ (old : Bool) (text : List ℕ) (front : List JournalEntry) (rest : List ℕ) (so_far : Begins old text front rest) where
-  pub reads_stop : Begun text rest → HasRead old text front rest → IsVersion old text → 0 < length rest → (stop : DecodeStop) → IsStopFor (allocates old rest) stop (RecordAt old rest) → IsErrorOf old rest stop → IsReadResult text (Err stop)
+  pub reads_stop : Begun text rest → StartsWith old text front rest → IsVersion old text → 0 < length rest → (stop : DecodeStop) → IsStopFor (allocates old rest) stop (RecordAt old rest) → HasError stop (RecordError old rest) → IsReadResult text (Err stop)
   reads_stop begun read version some stops.Memory taken error = runs_out old text rest begun taken
   reads_stop begun read version some (stops.Bad bad) none error = (
     λ rs h. begins_none old text front rest so_far some none rs (from_journal old text rs version h),
-    first_error old text front rest bad version read error,
+    record { old = old; version = version; done = read.0; records = front; is_done = read.1; rest = rest; is = read.2; error_is = error },
   )
 
   pub reads_all : rest ≡ [] → IsReadResult text (Ok front)
   reads_all done = journal_from old text front (begins_all old text front rest so_far done)
 
 -- the error of the one record
-pub new_error : {X : Type 0} (view : X → JournalEntry × List ℕ) (takes : Bool) (t : List ℕ) (r : Result X DecodeStop) → IsRead view takes r (record_at t) → IfErr r (λ stop. IsErrorOf false t stop)
+pub new_error : {X : Type 0} (view : X → JournalEntry × List ℕ) (takes : Bool) (t : List ℕ) (r : Result X DecodeStop) → IsRead view takes r (record_at t) → IfErr r (λ stop. HasError stop (RecordError false t))
 new_error view takes t (Ok x) h = tt
 new_error view takes t (Err stops.Memory) h = tt
 new_error view takes t (Err (stops.Bad bad)) h = h
+
+pub old_error : {X : Type 0} (t : List ℕ) (r : Result X DecodeStop) → IfErr r (λ stop. HasError stop (OldRecordError t)) → IfErr r (λ stop. HasError stop (RecordError true t))
+old_error t (Ok x) h = tt
+old_error t (Err stops.Memory) h = tt
+old_error t (Err (stops.Bad bad)) h = h
 
 pub some_left : (t : List ℕ) → false ≡ (length t == 0) → 0 < length t
 some_left t e = grind (arith, e)

@@ -10,9 +10,10 @@ use Rattle.edit_record.proofs.SquashesLemmas.Groupings.{squash_as_one}
 use Rattle.edit_record.specs.Text.{record_text, journal_text, IsCurrentText, OldRecord, MigratesTo, MigrateAllTo, old_transforms, IsJournalText}
 use Rattle.edit_record.specs.Lists.Validity.{IsValidList}
 use Rattle.edit_record.specs.Parsing.{strip}
+use Rattle.edit_record.specs.Decoding.{IsVersion}
 use Rattle.edit_record.specs.Inner.ParseResults.{RecordsAt}
 use Rattle.edit_record.proofs.Fields.{after_takes, after_again}
-use Rattle.edit_record.proofs.Journals.{record_one, IsVersion, not_empty, from_journal, from_text, text_from}
+use Rattle.edit_record.proofs.Journals.{record_one, not_empty, from_journal, from_text, text_from}
 
 records_one : (old : Bool) (t : List ℕ) (rs ss : List JournalEntry) → RecordsAt old t rs → RecordsAt old t ss → rs ≡ ss
 records_one old t [] [] h k = refl
@@ -35,8 +36,8 @@ none_is t x e k = let found = ap (strip (codes "tfrec 1")) k ∙ after_again (co
 version_of : (t : List ℕ) → (old : Bool) × IsVersion old t
 version_of t =
     elim (strip (codes "tfrec 1") t) as (λ o. strip (codes "tfrec 1") t ≡ o → (old : Bool) × IsVersion old t) [
-      | Some x ↦ λ e. (true, record { is_old = λ _. is_prefix t x (after_takes (codes "tfrec 1") t x e); else = λ _ _. refl })
-      | None ↦ λ e. (false, record { is_old = λ f. absurd cc; else = λ x k. none_is t x e k })
+      | Some x ↦ λ e. (true, record { is_old = λ _. is_prefix t x (after_takes (codes "tfrec 1") t x e); if_old = λ _ _. refl })
+      | None ↦ λ e. (false, record { is_old = λ f. absurd cc; if_old = λ x k. none_is t x e k })
     ] refl
 
 pub one_journal : (t : List ℕ) (rs ss : List JournalEntry) → IsJournalText t rs → IsJournalText t ss → rs ≡ ss

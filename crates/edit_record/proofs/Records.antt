@@ -12,7 +12,7 @@ use Rattle.edit_record.specs.Lists.Journal.{JournalEntry}
 use Rattle.edit_record.specs.Text.{space, newline, max_number, number_text, edit_text, list_text, word_text, record_text, OldRecord, steps, step_text, old_record_text}
 use Rattle.edit_record.specs.declared.fault.FaultKind.TheVariants.{Head, End}
 use Rattle.edit_record.specs.Parsing.{strip, expect, number_at, edits_at, if_valid, edit_list_at, word_of, bare_word_at, word_at, record_at}
-use Rattle.edit_record.specs.Inner.Reading.{step_at, steps_at, OldHead, old_head_at, old_record_at}
+use Rattle.edit_record.specs.OldParsing.{step_at, steps_at, OldHead, old_head_at, old_record_at}
 use Rattle.edit_record.proofs.Choices.{ok_is, through, through_one, goes_on, part}
 use Rattle.edit_record.proofs.Many.{many_take, many_again}
 use Rattle.edit_record.proofs.Numbers.{number_takes, number_again}

@@ -1,5 +1,5 @@
 -- The steps of an old record, read and squashed one after another.
-use Rattle.std.proofs.Common.{◌≡◌, ◌↔◌, ℕ, suc, ◌+◌, ◌-◌, ◌≤◌, ◌<◌, List, [], ◌∷◌, Bool, true, false, Ok, Err, refl, sym, ap, subst, ◌∙◌, arith}
+use Rattle.std.proofs.Common.{◌≡◌, ◌↔◌, ℕ, suc, ◌+◌, ◌-◌, ◌≤◌, ◌<◌, List, [], ◌∷◌, Bool, true, false, Ok, Err, refl, sym, ap, subst, ◌∙◌, arith, length, inl, inr}
 use Rattle.std.specs.Prelude.{codes, ◌||◌}
 use Rattle.edit_record.specs.Lists.Pieces.{EditList}
 use Rattle.edit_record.specs.Lists.Journal.{JournalEntry}
@@ -9,12 +9,12 @@ use Rattle.edit_record.proofs.SquashesLemmas.Groupings.{squash_as_one}
 use Rattle.edit_record.specs.declared.fault.DecodeStop.{DecodeStop}
 use Rattle.edit_record.specs.declared.fault.DecodeStop.TheVariants as stops
 use Rattle.edit_record.specs.Text.{OldRecord}
-use Rattle.edit_record.specs.declared.fault.FaultKind.TheVariants.{End}
+use Rattle.edit_record.specs.declared.fault.FaultKind.TheVariants.{End, Steps}
 use Rattle.edit_record.specs.declared.fault.TextError.{TextError}
 use Rattle.edit_record.specs.Parsing.{expect, repeat_at}
-use Rattle.edit_record.specs.Inner.Reading.{step_at, steps_at, OldHead, old_head_at, old_record_at}
+use Rattle.edit_record.specs.OldParsing.{step_at, steps_at, OldHead, old_head_at, old_record_at, SquashAt, StepsError, OldRecordError}
 use Rattle.edit_record.specs.Inner.Allocating.{is_ok_and, old_head_allocates, steps_allocate, old_record_allocates}
-use Rattle.edit_record.specs.Inner.ParseResults.{IsStop, IsStopFor, IsSquashOrStop, SquashAt, OldRecordAt}
+use Rattle.edit_record.specs.Inner.ParseResults.{IsStop, IsStopFor, IsSquashOrStop, OldRecordAt, HasError}
 use Rattle.edit_record.proofs.Choices.{ok_is, err_ok, through, through_one, goes_on}
 
 pub squash_unique : (a b c d : EditList) → IsSquash a b c → IsSquash a b d → c ≡ d
@@ -91,6 +91,43 @@ unfolding steps_at
 all_steps a b count i m t u le so_far =
     let k : count - i ≡ 0 = omega arith in
     (so_far a t).0 (subst (λ (n : ℕ). SquashAt a n t a t) (sym k) ([], refl, refl))
+
+-- ---- the first error of steps
+
+-- An error from here on is one from the start on.
+abbrev pub ErrorsAlike : EditList → ℕ → List ℕ → EditList → ℕ → List ℕ → Type 0
+ErrorsAlike a n t b m u = (e : TextError) → StepsError n a t e → StepsError m b u e
+
+pub one_step_error : (a next both b : EditList) (count i m : ℕ) (t after u : List ℕ) → i < count → step_at t ≡ Ok (next, after) → IsSquash a next both
+    → ErrorsAlike a (count - i) t b m u → ErrorsAlike both (count - (i + 1)) after b m u
+one_step_error a next both b count i m t after u lt next_is both_is so_far e h =
+    let k : count - i ≡ suc (count - (i + 1)) = omega arith in
+    so_far e (subst (λ (n : ℕ). StepsError n a t e) (sym k) (inr (next, after, next_is, inl (both, both_is, h))))
+
+module _ (a b : EditList) (count i m : ℕ) (t u : List ℕ) (lt : i < count) (so_far : ErrorsAlike a (count - i) t b m u) where
+  pub step_error : (takes : Bool) (stop : DecodeStop) → IsStop takes stop (step_at t) → HasError stop (StepsError m b u)
+  step_error takes stops.Memory none = tt
+  step_error takes (stops.Bad bad) none =
+      let k : count - i ≡ suc (count - (i + 1)) = omega arith in
+      so_far bad (subst (λ (n : ℕ). StepsError n a t bad) (sym k) (inl none))
+
+  pub squash_error : (next : EditList) (after : List ℕ) (stop : DecodeStop) → step_at t ≡ Ok (next, after) → IsSquashOrStop a next (Err stop) → HasError stop (λ e. e ≡ record { kind = Steps; left = length t }) → HasError stop (StepsError m b u)
+  squash_error next after stops.Memory next_is none is = tt
+  squash_error next after (stops.Bad bad) next_is none is =
+      let k : count - i ≡ suc (count - (i + 1)) = omega arith in
+      so_far bad (subst (λ (n : ℕ). StepsError n a t bad) (sym k) (inr (next, after, next_is, inr (none, is))))
+
+-- the first error of a record
+pub head_error : (t : List ℕ) (takes : Bool) (stop : DecodeStop) → IsStop takes stop (old_head_at t) → HasError stop (OldRecordError t)
+head_error t takes stops.Memory none = tt
+head_error t takes (stops.Bad bad) none = inl none
+
+pub steps_error : (t t1 : List ℕ) (head : OldHead) (stop : DecodeStop) → old_head_at t ≡ Ok (head, t1) → HasError stop (StepsError head.others head.first t1) → HasError stop (OldRecordError t)
+steps_error t t1 head stops.Memory head_is error = tt
+steps_error t t1 head (stops.Bad bad) head_is error = inr (head, t1, head_is, inl error)
+
+pub end_error : (t t1 t2 : List ℕ) (head : OldHead) (edits : EditList) (bad : TextError) → old_head_at t ≡ Ok (head, t1) → SquashAt head.first head.others t1 edits t2 → expect (codes "end\n") End t2 ≡ Err bad → OldRecordError t bad
+end_error t t1 t2 head edits bad head_is others none = inr (head, t1, head_is, inr (edits, t2, others, none))
 
 -- where memory is taken for the steps behind the head
 others_allocate : (t t1 : List ℕ) (head : OldHead) (b : Bool) → old_head_at t ≡ Ok (head, t1) → steps_allocate head.others t1 ≡ true → (b || is_ok_and (old_head_at t) (λ h. steps_allocate h.0.others h.1)) ≡ true

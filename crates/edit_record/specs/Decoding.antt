@@ -1,11 +1,12 @@
 -- What `decode` returns.
-use Rattle.std.specs.Prelude.{◌≡◌, ◌≢◌, ℕ, zero, suc, ◌-◌, ◌<◌, ◌≤◌, ◌⊎◌, List, ◌++◌, length, codes, Result, Ok, Err}
+use Rattle.std.specs.Prelude.{◌≡◌, ℕ, zero, suc, ◌-◌, ◌<◌, ◌≤◌, ◌⊎◌, List, ◌++◌, length, drop, Bool, true, false, codes, Result, Ok, Err}
 use Rattle.edit_record.specs.declared.lists.edits.TheConstants.{MAX_TEXT}
 use Rattle.edit_record.specs.declared.lists.record.Word.{Word}
 use Rattle.edit_record.specs.Lists.Pieces.{EditEntry}
 use Rattle.edit_record.specs.Lists.Journal.{JournalEntry}
-use Rattle.edit_record.specs.Text.{max_number, NumbersFit, list_head, record_head, old_record_head, edit_text, IsCurrentText, IsJournalText}
+use Rattle.edit_record.specs.Text.{max_number, NumbersFit, list_head, record_head, old_record_head, edit_text, IsCurrentText, IsOldText, IsJournalText}
 use Rattle.edit_record.specs.Parsing.{record_at}
+use Rattle.edit_record.specs.OldParsing.{OldRecordError}
 use Rattle.edit_record.specs.declared.fault.FaultKind.{FaultKind}
 use Rattle.edit_record.specs.declared.fault.FaultKind.TheVariants as kinds
 use Rattle.edit_record.specs.declared.fault.TextError.{TextError}
@@ -72,26 +73,38 @@ fault_at kinds.Steps at = faults.BadSteps at
 abbrev pub fault_in : ℕ → TextError → RecordFault
 fault_in len e = fault_at e.kind (len - e.left)
 
--- The first error of a text of version 2: the text begins with some records, and what follows them
--- is no record, for this reason.
+-- the error of what follows some records, which is no record
+abbrev pub RecordError : Bool → List ℕ → TextError → Type 0
+RecordError false t error = record_at t ≡ Err error
+RecordError true t error = OldRecordError t error
+
+-- the text of these records, in version 1, if `old`, or in version 2
+abbrev pub IsTextOf : Bool → List ℕ → List JournalEntry → Type 0
+IsTextOf false text records = IsCurrentText text records
+IsTextOf true text records = IsOldText text records
+
+-- a text is read as one of version 1 if it begins so
+pub record IsVersion (old : Bool) (text : List ℕ) : Type 0 where
+  pub is_old : old ≡ true → text ≡ codes "tfrec 1" ++ drop 7 text
+  pub if_old : (rest : List ℕ) → text ≡ codes "tfrec 1" ++ rest → old ≡ true
+
+-- The first error of a text: it begins with some records of its version, and what follows them is no
+-- record, for this reason.
 pub record IsFirstError (text : List ℕ) (error : TextError) : Type 0 where
+  pub old : Bool
+  pub version : IsVersion old text
   pub done : List ℕ
   pub records : List JournalEntry
-  pub is_done : IsCurrentText done records
+  pub is_done : IsTextOf old done records
   pub rest : List ℕ
   pub is : text ≡ done ++ rest
-  pub error_is : record_at rest ≡ Err error
+  pub error_is : RecordError old rest error
 
--- the first record is not of version 1
-abbrev pub IsNotOld : List ℕ → Type 0
-IsNotOld text = (rest : List ℕ) → text ≢ codes "tfrec 1" ++ rest
-
--- This is the text of no journal, and the first error of it, if it is not of version 1, is this
--- one.
+-- this is the text of no journal, and its first error is this one
 abbrev pub IsDecodeError : List ℕ → RecordFault → Type 0
 IsDecodeError text fault =
     ((rs : List JournalEntry) → IsJournalText text rs → ⊥)
-    × (IsNotOld text → (e : TextError) × (fault ≡ fault_in (length text) e) × IsFirstError text e)
+    × ((error : TextError) × (fault ≡ fault_in (length text) error) × IsFirstError text error)
 
 -- the journal whose text this is, or why it is the text of none; or memory ran out
 abbrev pub IsDecodeResult : List ℕ → Result (List JournalEntry) RecordFault → Type 0

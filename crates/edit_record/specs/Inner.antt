@@ -1,6 +1,5 @@
 -- For proofs alone: how the code reads a text, as functions on lists. No public clause names
 -- anything of this folder.
-pub mod Reading
 pub mod Allocating
 pub mod ParseResults
 pub mod Faults

@@ -1,5 +1,6 @@
 pub mod Text
 pub mod Parsing
+pub mod OldParsing
 pub mod Decoding
 pub mod Inner
 pub mod Lists

@@ -1,10 +1,11 @@
 //! Reading a journal.
-ghost use Rattle.std.specs.Prelude.{IfErr};
-ghost use Rattle.edit_record.specs.Decoding.{IsDecodeResult};
-ghost use Rattle.edit_record.specs.Inner.ParseResults.{IsRead, ParsesAs, IsErrorOf, IsSquashOrStop, SquashAt, OldRecordAt, RecordAt, IsReadResult};
+ghost use Rattle.std.specs.Prelude.{◌≡◌, IfErr};
+ghost use Rattle.edit_record.specs.Decoding.{RecordError, IsDecodeResult};
+ghost use Rattle.edit_record.specs.declared.fault.FaultKind.TheVariants.{Steps};
+ghost use Rattle.edit_record.specs.Inner.ParseResults.{IsRead, ParsesAs, HasError, IsSquashOrStop, OldRecordAt, RecordAt, IsReadResult};
 ghost use Rattle.edit_record.specs.Inner.Allocating.{record_allocates, step_allocates, old_head_allocates, steps_allocate, old_record_allocates, allocates};
 ghost use Rattle.edit_record.specs.Parsing.{record_at};
-ghost use Rattle.edit_record.specs.Inner.Reading.{step_at, old_head_at};
+ghost use Rattle.edit_record.specs.OldParsing.{step_at, old_head_at, SquashAt, StepsError, OldRecordError};
 ghost use Rattle.edit_record.specs.Inner.OldHead.{head_view};
 
 use crate::RecordFault;
@@ -30,7 +31,7 @@ fn record(alloc: Global, text: &[u8]) -> Result<(Record, &[u8]), DecodeStop>
 }
 
 /// Reads a step of a record of version 1.
-#[tactic(auto, unfolding(crate::specs::Inner::Reading::step_at, crate::specs::Inner::Allocating::step_allocates))]
+#[tactic(auto, unfolding(crate::specs::OldParsing::step_at, crate::specs::Inner::Allocating::step_allocates))]
 fn step(alloc: Global, text: &[u8]) -> Result<(Edits, &[u8]), DecodeStop>
     ensures { IsRead (λ x. (x.0, x.1.now)) (step_allocates text.now) result (step_at text.now) }
 {
@@ -45,8 +46,9 @@ fn squash_steps(
     count: usize,
     text: &[u8],
 ) -> Result<(Edits, &[u8]), DecodeStop>
-    ensures { ParsesAs (λ x. x.0) (λ x. x.1.now) (steps_allocate count text.now) result
+    ensures parses { ParsesAs (λ x. x.0) (λ x. x.1.now) (steps_allocate count text.now) result
         (SquashAt first count text.now) }
+    ensures error { IfErr result (λ stop. HasError stop (StepsError count first text.now)) }
 {
     let mut edits = first;
     let mut rest = text;
@@ -66,7 +68,8 @@ fn squash_two(
     second: &Edits,
     left: usize,
 ) -> Result<Edits, DecodeStop>
-    ensures { IsSquashOrStop first.now second.now result }
+    ensures squash { IsSquashOrStop first.now second.now result }
+    ensures error { IfErr result (λ stop. HasError stop (λ e. e ≡ record { kind = Steps; left = left })) }
 {
     let bad = TextError {
         kind: FaultKind::Steps,
@@ -88,7 +91,7 @@ struct OldHead {
 }
 
 /// Reads the part of a record of version 1 before its second step.
-#[tactic(auto, unfolding(crate::specs::Inner::Reading::old_head_at, crate::specs::Inner::Allocating::old_head_allocates))]
+#[tactic(auto, unfolding(crate::specs::OldParsing::old_head_at, crate::specs::Inner::Allocating::old_head_allocates))]
 fn old_head(alloc: Global, text: &[u8]) -> Result<(OldHead, &[u8]), DecodeStop>
     ensures { IsRead (λ x. (head_view x.0, x.1.now)) (old_head_allocates text.now) result
         (old_head_at text.now) }
@@ -108,7 +111,9 @@ fn old_head(alloc: Global, text: &[u8]) -> Result<(OldHead, &[u8]), DecodeStop>
 
 /// Reads a record of version 1 and squashes its steps into one list.
 fn old_record(alloc: Global, text: &[u8]) -> Result<(Record, &[u8]), DecodeStop>
-    ensures { ParsesAs (λ x. x.0) (λ x. x.1.now) (old_record_allocates text.now) result (OldRecordAt text.now) }
+    ensures parses { ParsesAs (λ x. x.0) (λ x. x.1.now) (old_record_allocates text.now) result
+        (OldRecordAt text.now) }
+    ensures error { IfErr result (λ stop. HasError stop (OldRecordError text.now)) }
 {
     let (head, rest) = old_head(alloc, text)?;
     let OldHead {
@@ -125,7 +130,7 @@ fn old_record(alloc: Global, text: &[u8]) -> Result<(Record, &[u8]), DecodeStop>
 fn record_of_version(alloc: Global, old: bool, text: &[u8]) -> Result<(Record, &[u8]), DecodeStop>
     ensures parses { ParsesAs (λ x. x.0) (λ x. x.1.now) (allocates old text.now) result
         (RecordAt old text.now) }
-    ensures error { IfErr result (λ e. IsErrorOf old text.now e) }
+    ensures error { IfErr result (λ stop. HasError stop (RecordError old text.now)) }
 {
     if old {
         old_record(alloc, text)

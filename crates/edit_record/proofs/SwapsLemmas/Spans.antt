@@ -8,7 +8,7 @@ use Rattle.edit_record.specs.Lists.Pieces.{EditEntry, removed_len, added_len}
 use Rattle.edit_record.specs.Lists.Validity.{AreDisjoint}
 use Rattle.edit_record.specs.Squashes.Groups.{Span, span_end, added_spans, removed_spans}
 use Rattle.edit_record.specs.Swaps.Swap.{IsItem, is_before, IsRelocated, AreRelocated}
-use Rattle.edit_record.specs.Swaps.Inner.SwapState.{StartsFrom}
+use Rattle.edit_record.specs.Swaps.Inner.SwapState.{StartsAfter}
 
 pub at_within : {X : Type 0} (i : ℕ) (x : X) (xs : List X) → IsItem i x xs → i < length xs
 at_within i x [] h = absurd h
@@ -33,7 +33,7 @@ removed_later n from [] k x p h = absurd h
 removed_later n from (y ∷ ys) zero x p h = let later = p.0.later in let e = ap (λ (z : Span). z.from) h in omega arith
 removed_later n from (y ∷ ys) (suc k) x p h = let later = p.0.later in let i = removed_later n (y.at + length y.removed) ys k x p.1 h in omega arith
 
-pub removed_behind : (n from to : ℕ) (ys : List EditEntry) (k : ℕ) (x : Span) → AreDisjoint n from ys → StartsFrom to ys → IsItem k x (removed_spans ys) → to < x.from
+pub removed_behind : (n from to : ℕ) (ys : List EditEntry) (k : ℕ) (x : Span) → AreDisjoint n from ys → StartsAfter to ys → IsItem k x (removed_spans ys) → to < x.from
 removed_behind n from to [] k x p b h = absurd h
 removed_behind n from to (y ∷ ys) zero x p b h = let e = ap (λ (z : Span). z.from) h in omega (arith, b)
 removed_behind n from to (y ∷ ys) (suc k) x p b h = let i = removed_later n (y.at + length y.removed) ys k x p.1 h in omega (arith, b)
@@ -43,7 +43,7 @@ added_later n old mid [] k x p h = absurd h
 added_later n old mid (e ∷ xs) zero x p h = let q = ap (λ (z : Span). z.from) h in omega arith
 added_later n old mid (e ∷ xs) (suc k) x p h = let i = added_later n (e.at + length e.removed) (mid + (e.at - old) + length e.added) xs k x p.1 h in omega arith
 
-pub added_behind : (n old mid to : ℕ) (xs : List EditEntry) (k : ℕ) (x : Span) → AreDisjoint n old xs → old ≤ to → StartsFrom to xs → IsItem k x (added_spans old mid xs) → mid + (to - old) < x.from
+pub added_behind : (n old mid to : ℕ) (xs : List EditEntry) (k : ℕ) (x : Span) → AreDisjoint n old xs → old ≤ to → StartsAfter to xs → IsItem k x (added_spans old mid xs) → mid + (to - old) < x.from
 added_behind n old mid to [] k x p le b h = absurd h
 added_behind n old mid to (e ∷ xs) zero x p le b h = let q = ap (λ (z : Span). z.from) h in omega (arith, b)
 added_behind n old mid to (e ∷ xs) (suc k) x p le b h = let i = added_later n (e.at + length e.removed) (mid + (e.at - old) + length e.added) xs k x p.1 h in omega (arith, b)
@@ -73,7 +73,7 @@ removed_all_later : (n from to : ℕ) (ys : List EditEntry) → to < from → Ar
 removed_all_later n from to [] lt p = tt
 removed_all_later n from to (y ∷ ys) lt p = let later = p.0.later in (omega (arith, lt), removed_all_later n (y.at + length y.removed) to ys (omega (arith, lt)) p.1)
 
-pub removed_all_behind : (n from to : ℕ) (ys : List EditEntry) → AreDisjoint n from ys → StartsFrom to ys → AllByRecursion (λ y. to < y.from) (removed_spans ys)
+pub removed_all_behind : (n from to : ℕ) (ys : List EditEntry) → AreDisjoint n from ys → StartsAfter to ys → AllByRecursion (λ y. to < y.from) (removed_spans ys)
 removed_all_behind n from to [] p b = tt
 removed_all_behind n from to (y ∷ ys) p b = (b, removed_all_later n (y.at + length y.removed) to ys (omega (arith, b)) p.1)
 
@@ -81,7 +81,7 @@ added_all_later : (n old mid to : ℕ) (xs : List EditEntry) → to < mid → Ar
 added_all_later n old mid to [] lt p = tt
 added_all_later n old mid to (e ∷ xs) lt p = (omega (arith, lt), added_all_later n (e.at + length e.removed) (mid + (e.at - old) + length e.added) to xs (omega (arith, lt)) p.1)
 
-pub added_all_behind : (n old mid to bound : ℕ) (xs : List EditEntry) → old ≤ to → bound ≤ mid + (to - old) → AreDisjoint n old xs → StartsFrom to xs → AllByRecursion (λ x. bound < x.from) (added_spans old mid xs)
+pub added_all_behind : (n old mid to bound : ℕ) (xs : List EditEntry) → old ≤ to → bound ≤ mid + (to - old) → AreDisjoint n old xs → StartsAfter to xs → AllByRecursion (λ x. bound < x.from) (added_spans old mid xs)
 added_all_behind n old mid to bound [] le b p h = tt
 added_all_behind n old mid to bound (e ∷ xs) le b p h = (omega (arith, b, h, le), added_all_later n (e.at + length e.removed) (mid + (e.at - old) + length e.added) bound xs (omega (arith, b, h, le)) p.1)
 

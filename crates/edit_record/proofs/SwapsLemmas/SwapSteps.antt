@@ -5,7 +5,7 @@ use Rattle.std.proofs.lemmas.Bool.{ltb-true, ltb-false}
 use Rattle.edit_record.specs.Lists.Pieces.{EditEntry, EditList, as_list, removed_len, added_len}
 use Rattle.edit_record.specs.Lists.Validity.{AreDisjoint, AreValidEdits, new_len}
 use Rattle.edit_record.specs.declared.lists.edits.TheConstants.{MAX_TEXT}
-use Rattle.edit_record.specs.Swaps.Inner.SwapState.{StartsFrom, relocate, IsSwapTrace, State, first_is_next, second_is_next, take_first, take_second, with_edits, skip_first, skip_second, SwapInvariant, HoldsInvariant, IsSwapDone, initial}
+use Rattle.edit_record.specs.Swaps.Inner.SwapState.{StartsAfter, relocate, IsSwapTrace, State, first_is_next, second_is_next, take_first, take_second, with_edits, skip_first, skip_second, SwapInvariant, HoldsInvariant, IsSwapDone, initial}
 use Rattle.edit_record.specs.Squashes.Groups.{Span, span_end, added_spans, removed_spans}
 use Rattle.edit_record.specs.Swaps.Swap.{IsItem, Meet, FirstMeeting, IsSwap, IsWithinLimit, AreRelocated}
 use Rattle.std.specs.Prelude.{sum_by, Result, Ok, Err, IfErr}
@@ -67,11 +67,11 @@ second_is_next_done us vs p (x ∷ xs) [] = refl
 second_is_next_done us vs p [] (y ∷ ys) = refl
 second_is_next_done us vs p (x ∷ xs) (y ∷ ys) = refl
 
-behind_first : (s : State) (x : EditEntry) (xs ys : List EditEntry) → first_is_next s (x ∷ xs) ys ≡ true → StartsFrom (s.mid + (x.at - s.old) + length x.added) ys
+behind_first : (s : State) (x : EditEntry) (xs ys : List EditEntry) → first_is_next s (x ∷ xs) ys ≡ true → StartsAfter (s.mid + (x.at - s.old) + length x.added) ys
 behind_first s x xs [] t = tt
 behind_first s x xs (y ∷ ys) t = let l = ltb-true ((x.at - s.old) + length x.added) (y.at - s.mid) t in omega arith
 
-behind_second : (s : State) (xs : List EditEntry) (y : EditEntry) (ys : List EditEntry) → second_is_next s xs (y ∷ ys) ≡ true → StartsFrom (s.old + (y.at - s.mid) + length y.removed) xs
+behind_second : (s : State) (xs : List EditEntry) (y : EditEntry) (ys : List EditEntry) → second_is_next s xs (y ∷ ys) ≡ true → StartsAfter (s.old + (y.at - s.mid) + length y.removed) xs
 behind_second s [] y ys t = tt
 behind_second s (x ∷ xs) y ys t = let l = ltb-true ((y.at - s.mid) + length y.removed) (x.at - s.old) t in omega arith
 
@@ -84,7 +84,7 @@ added_len_of old mid (e ∷ es) = let i = added_len_of (e.at + length e.removed)
 
 module _ (la lb ab rb : ℕ) (a b : List EditEntry) where
   -- the next edit of the first list meets none of the second, of which the next begins behind it
-  first_apart : (s : State) (x : EditEntry) (xs ys : List EditEntry) (u : Under la lb ab rb a b s (x ∷ xs) ys) → StartsFrom (s.mid + (x.at - s.old) + length x.added) ys
+  first_apart : (s : State) (x : EditEntry) (xs ys : List EditEntry) (u : Under la lb ab rb a b s (x ∷ xs) ys) → StartsAfter (s.mid + (x.at - s.old) + length x.added) ys
       → (i j : ℕ) → Meet (as_list la a) (as_list lb b) i j → (length u.done_firsts + 1 ≤ i) × (length u.done_seconds ≤ j)
   first_apart s x xs ys u beh i j m =
       let before = u.apart i j m in
@@ -159,7 +159,7 @@ module _ (la lb ab rb : ℕ) (a b : List EditEntry) where
       )
 
   -- the next edit of the second list meets none of the first, of which the next begins behind it
-  second_apart : (s : State) (xs : List EditEntry) (y : EditEntry) (ys : List EditEntry) (u : Under la lb ab rb a b s xs (y ∷ ys)) → StartsFrom (s.old + (y.at - s.mid) + length y.removed) xs
+  second_apart : (s : State) (xs : List EditEntry) (y : EditEntry) (ys : List EditEntry) (u : Under la lb ab rb a b s xs (y ∷ ys)) → StartsAfter (s.old + (y.at - s.mid) + length y.removed) xs
       → (i j : ℕ) → Meet (as_list la a) (as_list lb b) i j → (length u.done_firsts ≤ i) × (length u.done_seconds + 1 ≤ j)
   second_apart s xs y ys u beh i j m =
       let before = u.apart i j m in

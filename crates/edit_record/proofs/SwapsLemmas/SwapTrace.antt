@@ -2,7 +2,7 @@
 use Rattle.std.proofs.Common.{◌≡◌, ℕ, ◌+◌, ◌-◌, ◌≤◌, List, [], ◌∷◌, ◌++◌, length, Bool, true, false, refl, arith, sym, ap, ◌∙◌, append_assoc}
 use Rattle.edit_record.specs.Lists.Pieces.{EditEntry, removed_len, added_len}
 use Rattle.edit_record.specs.Lists.Validity.{AreDisjoint}
-use Rattle.edit_record.specs.Swaps.Inner.SwapState.{StartsFrom, relocate, IsSwapTrace}
+use Rattle.edit_record.specs.Swaps.Inner.SwapState.{StartsAfter, relocate, IsSwapTrace}
 use Rattle.edit_record.proofs.ListsLemmas.Placed.{placed_room}
 use Rattle.edit_record.proofs.ListsLemmas.Parts.{placed_earlier}
 use Rattle.edit_record.proofs.ListsLemmas.Pairs.{Both, Moved, Passes, passes_first, passes_second, passes_first_left, passes_second_left, Skips, skips, Alike}
@@ -93,7 +93,7 @@ at_nil la lb lw old mid other p b d = record {
       record { mid_first = t; mid_second = t; same = refl; first = (refl, l); second = (f.0 ∙ h.same ∙ h.second.0, omega arith) };
 }
 
-pub placed_behind : (n from to : ℕ) (ys : List EditEntry) → AreDisjoint n from ys → StartsFrom to ys → (ys ≡ [] → to ≤ n) → AreDisjoint n to ys
+pub placed_behind : (n from to : ℕ) (ys : List EditEntry) → AreDisjoint n from ys → StartsAfter to ys → (ys ≡ [] → to ≤ n) → AreDisjoint n to ys
 placed_behind n from to [] p b f = f refl
 placed_behind n from to (e ∷ ys) p b f = (record { later = omega (arith, b); within = p.0.within; some = p.0.some }, p.1)
 

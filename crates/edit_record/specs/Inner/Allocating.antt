@@ -5,7 +5,7 @@ use Rattle.edit_record.specs.declared.fault.FaultKind.TheVariants.{Head}
 use Rattle.edit_record.specs.declared.fault.TextError.{TextError}
 use Rattle.edit_record.specs.Text.{space, newline, max_number}
 use Rattle.edit_record.specs.Parsing.{expect, number_at, edit_at, word_at}
-use Rattle.edit_record.specs.Inner.Reading.{old_head_at}
+use Rattle.edit_record.specs.OldParsing.{old_head_at}
 
 -- something is read, and of it this is true
 abbrev pub is_ok_and : {A : Type 0} → Result A TextError → (A → Bool) → Bool

@@ -1,5 +1,5 @@
 -- The code's head of an old record, as the parser on lists has it.
-use Rattle.edit_record.specs.Inner.Reading.{OldHead}
+use Rattle.edit_record.specs.OldParsing.{OldHead}
 use Rattle.edit_record.specs.declared.decoder.OldHead.{OldHead as Head}
 
 abbrev pub head_view : Head → OldHead

@@ -4,12 +4,11 @@ use Rattle.edit_record.specs.Lists.Pieces.{EditList}
 use Rattle.edit_record.specs.Lists.Journal.{JournalEntry}
 use Rattle.edit_record.specs.Squashes.Squash.{IsSquash}
 use Rattle.edit_record.specs.Squashes.SquashLists.{SquashAll}
-use Rattle.edit_record.specs.Text.{record_text, OldRecord, old_record_text, MigratesTo, IsCurrentText, IsJournalText}
+use Rattle.edit_record.specs.Text.{record_text, OldRecord, old_record_text, MigratesTo, IsJournalText}
 use Rattle.edit_record.specs.Lists.Validity.{IsValidList}
-use Rattle.edit_record.specs.Decoding.{DecodeMayAllocate, IsFirstError, IsNotOld}
-use Rattle.edit_record.specs.Parsing.{record_at}
+use Rattle.edit_record.specs.Decoding.{DecodeMayAllocate, IsTextOf, IsFirstError}
 use Rattle.edit_record.specs.declared.fault.TextError.{TextError}
-use Rattle.edit_record.specs.Inner.Reading.{steps_at, old_record_at}
+use Rattle.edit_record.specs.OldParsing.{old_record_at}
 use Rattle.edit_record.specs.declared.fault.DecodeStop.{DecodeStop}
 use Rattle.edit_record.specs.declared.fault.DecodeStop.TheVariants as stops
 
@@ -44,11 +43,6 @@ IsSquashOrStop a b (Ok c) = IsSquash a b c
 IsSquashOrStop a b (Err stops.Memory) = Unit {0}
 IsSquashOrStop a b (Err (stops.Bad e)) = (c : EditList) → IsSquash a b c → ⊥
 
--- n lists follow the first, and squash with it to e
-abbrev pub SquashAt : EditList → ℕ → List ℕ → EditList → List ℕ → Type 0
-SquashAt first n t e rest =
-    (others : List EditList) × (steps_at n t ≡ Ok (others, rest)) × SquashAll first others e
-
 -- the text begins with a record: of version 2, or of version 1, which it migrates from
 abbrev pub RecordAt : Bool → List ℕ → JournalEntry → List ℕ → Type 0
 RecordAt false t r rest = (t ≡ record_text r ++ rest) × IsValidList r.edits
@@ -58,22 +52,21 @@ abbrev pub RecordsAt : Bool → List ℕ → List JournalEntry → Type 0
 RecordsAt old t [] = t ≡ []
 RecordsAt old t (r ∷ rs) = (rest : List ℕ) × RecordAt old t r rest × RecordsAt old rest rs
 
--- the text begins with the text of these records of version 2
-abbrev pub StartsWith : List ℕ → List JournalEntry → List ℕ → Type 0
-StartsWith text records rest = (done : List ℕ) × IsCurrentText done records × (text ≡ done ++ rest)
+-- the text begins with the text of these records
+abbrev pub StartsWith : Bool → List ℕ → List JournalEntry → List ℕ → Type 0
+StartsWith old text records rest = (done : List ℕ) × IsTextOf old done records × (text ≡ done ++ rest)
 
--- of a record of version 2, this is the error
-abbrev pub IsErrorOf : Bool → List ℕ → DecodeStop → Type 0
-IsErrorOf true t stop = ⊤
-IsErrorOf false t stops.Memory = ⊤
-IsErrorOf false t (stops.Bad e) = record_at t ≡ Err e
+-- a reader that stopped at an error returned the right one
+abbrev pub HasError : DecodeStop → (TextError → Type 0) → Type 0
+HasError stops.Memory Right = ⊤
+HasError (stops.Bad e) Right = Right e
 
 -- the journal of the whole text, or why there is none
 abbrev pub IsReadResult : List ℕ → Result (List JournalEntry) DecodeStop → Type 0
 IsReadResult text (Ok rs) = IsJournalText text rs
 IsReadResult text (Err stops.Memory) = DecodeMayAllocate text
 IsReadResult text (Err (stops.Bad e)) =
-    ((rs : List JournalEntry) → IsJournalText text rs → ⊥) × (IsNotOld text → IsFirstError text e)
+    ((rs : List JournalEntry) → IsJournalText text rs → ⊥) × IsFirstError text e
 
 -- the text begins with an old record, whose steps squash to this one
 abbrev pub OldRecordAt : List ℕ → JournalEntry → List ℕ → Type 0

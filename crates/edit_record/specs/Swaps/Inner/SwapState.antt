@@ -6,9 +6,9 @@ use Rattle.edit_record.specs.Swaps.Swap.{NoneMeet, AreRelocated}
 use Rattle.edit_record.specs.Squashes.Groups.{added_spans, removed_spans}
 
 -- the next edit begins after `from`
-abbrev pub StartsFrom : ℕ → List EditEntry → Type 0
-StartsFrom from [] = Unit {0}
-StartsFrom from (e ∷ es) = from < e.at
+abbrev pub StartsAfter : ℕ → List EditEntry → Type 0
+StartsAfter from [] = Unit {0}
+StartsAfter from (e ∷ es) = from < e.at
 
 -- the edit, as far after `to` as it was after `from`
 abbrev pub relocate : ℕ → EditEntry → ℕ → EditEntry
@@ -22,11 +22,11 @@ abbrev pub IsSwapTrace : List Bool → ℕ → ℕ → ℕ → List EditEntry �
     → Type 0
 IsSwapTrace [] old mid other [] [] [] [] = Unit {0}
 IsSwapTrace (true ∷ ms) old mid other (x ∷ xs) ys us (v ∷ vs) =
-    (v ≡ relocate old x other) × StartsFrom (mid + (x.at - old) + length x.added) ys
+    (v ≡ relocate old x other) × StartsAfter (mid + (x.at - old) + length x.added) ys
     × IsSwapTrace ms (x.at + length x.removed) (mid + (x.at - old) + length x.added)
     (other + (x.at - old) + length x.removed) xs ys us vs
 IsSwapTrace (false ∷ ms) old mid other xs (y ∷ ys) (u ∷ us) vs =
-    (u ≡ relocate mid y old) × StartsFrom (old + (y.at - mid) + length y.removed) xs
+    (u ≡ relocate mid y old) × StartsAfter (old + (y.at - mid) + length y.removed) xs
     × IsSwapTrace ms (old + (y.at - mid) + length y.removed) (y.at + length y.removed)
     (other + (y.at - mid) + length y.added) xs ys us vs
 IsSwapTrace _ old mid other _ _ _ _ = ⊥
