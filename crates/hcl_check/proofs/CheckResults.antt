@@ -1,5 +1,5 @@
 -- What a parser that makes no nodes tells, by what one tells that makes them.
-use Rattle.std.proofs.Common.{◌≡◌, ℕ, ◌<◌, false, subst, List, Result, Ok, Err, IfErr, OnOk, refl, arith}
+use Rattle.std.proofs.Common.{◌≡◌, ◌≢◌, ℕ, ◌<◌, false, subst, List, Result, Ok, Err, IfErr, OnOk, refl, arith}
 use Rattle.hcl_grammar.specs.declared.fault.TokenFault.{TokenFault}
 use Rattle.hcl_grammar.specs.declared.tree.Tree.{Tree}
 use Rattle.hcl_grammar.specs.Bodies.{IsFile}
@@ -16,6 +16,9 @@ use Rattle.hcl_grammar_laws.proofs.BodyComplete.{file_answers}
 use Rattle.hcl_grammar_laws.proofs.Steps.{Answers, found, deep}
 use Rattle.hcl_token.specs.TokenizedText.{TokenizedText}
 use Rattle.hcl_text_laws.specs.Faults.{to_parse_fault}
+use Rattle.hcl_text_laws.specs.declared.fault.ParseFault.TheVariants as byte
+use Rattle.hcl_check.proofs.NoMemory.{NoMemory}
+use Rattle.hcl_check.proofs.NoMemory as none
 use Rattle.hcl_check.proofs.Same.{Same, Any, read, fault, file}
 
 read_by_both : {A B : Type 0} {o : Outcome A} {q : Outcome B} {x : A} {n : ℕ} → Same Any o q → o ≡ Ok (x, n) → (y : B) × (q ≡ done y n)
@@ -36,6 +39,10 @@ refused_deep : {d b : ℕ} {t : Tree} {n : ℕ} {o : Outcome Tree} (f : TokenFau
 refused_deep f found e = absurd (cc)
 refused_deep {o = o} f (deep {at} l) e = (l, deep_is at f o refl e)
 
+not_memory : {o : Outcome (Unit {0})} (f : TokenFault) → NoMemory o → o ≡ Err f → f ≢ Memory
+not_memory f none.read e = absurd (cc)
+not_memory f (none.refused {e = met} h) e = λ is. h (let same : met ≡ f = cc in cc)
+
 module _ (ts : List Token) (b : ℕ) (answers : FileParserIsExact) where
   derived : (r : Result (Unit {0}) TokenFault) (new : ℕ) → ReadsExactly (q.file ts b 0) r new → OnOk r ((t : Tree) × IsFile ts b t)
   derived (Ok x) new h = let w = read_by_both (file ts b 0) h in (w.0, (answers ts b (Ok w.0) new w.1).derived)
@@ -49,8 +56,12 @@ module _ (ts : List Token) (b : ℕ) (answers : FileParserIsExact) where
   deeper (Ok x) new h d t w = tt
   deeper (Err f) new h d t w = (refused_deep f (file_answers ts b d t w).1 (refused_by_both (file ts b 0) h)).1
 
+  no_memory : (r : Result (Unit {0}) TokenFault) (new : ℕ) → ReadsExactly (q.file ts b 0) r new → IfErr r (λ e. e ≢ Memory)
+  no_memory (Ok x) new h = tt
+  no_memory (Err f) new h = not_memory f (none.file ts b 0) h
+
   pub told_of : (r : Result (Unit {0}) TokenFault) (new : ℕ) → ReadsExactly (q.file ts b 0) r new → IsCheckResult ts b r
-  told_of r new h = record { derived = derived r new h; only = only r new h; deeper = deeper r new h }
+  told_of r new h = record { derived = derived r new h; only = only r new h; deeper = deeper r new h; no_memory = no_memory r new h }
 
 -- what is read by a reader of a text is read of the text's own tokens
 pub its_told : (ts : List Token) {here : ReaderState} {r s : Result (Unit {0}) TokenFault} (new : ℕ) → FileParserIsExact → here ≡ record { tokens = ts; skip_newlines = false; depth = MAX_NESTING } → r ≡ s
@@ -62,3 +73,8 @@ pub deep_by_bytes : (s : TokenizedText) (f : TokenFault) → IsDeep f → IsTooD
 deep_by_bytes s (TooDeep at) h = tt
 deep_by_bytes s (Syntax at) h = elim h [ ]
 deep_by_bytes s Memory h = elim h [ ]
+
+pub not_memory_by_bytes : (s : TokenizedText) (f : TokenFault) → f ≢ Memory → to_parse_fault s f ≢ byte.Memory
+not_memory_by_bytes s (TooDeep at) h e = cc
+not_memory_by_bytes s (Syntax at) h e = cc
+not_memory_by_bytes s Memory h e = h refl

@@ -1,5 +1,5 @@
 -- For proofs: what an answer has to be that says whether there is a tree; and which fault is that too much nests.
-use Rattle.std.specs.Prelude.{◌≡◌, ℕ, List, Result, Ok, IfErr, OnOk}
+use Rattle.std.specs.Prelude.{◌≡◌, ◌≢◌, ℕ, List, Result, Ok, IfErr, OnOk}
 use Rattle.hcl_grammar.specs.declared.fault.TokenFault.{TokenFault}
 use Rattle.hcl_grammar.specs.declared.fault.TokenFault.TheVariants as token
 use Rattle.hcl_grammar.specs.declared.tree.Tree.{Tree}
@@ -27,3 +27,5 @@ pub record IsCheckResult (ts : List Token) (b : ℕ) (answer : Result (Unit {0})
   pub only : (t : Tree) → IsFile ts b t → answer ≡ Ok tt
   -- where one is derived with whatever nesting, there is no fault, or it nests too deep
   pub deeper : (d : ℕ) (t : Tree) → IsFile ts d t → IfErr answer IsDeep
+  -- no memory is taken, so that it does not run out
+  pub no_memory : IfErr answer (λ e. e ≢ token.Memory)

@@ -1,5 +1,5 @@
 -- Which faults there are, and where in the text they stand.
-use Rattle.std.specs.Prelude.{ℕ, length, unwrap_or}
+use Rattle.std.specs.Prelude.{◌≡◌, ℕ, length, unwrap_or}
 use Rattle.std.specs.Option.{option_map}
 use Rattle.hcl_token.specs.TokenizedText.{TokenizedText, item_of}
 use Rattle.hcl_token.specs.declared.item.Item.{Item}
@@ -29,3 +29,9 @@ abbrev pub to_parse_fault : TokenizedText → TokenFault → ParseFault
 to_parse_fault t (token.Syntax number) = fault.Syntax (byte_offset t number)
 to_parse_fault t (token.TooDeep number) = fault.TooDeep (byte_offset t number)
 to_parse_fault t token.Memory = fault.Memory
+
+-- the place of an error is where a token begins, or the length of the text
+abbrev pub IsAtToken : TokenizedText → ParseFault → Type 0
+IsAtToken t (fault.Syntax at) = (number : ℕ) × (at ≡ byte_offset t number)
+IsAtToken t (fault.TooDeep at) = (number : ℕ) × (at ≡ byte_offset t number)
+IsAtToken t fault.Memory = Unit {0}
