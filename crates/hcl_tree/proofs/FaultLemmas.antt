@@ -1,5 +1,5 @@
 -- The tokens of a text that parses, and faults by numbers of tokens and by bytes.
-use Rattle.std.proofs.Common.{◌≡◌, ℕ, Bool, true, false, List, Result, sym, subst}
+use Rattle.std.proofs.Common.{◌≡◌, ℕ, Bool, true, false, List, Result, Ok, Err, IfOk, IfErr, MatchResult, sym, subst}
 use Rattle.hcl_expr.specs.ReaderRules.{ReaderState}
 use Rattle.hcl_token.specs.TokenizedText.{TokenizedText}
 use Rattle.hcl_token.specs.Tokens.{Pair}
@@ -15,7 +15,9 @@ use Rattle.hcl_grammar.specs.Tokens.{Token}
 use Rattle.hcl_grammar.specs.declared.bounds.TheConstants.{MAX_NESTING}
 use Rattle.hcl_grammar_laws.specs.Pure.ParserResults.{FileParserIsExact, IsParseResult}
 use Rattle.hcl_text_laws.specs.Parses.{Parses}
-use Rattle.hcl_text_laws.specs.Faults.{IsMemory, IsMemoryOrDeep, to_parse_fault}
+use Rattle.hcl_text_laws.proofs.FaultPlaces.{at_token}
+use Rattle.hcl_text_laws.specs.declared.fault.ParseFault.{ParseFault}
+use Rattle.hcl_text_laws.specs.Faults.{IsAtToken, IsMemory, IsMemoryOrDeep, to_parse_fault}
 
 -- what is read by a reader of a text is read of the text's own tokens
 its_reading : (ts : List Token) {here : ReaderState} {r q : Result Tree TokenFault} (new : ℕ) → here ≡ record { tokens = ts; skip_newlines = false; depth = MAX_NESTING } → r ≡ q
@@ -37,3 +39,19 @@ pub deep_to_parse_fault : (s : TokenizedText) (f : TokenFault) → pure.IsMemory
 deep_to_parse_fault s token.Memory h = tt
 deep_to_parse_fault s (token.TooDeep at) h = tt
 deep_to_parse_fault s (token.Syntax at) h = elim h [ ]
+
+-- what holds of what was read holds of the result, where an error is said by its byte
+module _ (s : TokenizedText) where
+  pub ok_by_bytes : (P Q : Tree → Type 0) → ((t : Tree) → P t → Q t) → (read : Result Tree TokenFault) (result : Result Tree ParseFault) → IfOk read (λ t. result ≡ Ok t) → IfErr read (λ f. result ≡ Err (to_parse_fault s f))
+      → IfOk read P → IfOk result Q
+  ok_by_bytes P Q more (Ok t) result tree fault h = rw tree (more t h)
+  ok_by_bytes P Q more (Err f) result tree fault h = rw fault tt
+
+  pub match_by_bytes : (P : Tree → Type 0) (M : TokenFault → Type 0) (N : ParseFault → Type 0) → ((f : TokenFault) → M f → N (to_parse_fault s f)) → (read : Result Tree TokenFault) (result : Result Tree ParseFault)
+      → IfOk read (λ t. result ≡ Ok t) → IfErr read (λ f. result ≡ Err (to_parse_fault s f)) → MatchResult read P M → MatchResult result P N
+  match_by_bytes P M N more (Ok t) result tree fault h = rw tree h
+  match_by_bytes P M N more (Err f) result tree fault h = rw fault (more f h)
+
+  pub place_by_bytes : (read : Result Tree TokenFault) (result : Result Tree ParseFault) → IfOk read (λ t. result ≡ Ok t) → IfErr read (λ f. result ≡ Err (to_parse_fault s f)) → IfErr result (λ e. IsAtToken s e)
+  place_by_bytes (Ok t) result tree fault = rw tree tt
+  place_by_bytes (Err f) result tree fault = rw fault (at_token s f)

@@ -7,10 +7,13 @@
 mod bodies;
 mod labels;
 mod parser;
+pub mod reading;
 
-pub use bodies::member;
-pub use hcl_expr::Reader;
-pub use hcl_grammar::tree::{Attribute, Block, Body, Expr, Template, Term, Tree};
-pub use hcl_grammar::{MAX_NESTING, tree};
+pub use hcl_grammar::tree::{
+    Attribute, BinaryOperator, Block, Body, Call, Content, Elem, Expr, ExprKind, ForDirective,
+    ForObject, ForTuple, IfDirective, Intro, Label, Member, Operation, Part, Primary, Tail,
+    Template, Term, Tree, UnaryOperator,
+};
+pub use hcl_grammar::{Boxed, Items, MAX_NESTING, tree};
 pub use hcl_text_laws::ParseFault;
 pub use parser::parse;

@@ -2,13 +2,13 @@
 //!
 //! HCL native syntax specification, Structural Elements.
 
-ghost use Rattle.std.specs.Prelude.{◌≡◌, ℕ, IfOk, MatchResult};
+ghost use Rattle.std.specs.Prelude.{◌≡◌, ℕ, Ok, Err, IfOk, IfErr, MatchResult};
 ghost use Rattle.hcl_grammar.specs.Bodies.{IsFile};
 ghost use Rattle.hcl_grammar.specs.Pure.Reading.{Reads};
 ghost use Rattle.hcl_grammar.specs.declared.tree.Tree as tree;
 ghost use Rattle.hcl_text_laws.specs.Parses.{Parses};
 ghost use Rattle.hcl_scan.specs.Follows.{tokens_of};
-ghost use Rattle.hcl_text_laws.specs.Faults.{IsMemory, IsMemoryOrDeep};
+ghost use Rattle.hcl_text_laws.specs.Faults.{IsAtToken, IsMemory, IsMemoryOrDeep, to_parse_fault};
 ghost use Rattle.hcl_tree.specs.BodyRules as spec;
 
 use crate::bodies::members;
@@ -37,11 +37,30 @@ fn file(reader: &Reader<'_, '_>, at: &mut usize) -> Result<Tree, TokenFault>
     Ok(nodes::tree(reader.len(), nodes::body(first, to, members)))
 }
 
-/// The tree of a text, if it parses: if its tokens follow the grammar, with at most 100 constructs
-/// in one another.
+/// Returns what was read of a text, with an error at its byte. No memory is taken.
+fn to_parse_result(
+    scanned: &Scanned<'_>,
+    read: Result<Tree, TokenFault>,
+) -> Result<Tree, ParseFault>
+    ensures tree { IfOk read (λ t. result ≡ Ok t) }
+    ensures fault { IfErr read (λ f. result ≡ Err (to_parse_fault scanned.now f)) }
+{
+    match read {
+        Ok(tree) => Ok(tree),
+        Err(fault) => Err(to_parse_fault(scanned, fault)),
+    }
+}
+
+/// Returns the tree of a text that parses: its tokens follow the grammar, with at most
+/// `MAX_NESTING` constructs in one another.
 ///
-/// Each node has the numbers of its first token and past its last. The text is read once, from left
-/// to right.
+/// Each node has the number of its first token and the number after its last. The text is read
+/// once, from left to right.
+///
+/// # Errors
+///
+/// The first error, reading from left to right: `Syntax`, or `TooDeep` for more than `MAX_NESTING`
+/// constructs in one another; `Memory` if an allocation fails before that.
 pub fn parse(alloc: Global, scanned: &Scanned<'_>) -> Result<Tree, ParseFault>
     // The text parses, and this is its tree.
     ensures parses { IfOk result (λ t. Parses scanned.now.text t) }
@@ -52,13 +71,12 @@ pub fn parse(alloc: Global, scanned: &Scanned<'_>) -> Result<Tree, ParseFault>
     // Where the tokens follow the grammar with more constructs in one another, the fault is that.
     ensures deeper { (d : ℕ) (t : tree.Tree) → IsFile (tokens_of scanned.now.pairs) d t
         → MatchResult result (λ x. x ≡ t) IsMemoryOrDeep }
+    // The place of an error is where a token begins, or the length of the text.
+    ensures place { IfErr result (λ e. IsAtToken scanned.now e) }
 {
     hcl_grammar_laws::laws::file_parser_is_exact();
     hcl_scan::laws::one_tokenization();
     let _count = scanned.len();
     let mut at = 0;
-    match file(&Reader::new(alloc, scanned), &mut at) {
-        Ok(tree) => Ok(tree),
-        Err(fault) => Err(to_parse_fault(scanned, fault)),
-    }
+    to_parse_result(scanned, file(&Reader::new(alloc, scanned), &mut at))
 }

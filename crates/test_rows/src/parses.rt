@@ -3,9 +3,8 @@
 use crate::actual::Answer;
 use crate::lints::searched;
 use crate::row::Row;
-use hcl_grammar::tree::Tree;
 use hcl_scan::{Scanned, scan};
-use hcl_tree::{ParseFault, parse};
+use hcl_tree::{ParseFault, Tree, parse};
 use std::fmt::Write;
 
 pub fn answer(row: &Row, out: &mut Answer) {

@@ -16,7 +16,7 @@ ghost use Rattle.tf_rules.specs.declared.rule_set.RuleSet.{RuleSet};
 use crate::member::{LintedMember, next_member};
 use hcl_grammar::fault::TokenFault;
 use hcl_scan::Scanned;
-use hcl_tree::Reader;
+use hcl_tree::reading::Reader;
 use std::alloc::{AllocError, Global};
 use tf_rules::{Finding, RuleSet};
 

@@ -2,13 +2,12 @@
 
 use crate::corpus::coverage::Seen;
 use crate::report::Report;
-use hcl_grammar::tree::{
-    Attribute, BinaryOperator, Block, Call, Content, Elem, Expr, ExprKind, ForDirective, ForObject,
-    ForTuple, IfDirective, Intro, Label, Member, Operation, Part, Primary, Tail, Template, Tree,
-    UnaryOperator,
-};
-use hcl_grammar::{Boxed, Items};
 use hcl_scan::{Kind, Scanned};
+use hcl_tree::{
+    Attribute, BinaryOperator, Block, Boxed, Call, Content, Elem, Expr, ExprKind, ForDirective,
+    ForObject, ForTuple, IfDirective, Intro, Items, Label, Member, Operation, Part, Primary, Tail,
+    Template, Tree, UnaryOperator,
+};
 
 /// More nodes than the tree of any of the texts has.
 const NODES: usize = 1_000_000;
