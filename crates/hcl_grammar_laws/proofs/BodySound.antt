@@ -5,10 +5,12 @@ use Rattle.hcl_token.specs.declared.kind.Kind.TheVariants as k
 use Rattle.hcl_grammar.specs.declared.fault.TokenFault.{TokenFault}
 use Rattle.hcl_grammar.specs.declared.fault.TokenFault.TheVariants.{TooDeep}
 use Rattle.hcl_grammar.specs.declared.tree.Attribute.{Attribute}
+use Rattle.hcl_grammar.specs.declared.tree.Expr.{Expr}
 use Rattle.hcl_grammar.specs.declared.tree.Content.{Content}
 use Rattle.hcl_grammar.specs.declared.tree.Content.TheVariants as content
 use Rattle.hcl_grammar.specs.declared.tree.Label.{Label}
 use Rattle.hcl_grammar.specs.declared.tree.Member.{Member}
+use Rattle.hcl_grammar.specs.declared.tree.Member.TheVariants as member
 use Rattle.hcl_grammar.specs.declared.tree.Tree.{Tree}
 use Rattle.hcl_grammar.specs.Bodies.{IsLabels, no_labels, word_label, text_label, empty_label, IsOneLineBody, nothing, one, IsMembers, no_members, blank, attribute, block, line_block, IsOptionalMark, no_mark, mark, at_end, at_comment, IsFile, file}
 use Rattle.hcl_grammar.specs.Pure.BodyParser as bodies
@@ -18,8 +20,18 @@ use Rattle.hcl_grammar.specs.Nodes as node
 use Rattle.hcl_grammar.specs.Pure.Reading.{Outcome, and_then, pure, expect, after_if_next}
 use Rattle.hcl_grammar.specs.Tokens.{Token, next_index, next_kind, after_next, first_token_in}
 use Rattle.hcl_grammar_laws.proofs.Inverts.{bind_inv, done, along, eaten, uneaten, eat_inv, expect_then, some_along, none_some, some_none, then_some, then, otherwise, chosen}
+use Rattle.hcl_grammar_laws.proofs.Opens.{open_attribute, open_block}
 use Rattle.hcl_grammar_laws.proofs.Steps.{sees-yes}
 use Rattle.hcl_grammar_laws.proofs.Sound.{sound, line-true, line-false, inner-true, inner-false}
+use Rattle.hcl_grammar_laws.specs.Members.{member_past, open_member_past}
+
+attribute_past : (first past : ℕ) (e : Expr) → member_past (member.Attribute (node.attribute first past e)) ≡ past
+unfolding node.attribute
+attribute_past first past e = ap open_member_past (open_attribute (node.attribute first past e))
+
+block_past : (first past : ℕ) (ls : List Label) (x : Content) → member_past (node.block first past ls x) ≡ past
+unfolding node.block
+block_past first past ls x = ap open_member_past (open_block _)
 
 pub shut : {A B : Type 0} {y : B} {j : ℕ} (o : Outcome A) (x : TokenFault) → and_then o (λ _ i. Err x) ≡ done y j → ⊥
 shut (Ok q) x e = absurd (cc)
@@ -110,7 +122,7 @@ module _ (ts : List Token) where
 
   -- the member from i to j stands before those that follow it
   abbrev pub Precedes : ℕ → ℕ → Member → ℕ → Type 0
-  Precedes b i m j = (ms : List Member) (l : ℕ) → IsMembers ts b ms j l → IsMembers ts b (m ∷ ms) i l
+  Precedes b i m j = (member_past m ≡ j) × ((ms : List Member) (l : ℕ) → IsMembers ts b ms j l → IsMembers ts b (m ∷ ms) i l)
 
   s_attribute : (b i : ℕ) → NextIs ts false k.Identifier i → NextIs ts false k.Equal (after_next ts false i) → (m : Member) (j : ℕ)
       → bodies.attribute_by ts b (deeper_members ts b) (next_index ts false i) (after_next ts false (after_next ts false i)) ≡ done m j → Precedes b i m j
@@ -120,7 +132,7 @@ module _ (ts : List Token) where
       let x = (sound ts b).whole false (after_next ts false (after_next ts false i)) w.value w.at w.is in
       let v = bind_inv _ _ w.rest in
       let l = s_eol w.at v.is in
-      along (λ m j. Precedes b i m j) v.rest (λ ms n r. attribute h q x l r)
+      along (λ m j. Precedes b i m j) v.rest (attribute_past _ _ _, λ ms n r. attribute h q x l r)
 
   -- what stands in the braces of a block, from i to j
   pub data Inside (a : ℕ) : Content → ℕ → ℕ → Type 0 where
@@ -151,8 +163,8 @@ module _ (ts : List Token) where
 
   block_from : {ls : List Label} {j o q : ℕ} (a i : ℕ) → NextIs ts false k.Identifier i → IsLabels ts ls (after_next ts false i) j → NextIs ts false k.OpenBrace j → (n : ℕ) → n ≡ after_next ts false j → (x : Content) → Inside a x n o
       → NextIs ts false k.CloseBrace o → IsEol ts (after_next ts false o) q → Precedes (suc a) i (node.block (next_index ts false i) q ls x) q
-  block_from a i h ls br n e x (inside_lines {n = from} nl bs) c el = λ ms l r. block h ls br (subst (λ n. IsNewline ts n from) e nl) bs c el r
-  block_from a i h ls br n e x (inside_line {x = found} {o = to} y) c el = λ ms l r. line_block h ls br (subst (λ n. IsOneLineBody ts a found n to) e y) c el r
+  block_from a i h ls br n e x (inside_lines {n = from} nl bs) c el = (block_past _ _ _ _, λ ms l r. block h ls br (subst (λ n. IsNewline ts n from) e nl) bs c el r)
+  block_from a i h ls br n e x (inside_line {x = found} {o = to} y) c el = (block_past _ _ _ _, λ ms l r. line_block h ls br (subst (λ n. IsOneLineBody ts a found n to) e y) c el r)
 
   s_block : (b : ℕ) → Below b → (i : ℕ) → NextIs ts false k.Identifier i → (m : Member) (j : ℕ)
       → bodies.block_by ts b (deeper_members ts b) (next_index ts false i) (after_next ts false i) ≡ done m j → Precedes b i m j
@@ -216,7 +228,7 @@ module _ (ts : List Token) where
       along (λ ys j. Members b acc ys i j) f (record { more = []; is = sym (append-nil acc); members = subst (λ n. IsMembers ts b [] i n) (sym (s_member_none b i n g)) no_members })
   members_step b z turns acc i ys j again (Some m) n g f =
       let r = again (acc ++ m ∷ []) n f in
-      record { more = m ∷ r.more; is = r.is ∙ append_assoc acc (m ∷ []) r.more; members = s_member_some b z i m n g r.more j r.members }
+      record { more = m ∷ r.more; is = r.is ∙ append_assoc acc (m ∷ []) r.more; members = (s_member_some b z i m n g).1 r.more j r.members }
 
   s_members : (b : ℕ) → Below b → (turns : ℕ) (acc : List Member) (i : ℕ) (ys : List Member) (j : ℕ) → bodies.members_from ts b (deeper_members ts b) turns acc i ≡ done ys j → Members b acc ys i j
   unfolding bodies.members_from

@@ -12,7 +12,7 @@ use Rattle.hcl_grammar.specs.Pure.Reading.{Outcome, Reads}
 use Rattle.hcl_grammar.specs.Tokens.{Token, next_kind}
 use Rattle.hcl_grammar_laws.proofs.BodyComplete.{c_member, c_none, file_answers}
 use Rattle.hcl_grammar_laws.proofs.BodySound.{below, file_derived, no_name, s_member_none, s_member_some, sound_body}
-use Rattle.hcl_grammar_laws.specs.Members.{IsMemberResult}
+use Rattle.hcl_grammar_laws.specs.Members.{IsMemberResult, member_past}
 use Rattle.hcl_grammar_laws.proofs.Inverts.{done, along}
 use Rattle.hcl_grammar_laws.proofs.Steps.{Answers, found, deep}
 
@@ -52,9 +52,15 @@ module _ (ts : List Token) (b : ℕ) (r : Result Tree TokenFault) (new : ℕ) (h
 module _ (ts : List Token) (b i : ℕ) where
   member_derived : (r : Result (Option Member) TokenFault) (new : ℕ) → Reads (member_of ts b (deeper_members ts b) i) r new
       → IfOk r (λ o. IfSome o (λ m. (ms : List Member) (l : ℕ) → IsMembers ts b ms new l → IsMembers ts b (m ∷ ms) i l))
-  member_derived (Ok (Some m)) new h = s_member_some ts b (below ts b (sound_body ts)) i m new h
+  member_derived (Ok (Some m)) new h = (s_member_some ts b (below ts b (sound_body ts)) i m new h).1
   member_derived (Ok None) new h = tt
   member_derived (Err f) new h = tt
+
+  member_ends : (r : Result (Option Member) TokenFault) (new : ℕ) → Reads (member_of ts b (deeper_members ts b) i) r new
+      → IfOk r (λ o. IfSome o (λ m. member_past m ≡ new))
+  member_ends (Ok (Some m)) new h = (s_member_some ts b (below ts b (sound_body ts)) i m new h).0
+  member_ends (Ok None) new h = tt
+  member_ends (Err f) new h = tt
 
   member_none : (r : Result (Option Member) TokenFault) (new : ℕ) → Reads (member_of ts b (deeper_members ts b) i) r new
       → IfOk r (λ o. IfNone o ((next_kind ts false i ≢ Some Identifier) × (new ≡ i)))
@@ -65,6 +71,7 @@ module _ (ts : List Token) (b i : ℕ) where
   pub member_is : (r : Result (Option Member) TokenFault) (new : ℕ) → Reads (member_of ts b (deeper_members ts b) i) r new → IsMemberResult ts b i r new
   member_is r new h = record {
     derived = member_derived r new h;
+    past = member_ends r new h;
     none = member_none r new h;
     nothing = λ q. found_or r new (omega arith) (c_none ts b i q) h;
     only = λ m ms l q w. found_or r new (omega arith) (c_member ts i q w b).1 h;
