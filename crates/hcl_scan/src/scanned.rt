@@ -1,6 +1,6 @@
 //! A text with its cut.
 
-ghost use Rattle.std.specs.Prelude.{◌≡◌, ◌+◌, ◌<◌, ◌≤◌, ◌↔◌, [], Some, IsTrue, IsUtf8, length, drop, IfOk, IfErr, ◌⊎◌};
+ghost use Rattle.std.specs.Prelude.{◌≡◌, ◌+◌, ◌<◌, ◌≤◌, ◌↔◌, [], Some, IsTrue, IsUtf8, length, drop, IfOk, IfErr, IsOk, ◌⊎◌};
 ghost use Rattle.hcl_token.specs.TokenizedText.{TokenizedText, AreUtf8, kind_of, spelling_of, gap_of, clusters_of, item_of, joins_of, pairs_in_range};
 ghost use Rattle.hcl_token.specs.Pairs.{InOrder, pairs_of};
 ghost use Rattle.hcl_token.specs.TokenLists.{IsTokenListOf};
@@ -43,6 +43,8 @@ pub fn scan<'t>(alloc: Global, text: &'t [u8]) -> Result<Scanned<'t>, ScanFault>
     ensures fault { IfErr result
         (λ e. ((e ≡ Memory) × (length text.now ≤ MAX_TEXT) × IsUtf8 text.now)
         ⊎ IsFault text.now e) }
+    // Nothing is allocated for the empty text.
+    ensures empty { text.now ≡ [] → IsOk result }
 {
     scan_in(alloc, Vec::new(alloc), text)
 }
@@ -59,6 +61,7 @@ pub fn scan_in<'t>(
     ensures fault { IfErr result
         (λ e. ((e ≡ Memory) × (length text.now ≤ MAX_TEXT) × IsUtf8 text.now)
         ⊎ IsFault text.now e) }
+    ensures empty { text.now ≡ [] → IsOk result }
 {
     let (items, last_gap_at) = tokenize(alloc, buffer, text)?;
     Ok(Scanned::of_tokens(text, items, last_gap_at))

@@ -1,6 +1,6 @@
 //! Where the tokens of a whole text stand.
 
-ghost use Rattle.std.specs.Prelude.{◌≡◌, ◌+◌, ◌<◌, ◌≤◌, ◌++◌, ◌∷◌, length, drop, IsUtf8, IfOk, IfErr, OnOk, IsTrue, ◌↔◌, [], ◌⊎◌};
+ghost use Rattle.std.specs.Prelude.{◌≡◌, ◌+◌, ◌<◌, ◌≤◌, ◌++◌, ◌∷◌, length, drop, IsUtf8, IfOk, IfErr, IsOk, OnOk, IsTrue, ◌↔◌, [], ◌⊎◌};
 ghost use Rattle.hcl_token.specs.Pairs.{pairs_of, InOrder};
 ghost use Rattle.hcl_scan.specs.Characters.{is_prefix_of};
 ghost use Rattle.hcl_scan.specs.Tokenization.{IsTokenization, MAX_TEXT, byte_order_mark};
@@ -144,8 +144,17 @@ fn tokenize_str(
     }
 }
 
-/// The items of a text, in a list that has room, and where its last gap begins; or its fault. A
-/// text that is too long or not UTF-8 takes no memory.
+/// Returns a list without its elements.
+fn cleared(buffer: Vec<Token>) -> Vec<Token>
+    ensures { result.items ≡ [] }
+{
+    let mut items = buffer;
+    items.clear();
+    items
+}
+
+/// Returns the tokens of a text, in the memory of a list, and where its last gap begins; or its
+/// error. Nothing is allocated for a text that is empty, too long or not UTF-8.
 pub fn tokenize(
     alloc: Global,
     buffer: Vec<Token>,
@@ -157,7 +166,11 @@ pub fn tokenize(
     ensures fault { IfErr result
         (λ e. ((e ≡ Memory) × (length text.now ≤ MAX_TEXT) × IsUtf8 text.now)
         ⊎ IsFault text.now e) }
+    ensures empty { text.now ≡ [] → IsOk result }
 {
+    if text.is_empty() {
+        return Ok((cleared(buffer), 0));
+    }
     if text.len() > MAX_TEXT {
         return Err(ScanFault::TooLong);
     }
