@@ -1,7 +1,8 @@
 -- Which gaps and tokens are meant by a text and by where its tokens start and stop.
-use Rattle.std.specs.Prelude.{◌≡◌, ℕ, ◌≤◌, List, [], ◌∷◌, drop, slice_range}
+use Rattle.std.specs.Prelude.{◌≡◌, ℕ, ◌≤◌, List, [], ◌∷◌, length, drop, slice_range}
 use Rattle.hcl_token.specs.declared.token.Token.{Token}
-use Rattle.hcl_token.specs.TokenizedText.{TokenizedText}
+use Rattle.hcl_token.specs.declared.tokens.TheConstants.{MAX_TEXT}
+use Rattle.hcl_token.specs.TokenizedText.{TokenizedText, AreUtf8}
 use Rattle.hcl_token.specs.Tokens.{Pair}
 
 -- the bytes from a place to where the token starts, and those from there to where it stops
@@ -32,3 +33,11 @@ abbrev pub InOrder : ℕ → List Token → ℕ → Type 0
 InOrder at [] last = at ≡ last
 InOrder at (token ∷ tokens) last =
     (at ≤ token.start) × (token.start ≤ token.stop) × InOrder token.stop tokens last
+
+-- a text of at most MAX_TEXT bytes with tokens in order, and where the gap after the last of them
+-- begins; each gap and each spelling is UTF-8
+pub record IsWellFormed (text : List ℕ) (tokens : List Token) (last_gap_at : ℕ) : Type 0 where
+  pub order : InOrder 0 tokens last_gap_at
+  pub within : last_gap_at ≤ length text
+  pub short : length text ≤ MAX_TEXT
+  pub utf8 : AreUtf8 (pairs_of text tokens)

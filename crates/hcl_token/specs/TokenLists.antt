@@ -1,8 +1,7 @@
 -- The tokens of a text, without it.
 use Rattle.std.specs.Prelude.{◌≡◌}
 use Rattle.hcl_token.specs.TokenizedText.{TokenizedText}
-use Rattle.hcl_token.specs.Inner.LineColumn.{IsWellFormed}
-use Rattle.hcl_token.specs.Pairs.{tokenized_text}
+use Rattle.hcl_token.specs.Pairs.{IsWellFormed, tokenized_text}
 use Rattle.hcl_token.specs.declared.token_list.TokenList.{TokenList}
 
 -- these are the tokens of the text, each where it stands in it

@@ -2,8 +2,8 @@
 
 ghost use Rattle.std.specs.Prelude.{◌≡◌, ◌<◌, ℕ, List, length};
 ghost use Rattle.hcl_token.specs.Tokens.{Pair};
-ghost use Rattle.hcl_token.specs.Pairs.{pairs_of};
-ghost use Rattle.hcl_token.specs.Inner.LineColumn.{IsGapPlace, IsWellFormed};
+ghost use Rattle.hcl_token.specs.Pairs.{IsWellFormed, pairs_of};
+ghost use Rattle.hcl_token.specs.Inner.LineColumn.{IsGapPlace};
 ghost use Rattle.hcl_token.specs.Place.{place_of};
 
 use crate::line_column::{FIRST_PLACE, gap_place, token_place};

@@ -6,6 +6,7 @@ use Rattle.hcl_token.specs.declared.token.Token.{Token}
 use Rattle.hcl_token.specs.declared.tokens.TheConstants.{MAX_TEXT}
 use Rattle.hcl_token.specs.Tokens.{Pair}
 use Rattle.hcl_token.specs.Pairs.{pairs_from, pairs_of, InOrder}
+pub use Rattle.hcl_token.specs.Pairs.{IsWellFormed}
 use Rattle.hcl_token.specs.TokenizedText.{AreUtf8}
 use Rattle.hcl_token.specs.Place.{MarksHaveNoLf, clusters, is_lf, is_mark, last_line}
 
@@ -54,13 +55,6 @@ gap_from at (token ∷ tokens) (suc i) = gap_from token.stop tokens i
 
 abbrev pub gap_at : List Token → ℕ → ℕ
 gap_at tokens i = gap_from 0 tokens i
-
--- a text with tokens in order
-pub record IsWellFormed (text : List ℕ) (tokens : List Token) (last_gap_at : ℕ) : Type 0 where
-  pub order : InOrder 0 tokens last_gap_at
-  pub within : last_gap_at ≤ length text
-  pub short : length text ≤ MAX_TEXT
-  pub utf8 : AreUtf8 (pairs_of text tokens)
 
 -- the place of the gap before a token, found from the front on
 pub record IsGapPlace (text : List ℕ) (tokens : List Token) (last_gap_at from : ℕ) (at : Place) : Type 0 where
