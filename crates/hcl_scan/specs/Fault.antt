@@ -1,5 +1,6 @@
--- The fault of a text that has no cut, and where it stands. HCL native syntax specification,
--- Lexical Elements.
+-- The error of a text that has no tokens, and its place. The errors, their order and their places
+-- are this project's own; the tokens are those of the HCL native syntax specification, Lexical
+-- Elements.
 use Rattle.std.specs.Prelude.{◌≡◌, ◌≢◌, ℕ, ◌+◌, ◌<◌, ◌≤◌, false, ◌&&◌, if◌then◌else◌, List, [], ◌∷◌, ◌++◌, length, drop, slice_index, IsUtf8, ◌==◌, ◌⊎◌}
 use Rattle.std.specs.Str.{IsValidUpTo}
 use Rattle.hcl_token.specs.declared.kind.Kind.{Kind}

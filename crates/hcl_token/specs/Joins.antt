@@ -1,6 +1,7 @@
 -- Which tokens join: with an empty gap between them, the two and what follows could be cut
 -- otherwise (as `1`, `e`, `+`, `5`).
--- HCL native syntax specification, Lexical Elements.
+-- The table is this project's own; the tokens are those of the HCL native syntax specification,
+-- Lexical Elements.
 use Rattle.std.specs.Prelude.{ℕ, nat_le, ◌==◌, Bool, true, false, not, ◌&&◌, ◌||◌, List, [], ◌∷◌}
 use Rattle.std.specs.List.{list_all}
 use Rattle.hcl_token.specs.declared.kind.Kind.{Kind}
