@@ -1,17 +1,16 @@
-//! Makes the system calls that save a file with its journal, in the order of `tf_saving`.
+//! Makes the system calls that save one of the two files, and returns the replies to them.
 
 use crate::adoption::can_adopt;
-use crate::file_part::{session_part, write_fault, write_part};
+use crate::file_part::{session_part, write_part};
 use crate::file_paths::{FilePaths, is_not_found};
-use crate::new_file::{copy_attributes, create_new, find_own_new};
-use crate::save_files::NewContents;
+use crate::new_file::{copy_attributes, create_new, find_own_new, start_writing, truncate};
 use crate::snapshot::Snapshot;
 use std::alloc::Global;
 use std::fs::{self, OpenFile, OpenOptions};
-use std::io::{self, ErrorKind, Write};
+use std::io::{self, ErrorKind};
 use std::path::Path;
 use std::rt::Files;
-use tf_saving::{Call, End, Part, Reply, Step};
+use tf_saving::{Call, Part, Reply};
 use tf_session::RunFault;
 
 /// What is known of a part's new file.
@@ -41,144 +40,72 @@ pub struct PartFile<'a, F: Drop> {
     pub new_file: NewFile<F>,
     bytes: &'a [u8],
     /// How many bytes were written.
-    sent: usize,
+    pub sent: usize,
     /// The file from before it was read.
     read: Option<Snapshot>,
-    is_out_of_memory: bool,
+    pub is_out_of_memory: bool,
+    /// Whether the system is to start writing the new file before anything waits for it.
+    starts_early: bool,
 }
 
-/// Makes the calls of a save. Returns whether the new files have replaced the old ones: if they
-/// can't, both are to be written in place.
-///
-/// # Errors
-/// `Write` with the part and the number of its bytes that were written; `Read` where it is not
-/// known what the next recovery will find.
-pub fn replace<R: Files>(
-    rt: &R,
-    alloc: Global,
-    paths: &FilePaths<'_>,
-    bytes: NewContents<'_>,
-    read: Option<Snapshot>,
-) -> Result<bool, RunFault> {
-    let mut text = text_file::<R::File>(paths, bytes.text, read, NewFile::NotCreated);
-    let mut journal = journal_file::<R::File>(paths, bytes.journal, NewFile::NotCreated);
-    let end = end_of(rt, alloc, &mut text, &mut journal, Step::SAVE);
-    outcome(end, &text, &journal)
-}
-
-/// Makes the calls of a recovery.
-///
-/// # Errors
-/// `Read` where it is not known what was interrupted; `Write` of the journal where a new one can't
-/// be removed or renamed; `Memory`.
-pub fn recover<R: Files>(rt: &R, alloc: Global, paths: &FilePaths<'_>) -> Result<(), RunFault> {
-    let mut text = text_file::<R::File>(paths, &[], None, NewFile::Left);
-    let mut journal = journal_file::<R::File>(paths, &[], NewFile::Left);
-    let end = end_of(rt, alloc, &mut text, &mut journal, Step::RECOVER);
-    outcome(end, &text, &journal)?;
-    Ok(())
-}
-
-fn text_file<'a, F: Drop>(
-    paths: &'a FilePaths<'_>,
-    bytes: &'a [u8],
-    read: Option<Snapshot>,
-    new_file: NewFile<F>,
-) -> PartFile<'a, F> {
-    PartFile {
-        given: paths.text,
-        own: paths.real_text.as_str(),
-        new: paths.new_text.as_str(),
-        text: paths.text,
-        new_file,
-        bytes,
-        sent: 0,
-        read,
-        is_out_of_memory: false,
+impl<'a, F: Drop> PartFile<'a, F> {
+    /// Returns the text's file. `read` is the file from before it was read.
+    pub fn text(
+        paths: &'a FilePaths<'_>,
+        bytes: &'a [u8],
+        read: Option<Snapshot>,
+        new_file: NewFile<F>,
+        starts_early: bool,
+    ) -> PartFile<'a, F> {
+        PartFile {
+            given: paths.text,
+            own: paths.real_text.as_str(),
+            new: paths.new_text.as_str(),
+            text: paths.text,
+            new_file,
+            bytes,
+            sent: 0,
+            read,
+            is_out_of_memory: false,
+            starts_early,
+        }
     }
-}
 
-fn journal_file<'a, F: Drop>(
-    paths: &'a FilePaths<'_>,
-    bytes: &'a [u8],
-    new_file: NewFile<F>,
-) -> PartFile<'a, F> {
-    PartFile {
-        given: paths.journal.as_str(),
-        own: paths.journal.as_str(),
-        new: paths.new_journal.as_str(),
-        text: paths.text,
-        new_file,
-        bytes,
-        sent: 0,
-        read: None,
-        is_out_of_memory: false,
-    }
-}
-
-fn end_of<R: Files>(
-    rt: &R,
-    alloc: Global,
-    text: &mut PartFile<'_, R::File>,
-    journal: &mut PartFile<'_, R::File>,
-    first: Step,
-) -> End {
-    let mut step = first;
-    loop {
-        let reply = match step.call() {
-            Ok(call) => match part_of(call) {
-                Part::Text => make(rt, alloc, text, call),
-                Part::Journal => make(rt, alloc, journal, call),
-            },
-            Err(end) => return end,
-        };
-        step = step.after(reply);
-    }
-}
-
-fn outcome<F: Drop>(
-    end: End,
-    text: &PartFile<'_, F>,
-    journal: &PartFile<'_, F>,
-) -> Result<bool, RunFault> {
-    match end {
-        End::Success => Ok(true),
-        End::InPlace => Ok(false),
-        End::Unknown if journal.is_out_of_memory => Err(RunFault::Memory),
-        End::Unknown => Err(RunFault::Read),
-        End::Error(Part::Text) => Err(write_fault(session_part(Part::Text), text.sent)),
-        End::Error(Part::Journal) | End::Late => {
-            Err(write_fault(session_part(Part::Journal), journal.sent))
+    /// Returns the journal's file.
+    pub fn journal(
+        paths: &'a FilePaths<'_>,
+        bytes: &'a [u8],
+        new_file: NewFile<F>,
+        starts_early: bool,
+    ) -> PartFile<'a, F> {
+        PartFile {
+            given: paths.journal.as_str(),
+            own: paths.journal.as_str(),
+            new: paths.new_journal.as_str(),
+            text: paths.text,
+            new_file,
+            bytes,
+            sent: 0,
+            read: None,
+            is_out_of_memory: false,
+            starts_early,
         }
     }
 }
 
-/// Returns the part that a call is about.
-fn part_of(call: Call) -> Part {
-    match call {
-        Call::Compare => Part::Text,
-        Call::CanAdopt => Part::Journal,
-        Call::Open(part)
-        | Call::FindNew(part)
-        | Call::CreateNew(part)
-        | Call::CopyAttributes(part)
-        | Call::Write(part)
-        | Call::Sync(part)
-        | Call::SyncDirectory(part)
-        | Call::CompareNew(part)
-        | Call::Rename(part)
-        | Call::Remove(part) => part,
-    }
-}
-
 /// Makes one call for the part that it is about.
-fn make<R: Files>(rt: &R, alloc: Global, file: &mut PartFile<'_, R::File>, call: Call) -> Reply {
+pub fn make<R: Files>(
+    rt: &R,
+    alloc: Global,
+    file: &mut PartFile<'_, R::File>,
+    call: Call,
+) -> Reply {
     match call {
         Call::Open(_) => open(rt, file.given),
         Call::FindNew(_) => reply_to(fs::symlink_metadata(rt, file.new)),
         Call::CreateNew(_) => create_new(rt, file),
         Call::CopyAttributes(_) => copy_attributes(rt, file),
-        Call::Write(part) => write(part, file),
+        Call::Write(part) => write(rt, part, file),
         Call::Sync(_) => sync(file),
         Call::SyncDirectory(_) => sync_directory(rt, file.own),
         Call::CompareNew(_) => compare_new(rt, file),
@@ -209,13 +136,19 @@ fn open<R: Files>(rt: &R, name: &str) -> Reply {
     }
 }
 
-fn write<F: Write + Drop>(part: Part, file: &mut PartFile<'_, F>) -> Reply {
+fn write<R: Files>(rt: &R, part: Part, file: &mut PartFile<'_, R::File>) -> Reply {
     let NewFile::Created(created) = &mut file.new_file else {
         return Reply::Failed;
     };
+    if file.starts_early && truncate(created).is_err() {
+        return Reply::Failed;
+    }
     match write_part(session_part(part), file.bytes, created) {
         Ok(()) => {
             file.sent = file.bytes.len();
+            if file.starts_early {
+                start_writing(rt, file);
+            }
             Reply::Done
         }
         Err(RunFault::Write { sent, .. }) => {
@@ -233,22 +166,30 @@ fn sync<F: OpenFile + Drop>(file: &mut PartFile<'_, F>) -> Reply {
     }
 }
 
-/// Syncs the directory of this name. A file system that can't sync directories has nothing to wait
-/// for.
+/// Syncs the directory of this name.
 pub fn sync_directory<R: Files>(rt: &R, name: &str) -> Reply {
+    match open_directory(rt, name) {
+        Ok(directory) => sync_opened(&directory),
+        Err(reply) => reply,
+    }
+}
+
+/// Opens the directory of this name to be synced; or returns the reply.
+pub fn open_directory<R: Files>(rt: &R, name: &str) -> Result<R::File, Reply> {
     let directory = match Path::new(name).parent() {
         Some(directory) if !directory.as_str().is_empty() => directory.as_str(),
         _ => ".",
     };
     match fs::open(rt, directory) {
-        Ok(directory) => reply_to_sync(directory.sync_all()),
-        Err(error) if error.kind() == ErrorKind::PermissionDenied => Reply::CannotReplace,
-        Err(_) => Reply::Failed,
+        Ok(directory) => Ok(directory),
+        Err(error) if error.kind() == ErrorKind::PermissionDenied => Err(Reply::CannotReplace),
+        Err(_) => Err(Reply::Failed),
     }
 }
 
-fn reply_to_sync(answer: io::Result<()>) -> Reply {
-    match answer {
+/// Syncs an opened directory. A file system that can't sync directories has nothing to wait for.
+pub fn sync_opened<F: OpenFile>(directory: &F) -> Reply {
+    match directory.sync_all() {
         Err(error) if error.kind() == ErrorKind::InvalidInput => Reply::Done,
         answer => reply_to(answer),
     }

@@ -1,8 +1,9 @@
 //! Files that have their journals beside them.
 
-use crate::calls::recover;
+use crate::changed_file::ChangedFile;
 use crate::file_paths::{FilePaths, is_absent, is_not_found};
-use crate::save_files::{NewContents, save};
+use crate::found_files::FoundFiles;
+use crate::saves::recover;
 use crate::snapshot::Snapshot;
 use std::alloc::Global;
 use std::io::{ErrorKind, Read};
@@ -38,15 +39,19 @@ impl<'a> JournaledFile<'a> {
         })
     }
 
-    /// Writes both. At a fault they are as they were; `Write` names the part that could not be
-    /// written.
-    pub fn save<R: Files>(&self, rt: &R, alloc: Global) -> Result<(), RunFault> {
+    /// Returns what is to be saved. The session goes, since its journal takes more memory than the
+    /// journal's text.
+    pub fn changed<R: Files>(self, rt: &R, alloc: Global) -> Result<ChangedFile<'a>, RunFault> {
         let journal = journal_text(alloc, &self.session)?;
-        let contents = NewContents {
-            journal: &journal,
-            text: self.session.text(),
-        };
-        save(rt, alloc, &self.paths, contents, self.read)
+        let text = Vec::from_slice(alloc, self.session.text())?;
+        let found = FoundFiles::of(rt, &self.paths);
+        Ok(ChangedFile {
+            paths: self.paths,
+            read: self.read,
+            text,
+            journal,
+            found,
+        })
     }
 }
 

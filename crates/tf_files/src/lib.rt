@@ -3,12 +3,17 @@
 
 mod adoption;
 mod calls;
+mod changed_file;
 mod file_part;
 mod file_paths;
+mod found_files;
 mod journaled_file;
 mod new_file;
 mod overwrite_files;
-mod save_files;
+mod saves;
 mod snapshot;
 
+pub use changed_file::{ChangedFile, save_together};
+pub use found_files::FoundFiles;
 pub use journaled_file::{JournaledFile, load_read_only};
+pub use saves::Attempt;

@@ -3,7 +3,7 @@
 use crate::calls::{NewFile, PartFile};
 use crate::file_paths::is_not_found;
 use std::fs::{self, Metadata, OpenFile, OpenOptions};
-use std::io::{self, ErrorKind};
+use std::io::{self, ErrorKind, Seek, Write};
 use std::os::unix::fs::{MetadataExt, OpenOptionsExt, PermissionsExt, lchown};
 use std::rt::Files;
 use tf_saving::Reply;
@@ -97,6 +97,23 @@ fn make_like<R: Files>(rt: &R, old: &Metadata, name: &str, created: &R::File) ->
     match created.set_permissions(old.permissions()) {
         Ok(()) => Reply::Done,
         Err(error) => reply_to_refusal(&error),
+    }
+}
+
+/// Empties a file that had a byte. Such a file is written out as soon as a handle to it is closed
+/// (ext4, XFS), and nobody waits for that.
+pub fn truncate<F: Write + Seek + OpenFile>(file: &mut F) -> io::Result<()> {
+    file.write_all(b"\n")?;
+    file.set_len(0)?;
+    file.rewind()
+}
+
+/// Has the system start to write out the new file, which was emptied before it was written, by
+/// closing a handle to it. A sync then finds less to wait for, or nothing. Where it fails, that sync
+/// only takes longer.
+pub fn start_writing<R: Files>(rt: &R, file: &PartFile<'_, R::File>) {
+    if matches!(find_own_new(rt, file), Reply::Done) {
+        let _ = fs::open(rt, file.new);
     }
 }
 

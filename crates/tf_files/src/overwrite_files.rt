@@ -3,7 +3,7 @@
 use crate::calls::sync_directory;
 use crate::file_part::{write_fault, write_part};
 use crate::file_paths::{FilePaths, is_absent};
-use crate::save_files::NewContents;
+use crate::saves::NewContents;
 use crate::snapshot::Snapshot;
 use std::alloc::Global;
 use std::fs::{self, OpenFile, OpenOptions};

@@ -1,14 +1,15 @@
 //! The work that the words ask for.
 
+use crate::batch::Batch;
 use crate::files::{
-    STANDARD_INPUT, check_file, check_input, fix_file, fix_input, format_file, format_input,
-    lint_file, lint_input, list_file, revert_file,
+    STANDARD_INPUT, check_file, check_input, fix_input, format_input, lint_file, lint_input,
+    list_file,
 };
-use std::alloc::{AllocError, Global};
+use std::alloc::Global;
 use std::io::{Read, Write};
 use std::rt::Files;
 use tf_cli::{Action, CommandLine, Exit, FileOutcome, RunOutcome, Task};
-use tf_session::{RunFault, Told, put_text};
+use tf_session::{Command, RunFault, Told, put_text};
 
 const OUT_OF_MEMORY: &str = "tfk: out of memory\n";
 
@@ -73,7 +74,8 @@ fn write_help<O: Write>(output: &mut O, text: &str) -> Result<(), RunFault> {
     put_text(line_end.as_bytes(), &mut output)
 }
 
-/// One file after the other, in the order given; a fault on one does not stop the next.
+/// One file after the other, in the order given; a fault on one does not stop the next. Those that
+/// change may be saved later than the next are read.
 fn run_task<R: Files, I: Read, O: Write, F: Write>(
     rt: &R,
     alloc: Global,
@@ -82,57 +84,41 @@ fn run_task<R: Files, I: Read, O: Write, F: Write>(
     output: &mut O,
     faults: &mut F,
 ) -> RunOutcome {
-    let mut outcome = RunOutcome::default();
+    let mut batch = Batch::new(alloc);
     for name in &task.files {
-        match run_on_file(rt, alloc, task.action, name, input, output, faults) {
-            Ok(file_outcome) => outcome = outcome.with_file(file_outcome),
-            Err(fault) => {
-                outcome.has_fault = true;
-                report_fault(alloc, faults, name, &fault);
-            }
+        if *name == STANDARD_INPUT {
+            batch.finish(rt, output, faults);
+            let result = run_on_stdin(alloc, task.action, input, output, faults);
+            batch.note(name, result, faults);
+        } else {
+            run_on_file(rt, alloc, task.action, name, &mut batch, output, faults);
         }
     }
-    outcome
+    batch.finish(rt, output, faults);
+    batch.outcome
 }
 
-/// Writes the line of an error at once, so that lines of programs that run side by side don't mix;
-/// in pieces where there is no memory for it. Where standard error takes nothing, the status still
-/// tells the fault.
-fn report_fault<F: Write>(alloc: Global, faults: &mut F, name: &str, fault: &RunFault) {
-    match fault_line(alloc, name, fault) {
-        Ok(line) => {
-            let _ = faults.write_all(line.as_bytes());
-        }
-        Err(_) => {
-            let _ = writeln!(faults, "tfk: {name}: {fault}");
-        }
-    }
-}
-
-fn fault_line(alloc: Global, name: &str, fault: &RunFault) -> Result<String, AllocError> {
-    format!(in alloc; "tfk: {name}: {fault}\n")
-}
-
-/// What the work on one file has met.
-fn run_on_file<R: Files, I: Read, O: Write, F: Write>(
+fn run_on_file<'a, R: Files, O: Write, F: Write>(
     rt: &R,
     alloc: Global,
     action: Action,
-    name: &str,
-    input: &mut I,
+    name: &'a str,
+    batch: &mut Batch<'a>,
     output: &mut O,
     faults: &mut F,
-) -> Result<FileOutcome, RunFault> {
-    if name == STANDARD_INPUT {
-        return run_on_stdin(alloc, action, input, output, faults);
-    }
+) {
     match action {
-        Action::Format => format_file(rt, alloc, name, output),
-        Action::Check => check_file(rt, alloc, name, output),
-        Action::Lint(rules) => lint_file(rt, alloc, name, output, rules),
-        Action::Fix(rules) => fix_file(rt, alloc, name, output, rules),
-        Action::Revert(number) => revert_file(rt, alloc, name, number),
-        Action::List => list_file(rt, alloc, name, output),
+        Action::Format => batch.change(rt, Command::Fmt, name, output, faults),
+        Action::Fix(rules) => batch.change(rt, Command::Fix(rules), name, output, faults),
+        Action::Revert(Some(number)) => {
+            batch.change(rt, Command::Take(number), name, output, faults)
+        }
+        Action::Revert(None) => batch.change(rt, Command::Revert, name, output, faults),
+        Action::Check => batch.note(name, check_file(rt, alloc, name, output), faults),
+        Action::Lint(rules) => {
+            batch.note(name, lint_file(rt, alloc, name, output, rules), faults)
+        }
+        Action::List => batch.note(name, list_file(rt, alloc, name, output), faults),
     }
 }
 

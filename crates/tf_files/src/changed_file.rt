@@ -1,0 +1,115 @@
+//! Files that were changed in memory, and are saved alone or many at once.
+
+use crate::file_paths::FilePaths;
+use crate::found_files::FoundFiles;
+use crate::overwrite_files::overwrite;
+use crate::saves::{Attempt, NewContents, Save, recover, save_in_rows};
+use crate::snapshot::Snapshot;
+use std::alloc::{AllocError, Global};
+use std::rt::Files;
+use tf_session::RunFault;
+
+/// A file with the text and the journal that it is to have. Neither is written yet.
+#[derive(Drop)]
+pub struct ChangedFile<'a> {
+    pub paths: FilePaths<'a>,
+    /// The file from before it was read.
+    pub read: Option<Snapshot>,
+    pub text: Vec<u8>,
+    pub journal: Vec<u8>,
+    /// None where it may have files in common with any other.
+    pub found: Option<FoundFiles>,
+}
+
+impl<'a> ChangedFile<'a> {
+    /// Returns how many bytes it holds.
+    pub fn size(&self) -> usize {
+        self.text.len().saturating_add(self.journal.len())
+    }
+
+    /// Returns whether it may be saved after another file was read.
+    pub fn can_wait(&self) -> bool {
+        self.found.is_some()
+    }
+
+    /// Returns whether it may have a file in common with another one.
+    pub fn shares(&self, other: &FoundFiles) -> bool {
+        match &self.found {
+            Some(found) => found.share(other),
+            None => true,
+        }
+    }
+
+    fn contents(&self) -> NewContents<'_> {
+        NewContents {
+            journal: &self.journal,
+            text: &self.text,
+        }
+    }
+
+    /// Saves text and journal: new files replace the old ones or, where none can, the old ones are
+    /// written in place. At a fault they are as they were.
+    ///
+    /// # Errors
+    /// `Write` with the part and the number of its bytes that were written, 0 where another program
+    /// has changed a file meanwhile; `Read` where it is not known what the next recovery will find.
+    pub fn save<R: Files>(&self, rt: &R, alloc: Global) -> Result<(), RunFault> {
+        let mut save = Save::<R::File>::new(&self.paths, self.contents(), self.read, false);
+        let is_replaced = save.result(rt, alloc)?;
+        if is_replaced {
+            return Ok(());
+        }
+        self.overwrite(rt, alloc)
+    }
+
+    /// Does what an attempt to save it in company has left to be done. A file that was refused is
+    /// saved alone: there is more room then, and more files may be opened.
+    ///
+    /// # Errors
+    /// As those of `save`.
+    pub fn complete<R: Files>(
+        &self,
+        rt: &R,
+        alloc: Global,
+        attempt: Attempt,
+    ) -> Result<(), RunFault> {
+        match attempt {
+            Attempt::Replaced => Ok(()),
+            Attempt::InPlace => self.overwrite(rt, alloc),
+            Attempt::Refused => self.recover_and_save(rt, alloc),
+            Attempt::Fault(fault) => Err(fault),
+        }
+    }
+
+    fn overwrite<R: Files>(&self, rt: &R, alloc: Global) -> Result<(), RunFault> {
+        overwrite(rt, alloc, &self.paths, self.contents(), self.read)
+    }
+
+    fn recover_and_save<R: Files>(&self, rt: &R, alloc: Global) -> Result<(), RunFault> {
+        recover(rt, alloc, &self.paths)?;
+        self.save(rt, alloc)
+    }
+}
+
+/// Saves files that have nothing in common, with few waits for the disk. Returns how far each has
+/// come, in their order.
+///
+/// # Errors
+/// Where there is no memory for that nothing is done.
+pub fn save_together<R: Files>(
+    rt: &R,
+    alloc: Global,
+    files: &[&ChangedFile<'_>],
+) -> Result<Vec<Attempt>, AllocError> {
+    let mut saves = Vec::with_capacity(alloc, files.len())?;
+    let mut attempts = Vec::with_capacity(alloc, files.len())?;
+    for file in files {
+        saves.push(Save::<R::File>::new(&file.paths, file.contents(), file.read, true))?;
+        attempts.push(Attempt::Refused)?;
+    }
+    save_in_rows(rt, alloc, &mut saves);
+    for (save, attempt) in saves.iter_mut().zip(attempts.iter_mut()) {
+        *attempt = save.attempt(rt, alloc);
+    }
+    Ok(attempts)
+}

@@ -1,0 +1,107 @@
+//! Tells whether two files, with their journals, have anything in common.
+
+use crate::file_paths::{FilePaths, is_absent, is_not_found};
+use std::alloc::Global;
+use std::fs::{self, Metadata, OpenFile};
+use std::os::unix::fs::MetadataExt;
+use std::rt::Files;
+
+/// What tells a file, or a directory, from all others, whatever its names are.
+#[derive(Clone, Copy, PartialEq, Eq)]
+pub struct FileId {
+    device: u64,
+    inode: u64,
+}
+
+impl FileId {
+    fn of(found: &Metadata) -> FileId {
+        FileId {
+            device: found.dev(),
+            inode: found.ino(),
+        }
+    }
+
+    /// Returns the id of an opened file; none if the system does not say.
+    pub fn of_opened<F: OpenFile>(file: &F) -> Option<FileId> {
+        match file.metadata() {
+            Ok(found) => Some(FileId::of(&found)),
+            Err(_) => None,
+        }
+    }
+}
+
+/// Which of the files are there that a command on one file reads, writes or removes. What is not
+/// there has a name that begins as that of its text does, so no other file comes to that name.
+#[derive(Clone, Copy)]
+pub struct FoundFiles {
+    text: FileId,
+    journal: Option<FileId>,
+    new_text: Option<FileId>,
+    new_journal: Option<FileId>,
+}
+
+impl FoundFiles {
+    /// Returns the files of a file with this name. None where the text or its journal is no regular
+    /// file, or the system does not say: then it may have anything in common with others.
+    pub fn of_name<R: Files>(rt: &R, alloc: Global, name: &str) -> Option<FoundFiles> {
+        match FilePaths::of(rt, alloc, name) {
+            Ok(paths) => FoundFiles::of(rt, &paths),
+            Err(_) => None,
+        }
+    }
+
+    /// The same of paths that are known.
+    pub fn of<R: Files>(rt: &R, paths: &FilePaths<'_>) -> Option<FoundFiles> {
+        let text = regular_file(rt, paths.text)?;
+        let journal = journal_file(rt, &paths.journal)?;
+        let new_text = new_file(rt, &paths.new_text)?;
+        let new_journal = new_file(rt, &paths.new_journal)?;
+        Some(FoundFiles {
+            text,
+            journal,
+            new_text,
+            new_journal,
+        })
+    }
+
+    /// Returns whether one of these files is one of the others, too.
+    pub fn share(&self, others: &FoundFiles) -> bool {
+        others.has(Some(self.text))
+            || others.has(self.journal)
+            || others.has(self.new_text)
+            || others.has(self.new_journal)
+    }
+
+    fn has(&self, id: Option<FileId>) -> bool {
+        id.is_some()
+            && (id == Some(self.text)
+                || id == self.journal
+                || id == self.new_text
+                || id == self.new_journal)
+    }
+}
+
+fn regular_file<R: Files>(rt: &R, name: &str) -> Option<FileId> {
+    match fs::metadata(rt, name) {
+        Ok(found) if found.is_file() => Some(FileId::of(&found)),
+        _ => None,
+    }
+}
+
+/// Returns the id of a journal, if it's there; none where something else is, as a link to nothing.
+fn journal_file<R: Files>(rt: &R, name: &str) -> Option<Option<FileId>> {
+    if is_absent(rt, name) {
+        Some(None)
+    } else {
+        regular_file(rt, name).map(Some)
+    }
+}
+
+/// Returns the id of what an interrupted command has left under this name, if it has left anything.
+fn new_file<R: Files>(rt: &R, name: &str) -> Option<Option<FileId>> {
+    match fs::symlink_metadata(rt, name) {
+        Ok(found) => Some(Some(FileId::of(&found))),
+        Err(error) if is_not_found(&error) => Some(None),
+        Err(_) => None,
+    }
+}

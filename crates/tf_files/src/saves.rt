@@ -1,0 +1,247 @@
+//! Follows the saves of many files: each up to its next wait for the disk, then all waits in a row.
+
+use crate::calls::{NewFile, PartFile, make, open_directory, sync_opened};
+use crate::file_part::{session_part, write_fault};
+use crate::file_paths::FilePaths;
+use crate::found_files::FileId;
+use crate::snapshot::Snapshot;
+use std::alloc::Global;
+use std::fs::OpenFile;
+use std::io::{Read, Seek, Write};
+use std::rt::Files;
+use tf_saving::{Call, End, Part, Reply, Step};
+use tf_session::RunFault;
+
+/// The bytes that a file and its journal are to have.
+#[derive(Clone, Copy)]
+pub struct NewContents<'b> {
+    pub journal: &'b [u8],
+    pub text: &'b [u8],
+}
+
+/// No save waits more often, whatever fails.
+const MOST_WAITS: u32 = 6;
+
+/// A save or a recovery, and how far it has come.
+#[derive(Drop)]
+pub struct Save<'a, F: Drop> {
+    text: PartFile<'a, F>,
+    journal: PartFile<'a, F>,
+    step: Step,
+    /// The directory that it has synced in the present row of waits.
+    synced: Option<SyncedDirectory>,
+}
+
+/// A directory that was synced, and the reply.
+#[derive(Clone, Copy)]
+struct SyncedDirectory {
+    id: FileId,
+    reply: Reply,
+}
+
+/// How far a save in company has come.
+#[derive(Drop)]
+pub enum Attempt {
+    /// Both new files have replaced the old ones.
+    Replaced,
+    /// No new file can replace an old one: both are to be written in place.
+    InPlace,
+    /// Both files are as they were.
+    Refused,
+    /// The next recovery finds both old or both new.
+    Fault(RunFault),
+}
+
+/// Makes the calls of saves that have no file in common. A failure of one stops no other.
+pub fn save_in_rows<R: Files>(rt: &R, alloc: Global, saves: &mut [Save<'_, R::File>]) {
+    for _ in 0..MOST_WAITS {
+        for save in saves.iter_mut() {
+            save.go_on(rt, alloc);
+        }
+        wait_for_all(rt, alloc, saves);
+    }
+}
+
+/// Makes the call that each save waits with.
+fn wait_for_all<R: Files>(rt: &R, alloc: Global, saves: &mut [Save<'_, R::File>]) {
+    for at in 0..saves.len() {
+        if let Some((before, rest)) = saves.split_at_mut_checked(at) {
+            if let Some(save) = rest.first_mut() {
+                save.wait(rt, alloc, before);
+            }
+        }
+    }
+}
+
+/// Makes the calls of a recovery.
+///
+/// # Errors
+/// `Read` where it is not known what was interrupted; `Write` of the journal where a new one can't
+/// be removed or renamed; `Memory`.
+pub fn recover<R: Files>(rt: &R, alloc: Global, paths: &FilePaths<'_>) -> Result<(), RunFault> {
+    let mut recovery = Save::<R::File> {
+        text: PartFile::text(paths, &[], None, NewFile::Left, false),
+        journal: PartFile::journal(paths, &[], NewFile::Left, false),
+        step: Step::RECOVER,
+        synced: None,
+    };
+    let _ = recovery.result(rt, alloc)?;
+    Ok(())
+}
+
+impl<'a, F: Drop> Save<'a, F> {
+    /// The save of a text and a journal, before its first call. `read` is the text's file from before
+    /// it was read; in company the system is to start writing early.
+    pub fn new(
+        paths: &'a FilePaths<'_>,
+        contents: NewContents<'a>,
+        read: Option<Snapshot>,
+        is_in_company: bool,
+    ) -> Save<'a, F> {
+        let new_file = NewFile::NotCreated;
+        let text = PartFile::text(paths, contents.text, read, new_file, is_in_company);
+        let new_file = NewFile::NotCreated;
+        Save {
+            text,
+            journal: PartFile::journal(paths, contents.journal, new_file, is_in_company),
+            step: Step::SAVE,
+            synced: None,
+        }
+    }
+
+    /// Returns the fault that this end is; for none whether the new files have replaced the old ones.
+    fn outcome(&self, end: End) -> Result<bool, RunFault> {
+        match end {
+            End::Success => Ok(true),
+            End::InPlace => Ok(false),
+            End::Unknown if self.journal.is_out_of_memory => Err(RunFault::Memory),
+            End::Unknown => Err(RunFault::Read),
+            End::Error(Part::Text) => Err(write_fault(session_part(Part::Text), self.text.sent)),
+            End::Error(Part::Journal) | End::Late => Err(write_fault(
+                session_part(Part::Journal),
+                self.journal.sent,
+            )),
+        }
+    }
+}
+
+impl<'a, F: Read + Write + Seek + OpenFile + Drop> Save<'a, F> {
+    /// Makes its calls up to the next that waits for the disk. So the file is renamed right after it
+    /// was compared.
+    fn go_on<R: Files<File = F>>(&mut self, rt: &R, alloc: Global) {
+        self.synced = None;
+        let mut step = self.step;
+        loop {
+            match step.call() {
+                Ok(Call::Sync(_) | Call::SyncDirectory(_)) | Err(_) => break,
+                Ok(call) => step = step.after(self.reply_to(rt, alloc, call)),
+            }
+        }
+        self.step = step;
+    }
+
+    /// Makes the call that waits, if it is at one; `before` are the saves that have waited in this row.
+    fn wait<R: Files<File = F>>(&mut self, rt: &R, alloc: Global, before: &[Save<'a, F>]) {
+        let reply = match self.step.call() {
+            Ok(Call::SyncDirectory(part)) => self.sync_directory(rt, part, before),
+            Ok(call) => self.reply_to(rt, alloc, call),
+            Err(_) => return,
+        };
+        self.step = self.step.after(reply);
+    }
+
+    /// Syncs the part's directory, unless it was synced in this row: no name has changed since then.
+    fn sync_directory<R: Files<File = F>>(
+        &mut self,
+        rt: &R,
+        part: Part,
+        before: &[Save<'a, F>],
+    ) -> Reply {
+        let name = match part {
+            Part::Text => self.text.own,
+            Part::Journal => self.journal.own,
+        };
+        let directory = match open_directory(rt, name) {
+            Ok(directory) => directory,
+            Err(reply) => return reply,
+        };
+        let id = FileId::of_opened(&directory);
+        let reply = match synced_before(before, id) {
+            Some(reply) => reply,
+            None => sync_opened(&directory),
+        };
+        self.synced = id.map(|id| SyncedDirectory { id, reply });
+        reply
+    }
+
+    /// Makes one call for the part that it is about.
+    fn reply_to<R: Files<File = F>>(&mut self, rt: &R, alloc: Global, call: Call) -> Reply {
+        match part_of(call) {
+            Part::Text => make(rt, alloc, &mut self.text, call),
+            Part::Journal => make(rt, alloc, &mut self.journal, call),
+        }
+    }
+
+    /// Makes the calls that are left, and returns how it ends.
+    fn end<R: Files<File = F>>(&mut self, rt: &R, alloc: Global) -> End {
+        let mut step = self.step;
+        loop {
+            match step.call() {
+                Ok(call) => step = step.after(self.reply_to(rt, alloc, call)),
+                Err(end) => return end,
+            }
+        }
+    }
+
+    /// Makes the calls that are left. Returns whether the new files have replaced the old ones: if
+    /// they can't, both are to be written in place.
+    ///
+    /// # Errors
+    /// `Write` with the part and the number of its bytes that were written; `Read` where it is not
+    /// known what the next recovery will find.
+    pub fn result<R: Files<File = F>>(&mut self, rt: &R, alloc: Global) -> Result<bool, RunFault> {
+        let end = self.end(rt, alloc);
+        self.outcome(end)
+    }
+
+    /// Makes the calls that are left, and returns what it has come to.
+    pub fn attempt<R: Files<File = F>>(&mut self, rt: &R, alloc: Global) -> Attempt {
+        let end = self.end(rt, alloc);
+        match self.outcome(end) {
+            Ok(true) => Attempt::Replaced,
+            Ok(false) => Attempt::InPlace,
+            Err(_) if matches!(end, End::Error(_)) => Attempt::Refused,
+            Err(fault) => Attempt::Fault(fault),
+        }
+    }
+}
+
+/// Returns the reply to the sync of this directory, if one of these saves has synced it.
+fn synced_before<F: Drop>(before: &[Save<'_, F>], id: Option<FileId>) -> Option<Reply> {
+    let id = id?;
+    for save in before {
+        match save.synced {
+            Some(synced) if synced.id == id => return Some(synced.reply),
+            _ => {}
+        }
+    }
+    None
+}
+
+/// Returns the part that a call is about.
+fn part_of(call: Call) -> Part {
+    match call {
+        Call::Compare => Part::Text,
+        Call::CanAdopt => Part::Journal,
+        Call::Open(part)
+        | Call::FindNew(part)
+        | Call::CreateNew(part)
+        | Call::CopyAttributes(part)
+        | Call::Write(part)
+        | Call::Sync(part)
+        | Call::SyncDirectory(part)
+        | Call::CompareNew(part)
+        | Call::Rename(part)
+        | Call::Remove(part) => part,
+    }
+}

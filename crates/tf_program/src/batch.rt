@@ -1,0 +1,219 @@
+//! Files that a command changes: many are saved at once, and all are reported in the order in which
+//! they were given.
+
+use crate::faults::report_fault;
+use crate::files::{Made, change_file};
+use std::alloc::{AllocError, Global};
+use std::io::Write;
+use std::mem;
+use std::rt::Files;
+use tf_cli::{FileOutcome, RunOutcome};
+use tf_files::{Attempt, ChangedFile, FoundFiles, save_together};
+use tf_session::{Command, RunFault};
+
+/// How many files are held at most. More would hardly save any wait; and while a file is saved, two
+/// are open.
+const MOST_FILES: usize = 64;
+
+/// How many bytes are held at most, unless one file has more: new texts, journals and lines.
+const MOST_BYTES: usize = 1 << 24;
+
+/// A file that a command has worked on, until it is saved and reported.
+#[derive(Drop)]
+struct Entry<'a> {
+    name: &'a str,
+    made: Result<Made<'a>, RunFault>,
+}
+
+/// Files that are not saved yet, and what all those before them have met. No two of them have
+/// anything in common, and the first is one that changed.
+#[derive(Drop)]
+pub struct Batch<'a> {
+    alloc: Global,
+    entries: Vec<Entry<'a>>,
+    bytes: usize,
+    pub outcome: RunOutcome,
+}
+
+impl<'a> Batch<'a> {
+    pub fn new(alloc: Global) -> Batch<'a> {
+        Batch {
+            alloc,
+            entries: Vec::new(alloc),
+            bytes: 0,
+            outcome: RunOutcome::default(),
+        }
+    }
+
+    /// Does a command on a file, which is saved and reported at the latest by `finish`.
+    pub fn change<R: Files, O: Write, F: Write>(
+        &mut self,
+        rt: &R,
+        command: Command,
+        name: &'a str,
+        output: &mut O,
+        faults: &mut F,
+    ) {
+        if !self.admits(rt, name) {
+            self.finish(rt, output, faults);
+        }
+        let mut made = change_file(rt, self.alloc, command, name);
+        if matches!(made, Err(RunFault::Memory)) && !self.entries.is_empty() {
+            // once those are saved there is more memory
+            self.finish(rt, output, faults);
+            made = change_file(rt, self.alloc, command, name);
+        }
+        self.add(rt, Entry { name, made }, output, faults);
+    }
+
+    /// Returns whether a file of this name may be read before those that are held are saved.
+    fn admits<R: Files>(&self, rt: &R, name: &str) -> bool {
+        if self.entries.is_empty() {
+            return true;
+        }
+        match FoundFiles::of_name(rt, self.alloc, name) {
+            Some(found) => !self.shares(&found),
+            None => false,
+        }
+    }
+
+    fn shares(&self, found: &FoundFiles) -> bool {
+        for entry in &self.entries {
+            if entry.shares(found) {
+                return true;
+            }
+        }
+        false
+    }
+
+    /// Holds an entry, or finishes it if it is not to wait.
+    fn add<R: Files, O: Write, F: Write>(
+        &mut self,
+        rt: &R,
+        entry: Entry<'a>,
+        output: &mut O,
+        faults: &mut F,
+    ) {
+        if self.bytes.saturating_add(entry.size()) > MOST_BYTES {
+            self.finish(rt, output, faults);
+        }
+        if !self.lets_wait(&entry) {
+            self.finish(rt, output, faults);
+            return self.finish_entry(rt, entry, None, output, faults);
+        }
+        let size = entry.size();
+        match self.entries.push(entry) {
+            Ok(()) => self.bytes = self.bytes.saturating_add(size),
+            Err(refused) => {
+                self.finish(rt, output, faults);
+                self.finish_entry(rt, refused.value, None, output, faults);
+            }
+        }
+        if self.entries.len() >= MOST_FILES || self.bytes >= MOST_BYTES {
+            self.finish(rt, output, faults);
+        }
+    }
+
+    fn lets_wait(&self, entry: &Entry<'a>) -> bool {
+        match entry.changed_file() {
+            Some(file) => file.can_wait(),
+            None => !self.entries.is_empty(),
+        }
+    }
+
+    /// Saves all files that are held, then reports each.
+    pub fn finish<R: Files, O: Write, F: Write>(&mut self, rt: &R, output: &mut O, faults: &mut F) {
+        let entries = mem::replace(&mut self.entries, Vec::new(self.alloc));
+        self.bytes = 0;
+        let mut attempts = save_entries(rt, self.alloc, &entries).into_iter();
+        for entry in entries {
+            let attempt = match entry.changed_file() {
+                Some(_) => attempts.next(),
+                None => None,
+            };
+            self.finish_entry(rt, entry, attempt, output, faults);
+        }
+    }
+
+    /// Saves an entry, as far as an attempt has not, and reports it.
+    fn finish_entry<R: Files, O: Write, F: Write>(
+        &mut self,
+        rt: &R,
+        entry: Entry<'a>,
+        attempt: Option<Attempt>,
+        output: &mut O,
+        faults: &mut F,
+    ) {
+        let met = match entry.made {
+            Ok(made) => made.finish(rt, self.alloc, attempt, output),
+            Err(fault) => Err(fault),
+        };
+        self.note(entry.name, met, faults);
+    }
+
+    /// Notes what the work on a file has met. A fault is reported, and does not stop the next file.
+    pub fn note<F: Write>(
+        &mut self,
+        name: &str,
+        met: Result<FileOutcome, RunFault>,
+        faults: &mut F,
+    ) {
+        match met {
+            Ok(file_outcome) => self.outcome = self.outcome.with_file(file_outcome),
+            Err(fault) => {
+                self.outcome.has_fault = true;
+                report_fault(self.alloc, faults, name, &fault);
+            }
+        }
+    }
+}
+
+impl<'a> Entry<'a> {
+    /// Returns the file if the command has changed it.
+    fn changed_file(&self) -> Option<&ChangedFile<'a>> {
+        match &self.made {
+            Ok(made) => made.file.as_ref(),
+            Err(_) => None,
+        }
+    }
+
+    /// Returns how many bytes it holds.
+    fn size(&self) -> usize {
+        match &self.made {
+            Ok(made) => made.size(),
+            Err(_) => 0,
+        }
+    }
+
+    fn shares(&self, found: &FoundFiles) -> bool {
+        match self.changed_file() {
+            Some(file) => file.shares(found),
+            None => false,
+        }
+    }
+}
+
+/// Saves the files of entries, and returns how far each has come. None was saved where the answer is
+/// empty: there is one alone, or no memory for more.
+fn save_entries<R: Files>(rt: &R, alloc: Global, entries: &[Entry<'_>]) -> Vec<Attempt> {
+    match changed_files(alloc, entries) {
+        Ok(files) if files.len() > 1 => match save_together(rt, alloc, &files) {
+            Ok(attempts) => attempts,
+            Err(_) => Vec::new(alloc),
+        },
+        _ => Vec::new(alloc),
+    }
+}
+
+fn changed_files<'e, 'a>(
+    alloc: Global,
+    entries: &'e [Entry<'a>],
+) -> Result<Vec<&'e ChangedFile<'a>>, AllocError> {
+    let mut files = Vec::with_capacity(alloc, entries.len())?;
+    for entry in entries {
+        if let Some(file) = entry.changed_file() {
+            files.push(file)?;
+        }
+    }
+    Ok(files)
+}
