@@ -55,10 +55,15 @@ pub enum Attempt {
 /// Makes the calls of saves that have no file in common. A failure of one stops no other.
 pub fn save_in_rows<R: Files>(rt: &R, alloc: Global, saves: &mut [Save<'_, R::File>]) {
     for _ in 0..MOST_WAITS {
-        for save in saves.iter_mut() {
-            save.go_on(rt, alloc);
-        }
+        bring_to_waits(rt, alloc, saves);
         wait_for_all(rt, alloc, saves);
+    }
+}
+
+/// Makes the calls of each save up to its next wait.
+fn bring_to_waits<R: Files>(rt: &R, alloc: Global, saves: &mut [Save<'_, R::File>]) {
+    for save in saves.iter_mut() {
+        save.go_on(rt, alloc);
     }
 }
 
