@@ -48,7 +48,7 @@ impl<'a> ChangedFile<'a> {
     }
 
     /// Saves text and journal: new files replace the old ones or, where none can, the old ones are
-    /// written in place. At a fault they are as they were.
+    /// written in place. After an error they are as they were.
     ///
     /// # Errors
     /// `Write` with the part and the number of its bytes that were written, 0 where another program
@@ -63,7 +63,7 @@ impl<'a> ChangedFile<'a> {
     }
 
     /// Does what an attempt to save it in company has left to be done. A file that was refused is
-    /// saved alone: there is more room then, and more files may be opened.
+    /// saved alone: there is more space then, and more files may be opened.
     ///
     /// # Errors
     /// As those of `save`.

@@ -1,4 +1,4 @@
-//! Tells whether two files, with their journals, have anything in common.
+//! Whether two files, with their journals, have anything in common.
 
 use crate::file_paths::{FilePaths, is_absent, is_not_found};
 use std::alloc::Global;
@@ -6,7 +6,7 @@ use std::fs::{self, Metadata, OpenFile};
 use std::os::unix::fs::MetadataExt;
 use std::rt::Files;
 
-/// What tells a file, or a directory, from all others, whatever its names are.
+/// What identifies a file or a directory, whatever its names are.
 #[derive(Clone, Copy, PartialEq, Eq)]
 pub struct FileId {
     device: u64,
@@ -50,7 +50,7 @@ impl FoundFiles {
         }
     }
 
-    /// The same of paths that are known.
+    /// Returns the files at these paths, or none as `of_name` does.
     pub fn of<R: Files>(rt: &R, paths: &FilePaths<'_>) -> Option<FoundFiles> {
         let text = regular_file(rt, paths.text)?;
         let journal = journal_file(rt, &paths.journal)?;

@@ -63,7 +63,7 @@ pub fn save_in_rows<R: Files>(rt: &R, alloc: Global, saves: &mut [Save<'_, R::Fi
 /// Makes the calls of each save up to its next wait.
 fn bring_to_waits<R: Files>(rt: &R, alloc: Global, saves: &mut [Save<'_, R::File>]) {
     for save in saves.iter_mut() {
-        save.go_on(rt, alloc);
+        save.make_calls(rt, alloc);
     }
 }
 
@@ -114,7 +114,7 @@ impl<'a, F: Drop> Save<'a, F> {
         }
     }
 
-    /// Returns the fault that this end is; for none whether the new files have replaced the old ones.
+    /// Returns whether the new files have replaced the old ones, or the error that this end is.
     fn outcome(&self, end: End) -> Result<bool, RunFault> {
         match end {
             End::Success => Ok(true),
@@ -133,7 +133,7 @@ impl<'a, F: Drop> Save<'a, F> {
 impl<'a, F: Read + Write + Seek + OpenFile + Drop> Save<'a, F> {
     /// Makes its calls up to the next that waits for the disk. So the file is renamed right after it
     /// was compared.
-    fn go_on<R: Files<File = F>>(&mut self, rt: &R, alloc: Global) {
+    fn make_calls<R: Files<File = F>>(&mut self, rt: &R, alloc: Global) {
         self.synced = None;
         let mut step = self.step;
         loop {
@@ -209,7 +209,7 @@ impl<'a, F: Read + Write + Seek + OpenFile + Drop> Save<'a, F> {
         self.outcome(end)
     }
 
-    /// Makes the calls that are left, and returns what it has come to.
+    /// Makes the calls that are left, and returns how the attempt has ended.
     pub fn attempt<R: Files<File = F>>(&mut self, rt: &R, alloc: Global) -> Attempt {
         let end = self.end(rt, alloc);
         match self.outcome(end) {

@@ -144,14 +144,14 @@ impl<'a> Batch<'a> {
         output: &mut O,
         faults: &mut F,
     ) {
-        let met = match entry.made {
+        let met = match &entry.made {
             Ok(made) => made.finish(rt, self.alloc, attempt, output),
-            Err(fault) => Err(fault),
+            Err(fault) => Err(*fault),
         };
         self.note(entry.name, met, faults);
     }
 
-    /// Notes what the work on a file has met. A fault is reported, and does not stop the next file.
+    /// Notes what the work on a file has met. An error is reported, and does not stop the next file.
     pub fn note<F: Write>(
         &mut self,
         name: &str,
@@ -194,14 +194,24 @@ impl<'a> Entry<'a> {
 }
 
 /// Saves the files of entries, and returns how far each has come. None was saved where the answer is
-/// empty: there is one alone, or no memory for more.
+/// empty: there is only one, or no memory for more.
 fn save_entries<R: Files>(rt: &R, alloc: Global, entries: &[Entry<'_>]) -> Vec<Attempt> {
-    match changed_files(alloc, entries) {
-        Ok(files) if files.len() > 1 => match save_together(rt, alloc, &files) {
-            Ok(attempts) => attempts,
-            Err(_) => Vec::new(alloc),
-        },
-        _ => Vec::new(alloc),
+    match save_several(rt, alloc, entries) {
+        Ok(attempts) => attempts,
+        Err(_) => Vec::new(alloc),
+    }
+}
+
+fn save_several<R: Files>(
+    rt: &R,
+    alloc: Global,
+    entries: &[Entry<'_>],
+) -> Result<Vec<Attempt>, AllocError> {
+    let files = changed_files(alloc, entries)?;
+    if files.len() > 1 {
+        save_together(rt, alloc, &files)
+    } else {
+        Ok(Vec::new(alloc))
     }
 }
 

@@ -74,8 +74,8 @@ fn write_help<O: Write>(output: &mut O, text: &str) -> Result<(), RunFault> {
     put_text(line_end.as_bytes(), &mut output)
 }
 
-/// One file after the other, in the order given; a fault on one does not stop the next. Those that
-/// change may be saved later than the next are read.
+/// One file after the other, in the order given; an error on one does not stop the next. A file that
+/// changes may be saved after the next is read.
 fn run_task<R: Files, I: Read, O: Write, F: Write>(
     rt: &R,
     alloc: Global,
