@@ -51,17 +51,17 @@ pub struct PartFile<'a, F: Drop> {
 impl<'a, F: Drop> PartFile<'a, F> {
     /// Returns the text's file. `read` is the file from before it was read.
     pub fn text(
-        paths: &'a FilePaths<'_>,
+        paths: &'a FilePaths,
         bytes: &'a [u8],
         read: Option<Snapshot>,
         new_file: NewFile<F>,
         starts_early: bool,
     ) -> PartFile<'a, F> {
         PartFile {
-            given: paths.text,
+            given: paths.text.as_str(),
             own: paths.real_text.as_str(),
             new: paths.new_text.as_str(),
-            text: paths.text,
+            text: paths.text.as_str(),
             new_file,
             bytes,
             sent: 0,
@@ -73,7 +73,7 @@ impl<'a, F: Drop> PartFile<'a, F> {
 
     /// Returns the journal's file.
     pub fn journal(
-        paths: &'a FilePaths<'_>,
+        paths: &'a FilePaths,
         bytes: &'a [u8],
         new_file: NewFile<F>,
         starts_early: bool,
@@ -82,7 +82,7 @@ impl<'a, F: Drop> PartFile<'a, F> {
             given: paths.journal.as_str(),
             own: paths.journal.as_str(),
             new: paths.new_journal.as_str(),
-            text: paths.text,
+            text: paths.text.as_str(),
             new_file,
             bytes,
             sent: 0,

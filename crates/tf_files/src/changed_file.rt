@@ -11,8 +11,8 @@ use tf_session::RunFault;
 
 /// A file with the text and the journal that it is to have. Neither is written yet.
 #[derive(Drop)]
-pub struct ChangedFile<'a> {
-    pub paths: FilePaths<'a>,
+pub struct ChangedFile {
+    pub paths: FilePaths,
     /// The file from before it was read.
     pub read: Option<Snapshot>,
     pub text: Vec<u8>,
@@ -21,7 +21,7 @@ pub struct ChangedFile<'a> {
     pub found: Option<FoundFiles>,
 }
 
-impl<'a> ChangedFile<'a> {
+impl ChangedFile {
     /// Returns how many bytes it holds.
     pub fn size(&self) -> usize {
         self.text.len().saturating_add(self.journal.len())
@@ -99,7 +99,7 @@ impl<'a> ChangedFile<'a> {
 pub fn save_together<R: Files>(
     rt: &R,
     alloc: Global,
-    files: &[&ChangedFile<'_>],
+    files: &[&ChangedFile],
 ) -> Result<Vec<Attempt>, AllocError> {
     let mut saves = Vec::with_capacity(alloc, files.len())?;
     let mut attempts = Vec::with_capacity(alloc, files.len())?;

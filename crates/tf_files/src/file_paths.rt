@@ -19,10 +19,10 @@ const NEW_JOURNAL: &str = ".new";
 /// The names of a file, of its journal, and of what is to take their places. Where a name is a
 /// link, what is new lies beside what the link leads to, so that the link stays.
 #[derive(Drop)]
-pub struct FilePaths<'a> {
+pub struct FilePaths {
     /// The file as it was named. It is read, and written over, by this name: what `/dev/stdin`
     /// leads to has a name that cannot be opened.
-    pub text: &'a str,
+    pub text: String,
     /// What that name leads to.
     pub real_text: String,
     pub new_text: String,
@@ -31,17 +31,18 @@ pub struct FilePaths<'a> {
     pub new_journal: String,
 }
 
-impl<'a> FilePaths<'a> {
+impl FilePaths {
     /// The places for a file of this name.
-    pub fn of<R: Files>(rt: &R, alloc: Global, name: &'a str) -> Result<FilePaths<'a>, RunFault> {
+    pub fn of<R: Files>(rt: &R, alloc: Global, name: &str) -> Result<FilePaths, RunFault> {
         let text = String::from_str(alloc, name)?;
-        let real_text = resolve(rt, alloc, text)?;
+        let real_text = String::from_str(alloc, name)?;
+        let real_text = resolve(rt, alloc, real_text)?;
         let new_text = with_suffix(alloc, real_text.as_str(), NEW_TEXT)?;
         let journal = with_suffix(alloc, name, JOURNAL)?;
         let journal = resolve(rt, alloc, journal)?;
         let new_journal = with_suffix(alloc, journal.as_str(), NEW_JOURNAL)?;
         Ok(FilePaths {
-            text: name,
+            text,
             real_text,
             new_text,
             journal,
@@ -57,7 +58,7 @@ impl<'a> FilePaths<'a> {
     pub fn current_journal<R: Files>(&self, rt: &R, alloc: Global) -> Result<&str, RunFault> {
         let is_new = is_found(rt, &self.new_journal)?
             && !is_found(rt, &self.new_text)?
-            && can_adopt(rt, alloc, self.text, &self.journal, &self.new_journal)?;
+            && can_adopt(rt, alloc, &self.text, &self.journal, &self.new_journal)?;
         Ok(if is_new {
             self.new_journal.as_str()
         } else {

@@ -51,8 +51,8 @@ impl FoundFiles {
     }
 
     /// Returns the files at these paths, or none as `of_name` does.
-    pub fn of<R: Files>(rt: &R, paths: &FilePaths<'_>) -> Option<FoundFiles> {
-        let text = regular_file(rt, paths.text)?;
+    pub fn of<R: Files>(rt: &R, paths: &FilePaths) -> Option<FoundFiles> {
+        let text = regular_file(rt, &paths.text)?;
         let journal = journal_file(rt, &paths.journal)?;
         let new_text = new_file(rt, &paths.new_text)?;
         let new_journal = new_file(rt, &paths.new_journal)?;

@@ -13,25 +13,21 @@ use tf_session::{RunFault, Session, Told, journal_text, load};
 
 /// A file and its journal, as they were read. A journal that is not there is the empty one.
 #[derive(Drop)]
-pub struct JournaledFile<'a> {
-    paths: FilePaths<'a>,
+pub struct JournaledFile {
+    paths: FilePaths,
     /// The file from before it was read.
     read: Option<Snapshot>,
     pub session: Session,
 }
 
-impl<'a> JournaledFile<'a> {
+impl JournaledFile {
     /// Recovers from a command that was interrupted, then reads both. A file that cannot be opened
     /// is `Read`.
-    pub fn open<R: Files>(
-        rt: &R,
-        alloc: Global,
-        name: &'a str,
-    ) -> Result<JournaledFile<'a>, RunFault> {
+    pub fn open<R: Files>(rt: &R, alloc: Global, name: &str) -> Result<JournaledFile, RunFault> {
         let paths = FilePaths::of(rt, alloc, name)?;
         recover(rt, alloc, &paths)?;
-        let snapshot = Snapshot::of(rt, paths.text);
-        let session = read(rt, alloc, paths.text, &paths.journal)?;
+        let snapshot = Snapshot::of(rt, &paths.text);
+        let session = read(rt, alloc, &paths.text, &paths.journal)?;
         Ok(JournaledFile {
             paths,
             read: snapshot,
@@ -41,7 +37,7 @@ impl<'a> JournaledFile<'a> {
 
     /// Returns what is to be saved. The session goes, since its journal takes more memory than the
     /// journal's text.
-    pub fn changed<R: Files>(self, rt: &R, alloc: Global) -> Result<ChangedFile<'a>, RunFault> {
+    pub fn changed<R: Files>(self, rt: &R, alloc: Global) -> Result<ChangedFile, RunFault> {
         let journal = journal_text(alloc, &self.session)?;
         let text = Vec::from_slice(alloc, self.session.text())?;
         let found = FoundFiles::of(rt, &self.paths);
@@ -58,7 +54,7 @@ impl<'a> JournaledFile<'a> {
 /// Reads a file and its journal, and writes nothing.
 pub fn load_read_only<R: Files>(rt: &R, alloc: Global, name: &str) -> Result<Session, RunFault> {
     let paths = FilePaths::of(rt, alloc, name)?;
-    read(rt, alloc, paths.text, paths.current_journal(rt, alloc)?)
+    read(rt, alloc, &paths.text, paths.current_journal(rt, alloc)?)
 }
 
 /// A journal that is there and cannot be opened: its first read fails.

@@ -23,19 +23,19 @@ use tf_session::{Part, RunFault};
 pub fn overwrite<R: Files>(
     rt: &R,
     alloc: Global,
-    paths: &FilePaths<'_>,
+    paths: &FilePaths,
     contents: NewContents<'_>,
     read: Option<Snapshot>,
 ) -> Result<(), RunFault> {
     let old_journal = Backup::of(rt, alloc, &paths.journal)?;
-    let old_text = Backup::of(rt, alloc, paths.text)?;
+    let old_text = Backup::of(rt, alloc, &paths.text)?;
     if let Err(fault) = prepare(rt, paths, read) {
         old_journal.remove_new(rt, &paths.journal);
         return Err(fault);
     }
     let put = write_both(rt, paths, contents);
     if put.is_err() {
-        old_text.restore(rt, paths.text);
+        old_text.restore(rt, &paths.text);
         old_journal.restore(rt, &paths.journal);
     }
     put
@@ -43,13 +43,9 @@ pub fn overwrite<R: Files>(
 
 /// Creates the journal where there is none. The text is compared once more after it: the bytes to put
 /// back are those that were read.
-fn prepare<R: Files>(
-    rt: &R,
-    paths: &FilePaths<'_>,
-    read: Option<Snapshot>,
-) -> Result<(), RunFault> {
+fn prepare<R: Files>(rt: &R, paths: &FilePaths, read: Option<Snapshot>) -> Result<(), RunFault> {
     create_journal(rt, paths)?;
-    if Snapshot::of(rt, paths.text) == read {
+    if Snapshot::of(rt, &paths.text) == read {
         Ok(())
     } else {
         Err(write_fault(Part::Text, 0))
@@ -60,11 +56,11 @@ fn prepare<R: Files>(
 /// lost, or after bytes that can be put back with no more space.
 fn write_both<R: Files>(
     rt: &R,
-    paths: &FilePaths<'_>,
+    paths: &FilePaths,
     contents: NewContents<'_>,
 ) -> Result<(), RunFault> {
     let journal = overwrite_file(rt, Part::Journal, contents.journal, &paths.journal)?;
-    let text = overwrite_file(rt, Part::Text, contents.text, paths.text)?;
+    let text = overwrite_file(rt, Part::Text, contents.text, &paths.text)?;
     truncate(Part::Text, &text, contents.text.len())?;
     truncate(Part::Journal, &journal, contents.journal.len())?;
     sync(Part::Journal, &journal, contents.journal.len())?;
@@ -73,7 +69,7 @@ fn write_both<R: Files>(
 
 /// Creates an empty journal where there is none, with the owner, group and mode of the text's file,
 /// and waits until its name is durable.
-fn create_journal<R: Files>(rt: &R, paths: &FilePaths<'_>) -> Result<(), RunFault> {
+fn create_journal<R: Files>(rt: &R, paths: &FilePaths) -> Result<(), RunFault> {
     if !is_absent(rt, &paths.journal) {
         return Ok(());
     }
@@ -90,8 +86,8 @@ fn create_journal<R: Files>(rt: &R, paths: &FilePaths<'_>) -> Result<(), RunFaul
 }
 
 /// As far as the system lets it: a journal of one's own beside another's file serves as well.
-fn make_like_text<R: Files>(rt: &R, paths: &FilePaths<'_>, journal: &R::File) {
-    if let Ok(text) = fs::metadata(rt, paths.text) {
+fn make_like_text<R: Files>(rt: &R, paths: &FilePaths, journal: &R::File) {
+    if let Ok(text) = fs::metadata(rt, &paths.text) {
         let _ = lchown(rt, &paths.journal, Some(text.uid()), Some(text.gid()));
         let _ = journal.set_permissions(text.permissions());
     }

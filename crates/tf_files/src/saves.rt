@@ -83,7 +83,7 @@ fn wait_for_all<R: Files>(rt: &R, alloc: Global, saves: &mut [Save<'_, R::File>]
 /// # Errors
 /// `Read` where it is not known what was interrupted; `Write` of the journal where a new one can't
 /// be removed or renamed; `Memory`.
-pub fn recover<R: Files>(rt: &R, alloc: Global, paths: &FilePaths<'_>) -> Result<(), RunFault> {
+pub fn recover<R: Files>(rt: &R, alloc: Global, paths: &FilePaths) -> Result<(), RunFault> {
     let mut recovery = Save::<R::File> {
         text: PartFile::text(paths, &[], None, NewFile::Left, false),
         journal: PartFile::journal(paths, &[], NewFile::Left, false),
@@ -98,7 +98,7 @@ impl<'a, F: Drop> Save<'a, F> {
     /// The save of a text and a journal, before its first call. `read` is the text's file from before
     /// it was read; in company the system is to start writing early.
     pub fn new(
-        paths: &'a FilePaths<'_>,
+        paths: &'a FilePaths,
         contents: NewContents<'a>,
         read: Option<Snapshot>,
         is_in_company: bool,

@@ -22,7 +22,7 @@ const MOST_BYTES: usize = 1 << 24;
 #[derive(Drop)]
 struct Entry<'a> {
     name: &'a str,
-    made: Result<Made<'a>, RunFault>,
+    made: Result<Made, RunFault>,
 }
 
 /// Files that are not saved yet, and what all those before them have met. No two of them have
@@ -170,7 +170,7 @@ impl<'a> Batch<'a> {
 
 impl<'a> Entry<'a> {
     /// Returns the file if the command has changed it.
-    fn changed_file(&self) -> Option<&ChangedFile<'a>> {
+    fn changed_file(&self) -> Option<&ChangedFile> {
         match &self.made {
             Ok(made) => made.file.as_ref(),
             Err(_) => None,
@@ -207,23 +207,15 @@ fn save_several<R: Files>(
     alloc: Global,
     entries: &[Entry<'_>],
 ) -> Result<Vec<Attempt>, AllocError> {
-    let files = changed_files(alloc, entries)?;
-    if files.len() > 1 {
-        save_together(rt, alloc, &files)
-    } else {
-        Ok(Vec::new(alloc))
-    }
-}
-
-fn changed_files<'e, 'a>(
-    alloc: Global,
-    entries: &'e [Entry<'a>],
-) -> Result<Vec<&'e ChangedFile<'a>>, AllocError> {
     let mut files = Vec::with_capacity(alloc, entries.len())?;
     for entry in entries {
         if let Some(file) = entry.changed_file() {
             files.push(file)?;
         }
     }
-    Ok(files)
+    if files.len() > 1 {
+        save_together(rt, alloc, &files)
+    } else {
+        Ok(Vec::new(alloc))
+    }
 }
