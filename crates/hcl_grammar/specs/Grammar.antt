@@ -49,10 +49,19 @@ mutual
         → NextIs ts m k.Colon n → IsExpr ts d m else_branch (after_next ts m n) l
         → IsExpr ts (suc d) m (node.expr (next_index ts m i) l (form.Conditional c then_branch else_branch)) i l
 
-  -- Or = And (two bars And)*    And = Eq ("&&" Eq)*          Eq = Cmp (("=="|"!=") Cmp)* Cmp = Sum
-  -- ((">"|">="|"<"|"<=") Sum)*    Sum = Prod (("+"|"-") Prod)*    Prod = Unary (("*"|"/"|"%")
-  -- Unary)* Level n + 1: operators of level n between operands of level n. Level 0 is Unary, level
-  -- 6 is Or.
+  -- Or = And (two bars And)*
+  --
+  -- And = Eq ("&&" Eq)*
+  --
+  -- Eq = Cmp (("=="|"!=") Cmp)*
+  --
+  -- Cmp = Sum ((">"|">="|"<"|"<=") Sum)*
+  --
+  -- Sum = Prod (("+"|"-") Prod)*
+  --
+  -- Prod = Unary (("*"|"/"|"%") Unary)*
+  --
+  -- Level n + 1: operators of level n between operands of level n. Level 0 is Unary, level 6 is Or.
   pub data IsLevel (ts : List Token) : ℕ → Bool → ℕ → Expr → ℕ → ℕ → Type 0 where
     lowest : {d : ℕ} {m : Bool} {e : Expr} {i j : ℕ} → IsUnary ts d m e i j
         → IsLevel ts d m zero e i j
@@ -241,8 +250,10 @@ mutual
         → IsExpr ts d true e (after_next ts m i) j → NextIs ts true k.SeqClose j
         → IsPart ts (suc d) m (part.Interp e) i (after_next ts true j)
     -- IfDir = DirectiveOpen "if" Expr SeqClose Parts (DirectiveOpen "else" SeqClose Parts)?
-    -- DirectiveOpen "endif" SeqClose The directive is a construct, and the braces in it are: the
-    -- parts are one deeper, the expression two.
+    -- DirectiveOpen "endif" SeqClose
+    --
+    -- The directive is a construct, and the braces in it are: the parts are one deeper, the
+    -- expression two.
     if_directive : {d : ℕ} {m : Bool} {c : Expr} {then_branch : List Part} {else_branch : Option Template}
         {i j n l : ℕ} → NextIs ts m k.DirectiveOpen i
         → NextIsWord ts true if_word (after_next ts m i) → IsExpr ts d true c (after_next ts true (after_next ts m i)) j

@@ -61,7 +61,7 @@ pub struct Expr {
     pub kind: ExprKind,
 }
 
-// So it takes 48 bytes of memory of its own.
+// In a box of its own it takes 48 bytes of memory: malloc adds 8.
 const _: () = prove!(size_of::<Expr>() == 40);
 
 /// What an expression is.
