@@ -1,6 +1,6 @@
 -- Records one after another, in one version or the other.
 use Rattle.std.proofs.Common.{◌≡◌, ◌↔◌, ℕ, ◌≤◌, ◌<◌, List, [], ◌∷◌, ◌++◌, length, drop, get_or, Bool, true, false, Result, Ok, Err, refl, sym, ap, subst, ◌∙◌, append_assoc, length-append, arith, inl, inr}
-use Rattle.std.specs.Prelude.{codes, ◌==◌, IfErr, ⊤}
+use Rattle.std.specs.Prelude.{codes, ◌==◌, IfErr}
 use Rattle.std.proofs.lemmas.Bool.{eqb-true}
 use Rattle.std.specs.List.{flat_map, AllByRecursion}
 use Rattle.std.proofs.lemmas.List.{append-nil, nil_from_length}
@@ -14,7 +14,7 @@ use Rattle.edit_record.specs.declared.fault.DecodeStop.TheVariants as stops
 use Rattle.edit_record.specs.Text.{word_text, list_text, number_text, newline, record_text, journal_text, IsCurrentText, OldRecord, steps, step_text, old_record_text, MigratesTo, MigrateAllTo, IsOldText, IsJournalText}
 use Rattle.edit_record.specs.Lists.Validity.{IsValidList}
 use Rattle.edit_record.specs.declared.fault.TextError.{TextError}
-use Rattle.edit_record.specs.Decoding.{RecordError, IsVersion, IsFirstError}
+use Rattle.edit_record.specs.Decoding.{RecordError, IsVersion}
 use Rattle.edit_record.specs.Parsing.{record_at}
 use Rattle.edit_record.specs.OldParsing.{old_record_at, OldRecordError}
 use Rattle.edit_record.specs.Inner.Allocating.{allocates}

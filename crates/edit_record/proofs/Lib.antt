@@ -8,6 +8,7 @@ pub mod Allocating
 pub mod Steps
 pub mod Journals
 pub mod LawsOfText
+pub mod FirstErrors
 pub mod FormerTexts
 pub mod ListsLemmas
 pub mod SquashesLemmas

@@ -33,7 +33,7 @@ onward a next both n t after next_is both_is e rest h = (
   (both, both_is, h.2),
 )
 
-back : (a next both : EditList) (n : ℕ) (t after : List ℕ) → step_at t ≡ Ok (next, after) → IsSquash a next both
+pub back : (a next both : EditList) (n : ℕ) (t after : List ℕ) → step_at t ≡ Ok (next, after) → IsSquash a next both
     → (e : EditList) (rest : List ℕ) (others : List EditList) → repeat_at step_at (suc n) t ≡ Ok (others, rest) → SquashAll a others e → SquashAt both n after e rest
 unfolding steps_at
 back a next both n t after next_is both_is e rest others others_are all =
@@ -58,11 +58,11 @@ one_step a next both b count i m t after u lt next_is both_is so_far e rest =
     )
 
 -- where the next step can't be read, or can't be squashed, nothing squashes
-none_read : (a : EditList) (n : ℕ) (t : List ℕ) (bad : TextError) → step_at t ≡ Err bad → (e : EditList) (rest : List ℕ) → SquashAt a (suc n) t e rest → ⊥
+pub none_read : (a : EditList) (n : ℕ) (t : List ℕ) (bad : TextError) → step_at t ≡ Err bad → (e : EditList) (rest : List ℕ) → SquashAt a (suc n) t e rest → ⊥
 unfolding steps_at
 none_read a n t bad none e rest h = through (step_at t) _ (h.0, rest) h.1 λ first t1 first_is e1. absurd (err_ok bad _ (sym none ∙ first_is))
 
-none_squashed : (a next : EditList) (n : ℕ) (t after : List ℕ) → step_at t ≡ Ok (next, after) → ((c : EditList) → IsSquash a next c → ⊥) → (e : EditList) (rest : List ℕ) → SquashAt a (suc n) t e rest → ⊥
+pub none_squashed : (a next : EditList) (n : ℕ) (t after : List ℕ) → step_at t ≡ Ok (next, after) → ((c : EditList) → IsSquash a next c → ⊥) → (e : EditList) (rest : List ℕ) → SquashAt a (suc n) t e rest → ⊥
 unfolding steps_at
 none_squashed a next n t after next_is none e rest h =
     through (step_at t) _ (h.0, rest) h.1 λ first t1 first_is e1.

@@ -3,6 +3,8 @@
 ghost use Rattle.std.specs.Prelude.{◌≡◌, ◌↔◌, ◌++◌, List, ℕ};
 ghost use Rattle.edit_record.specs.Lists.Journal.{JournalEntry, journal_transforms};
 ghost use Rattle.edit_record.specs.Lists.Sequence.{TransformsInOrder};
+ghost use Rattle.edit_record.specs.Decoding.{IsFirstError};
+ghost use Rattle.edit_record.specs.declared.fault.TextError.{TextError};
 ghost use Rattle.edit_record.specs.Text.{IsCurrentText, IsJournalText, OldRecord, MigrateAllTo, old_transforms};
 
 pub use crate::lists::laws::{
@@ -20,6 +22,11 @@ pub use crate::swaps::laws::{move_to_end_is_unique, swap_is_unique};
 pub fn text_is_unambiguous()
     ensures { (text : List ℕ) (rs ss : List JournalEntry) → IsJournalText text rs → IsJournalText text ss
         → rs ≡ ss }
+{}
+
+/// A text has one first error at most: memory aside, `decode` refuses it in one way.
+pub fn first_error_is_unique()
+    ensures { (text : List ℕ) (e f : TextError) → IsFirstError text e → IsFirstError text f → e ≡ f }
 {}
 
 /// If the text of some records, followed by more bytes, is the text of a journal, then the journal
