@@ -9,8 +9,9 @@ use crate::told::Told;
 use std::alloc::Global;
 use std::io::Read;
 
-/// The most bytes that one read may give.
-const CHUNK_LEN: usize = 65_536;
+/// The most bytes that one read may give. The buffer is set to zero for each reader, so that a large
+/// one costs small files more than the reads that it spares large ones.
+const CHUNK_LEN: usize = 16_384;
 
 /// All the bytes that the reader has left, up to its end, if they are no more than the limit.
 ///
