@@ -65,6 +65,26 @@ def journal(count):
     return text, "".join(records)
 
 
+def journal_on_both_sides(count):
+    """A text with its journal: the oldest record changes so many bytes, and so many later ones one byte each, between those."""
+    places = [10 * i for i in range(count)]
+    length = 10 * count
+
+    def record(word, edits):
+        return f"tfrec 2 {word} {length} {len(edits)}\n" + "".join(f"{at} 1 1\n{old}{new}\n" for at, old, new in edits) + "end\n"
+
+    records = [record("fix", [(at, "x", "#") for at in places])]
+    records += [record("fmt", [(at + 5, "a", "b")]) for at in places]
+    return "#    b    " * count, "".join(records)
+
+
+# By name: how many records, and what makes the text and its journal. The second size has four times as many.
+JOURNALS = {
+    "journal": (1000, journal),
+    "journal-on-both-sides": (4000, journal_on_both_sides),
+}
+
+
 # By name: how many, and what stands in the text so many times. The second size has four times as many.
 SHAPES = {
     # a million tokens on one line
@@ -133,6 +153,8 @@ SHAPES = {
     "comment-alignments": (100000, lambda n: lines(n, lambda i: f"a=1 # x\nbcd=2 # y\n\n")),
     # each line of a run longer than the one before
     "longer-and-longer": (2000000, lambda n: lines(int((2 * n) ** 0.5), lambda i: "a" * (i + 1) + "=1\n")),
+    # lines with nothing in them
+    "blank-lines": (4000000, lambda n: "\n" * n),
     # line comments that are well
     "comments": (100000, lambda n: lines(n, lambda i: f"# comment number {i}\n")),
     # letters that are not ASCII
