@@ -6,7 +6,7 @@ use Rattle.hcl_token.specs.Tokens.{Pair}
 use Rattle.tf_fix.specs.Parts.{Part, parts_of, text_of_parts}
 use Rattle.tf_fix.specs.SettledSpaces.{Prev, prev_after}
 use Rattle.tf_fix.specs.Replacements.{Replacement, AreInOrder, added, stays_until, pieces_from}
-use Rattle.tf_fix.specs.Inner.Views.{boundary_index, next_index, replacement_parts, replacements, CanInsertAll}
+use Rattle.tf_fix.specs.Inner.Views.{boundary_index, next_index, replacement_parts, replacements, HaveBytes}
 use Rattle.tf_fix.specs.declared.splice.Replacement.{Replacement as Replacing}
 use Rattle.tf_fix.proofs.PartLemmas.{length_written, staying_is}
 
@@ -41,7 +41,7 @@ abbrev pub IsTold : List Pair → List ℕ → List EditEntry → List EditEntry
 IsTold pairs last whole done prev at left =
     (done ++ changed_entries (length (text_of_parts (take at (parts_of pairs last)))) (pieces_from prev at (parts_of pairs last) (replacements pairs left)) ≡ whole)
     × AreInOrder at (replacements pairs left) (2 * length pairs)
-    × CanInsertAll pairs left
+    × HaveBytes pairs left
 
 pub turn : (pairs : List Pair) (last : List ℕ) (whole done : List EditEntry) (e : EditEntry) (prev there : Prev) (at : ℕ) (one : Replacing) (rest : List Replacing)
     → IsTold pairs last whole done prev at (one ∷ rest)
@@ -49,13 +49,13 @@ pub turn : (pairs : List Pair) (last : List ℕ) (whole done : List EditEntry) (
     → e ≡ record {
       at = length (text_of_parts (take (boundary_index one.from) (parts_of pairs last)));
       removed = text_of_parts (slice_range (parts_of pairs last) (boundary_index one.from) (boundary_index one.to));
-      added = added there (replacement_parts pairs one.from one.to one.insertion) (slice_range (parts_of pairs last) (boundary_index one.to) (next_index (2 * length pairs + 1) (replacements pairs rest)));
+      added = added there (replacement_parts pairs one.from one.to one.first one.insertion) (slice_range (parts_of pairs last) (boundary_index one.to) (next_index (2 * length pairs + 1) (replacements pairs rest)));
     }
-    → IsTold pairs last whole (done ++ e ∷ []) (prev_after there (replacement_parts pairs one.from one.to one.insertion)) (boundary_index one.to) rest
+    → IsTold pairs last whole (done ++ e ∷ []) (prev_after there (replacement_parts pairs one.from one.to one.first one.insertion)) (boundary_index one.to) rest
 turn pairs last whole done e prev there at one rest told near_is e_is =
     let xs = parts_of pairs last in
     let stay = staying_is pairs last (boundary_index one.to) (replacements pairs rest) in
-    let next = first_change xs prev at (record { from = boundary_index one.from; to = boundary_index one.to; inserted_parts = replacement_parts pairs one.from one.to one.insertion }) (replacements pairs rest) told.1.0 told.1.1 in
-    let said : done ++ (e ∷ changed_entries (length (text_of_parts (take (boundary_index one.to) xs))) (pieces_from (prev_after there (replacement_parts pairs one.from one.to one.insertion)) (boundary_index one.to) xs (replacements pairs rest))) ≡ whole =
+    let next = first_change xs prev at (record { from = boundary_index one.from; to = boundary_index one.to; inserted_parts = replacement_parts pairs one.from one.to one.first one.insertion }) (replacements pairs rest) told.1.0 told.1.1 in
+    let said : done ++ (e ∷ changed_entries (length (text_of_parts (take (boundary_index one.to) xs))) (pieces_from (prev_after there (replacement_parts pairs one.from one.to one.first one.insertion)) (boundary_index one.to) xs (replacements pairs rest))) ≡ whole =
     rw (e_is, ← stay, near_is, ← next) told.0 in
     (append_assoc done (e ∷ []) _ ∙ said, told.1.2, told.2.1)

@@ -1,5 +1,5 @@
 -- What comes is settled alike with the gaps beside it and without.
-use Rattle.std.proofs.Common.{◌≡◌, List, [], ◌∷◌, ◌++◌, refl, ap, ◌∙◌}
+use Rattle.std.proofs.Common.{◌≡◌, ℕ, List, [], ◌∷◌, ◌++◌, refl, ap, ◌∙◌}
 use Rattle.std.proofs.lemmas.List.{append-nil}
 use Rattle.hcl_token.specs.Tokens.{Pair}
 use Rattle.tf_rules.specs.declared.fix.Insertion.{Insertion}
@@ -27,9 +27,9 @@ pub data Bare : List Pair → Type 0 where
   bare : {p : Pair} {ps : List Pair} → p.gap ≡ [] → Bare (p ∷ ps)
   none : Bare []
 
-bare_is : (pairs : List Pair) (w : Insertion) → Bare (inserted pairs w)
-bare_is pairs Nothing = none
-bare_is pairs w = bare refl
+bare_is : (pairs : List Pair) (first : ℕ) (w : Insertion) → Bare (inserted pairs first w)
+bare_is pairs first Nothing = none
+bare_is pairs first w = bare refl
 
 insert_settled : (prev : Prev) (from to : Boundary) (ps : List Pair) → Bare ps → text_of_parts (settled prev (inserted_parts (skip_of from) ps (tail_of to))) ≡ text_of_parts (settled prev (pairs_parts ps))
 insert_settled prev (BeforeGap i) to ps is = tail_settled prev (pairs_parts ps) to
@@ -43,15 +43,15 @@ insert_after prev (BeforeToken i) (BeforeGap j) [] is = refl
 insert_after prev (BeforeToken i) (BeforeToken j) [] is = refl
 insert_after prev (BeforeToken i) to (p ∷ ps) (bare e) = tail_after prev (Token p.kind p.spelling ∷ pairs_parts ps) to ∙ rw e refl
 
-pub insertion_settled : (pairs : List Pair) (prev : Prev) (from to : Boundary) (w : Insertion) → text_of_parts (settled prev (replacement_parts pairs from to w)) ≡ text_of_parts (settled prev (pairs_parts (inserted pairs w)))
-insertion_settled pairs prev from to w = insert_settled prev from to (inserted pairs w) (bare_is pairs w)
+pub insertion_settled : (pairs : List Pair) (prev : Prev) (from to : Boundary) (first : ℕ) (w : Insertion) → text_of_parts (settled prev (replacement_parts pairs from to first w)) ≡ text_of_parts (settled prev (pairs_parts (inserted pairs first w)))
+insertion_settled pairs prev from to first w = insert_settled prev from to (inserted pairs first w) (bare_is pairs first w)
 
-pub insertion_after : (pairs : List Pair) (prev : Prev) (from to : Boundary) (w : Insertion) → prev_after prev (replacement_parts pairs from to w) ≡ prev_after prev (pairs_parts (inserted pairs w))
-insertion_after pairs prev from to w = insert_after prev from to (inserted pairs w) (bare_is pairs w)
+pub insertion_after : (pairs : List Pair) (prev : Prev) (from to : Boundary) (first : ℕ) (w : Insertion) → prev_after prev (replacement_parts pairs from to first w) ≡ prev_after prev (pairs_parts (inserted pairs first w))
+insertion_after pairs prev from to first w = insert_after prev from to (inserted pairs first w) (bare_is pairs first w)
 
 -- so the same is added
-pub insertion_added : (pairs : List Pair) (prev : Prev) (from to : Boundary) (w : Insertion) (stay : List Part)
-    → added prev (replacement_parts pairs from to w) stay ≡ added prev (pairs_parts (inserted pairs w)) stay
-insertion_added pairs prev from to w stay =
-    ap (λ t. t ++ space_before (prev_after prev (replacement_parts pairs from to w)) stay) (insertion_settled pairs prev from to w)
-    ∙ ap (λ n. text_of_parts (settled prev (pairs_parts (inserted pairs w))) ++ space_before n stay) (insertion_after pairs prev from to w)
+pub insertion_added : (pairs : List Pair) (prev : Prev) (from to : Boundary) (first : ℕ) (w : Insertion) (stay : List Part)
+    → added prev (replacement_parts pairs from to first w) stay ≡ added prev (pairs_parts (inserted pairs first w)) stay
+insertion_added pairs prev from to first w stay =
+    ap (λ t. t ++ space_before (prev_after prev (replacement_parts pairs from to first w)) stay) (insertion_settled pairs prev from to first w)
+    ∙ ap (λ n. text_of_parts (settled prev (pairs_parts (inserted pairs first w))) ++ space_before n stay) (insertion_after pairs prev from to first w)

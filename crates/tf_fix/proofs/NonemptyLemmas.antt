@@ -16,15 +16,15 @@ use Rattle.hcl_scan.specs.Tokenization.{TokenizesFrom, IsTokenization, byte_orde
 use Rattle.hcl_scan.specs.Lexeme.{is_heredoc, is_decimal, is_identifier, fixed_spelling, Spells, IsLexeme}
 use Rattle.hcl_scan.specs.Modes.{Mode, mode_of, marker, marker_of, clear_line_start, after_literal, is_in_sequence, is_braces, is_at_line_start, modes_after}
 use Rattle.hcl_scan.specs.Modes.Mode.{Expression, Sequence, Braces, Quoted, Heredoc}
-use Rattle.tf_rules.specs.Fixes.{ReadsWithin, ChangesSomething, ChangesEnd, AreInOrder as AreKeptInOrder}
+use Rattle.tf_rules.specs.Fixes.{ChangesSomething, ChangesEnd, AreInOrder as AreKeptInOrder}
 use Rattle.tf_rules.specs.declared.finding.Finding.{Finding}
 use Rattle.tf_rules.specs.declared.fix.Fix.{Fix}
 use Rattle.tf_rules.specs.declared.fix.Fix.TheVariants.{CommentMarker, Tokens}
 use Rattle.tf_rules.specs.declared.fix.Insertion.{Insertion}
-use Rattle.tf_rules.specs.declared.fix.Insertion.TheVariants.{Nothing, Index}
+use Rattle.tf_rules.specs.declared.fix.Insertion.TheVariants.{Nothing}
 use Rattle.tf_rules.specs.declared.fix.KeptTokens.{KeptTokens}
 use Rattle.tf_fix.specs.Inner.Nonempty.{AreNonempty, HasValidFix}
-use Rattle.tf_fix.specs.Inner.Views.{CanInsert, CanInsertKept}
+use Rattle.tf_fix.specs.Inner.Views.{HasByte}
 use Rattle.tf_fix.specs.FindingReplacements.{spelling_at, inserted, inserted_parts, empty_gap, replacements_from, fix_replacements, finding_replacements}
 use Rattle.tf_fix.specs.Parts.{Part, parts_of, text_of_parts}
 use Rattle.tf_fix.specs.Parts.Part.{Gap, Token}
@@ -209,27 +209,12 @@ nonempty_at [] i p are found = absurd (cc found)
 nonempty_at (q ∷ pairs) zero p are found = let same : q ≡ p = cc found in subst (λ (x : Pair). 0 < length x.spelling) same are.0
 nonempty_at (q ∷ pairs) (suc i) p are found = nonempty_at pairs i p are.1 found
 
-pub index_insertion : (pairs : List Pair) (i : ℕ) → AreNonempty pairs → i < length pairs → (i < length pairs) × (1 ≤ length (spelling_at pairs i))
-index_insertion pairs i are lt =
+pub has_byte : (pairs : List Pair) (i : ℕ) → AreNonempty pairs → i < length pairs → HasByte pairs i
+has_byte pairs i are lt =
     let (p, found, front) = known pairs i lt in
     let some = nonempty_at pairs i p are found in
     let same : spelling_at pairs i ≡ p.spelling = ap (λ o. unwrap_or (option_map (λ (q : Pair). q.spelling) o) []) found in
     (lt, omega (arith, some, ap length same))
-
-is_insertion : (pairs : List Pair) (first past : ℕ) (w : Insertion) → AreNonempty pairs → past ≤ length pairs → ReadsWithin first past w → CanInsert pairs w
-is_insertion pairs first past (Index n) are le read = index_insertion pairs n are (omega (arith, read.1, le))
-is_insertion pairs first past w are le read = tt
-
-kept_insertion : (pairs : List Pair) (first past at : ℕ) (w : Insertion) (kept : List (Option KeptTokens)) → AreNonempty pairs → past ≤ length pairs → AreKeptInOrder first past at w kept → CanInsertKept pairs w kept
-kept_insertion pairs first past at w [] are le o = is_insertion pairs first past w are le o.0
-kept_insertion pairs first past at w (None ∷ kept) are le o = kept_insertion pairs first past at w kept are le o
-kept_insertion pairs first past at w (Some k ∷ kept) are le o = (is_insertion pairs first past w are le o.0, kept_insertion pairs first past k.to k.after kept are le o.3)
-
--- all that a fix writes can be read
-pub fix_insertion : (pairs : List Pair) (first past : ℕ) (w : Insertion) (kept : List (Option KeptTokens)) (fix : Option Fix) → AreNonempty pairs → past ≤ length pairs → HasValidFix first past fix
-    → fix ≡ Some (Tokens w kept) → CanInsertKept pairs w kept
-fix_insertion pairs first past w kept fix are le fits is =
-    kept_insertion pairs first past first w kept are le (subst (HasValidFix first past) is fits)
 
 -- ---- what goes
 
@@ -277,31 +262,31 @@ goes pairs last at n place (suc zero) to are e le lt within past =
 goes pairs last at n place (suc (suc skip)) to are e le lt within past = absurd (omega (arith, le))
 
 -- what comes where something is written
-brings : (pairs : List Pair) (w : Insertion) (skip : ℕ) (tail : List Part) (n : ℕ) → skip ≤ 1 → (w ≡ Nothing → ⊥) → 0 < n + length (text_of_parts (inserted_parts skip (inserted pairs w) tail))
-brings pairs Nothing skip tail n le some = absurd (some refl)
-brings pairs w zero tail n le some = omega arith
-brings pairs w (suc zero) tail n le some = omega arith
-brings pairs w (suc (suc skip)) tail n le some = absurd (omega (arith, le))
+brings : (pairs : List Pair) (first : ℕ) (w : Insertion) (skip : ℕ) (tail : List Part) (n : ℕ) → skip ≤ 1 → (w ≡ Nothing → ⊥) → 0 < n + length (text_of_parts (inserted_parts skip (inserted pairs first w) tail))
+brings pairs first Nothing skip tail n le some = absurd (some refl)
+brings pairs first w zero tail n le some = omega arith
+brings pairs first w (suc zero) tail n le some = omega arith
+brings pairs first w (suc (suc skip)) tail n le some = absurd (omega (arith, le))
 
-real_one : (pairs : List Pair) (last : List ℕ) (at n place skip to : ℕ) (w : Insertion) (tail : List Part) → AreNonempty pairs → place ≡ 2 * at + skip → skip ≤ 1
+real_one : (pairs : List Pair) (last : List ℕ) (first at n place skip to : ℕ) (w : Insertion) (tail : List Part) → AreNonempty pairs → place ≡ 2 * at + skip → skip ≤ 1
     → ChangesSomething w at n → n ≤ length pairs → 2 * n ≤ to
-    → 0 < length (text_of_parts (slice_range (parts_of pairs last) place to)) + length (text_of_parts (inserted_parts skip (inserted pairs w) tail))
-real_one pairs last at n place skip to Nothing tail are e le some within past = omega (arith, goes pairs last at n place skip to are e le some within past)
-real_one pairs last at n place skip to w tail are e le some within past = brings pairs w skip tail _ le (λ same. absurd (cc same))
+    → 0 < length (text_of_parts (slice_range (parts_of pairs last) place to)) + length (text_of_parts (inserted_parts skip (inserted pairs first w) tail))
+real_one pairs last first at n place skip to Nothing tail are e le some within past = omega (arith, goes pairs last at n place skip to are e le some within past)
+real_one pairs last first at n place skip to w tail are e le some within past = brings pairs first w skip tail _ le (λ same. absurd (cc same))
 
 something : (first at past : ℕ) (w : Insertion) → ChangesEnd first w at past → ChangesSomething w at past
 something first at past Nothing end = end.1
 something first at past w end = end
 
 kept_real : (pairs : List Pair) (last : List ℕ) (first past at place skip : ℕ) (w : Insertion) (kept : List (Option KeptTokens)) → AreNonempty pairs → past ≤ length pairs → AreKeptInOrder first past at w kept
-    → place ≡ 2 * at + skip → skip ≤ 1 → AreReal (parts_of pairs last) (replacements_from pairs place skip w kept past)
+    → place ≡ 2 * at + skip → skip ≤ 1 → AreReal (parts_of pairs last) (replacements_from pairs first place skip w kept past)
 kept_real pairs last first past at place skip w [] are le o e s =
-    (real_one pairs last at past place skip (2 * past) w [] are e s (something first at past w o.1) le (omega arith), tt)
+    (real_one pairs last first at past place skip (2 * past) w [] are e s (something first at past w o) le (omega arith), tt)
 kept_real pairs last first past at place skip w (None ∷ kept) are le o e s = kept_real pairs last first past at place skip w kept are le o e s
 kept_real pairs last first past at place skip w (Some k ∷ kept) are le o e s =
-    let end = kept_le first past k.to k.after kept o.3 in (
-      real_one pairs last at k.from place skip (2 * k.from + 1) w empty_gap are e s o.1 (omega (arith, o.2, end, le)) (omega arith),
-      kept_real pairs last first past k.to (2 * k.to) 0 k.after kept are le o.3 (omega arith) (omega arith),
+    let end = kept_le first past k.to k.after kept o.2 in (
+      real_one pairs last first at k.from place skip (2 * k.from + 1) w empty_gap are e s o.0 (omega (arith, o.1, end, le)) (omega arith),
+      kept_real pairs last first past k.to (2 * k.to) 0 k.after kept are le o.2 (omega arith) (omega arith),
     )
 
 fixed_real : (pairs : List Pair) (last : List ℕ) (first past : ℕ) (fix : Option Fix) → AreNonempty pairs → past ≤ length pairs → HasValidFix first past fix

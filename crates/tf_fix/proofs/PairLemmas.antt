@@ -88,47 +88,47 @@ inner_range pairs last gap a b lt within =
     ∙ sym (ap (λ t. pairs_parts (with_gap gap t)) side)
 
 -- from a place on, what stands before the first that is kept stays
-from_place : (pairs : List Pair) (last : List ℕ) (a place skip : ℕ) (w : Insertion) (kept : List (Option KeptTokens)) (past : ℕ) (rs : List Replacement)
-    → replaced_from a (parts_of pairs last) (replacements_from pairs place skip w kept past ++ rs)
-    ≡ slice_range (parts_of pairs last) a place ++ replaced_from place (parts_of pairs last) (replacements_from pairs place skip w kept past ++ rs)
-from_place pairs last a place skip w [] past rs =
+from_place : (pairs : List Pair) (last : List ℕ) (first a place skip : ℕ) (w : Insertion) (kept : List (Option KeptTokens)) (past : ℕ) (rs : List Replacement)
+    → replaced_from a (parts_of pairs last) (replacements_from pairs first place skip w kept past ++ rs)
+    ≡ slice_range (parts_of pairs last) a place ++ replaced_from place (parts_of pairs last) (replacements_from pairs first place skip w kept past ++ rs)
+from_place pairs last first a place skip w [] past rs =
     let xs = parts_of pairs last in
-    ap (λ t. slice_range xs a place ++ (t ++ (inserted_parts skip (inserted pairs w) [] ++ replaced_from (2 * past) xs rs))) (sym (range_none xs place place (omega arith)))
-from_place pairs last a place skip w (None ∷ kept) past rs = from_place pairs last a place skip w kept past rs
-from_place pairs last a place skip w (Some k ∷ kept) past rs =
+    ap (λ t. slice_range xs a place ++ (t ++ (inserted_parts skip (inserted pairs first w) [] ++ replaced_from (2 * past) xs rs))) (sym (range_none xs place place (omega arith)))
+from_place pairs last first a place skip w (None ∷ kept) past rs = from_place pairs last first a place skip w kept past rs
+from_place pairs last first a place skip w (Some k ∷ kept) past rs =
     let xs = parts_of pairs last in
-    ap (λ t. slice_range xs a place ++ (t ++ (inserted_parts skip (inserted pairs w) empty_gap ++ replaced_from (2 * k.from + 1) xs (replacements_from pairs (2 * k.to) 0 k.after kept past ++ rs))))
+    ap (λ t. slice_range xs a place ++ (t ++ (inserted_parts skip (inserted pairs first w) empty_gap ++ replaced_from (2 * k.from + 1) xs (replacements_from pairs first (2 * k.to) 0 k.after kept past ++ rs))))
     (sym (range_none xs place place (omega arith)))
 
 -- a range that is kept, and what stands behind it
-kept_one : (pairs : List Pair) (last gap : List ℕ) (past : ℕ) (k : KeptTokens) (kept : List (Option KeptTokens)) (rs : List Replacement) (behind : List Part) → k.from < k.to → k.to ≤ length pairs
-    → replaced_from (2 * k.to) (parts_of pairs last) (replacements_from pairs (2 * k.to) 0 k.after kept past ++ rs) ≡ behind
-    → Gap gap ∷ replaced_from (2 * k.from + 1) (parts_of pairs last) (replacements_from pairs (2 * k.to) 0 k.after kept past ++ rs) ≡ pairs_parts (with_gap gap (slice_range pairs k.from k.to)) ++ behind
-kept_one pairs last gap past k kept rs behind some within rest =
+kept_one : (pairs : List Pair) (last gap : List ℕ) (first past : ℕ) (k : KeptTokens) (kept : List (Option KeptTokens)) (rs : List Replacement) (behind : List Part) → k.from < k.to → k.to ≤ length pairs
+    → replaced_from (2 * k.to) (parts_of pairs last) (replacements_from pairs first (2 * k.to) 0 k.after kept past ++ rs) ≡ behind
+    → Gap gap ∷ replaced_from (2 * k.from + 1) (parts_of pairs last) (replacements_from pairs first (2 * k.to) 0 k.after kept past ++ rs) ≡ pairs_parts (with_gap gap (slice_range pairs k.from k.to)) ++ behind
+kept_one pairs last gap first past k kept rs behind some within rest =
     let xs = parts_of pairs last in
-    ap (λ t. Gap gap ∷ t) (from_place pairs last (2 * k.from + 1) (2 * k.to) 0 k.after kept past rs)
-    ∙ ap (λ t. t ++ replaced_from (2 * k.to) xs (replacements_from pairs (2 * k.to) 0 k.after kept past ++ rs)) (inner_range pairs last gap k.from k.to some within)
+    ap (λ t. Gap gap ∷ t) (from_place pairs last first (2 * k.from + 1) (2 * k.to) 0 k.after kept past rs)
+    ∙ ap (λ t. t ++ replaced_from (2 * k.to) xs (replacements_from pairs first (2 * k.to) 0 k.after kept past ++ rs)) (inner_range pairs last gap k.from k.to some within)
     ∙ ap (λ t. pairs_parts (with_gap gap (slice_range pairs k.from k.to)) ++ t) rest
 
 -- what stands behind a range that is kept
 kept_body : (pairs : List Pair) (last : List ℕ) (first past at : ℕ) (w : Insertion) (kept : List (Option KeptTokens)) (rs : List Replacement) → AreKeptInOrder first past at w kept → past ≤ length pairs
-    → replaced_from (2 * at) (parts_of pairs last) (replacements_from pairs (2 * at) 0 w kept past ++ rs) ≡ pairs_parts (inserted_and_kept_pairs pairs w kept) ++ replaced_from (2 * past) (parts_of pairs last) rs
+    → replaced_from (2 * at) (parts_of pairs last) (replacements_from pairs first (2 * at) 0 w kept past ++ rs) ≡ pairs_parts (inserted_and_kept_pairs pairs first w kept) ++ replaced_from (2 * past) (parts_of pairs last) rs
 kept_body pairs last first past at w [] rs o le =
     let xs = parts_of pairs last in
-    ap (λ t. t ++ ((pairs_parts (inserted pairs w) ++ []) ++ replaced_from (2 * past) xs rs)) (range_none xs (2 * at) (2 * at) (omega arith))
-    ∙ ap (λ t. t ++ replaced_from (2 * past) xs rs) (append-nil (pairs_parts (inserted pairs w)))
+    ap (λ t. t ++ ((pairs_parts (inserted pairs first w) ++ []) ++ replaced_from (2 * past) xs rs)) (range_none xs (2 * at) (2 * at) (omega arith))
+    ∙ ap (λ t. t ++ replaced_from (2 * past) xs rs) (append-nil (pairs_parts (inserted pairs first w)))
 kept_body pairs last first past at w (None ∷ kept) rs o le = kept_body pairs last first past at w kept rs o le
 kept_body pairs last first past at w (Some k ∷ kept) rs o le =
     let xs = parts_of pairs last in
-    let ins = inserted pairs w in
+    let ins = inserted pairs first w in
     let more = replaced_from (2 * past) xs rs in
-    let behind = replaced_from (2 * k.from + 1) xs (replacements_from pairs (2 * k.to) 0 k.after kept past ++ rs) in
+    let behind = replaced_from (2 * k.from + 1) xs (replacements_from pairs first (2 * k.to) 0 k.after kept past ++ rs) in
     let range = with_gap [] (slice_range pairs k.from k.to) in
-    let rest = inserted_and_kept_pairs pairs k.after kept in
-    let end = kept_le first past k.to k.after kept o.3 in
+    let rest = inserted_and_kept_pairs pairs first k.after kept in
+    let end = kept_le first past k.to k.after kept o.2 in
     ap (λ t. t ++ ((pairs_parts ins ++ empty_gap) ++ behind)) (range_none xs (2 * at) (2 * at) (omega arith))
     ∙ append_assoc (pairs_parts ins) empty_gap behind
-    ∙ ap (λ t. pairs_parts ins ++ t) (kept_one pairs last [] past k kept rs _ o.2 (omega (arith, end, le)) (kept_body pairs last first past k.to k.after kept rs o.3 le))
+    ∙ ap (λ t. pairs_parts ins ++ t) (kept_one pairs last [] first past k kept rs _ o.1 (omega (arith, end, le)) (kept_body pairs last first past k.to k.after kept rs o.2 le))
     ∙ sym (three ins range rest more)
 
 -- the gap of the first token goes to the first that is written or kept
@@ -141,46 +141,46 @@ gap_twice pairs gap a b rest lt within =
     rw side refl
 
 -- what is written first
-data Written (pairs : List Pair) (w : Insertion) : Type 0 where
-  not_written : w ≡ Nothing → Written pairs w
-  is_written : (p : Pair) (ps : List Pair) → inserted pairs w ≡ p ∷ ps → Written pairs w
+data Written (pairs : List Pair) (first : ℕ) (w : Insertion) : Type 0 where
+  not_written : w ≡ Nothing → Written pairs first w
+  is_written : (p : Pair) (ps : List Pair) → inserted pairs first w ≡ p ∷ ps → Written pairs first w
 
-written_is : (pairs : List Pair) (w : Insertion) → Written pairs w
-written_is pairs Nothing = not_written refl
-written_is pairs w = is_written _ _ refl
+written_is : (pairs : List Pair) (first : ℕ) (w : Insertion) → Written pairs first w
+written_is pairs first Nothing = not_written refl
+written_is pairs first w = is_written _ _ refl
 
-front_end : (pairs : List Pair) (gap : List ℕ) (first past : ℕ) (w : Insertion) (more : List Part) → Written pairs w → ChangesEnd first w first past
-    → Gap gap ∷ (inserted_parts 1 (inserted pairs w) [] ++ more) ≡ pairs_parts (with_gap gap (inserted pairs w)) ++ more
+front_end : (pairs : List Pair) (gap : List ℕ) (first past : ℕ) (w : Insertion) (more : List Part) → Written pairs first w → ChangesEnd first w first past
+    → Gap gap ∷ (inserted_parts 1 (inserted pairs first w) [] ++ more) ≡ pairs_parts (with_gap gap (inserted pairs first w)) ++ more
 front_end pairs gap first past w more (not_written is) end = let both = subst (λ (x : Insertion). ChangesEnd first x first past) is end in absurd (omega (arith, both.0))
 front_end pairs gap first past w more (is_written p ps is) end = rw is (ap (λ t. t ++ more) (ap (λ t. Gap gap ∷ Token p.kind p.spelling ∷ t) (append-nil (pairs_parts ps))))
 
-front_kept : (pairs : List Pair) (gap : List ℕ) (a b : ℕ) (w : Insertion) (rest : List Pair) (behind more : List Part) → Written pairs w → a < b → b ≤ length pairs
+front_kept : (pairs : List Pair) (gap : List ℕ) (first a b : ℕ) (w : Insertion) (rest : List Pair) (behind more : List Part) → Written pairs first w → a < b → b ≤ length pairs
     → ((g : List ℕ) → Gap g ∷ behind ≡ pairs_parts (with_gap g (slice_range pairs a b)) ++ (pairs_parts rest ++ more))
-    → Gap gap ∷ (inserted_parts 1 (inserted pairs w) empty_gap ++ behind) ≡ pairs_parts (with_gap gap (inserted pairs w ++ (with_gap [] (slice_range pairs a b) ++ rest))) ++ more
-front_kept pairs gap a b w rest behind more (not_written is) lt within here =
+    → Gap gap ∷ (inserted_parts 1 (inserted pairs first w) empty_gap ++ behind) ≡ pairs_parts (with_gap gap (inserted pairs first w ++ (with_gap [] (slice_range pairs a b) ++ rest))) ++ more
+front_kept pairs gap first a b w rest behind more (not_written is) lt within here =
     rw is (here gap ∙ sym (append_assoc (pairs_parts (with_gap gap (slice_range pairs a b))) (pairs_parts rest) more)
     ∙ ap (λ t. t ++ more) (sym (body_append (with_gap gap (slice_range pairs a b)) rest) ∙ ap pairs_parts (sym (gap_twice pairs gap a b rest lt within))))
-front_kept pairs gap a b w rest behind more (is_written p ps is) lt within here =
+front_kept pairs gap first a b w rest behind more (is_written p ps is) lt within here =
     let front : List Pair = record p { gap = gap } ∷ ps in
     rw is (append_assoc (pairs_parts front) empty_gap behind ∙ ap (λ t. pairs_parts front ++ t) (here []) ∙ sym (three front (with_gap [] (slice_range pairs a b)) rest more))
 
 start_body : (pairs : List Pair) (last gap : List ℕ) (first past : ℕ) (w : Insertion) (kept : List (Option KeptTokens)) (rs : List Replacement) → AreKeptInOrder first past first w kept → past ≤ length pairs
-    → Gap gap ∷ replaced_from (2 * first + 1) (parts_of pairs last) (replacements_from pairs (2 * first + 1) 1 w kept past ++ rs)
-    ≡ pairs_parts (with_gap gap (inserted_and_kept_pairs pairs w kept)) ++ replaced_from (2 * past) (parts_of pairs last) rs
+    → Gap gap ∷ replaced_from (2 * first + 1) (parts_of pairs last) (replacements_from pairs first (2 * first + 1) 1 w kept past ++ rs)
+    ≡ pairs_parts (with_gap gap (inserted_and_kept_pairs pairs first w kept)) ++ replaced_from (2 * past) (parts_of pairs last) rs
 start_body pairs last gap first past w [] rs o le =
     let xs = parts_of pairs last in
     let more = replaced_from (2 * past) xs rs in
-    ap (λ t. Gap gap ∷ (t ++ (inserted_parts 1 (inserted pairs w) [] ++ more))) (range_none xs (2 * first + 1) (2 * first + 1) (omega arith))
-    ∙ front_end pairs gap first past w more (written_is pairs w) o.1
+    ap (λ t. Gap gap ∷ (t ++ (inserted_parts 1 (inserted pairs first w) [] ++ more))) (range_none xs (2 * first + 1) (2 * first + 1) (omega arith))
+    ∙ front_end pairs gap first past w more (written_is pairs first w) o
 start_body pairs last gap first past w (None ∷ kept) rs o le = start_body pairs last gap first past w kept rs o le
 start_body pairs last gap first past w (Some k ∷ kept) rs o le =
     let xs = parts_of pairs last in
     let more = replaced_from (2 * past) xs rs in
-    let end = kept_le first past k.to k.after kept o.3 in
-    let behind = replaced_from (2 * k.from + 1) xs (replacements_from pairs (2 * k.to) 0 k.after kept past ++ rs) in
-    ap (λ t. Gap gap ∷ (t ++ (inserted_parts 1 (inserted pairs w) empty_gap ++ behind))) (range_none xs (2 * first + 1) (2 * first + 1) (omega arith))
-    ∙ front_kept pairs gap k.from k.to w (inserted_and_kept_pairs pairs k.after kept) behind more (written_is pairs w) o.2 (omega (arith, end, le))
-    (λ g. kept_one pairs last g past k kept rs _ o.2 (omega (arith, end, le)) (kept_body pairs last first past k.to k.after kept rs o.3 le))
+    let end = kept_le first past k.to k.after kept o.2 in
+    let behind = replaced_from (2 * k.from + 1) xs (replacements_from pairs first (2 * k.to) 0 k.after kept past ++ rs) in
+    ap (λ t. Gap gap ∷ (t ++ (inserted_parts 1 (inserted pairs first w) empty_gap ++ behind))) (range_none xs (2 * first + 1) (2 * first + 1) (omega arith))
+    ∙ front_kept pairs gap first k.from k.to w (inserted_and_kept_pairs pairs first k.after kept) behind more (written_is pairs first w) o.1 (omega (arith, end, le))
+    (λ g. kept_one pairs last g first past k kept rs _ o.1 (omega (arith, end, le)) (kept_body pairs last first past k.to k.after kept rs o.2 le))
 
 -- one finding: what comes before it, its tokens, and what is behind it
 one_fixed : (pairs : List Pair) (last : List ℕ) (at first past : ℕ) (fix : Option Fix) (rs : List Replacement) → is_comment_fix fix ≡ false → at ≤ first → first < past → past ≤ length pairs → HasValidFix first past fix
@@ -189,8 +189,8 @@ one_fixed : (pairs : List Pair) (last : List ℕ) (at first past : ℕ) (fix : O
 one_fixed pairs last at first past (Some (Tokens w kept)) rs other le some within fits =
     let before = pairs_parts (slice_range pairs at first) in
     let gap = gap_at pairs first in
-    let more = replaced_from (2 * first + 1) (parts_of pairs last) (replacements_from pairs (2 * first + 1) 1 w kept past ++ rs) in
-    from_place pairs last (2 * at) (2 * first + 1) 1 w kept past rs
+    let more = replaced_from (2 * first + 1) (parts_of pairs last) (replacements_from pairs first (2 * first + 1) 1 w kept past ++ rs) in
+    from_place pairs last first (2 * at) (2 * first + 1) 1 w kept past rs
     ∙ ap (λ t. t ++ more) (open_range pairs last at first le (omega (arith, some, within)))
     ∙ append_assoc before (Gap gap ∷ []) more
     ∙ ap (λ t. before ++ t) (start_body pairs last gap first past w kept rs fits within)

@@ -18,14 +18,14 @@ use Rattle.tf_fix.specs.Inner.Nonempty.{IsFixableWithin, HasValidFix}
 use Rattle.tf_fix.specs.FindingReplacements.{replacements_from, fix_replacements, finding_replacements, IsOfRule, AreOfRule}
 use Rattle.tf_fix.specs.Replacements.{Replacement, AreInOrder}
 use Rattle.tf_fix.specs.Selection.{selected_from}
-use Rattle.tf_fix.specs.Inner.Views.{CanInsert, CanInsertAll}
+use Rattle.tf_fix.specs.Inner.Views.{HasByte, HaveBytes}
 use Rattle.tf_fix.specs.declared.splice.Replacement.{Replacement as Replacing}
 
 -- ---- the loops over findings
 
-pub insertion_push : (pairs : List Pair) (rs : List Replacing) (r : Replacing) → CanInsertAll pairs rs → CanInsert pairs r.insertion → CanInsertAll pairs (rs ++ r ∷ [])
-insertion_push pairs [] r are is = (is, tt)
-insertion_push pairs (x ∷ rs) r are is = (are.0, insertion_push pairs rs r are.1 is)
+pub bytes_push : (pairs : List Pair) (rs : List Replacing) (r : Replacing) → HaveBytes pairs rs → HasByte pairs r.first → HaveBytes pairs (rs ++ r ∷ [])
+bytes_push pairs [] r are is = (is, tt)
+bytes_push pairs (x ∷ rs) r are is = (are.0, bytes_push pairs rs r are.1 is)
 
 -- where there is a fix, what it keeps stands in order
 is_fixable_within : (first past : ℕ) (fix : Option Fix) → is_fixable fix ≡ true → IsFixValid first past fix → HasValidFix first past fix
@@ -88,29 +88,29 @@ later_order at from end (r ∷ rs) le o = (omega (arith, le, o.0), o.1, o.2)
 
 -- what is kept behind a place ends before the finding does
 pub kept_le : (first past at : ℕ) (written : Insertion) (kept : List (Option KeptTokens)) → AreKeptInOrder first past at written kept → at ≤ past
-kept_le first past at Nothing [] o = omega (arith, o.1.1)
-kept_le first past at written [] o = o.1
+kept_le first past at Nothing [] o = omega (arith, o.1)
+kept_le first past at written [] o = o
 kept_le first past at written (None ∷ kept) o = kept_le first past at written kept o
-kept_le first past at Nothing (Some k ∷ kept) o = let rest = kept_le first past k.to k.after kept o.3 in omega (arith, o.1, o.2, rest)
-kept_le first past at written (Some k ∷ kept) o = let rest = kept_le first past k.to k.after kept o.3 in omega (arith, o.1, o.2, rest)
+kept_le first past at Nothing (Some k ∷ kept) o = let rest = kept_le first past k.to k.after kept o.2 in omega (arith, o.0, o.1, rest)
+kept_le first past at written (Some k ∷ kept) o = let rest = kept_le first past k.to k.after kept o.2 in omega (arith, o.0, o.1, rest)
 
 -- a place before number at, or right before its token, is no later than the next that is kept
 pub next_le : (first past at : ℕ) (written : Insertion) (k : KeptTokens) (kept : List (Option KeptTokens)) → AreKeptInOrder first past at written (Some k ∷ kept) → at ≤ k.from
-next_le first past at Nothing k kept o = omega (arith, o.1)
-next_le first past at written k kept o = o.1
+next_le first past at Nothing k kept o = omega (arith, o.0)
+next_le first past at written k kept o = o.0
 
 kept_order : (pairs : List Pair) (first past at place skip : ℕ) (written : Insertion) (kept : List (Option KeptTokens)) → AreKeptInOrder first past at written kept
-    → place ≤ 2 * at + 1 → place ≤ 2 * past → AreInOrder place (replacements_from pairs place skip written kept past) (2 * past)
+    → place ≤ 2 * at + 1 → place ≤ 2 * past → AreInOrder place (replacements_from pairs first place skip written kept past) (2 * past)
 kept_order pairs first past at place skip written [] o prev le = (omega arith, le, omega arith)
 kept_order pairs first past at place skip written (None ∷ kept) o prev le = kept_order pairs first past at place skip written kept o prev le
 kept_order pairs first past at place skip written (Some k ∷ kept) o prev le =
     let next = next_le first past at written k kept o in
-    let end = kept_le first past k.to k.after kept o.3 in
-    let some = o.2 in (
+    let end = kept_le first past k.to k.after kept o.2 in
+    let some = o.1 in (
       omega arith,
       omega (arith, prev, next),
       later_order (2 * k.from + 1) (2 * k.to) (2 * past) _ (omega (arith, some))
-          (kept_order pairs first past k.to (2 * k.to) 0 k.after kept o.3 (omega arith) (omega (arith, end))),
+          (kept_order pairs first past k.to (2 * k.to) 0 k.after kept o.2 (omega arith) (omega (arith, end))),
     )
 
 -- those of a finding stand within its tokens

@@ -32,21 +32,22 @@ number_of pairs i = drop 1 (spelling_at pairs i)
 abbrev pub pair : List ℕ → Kind → List ℕ → Pair
 pair gap kind spelling = record { gap = gap; kind = kind; spelling = spelling }
 
--- the tokens that a fix writes, with the gaps between them
-abbrev pub inserted : List Pair → Insertion → List Pair
-inserted pairs Nothing = []
-inserted pairs (Index i) =
-    pair [] OpenBracket (codes "[") ∷ pair [] Number (number_of pairs i)
+-- the tokens that the fix of a finding writes, with the gaps between them; first is the number of
+-- the finding's first token
+abbrev pub inserted : List Pair → ℕ → Insertion → List Pair
+inserted pairs first Nothing = []
+inserted pairs first Index =
+    pair [] OpenBracket (codes "[") ∷ pair [] Number (number_of pairs first)
     ∷ pair [] CloseBracket (codes "]") ∷ []
-inserted pairs Length = pair [] Identifier (codes "length") ∷ pair [] OpenParen (codes "(") ∷ []
-inserted pairs IsZero =
+inserted pairs first Length = pair [] Identifier (codes "length") ∷ pair [] OpenParen (codes "(") ∷ []
+inserted pairs first IsZero =
     pair [] CloseParen (codes ")") ∷ pair space DoubleEqual (codes "==")
     ∷ pair space Number (codes "0") ∷ []
-inserted pairs IsPositive =
+inserted pairs first IsPositive =
     pair [] CloseParen (codes ")") ∷ pair space Greater (codes ">") ∷ pair space Number (codes "0")
     ∷ []
-inserted pairs Opening = pair [] OpenBracket (codes "[") ∷ []
-inserted pairs Closing = pair [] CloseBracket (codes "]") ∷ []
+inserted pairs first Opening = pair [] OpenBracket (codes "[") ∷ []
+inserted pairs first Closing = pair [] CloseBracket (codes "]") ∷ []
 
 -- the parts of pairs alone
 abbrev pub pairs_parts : List Pair → List Part
@@ -62,13 +63,14 @@ abbrev pub empty_gap : List Part
 empty_gap = Gap [] ∷ []
 
 -- what is replaced from a place on, where this is written first, and then so much is kept
-abbrev pub replacements_from : List Pair → ℕ → ℕ → Insertion → List (Option KeptTokens) → ℕ → List Replacement
-replacements_from pairs place skip written [] past =
-    record { from = place; to = at_gap past; inserted_parts = inserted_parts skip (inserted pairs written) [] } ∷ []
-replacements_from pairs place skip written (None ∷ kept) past = replacements_from pairs place skip written kept past
-replacements_from pairs place skip written (Some k ∷ kept) past =
-    record { from = place; to = at_token k.from; inserted_parts = inserted_parts skip (inserted pairs written) empty_gap }
-    ∷ replacements_from pairs (at_gap k.to) 0 k.after kept past
+abbrev pub replacements_from : List Pair → ℕ → ℕ → ℕ → Insertion → List (Option KeptTokens) → ℕ → List Replacement
+replacements_from pairs first place skip written [] past =
+    record { from = place; to = at_gap past; inserted_parts = inserted_parts skip (inserted pairs first written) [] } ∷ []
+replacements_from pairs first place skip written (None ∷ kept) past =
+    replacements_from pairs first place skip written kept past
+replacements_from pairs first place skip written (Some k ∷ kept) past =
+    record { from = place; to = at_token k.from; inserted_parts = inserted_parts skip (inserted pairs first written) empty_gap }
+    ∷ replacements_from pairs first (at_gap k.to) 0 k.after kept past
 
 -- What is replaced to mend the tokens from number first up to, not with, number past: whole tokens
 -- and gaps. Comments are mended by an edit inside the token.
@@ -76,7 +78,7 @@ abbrev pub fix_replacements : List Pair → ℕ → ℕ → Option Fix → List 
 fix_replacements pairs first past None = []
 fix_replacements pairs first past (Some CommentMarker) = []
 fix_replacements pairs first past (Some (Tokens before kept)) =
-    replacements_from pairs (at_token first) 1 before kept past
+    replacements_from pairs first (at_token first) 1 before kept past
 
 abbrev pub finding_replacements : List Pair → Finding → List Replacement
 finding_replacements pairs finding = fix_replacements pairs finding.first finding.past finding.fix

@@ -24,12 +24,12 @@ with_gap gap [] = []
 with_gap gap (p ∷ ps) = record p { gap = gap } ∷ ps
 
 -- what is written, and then the tokens that are kept, of which the first has no gap
-abbrev pub inserted_and_kept_pairs : List Pair → Insertion → List (Option KeptTokens) → List Pair
-inserted_and_kept_pairs pairs written [] = inserted pairs written
-inserted_and_kept_pairs pairs written (None ∷ kept) = inserted_and_kept_pairs pairs written kept
-inserted_and_kept_pairs pairs written (Some k ∷ kept) =
-    inserted pairs written
-    ++ (with_gap [] (slice_range pairs k.from k.to) ++ inserted_and_kept_pairs pairs k.after kept)
+abbrev pub inserted_and_kept_pairs : List Pair → ℕ → Insertion → List (Option KeptTokens) → List Pair
+inserted_and_kept_pairs pairs first written [] = inserted pairs first written
+inserted_and_kept_pairs pairs first written (None ∷ kept) = inserted_and_kept_pairs pairs first written kept
+inserted_and_kept_pairs pairs first written (Some k ∷ kept) =
+    inserted pairs first written
+    ++ (with_gap [] (slice_range pairs k.from k.to) ++ inserted_and_kept_pairs pairs first k.after kept)
 
 -- What comes in the place of the tokens from number first up to, not with, number past; the first
 -- takes the gap of the first of these.
@@ -39,7 +39,7 @@ fixed_pairs pairs first past None = slice_range pairs first past
 -- the comment with `#` in place of its `//`
 fixed_pairs pairs first past (Some CommentMarker) = map fixed_comment (slice_range pairs first past)
 fixed_pairs pairs first past (Some (Tokens before kept)) =
-    with_gap (gap_at pairs first) (inserted_and_kept_pairs pairs before kept)
+    with_gap (gap_at pairs first) (inserted_and_kept_pairs pairs first before kept)
 
 -- the pairs from this number on, with those of each finding replaced
 abbrev pub fixed_pairs_from : ℕ → List Pair → List Finding → List Pair

@@ -1,35 +1,37 @@
 //! What comes in the place of parts that go.
 
-ghost use Rattle.std.specs.Prelude.{◌≡◌, ◌<◌, length, IfOk, IfErr};
+ghost use Rattle.std.specs.Prelude.{◌≡◌, ℕ, IfOk};
 ghost use Rattle.tf_fix.specs.Parts.{text_of_parts};
 ghost use Rattle.tf_fix.specs.SettledSpaces.{prev_after, settled};
-ghost use Rattle.tf_fix.specs.Inner.Views.{prev_view, CanInsert};
+ghost use Rattle.tf_fix.specs.Inner.Views.{prev_view, HasByte};
 ghost use Rattle.tf_fix.specs.FindingReplacements.{pairs_parts, inserted};
 
 use crate::prev_token::{PrevToken, joins_prev};
+use crate::splice::Replacement;
 use hcl_scan::Scanned;
 use hcl_token::Kind;
 use std::alloc::{AllocError, Global};
 use tf_rules::Insertion;
 
-/// What is added behind `near`.
+/// What is added after `prev`.
 pub fn added_text(
     alloc: Global,
     scanned: &Scanned<'_>,
     prev: PrevToken<'_>,
-    insertion: Insertion,
+    one: Replacement,
 ) -> Result<Vec<u8>, AllocError>
-    requires { CanInsert scanned.now.pairs insertion }
+    requires { HasByte scanned.now.pairs one.first }
     ensures { IfOk result
         (λ text. text.items
-        ≡ text_of_parts (settled (prev_view prev.entry) (pairs_parts (inserted scanned.now.pairs insertion)))) }
+        ≡ text_of_parts (settled (prev_view prev.entry)
+        (pairs_parts (inserted scanned.now.pairs one.first one.insertion)))) }
 {
     let mut text = Vec::new(alloc);
-    match insertion {
+    match one.insertion {
         Insertion::Nothing => {}
-        Insertion::Index(i) => {
+        Insertion::Index => {
             text.extend_from_slice(b"[")?;
-            text.extend_from_slice(&scanned.spelling(i)[1..])?;
+            text.extend_from_slice(&scanned.spelling(one.first)[1..])?;
             text.extend_from_slice(b"]")?;
         }
         Insertion::Length => {
@@ -49,12 +51,12 @@ pub fn added_text(
 
 /// The token that then stands last.
 pub fn prev_after_insertion<'t>(prev: PrevToken<'t>, insertion: Insertion) -> PrevToken<'t>
-    ensures { (pairs : _)
-        → prev_view result ≡ prev_after (prev_view prev.entry) (pairs_parts (inserted pairs insertion)) }
+    ensures { (pairs : _) (first : ℕ)
+        → prev_view result ≡ prev_after (prev_view prev.entry) (pairs_parts (inserted pairs first insertion)) }
 {
     match insertion {
         Insertion::Nothing => prev,
-        Insertion::Index(_) | Insertion::CloseBracket => PrevToken::Token {
+        Insertion::Index | Insertion::CloseBracket => PrevToken::Token {
             kind: Kind::CloseBracket,
             spelling: b"]",
         },

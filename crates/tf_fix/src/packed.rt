@@ -10,17 +10,18 @@ use std::alloc::AllocError;
 use std::marker::Model;
 use tf_rules::Insertion;
 
-/// A replacement as it stands in the list of all that one step makes, in 24 bytes: a place as how
+/// A replacement as it stands in the list of all that one step makes, in 16 bytes: a place as how
 /// many gaps and tokens stand before it.
 #[derive(Drop)]
 pub struct PackedReplacement {
     from: u32,
     to: u32,
+    first: u32,
     insertion: Insertion,
 }
 
 // A step has one or more for each finding that it mends.
-const _: () = prove!(size_of::<PackedReplacement>() == 24);
+const _: () = prove!(size_of::<PackedReplacement>() == 16);
 
 impl Model for PackedReplacement {
     ghost use Rattle.tf_fix.specs.declared.splice.Replacement.{Replacement};
@@ -31,6 +32,7 @@ impl Model for PackedReplacement {
     ghost view = { λ p. record {
       from = boundary_at p.from;
       to = boundary_at p.to;
+      first = p.first;
       insertion = p.insertion;
     } };
 }
@@ -49,6 +51,18 @@ fn pack_boundary(boundary: Boundary) -> Result<u32, AllocError>
     }
 }
 
+/// The number of a token in 32 bits; `AllocError` past them.
+fn pack_number(number: usize) -> Result<u32, AllocError>
+    ensures ok { IfOk result (λ n. n ≡ number) }
+    ensures err { IfErr result (λ _. 2 ^ 32 ≤ number) }
+{
+    if number <= u32::MAX as usize {
+        Ok(number as u32)
+    } else {
+        Err(AllocError)
+    }
+}
+
 fn unpack_boundary(place: u32) -> Boundary
     ensures { result ≡ boundary_at place }
 {
@@ -61,17 +75,20 @@ fn unpack_boundary(place: u32) -> Boundary
 }
 
 impl PackedReplacement {
-    /// The replacement in few bytes; `AllocError` where a place is past 32 bits.
+    /// The replacement in few bytes; `AllocError` where a number is past 32 bits.
     pub fn new(one: Replacement) -> Result<PackedReplacement, AllocError>
         ensures ok { IfOk result (λ packed. packed ≡ one) }
         ensures err { IfErr result
-            (λ _. (2 ^ 32 ≤ boundary_index one.from) ⊎ (2 ^ 32 ≤ boundary_index one.to)) }
+            (λ _. (2 ^ 32 ≤ boundary_index one.from) ⊎ (2 ^ 32 ≤ boundary_index one.to)
+            ⊎ (2 ^ 32 ≤ one.first)) }
     {
         let from = pack_boundary(one.from)?;
         let to = pack_boundary(one.to)?;
+        let first = pack_number(one.first)?;
         Ok(PackedReplacement {
             from,
             to,
+            first,
             insertion: one.insertion,
         })
     }
@@ -83,6 +100,7 @@ impl PackedReplacement {
         Replacement {
             from: unpack_boundary(self.from),
             to: unpack_boundary(self.to),
+            first: self.first as usize,
             insertion: self.insertion,
         }
     }

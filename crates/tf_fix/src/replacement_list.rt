@@ -6,7 +6,7 @@ ghost use Rattle.tf_rules.specs.Findings.{AreValidFindings};
 ghost use Rattle.tf_fix.specs.FindingReplacements.{replacements_from, finding_replacements, step_replacements};
 ghost use Rattle.tf_fix.specs.Selection.{selected};
 ghost use Rattle.tf_fix.specs.Inner.Nonempty.{AreNonempty, IsFixableWithin};
-ghost use Rattle.tf_fix.specs.Inner.Views.{boundary_index, skip_of, replacements, CanInsertAll, CanInsertKept};
+ghost use Rattle.tf_fix.specs.Inner.Views.{boundary_index, skip_of, replacements, HasByte, HaveBytes};
 
 use crate::boundary::Boundary;
 use crate::packed::{PackedReplacement, push_packed};
@@ -17,43 +17,55 @@ use std::alloc::{AllocError, Global};
 use tf_findings::is_found_by;
 use tf_rules::{Finding, Fix, Insertion, KeptTokens, Rule};
 
-/// Appends the replacements of one fix from `from` on: it inserts `text_of_parts` there, keeps each range
-/// of `kept` and inserts what follows it, and removes all other tokens up to `past`.
+/// Appends the replacements of the fix of a finding from `from` on: it inserts `written` there,
+/// keeps each range of `kept` and inserts what follows it, and removes all other tokens up to
+/// `past`. `first` is the number of the finding's first token.
 fn push_kept_replacements(
     all: &mut Vec<PackedReplacement>,
     scanned: &Scanned<'_>,
+    first: usize,
     from: Boundary,
     written: Insertion,
     kept: &[Option<KeptTokens>],
     past: usize,
 ) -> Result<(), AllocError>
-    requires insertion { CanInsertKept scanned.now.pairs written kept.now }
+    requires byte { HasByte scanned.now.pairs first }
     ensures items { IfOk result
         (λ _. replacements scanned.now.pairs all.new.items
         ≡ replacements scanned.now.pairs all.old.items
-        ++ replacements_from scanned.now.pairs (boundary_index from) (skip_of from) written kept.now past) }
-    ensures insertion { IfOk result
-        (λ _. CanInsertAll scanned.now.pairs all.old.items
-        → CanInsertAll scanned.now.pairs all.new.items) }
+        ++ replacements_from scanned.now.pairs first (boundary_index from) (skip_of from) written kept.now past) }
+    ensures bytes { IfOk result
+        (λ _. HaveBytes scanned.now.pairs all.old.items
+        → HaveBytes scanned.now.pairs all.new.items) }
 {
     match kept {
         [] => {
             let one = Replacement {
                 from,
                 to: Boundary::Gap(past),
+                first,
                 insertion: written,
             };
             push_packed(all, one)
         }
-        [None, rest @ ..] => push_kept_replacements(all, scanned, from, written, rest, past),
+        [None, rest @ ..] => push_kept_replacements(all, scanned, first, from, written, rest, past),
         [Some(one), rest @ ..] => {
-            let first = Replacement {
+            let replacement = Replacement {
                 from,
                 to: Boundary::Token(one.from),
+                first,
                 insertion: written,
             };
-            push_packed(all, first)?;
-            push_kept_replacements(all, scanned, Boundary::Gap(one.to), one.after, rest, past)
+            push_packed(all, replacement)?;
+            push_kept_replacements(
+                all,
+                scanned,
+                first,
+                Boundary::Gap(one.to),
+                one.after,
+                rest,
+                past,
+            )
         }
     }
 }
@@ -70,9 +82,9 @@ fn push_finding_replacements(
         (λ _. replacements scanned.now.pairs all.new.items
         ≡ replacements scanned.now.pairs all.old.items
         ++ finding_replacements scanned.now.pairs one.now) }
-    ensures insertion { IfOk result
-        (λ _. CanInsertAll scanned.now.pairs all.old.items
-        → CanInsertAll scanned.now.pairs all.new.items) }
+    ensures bytes { IfOk result
+        (λ _. HaveBytes scanned.now.pairs all.old.items
+        → HaveBytes scanned.now.pairs all.new.items) }
 {
     match one.fix() {
         Some(fix) => match fix {
@@ -80,6 +92,7 @@ fn push_finding_replacements(
                 push_kept_replacements(
                     all,
                     scanned,
+                    one.first(),
                     Boundary::Token(one.first()),
                     before,
                     &kept,
@@ -106,7 +119,7 @@ pub fn selected_replacements(
     ensures items { IfOk result
         (λ all. replacements scanned.now.pairs all.items
         ≡ step_replacements scanned.now.pairs (filter (is_found_by rule) findings.now)) }
-    ensures insertion { IfOk result (λ all. CanInsertAll scanned.now.pairs all.items) }
+    ensures bytes { IfOk result (λ all. HaveBytes scanned.now.pairs all.items) }
     ensures allocates { IfErr result (λ _. 0 < length (selected (filter (is_found_by rule) findings.now))) }
 {
     // Each finding that is taken has one or more; comments, which have none, are mended elsewhere.

@@ -5,7 +5,7 @@ ghost use Rattle.edit_record.specs.Lists.Pieces.{changed_entries};
 ghost use Rattle.tf_fix.specs.Parts.{parts, text_of_parts};
 ghost use Rattle.tf_fix.specs.FindingReplacements.{pairs_parts, inserted};
 ghost use Rattle.tf_fix.specs.Replacements.{AreInOrder, added, replaced_pieces};
-ghost use Rattle.tf_fix.specs.Inner.Views.{boundary_index, next_index, prev_view, replacement_parts, CanInsert, replacements, CanInsertAll};
+ghost use Rattle.tf_fix.specs.Inner.Views.{boundary_index, next_index, prev_view, replacement_parts, HasByte, replacements, HaveBytes};
 
 use crate::boundary::{Boundary, offset, text_between};
 use crate::insertion::{added_text, prev_after_insertion};
@@ -16,11 +16,13 @@ use hcl_scan::Scanned;
 use std::alloc::{AllocError, Global};
 use tf_rules::Insertion;
 
-/// The parts from one place to another go, and others come in their place.
+/// The parts from one place to another go, and others come in their place. `first` is the number of
+/// the finding's first token.
 #[derive(Clone, Copy)]
 pub struct Replacement {
     pub from: Boundary,
     pub to: Boundary,
+    pub first: usize,
     pub insertion: Insertion,
 }
 
@@ -35,25 +37,26 @@ fn next_boundary(scanned: &Scanned<'_>, rest: &[PackedReplacement]) -> Boundary
     }
 }
 
-/// What is added behind `near`, where parts from `to` up to `end` stay behind it.
+/// What is added after `prev`, if the parts from `one.to` up to `end` follow it.
 fn settled_text(
     alloc: Global,
     scanned: &Scanned<'_>,
     prev: PrevToken<'_>,
-    insertion: Insertion,
-    to: Boundary,
+    one: Replacement,
     end: Boundary,
 ) -> Result<Vec<u8>, AllocError>
-    requires order { boundary_index to ≤ boundary_index end }
+    requires order { boundary_index one.to ≤ boundary_index end }
     requires within { boundary_index end ≤ 2 * length scanned.now.pairs + 1 }
-    requires insertion { CanInsert scanned.now.pairs insertion }
+    requires byte { HasByte scanned.now.pairs one.first }
     ensures { IfOk result
         (λ text. text.items
-        ≡ added (prev_view prev.entry) (pairs_parts (inserted scanned.now.pairs insertion))
-        (slice_range (parts scanned.now) (boundary_index to) (boundary_index end))) }
+        ≡ added (prev_view prev.entry)
+        (pairs_parts (inserted scanned.now.pairs one.first one.insertion))
+        (slice_range (parts scanned.now) (boundary_index one.to) (boundary_index end))) }
 {
-    let mut text = added_text(alloc, scanned, prev, insertion)?;
-    if is_glued(scanned, prev_after_insertion(prev, insertion), to, end) {
+    let mut text = added_text(alloc, scanned, prev, one)?;
+    let last = prev_after_insertion(prev, one.insertion);
+    if is_glued(scanned, last, one.to, end) {
         text.push(b' ')?;
     }
     Ok(text)
@@ -71,7 +74,7 @@ fn replacement_edit(
     requires to { boundary_index one.to ≤ boundary_index end }
     requires within { boundary_index one.to ≤ 2 * length scanned.now.pairs }
     requires end { boundary_index end ≤ 2 * length scanned.now.pairs + 1 }
-    requires insertion { CanInsert scanned.now.pairs one.insertion }
+    requires byte { HasByte scanned.now.pairs one.first }
     ensures at { IfOk result
         (λ edit. edit.at ≡ length (text_of_parts (take (boundary_index one.from) (parts scanned.now)))) }
     ensures removed { IfOk result
@@ -80,10 +83,10 @@ fn replacement_edit(
     ensures added { IfOk result
         (λ edit. edit.added
         ≡ added (prev_view prev.entry)
-        (replacement_parts scanned.now.pairs one.from one.to one.insertion)
+        (replacement_parts scanned.now.pairs one.from one.to one.first one.insertion)
         (slice_range (parts scanned.now) (boundary_index one.to) (boundary_index end))) }
 {
-    let added = settled_text(alloc, scanned, prev, one.insertion, one.to, end)?;
+    let added = settled_text(alloc, scanned, prev, one, end)?;
     let removed = text_between(scanned, one.from, one.to);
     Edit::new(alloc, offset(scanned, one.from), removed, &added)
 }
@@ -96,7 +99,7 @@ pub fn replacement_edits(
 ) -> Result<Vec<Edit>, AllocError>
     requires order { AreInOrder 0 (replacements scanned.now.pairs all.now)
         (2 * length scanned.now.pairs) }
-    requires insertion { CanInsertAll scanned.now.pairs all.now }
+    requires bytes { HaveBytes scanned.now.pairs all.now }
     ensures { IfOk result
         (λ edits. edits.items
         ≡ changed_entries 0 (replaced_pieces (parts scanned.now)

@@ -31,10 +31,10 @@ use Rattle.tf_reuse.proofs.RenumberedNodes.{MovedNumbers, MovedExpr, MovedForm, 
 use Rattle.tf_reuse.proofs.RenumberedTrivia.{here_of, behind_of, eq_moved, spelling_moved, trivia_moved, break_moved, inner_break_moved, here_close_moved}
 use Rattle.tf_reuse.proofs.Window.{Here, Same}
 use Rattle.tf_reuse.specs.MembersKeep.{SameTokens}
-use Rattle.tf_reuse.proofs.Renumbering.{Moves, SameFix, either, append, both, fix_when, index, word, keeps, skip, no_kept, tokens as same_tokens, no_fix, finding_moves, neither_fits}
+use Rattle.tf_reuse.proofs.Renumbering.{Moves, SameFix, either, append, both, fix_when, keeps, skip, no_kept, tokens as same_tokens, no_fix, finding_moves, neither_fits}
 use Rattle.tf_reuse.proofs.Renumbering as moves
 use Rattle.tf_rules.specs.declared.fix.Fix.{Fix}
-use Rattle.tf_rules.specs.declared.fix.Insertion.TheVariants.{Nothing, Length, IsZero, IsPositive, OpenBracket, CloseBracket}
+use Rattle.tf_rules.specs.declared.fix.Insertion.TheVariants.{Nothing, Index, Length, IsZero, IsPositive, OpenBracket, CloseBracket}
 use Rattle.tf_rules.specs.declared.rule.Rule.TheVariants.{DeprecatedIndex, DeprecatedInterpolation, EmptyListEquality, DeprecatedLookup}
 use Rattle.tf_rules.specs.Findings.{plain_message, finding_at, is_fix_valid}
 use Rattle.tf_rules.specs.Fixes.{kept, keep_one, when}
@@ -174,7 +174,7 @@ module _ (old new : List Pair) {from to count : ℕ} (w : SameTokens (tokens_of 
       → Moves old new from to (index_findings old splat (out-Tail x)) (index_findings new splat (out-Tail x'))
   index_moved splat (moved.by_name t) = simp (open_name) moves.none
   index_moved splat (moved.legacy t) =
-      let fix = fix_when old new w refl (same_tokens (index t) (skip (skip no_kept))) in
+      let fix = fix_when old new w refl (same_tokens Index (skip (skip no_kept))) in
       simp (open_legacy) (finding_moves old new w DeprecatedIndex (here_of old new w t) (behind_of old new w t) refl fix)
   index_moved splat moved.attribute_splat = simp (open_attribute_splat) moves.none
   index_moved splat moved.full_splat = simp (open_full_splat) moves.none
@@ -191,8 +191,8 @@ module _ (old new : List Pair) {from to count : ℕ} (w : SameTokens (tokens_of 
       both x (both (ap not y) (ap not z))
 
   measured_moved : {a a' b b' : ℕ} (zero : Bool) → Here w a a' → Here w b b' → SameFix old new w (Some (length_fix a b zero)) (Some (length_fix a' b' zero))
-  measured_moved true k l = same_tokens (word Length tt) (keeps k l (word IsZero tt) (skip no_kept))
-  measured_moved false k l = same_tokens (word Length tt) (keeps k l (word IsPositive tt) (skip no_kept))
+  measured_moved true k l = same_tokens Length (keeps IsZero k l (skip no_kept))
+  measured_moved false k l = same_tokens Length (keeps IsPositive k l (skip no_kept))
 
   comparison_moves : {i i' j j' a a' b b' : ℕ} {f f' : Bool} (zero : Bool) → Here w i i' → Here w j j' → Here w a a' → Here w b b' → f' ≡ f
       → Moves old new from to (finding_at EmptyListEquality i j plain_message (when f (length_fix a b zero))) (finding_at EmptyListEquality i' j' plain_message (when f' (length_fix a' b' zero)))
@@ -231,7 +231,7 @@ module _ (old new : List Pair) {from to count : ℕ} (w : SameTokens (tokens_of 
   inside_moved h g l =
       let a : Here w _ _ = record { before = h.before + 2; within = omega (arith, l, h.in_old, g.in_old, g.within); in_old = omega (arith, h.in_old); in_new = omega (arith, h.in_new) } in
       let b : Here w _ _ = record { before = g.before - 2; within = omega (arith, g.within); in_old = omega (arith, l, h.in_old, g.in_old); in_new = omega (arith, l, h.in_old, h.in_new, g.in_old, g.in_new) } in
-      same_tokens (word Nothing tt) (keeps a b (word Nothing tt) (skip no_kept))
+      same_tokens Nothing (keeps Nothing a b (skip no_kept))
 
   narrow_moves : {i i' j j' : ℕ} {f f' : Bool} → Here w i i' → Here w j j' → f' ≡ f → j < i + 5
       → Moves old new from to (finding_at DeprecatedInterpolation i j plain_message (when f (inside i j))) (finding_at DeprecatedInterpolation i' j' plain_message (when f' (inside i' j')))
@@ -270,8 +270,8 @@ module _ (old new : List Pair) {from to count : ℕ} (w : SameTokens (tokens_of 
   two_moved : {i i' j j' : ℕ} {a a' b b' : Expr} → Here w i i' → Here w j j' → MovedExpr (Here w) (Same w) a a' → MovedExpr (Here w) (Same w) b b'
       → Moves old new from to (pair_findings old i j (Some (a, b))) (pair_findings new i' j' (Some (a', b')))
   two_moved h g m n =
-      let kept_two = keeps (first_here m) (past_here m) (word OpenBracket tt) (keeps (first_here n) (past_here n) (word CloseBracket tt) no_kept) in
-      finding_moves old new w DeprecatedLookup h g refl (fix_when old new w (movable_moved h g m n) (same_tokens (word Nothing tt) kept_two))
+      let kept_two = keeps OpenBracket (first_here m) (past_here m) (keeps CloseBracket (first_here n) (past_here n) no_kept) in
+      finding_moves old new w DeprecatedLookup h g refl (fix_when old new w (movable_moved h g m n) (same_tokens Nothing kept_two))
 
   pair_moved : {i i' j j' : ℕ} {es es' : List Expr} → Here w i i' → Here w j j' → MovedExprs (Here w) (Same w) es es'
       → Moves old new from to (pair_findings old i j (two_arguments es)) (pair_findings new i' j' (two_arguments es'))

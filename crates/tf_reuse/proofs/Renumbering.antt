@@ -5,20 +5,20 @@ use Rattle.std.proofs.lemmas.List.Elements.{filter-append}
 use Rattle.std.specs.Option.{option_map}
 use Rattle.hcl_scan.specs.Follows.{tokens_of}
 use Rattle.hcl_token.specs.Tokens.{Pair}
-use Rattle.tf_reuse.proofs.RenumberedTrivia.{moved_is, moved_token, here_of, lt_moved, le_moved, is_le, token_of}
+use Rattle.tf_reuse.proofs.RenumberedTrivia.{moved_is, lt_moved, le_moved, is_le, token_of}
 use Rattle.tf_reuse.proofs.Window.{Here, Same}
 use Rattle.tf_reuse.specs.MembersKeep.{SameTokens}
-use Rattle.tf_reuse.specs.Renumbering.{renumber, renumber_insertion, renumber_kept, renumber_fix, renumber_message, renumber_finding}
+use Rattle.tf_reuse.specs.Renumbering.{renumber, renumber_kept, renumber_fix, renumber_message, renumber_finding}
 use Rattle.tf_rules.specs.declared.finding.Finding.{Finding}
 use Rattle.tf_rules.specs.declared.finding.Message.{Message}
 use Rattle.tf_rules.specs.declared.fix.Fix.{Fix}
 use Rattle.tf_rules.specs.declared.fix.Fix.TheVariants.{Tokens}
 use Rattle.tf_rules.specs.declared.fix.Insertion.{Insertion}
-use Rattle.tf_rules.specs.declared.fix.Insertion.TheVariants.{Nothing, Index}
+use Rattle.tf_rules.specs.declared.fix.Insertion.TheVariants.{Nothing}
 use Rattle.tf_rules.specs.declared.fix.KeptTokens.{KeptTokens}
 use Rattle.tf_rules.specs.declared.rule.Rule.{Rule}
 use Rattle.tf_rules.specs.Findings.{finding_at, is_fix_valid, is_valid, valid_findings}
-use Rattle.tf_rules.specs.Fixes.{kept, when, reads_within, changes_something, changes_end, are_in_order}
+use Rattle.tf_rules.specs.Fixes.{kept, when, changes_something, changes_end, are_in_order}
 
 pub record Moves (old new : List Pair) (from to : ℕ) (fs fs' : List Finding) : Type 0 where
   pub is : valid_findings (length new) fs' ≡ map (renumber_finding from to) (valid_findings (length old) fs)
@@ -48,19 +48,6 @@ module _ {old new : List Pair} {from to : ℕ} where
 pub both : {x y x' y' : Bool} → x ≡ x' → y ≡ y' → (x && y) ≡ (x' && y')
 both e f = ap₂ (λ (a : Bool) (b : Bool). a && b) e f
 
--- what a fix writes beside the number of a token
-abbrev IsWord : Insertion → Type 0
-IsWord (Index n) = ⊥
-IsWord _ = Unit {0}
-
-word_stays : (from to : ℕ) (x : Insertion) → IsWord x → x ≡ renumber_insertion from to x
-word_stays from to (Index n) is = absurd is
-word_stays from to x is = refl
-
-word_read : (i j : ℕ) (x : Insertion) → IsWord x → reads_within i j x ≡ true
-word_read i j (Index n) is = absurd is
-word_read i j x is = refl
-
 -- a finding that stands in both lists, or in neither
 if_renumbered : (M : Finding → Finding) (b b' : Bool) (f f' : Finding) → b' ≡ b → f' ≡ M f → (if b' then f' ∷ [] else []) ≡ map M (if b then f ∷ [] else [])
 if_renumbered M true true f f' e h = rw h refl
@@ -79,21 +66,16 @@ not_last true false c e = refl
 not_last false b c e = refl
 
 module _ (old new : List Pair) {from to count : ℕ} (w : SameTokens (tokens_of old) (tokens_of new) from to count) where
-  -- the same is written
-  pub data SameInsertion : Insertion → Insertion → Type 0 where
-    index : {n n' : ℕ} → Same w n n' → SameInsertion (Index n) (Index n')
-    word : (x : Insertion) → IsWord x → SameInsertion x x
-
   -- the same is kept
   pub data SameKept : List (Option KeptTokens) → List (Option KeptTokens) → Type 0 where
     no_kept : SameKept [] []
     skip : {ks ks' : List (Option KeptTokens)} → SameKept ks ks' → SameKept (None ∷ ks) (None ∷ ks')
-    keeps : {a a' b b' : ℕ} {x x' : Insertion} {ks ks' : List (Option KeptTokens)} → Here w a a' → Here w b b' → SameInsertion x x' → SameKept ks ks'
-        → SameKept (Some (kept a b x) ∷ ks) (Some (kept a' b' x') ∷ ks')
+    keeps : {a a' b b' : ℕ} {ks ks' : List (Option KeptTokens)} (x : Insertion) → Here w a a' → Here w b b' → SameKept ks ks'
+        → SameKept (Some (kept a b x) ∷ ks) (Some (kept a' b' x) ∷ ks')
 
   pub data SameFix : Option Fix → Option Fix → Type 0 where
     no_fix : SameFix None None
-    tokens : {x x' : Insertion} {ks ks' : List (Option KeptTokens)} → SameInsertion x x' → SameKept ks ks' → SameFix (Some (Tokens x ks)) (Some (Tokens x' ks'))
+    tokens : {ks ks' : List (Option KeptTokens)} (x : Insertion) → SameKept ks ks' → SameFix (Some (Tokens x ks)) (Some (Tokens x ks'))
 
   pub fix_when : {b b' : Bool} {f f' : Fix} → b' ≡ b → SameFix (Some f) (Some f') → SameFix (when b f) (when b' f')
   fix_when {b = true} {b' = true} e s = s
@@ -101,55 +83,35 @@ module _ (old new : List Pair) {from to count : ℕ} (w : SameTokens (tokens_of 
   fix_when {b = true} {b' = false} e s = absurd (cc)
   fix_when {b = false} {b' = true} e s = absurd (cc)
 
-  insertion_moved : {x x' : Insertion} → SameInsertion x x' → x' ≡ renumber_insertion from to x
-  insertion_moved (index h) = ap Index (moved_token old new w h)
-  insertion_moved (word x is) = word_stays from to x is
-
-  one_moved : {a a' b b' : ℕ} {x x' : Insertion} → Here w a a' → Here w b b' → SameInsertion x x' → kept a' b' x' ≡ renumber_kept from to (kept a b x)
-  one_moved h g s =
-      let p = moved_is old new w h in
-      let q = moved_is old new w g in
-      let r = insertion_moved s in
-      rw (p, q, r) refl
-
   kept_moved : {ks ks' : List (Option KeptTokens)} → SameKept ks ks' → ks' ≡ map (option_map (renumber_kept from to)) ks
   kept_moved no_kept = refl
   kept_moved (skip r) = ap (λ (l : List (Option KeptTokens)). None ∷ l) (kept_moved r)
-  kept_moved (keeps h g s r) = ap₂ (λ (k : KeptTokens) (l : List (Option KeptTokens)). Some k ∷ l) (one_moved h g s) (kept_moved r)
+  kept_moved (keeps x h g r) =
+      let p = moved_is old new w h in
+      let q = moved_is old new w g in
+      rw (p, q, kept_moved r) refl
 
   fix_moved : {o o' : Option Fix} → SameFix o o' → o' ≡ option_map (renumber_fix from to) o
   fix_moved no_fix = refl
-  fix_moved (tokens s r) = ap₂ (λ (x : Insertion) (ks : List (Option KeptTokens)). Some (Tokens x ks)) (insertion_moved s) (kept_moved r)
+  fix_moved (tokens x r) = ap (λ (ks : List (Option KeptTokens)). Some (Tokens x ks)) (kept_moved r)
 
-  read_moved : {i i' j j' : ℕ} {x x' : Insertion} → Here w i i' → Here w j j' → SameInsertion x x' → reads_within i' j' x' ≡ reads_within i j x
-  read_moved h g (index s) = both (le_moved old new w h (here_of old new w s)) (lt_moved old new w (here_of old new w s) g)
-  read_moved {i} {i'} {j} {j'} h g (word x is) = word_read i' j' x is ∙ sym (word_read i j x is)
+  something_moved : {a a' b b' : ℕ} (x : Insertion) → Here w a a' → Here w b b' → changes_something x a' b' ≡ changes_something x a b
+  something_moved Nothing h g = lt_moved old new w h g
+  something_moved x h g = le_moved old new w h g
 
-  something_word : {a a' b b' : ℕ} (x : Insertion) → Here w a a' → Here w b b' → changes_something x a' b' ≡ changes_something x a b
-  something_word Nothing h g = lt_moved old new w h g
-  something_word x h g = le_moved old new w h g
+  end_moved : {i i' a a' j j' : ℕ} (x : Insertion) → Here w i i' → Here w a a' → Here w j j' → changes_end i' x a' j' ≡ changes_end i x a j
+  end_moved Nothing f h g = both (lt_moved old new w f h) (lt_moved old new w h g)
+  end_moved x f h g = le_moved old new w h g
 
-  something_moved : {a a' b b' : ℕ} {x x' : Insertion} → Here w a a' → Here w b b' → SameInsertion x x' → changes_something x' a' b' ≡ changes_something x a b
-  something_moved h g (index s) = le_moved old new w h g
-  something_moved h g (word x is) = something_word x h g
-
-  end_word : {i i' a a' j j' : ℕ} (x : Insertion) → Here w i i' → Here w a a' → Here w j j' → changes_end i' x a' j' ≡ changes_end i x a j
-  end_word Nothing f h g = both (lt_moved old new w f h) (lt_moved old new w h g)
-  end_word x f h g = le_moved old new w h g
-
-  end_moved : {i i' a a' j j' : ℕ} {x x' : Insertion} → Here w i i' → Here w a a' → Here w j j' → SameInsertion x x' → changes_end i' x' a' j' ≡ changes_end i x a j
-  end_moved f h g (index s) = le_moved old new w h g
-  end_moved f h g (word x is) = end_word x f h g
-
-  order_moved : {i i' j j' a a' : ℕ} {x x' : Insertion} {ks ks' : List (Option KeptTokens)} → Here w i i' → Here w j j' → Here w a a' → SameInsertion x x' → SameKept ks ks'
-      → are_in_order i' j' a' x' ks' ≡ are_in_order i j a x ks
-  order_moved f p h s no_kept = both (read_moved f p s) (end_moved f h p s)
-  order_moved f p h s (skip r) = order_moved f p h s r
-  order_moved f p h s (keeps g k t r) = both (read_moved f p s) (both (something_moved h g s) (both (lt_moved old new w g k) (order_moved f p k t r)))
+  order_moved : {i i' j j' a a' : ℕ} {ks ks' : List (Option KeptTokens)} (x : Insertion) → Here w i i' → Here w j j' → Here w a a' → SameKept ks ks'
+      → are_in_order i' j' a' x ks' ≡ are_in_order i j a x ks
+  order_moved x f p h no_kept = end_moved x f h p
+  order_moved x f p h (skip r) = order_moved x f p h r
+  order_moved x f p h (keeps y g k r) = both (something_moved x h g) (both (lt_moved old new w g k) (order_moved y f p k r))
 
   fitting_moved : {i i' j j' : ℕ} {o o' : Option Fix} → Here w i i' → Here w j j' → SameFix o o' → is_fix_valid i' j' o' ≡ is_fix_valid i j o
   fitting_moved f p no_fix = refl
-  fitting_moved f p (tokens s r) = order_moved f p f s r
+  fitting_moved f p (tokens x r) = order_moved x f p f r
 
   -- a finding whose tokens are these is sound in both texts, or in neither
   place_moved : {i i' j j' : ℕ} {b b' : Bool} → Here w i i' → Here w j j' → b' ≡ b

@@ -5,8 +5,6 @@ use Rattle.tf_rules.specs.declared.finding.Finding.{Finding}
 use Rattle.tf_rules.specs.declared.finding.Message.{Message}
 use Rattle.tf_rules.specs.declared.fix.Fix.{Fix}
 use Rattle.tf_rules.specs.declared.fix.Fix.TheVariants.{CommentMarker, Tokens}
-use Rattle.tf_rules.specs.declared.fix.Insertion.{Insertion}
-use Rattle.tf_rules.specs.declared.fix.Insertion.TheVariants.{Index}
 use Rattle.tf_rules.specs.declared.fix.KeptTokens.{KeptTokens}
 use Rattle.tf_rules.specs.Fixes.{kept}
 
@@ -15,21 +13,16 @@ use Rattle.tf_rules.specs.Fixes.{kept}
 abbrev pub renumber : ℕ → ℕ → ℕ → ℕ
 renumber from to n = min (to + (n - from)) (2 ^ 64 - 1)
 
--- the same in what a fix writes
-abbrev pub renumber_insertion : ℕ → ℕ → Insertion → Insertion
-renumber_insertion from to (Index n) = Index (renumber from to n)
-renumber_insertion from to written = written
-
--- in tokens that a fix keeps
+-- the same in tokens that a fix keeps
 abbrev pub renumber_kept : ℕ → ℕ → KeptTokens → KeptTokens
 renumber_kept from to k =
-    kept (renumber from to k.from) (renumber from to k.to) (renumber_insertion from to k.after)
+    kept (renumber from to k.from) (renumber from to k.to) k.after
 
 -- in a fix
 abbrev pub renumber_fix : ℕ → ℕ → Fix → Fix
 renumber_fix from to CommentMarker = CommentMarker
 renumber_fix from to (Tokens before kept) =
-    Tokens (renumber_insertion from to before) (map (option_map (renumber_kept from to)) kept)
+    Tokens before (map (option_map (renumber_kept from to)) kept)
 
 -- in a message
 abbrev pub renumber_message : ℕ → ℕ → Message → Message

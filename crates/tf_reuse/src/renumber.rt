@@ -6,7 +6,7 @@ ghost use Rattle.tf_reuse.specs.Renumbering as spec;
 ghost use Rattle.tf_reuse.specs.Renumbering.{renumber_finding};
 
 use std::alloc::{AllocError, Global};
-use tf_rules::{Finding, Fix, Insertion, KeptTokens, Message};
+use tf_rules::{Finding, Fix, KeptTokens, Message};
 
 /// The number of a token, where the tokens that stood from number `from` on stand from number `to`
 /// on.
@@ -16,17 +16,7 @@ fn renumber(number: usize, from: usize, to: usize) -> usize
     to.saturating_add(number.saturating_sub(from))
 }
 
-/// What a fix writes, with such numbers.
-fn renumber_insertion(written: Insertion, from: usize, to: usize) -> Insertion
-    ensures { result ≡ spec.renumber_insertion from to written }
-{
-    match written {
-        Insertion::Index(number) => Insertion::Index(renumber(number, from, to)),
-        _ => written,
-    }
-}
-
-/// Tokens that a fix keeps.
+/// Tokens that a fix keeps, with such numbers.
 fn renumber_kept(kept: Option<KeptTokens>, from: usize, to: usize) -> Option<KeptTokens>
     ensures { result ≡ option_map (spec.renumber_kept from to) kept }
 {
@@ -35,7 +25,7 @@ fn renumber_kept(kept: Option<KeptTokens>, from: usize, to: usize) -> Option<Kep
         Some(kept) => Some(KeptTokens {
             from: renumber(kept.from, from, to),
             to: renumber(kept.to, from, to),
-            after: renumber_insertion(kept.after, from, to),
+            after: kept.after,
         }),
     }
 }
@@ -47,7 +37,7 @@ fn renumber_fix(fix: Fix, from: usize, to: usize) -> Fix
     match fix {
         Fix::CommentMarker => Fix::CommentMarker,
         Fix::Tokens { before, kept } => Fix::Tokens {
-            before: renumber_insertion(before, from, to),
+            before,
             kept: kept.map(
                 |one: Option<KeptTokens>| -> Option<KeptTokens>
                     ensures { result ≡ option_map (spec.renumber_kept from to) one }

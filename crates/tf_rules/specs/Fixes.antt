@@ -3,7 +3,7 @@ use Rattle.std.specs.Prelude.{◌≡◌, ℕ, ◌+◌, ◌<◌, ◌≤◌, nat_l
 use Rattle.tf_rules.specs.declared.fix.Fix.{Fix}
 use Rattle.tf_rules.specs.declared.fix.Fix.TheVariants.{CommentMarker, Tokens}
 use Rattle.tf_rules.specs.declared.fix.Insertion.{Insertion}
-use Rattle.tf_rules.specs.declared.fix.Insertion.TheVariants.{Nothing, Index}
+use Rattle.tf_rules.specs.declared.fix.Insertion.TheVariants.{Nothing}
 use Rattle.tf_rules.specs.declared.fix.KeptTokens.{KeptTokens}
 
 -- a fix that keeps no token
@@ -30,11 +30,6 @@ abbrev pub is_comment_fix : Option Fix → Bool
 is_comment_fix (Some CommentMarker) = true
 is_comment_fix _ = false
 
--- the token that is written from is one of the finding's
-abbrev pub reads_within : ℕ → ℕ → Insertion → Bool
-reads_within first past (Index n) = nat_le first n && nat_lt n past
-reads_within first past _ = true
-
 -- tokens go from number at up to number to, or something is written there
 abbrev pub changes_something : Insertion → ℕ → ℕ → Bool
 changes_something Nothing at to = nat_lt at to
@@ -47,12 +42,11 @@ changes_end first _ at past = nat_le at past
 
 -- what is kept stands in order behind number at, where this is written
 abbrev pub are_in_order : ℕ → ℕ → ℕ → Insertion → List (Option KeptTokens) → Bool
-are_in_order first past at written [] = reads_within first past written && changes_end first written at past
+are_in_order first past at written [] = changes_end first written at past
 are_in_order first past at written (None ∷ kept) = are_in_order first past at written kept
 are_in_order first past at written (Some k ∷ kept) =
-    reads_within first past written
-    && (changes_something written at k.from
-    && (nat_lt k.from k.to && are_in_order first past k.to k.after kept))
+    changes_something written at k.from
+    && (nat_lt k.from k.to && are_in_order first past k.to k.after kept)
 
 -- what a fix keeps stands in order in the tokens from number first up to past
 abbrev pub is_in_order : ℕ → ℕ → Fix → Bool
@@ -60,10 +54,6 @@ is_in_order first past CommentMarker = past == first + 1
 is_in_order first past (Tokens before kept) = are_in_order first past first before kept
 
 -- the same as facts on numbers
-abbrev pub ReadsWithin : ℕ → ℕ → Insertion → Type 0
-ReadsWithin first past (Index n) = (first ≤ n) × (n < past)
-ReadsWithin first past _ = ⊤
-
 abbrev pub ChangesSomething : Insertion → ℕ → ℕ → Type 0
 ChangesSomething Nothing at to = at < to
 ChangesSomething _ at to = at ≤ to
@@ -73,11 +63,10 @@ ChangesEnd first Nothing at past = (first < at) × (at < past)
 ChangesEnd first _ at past = at ≤ past
 
 abbrev pub AreInOrder : ℕ → ℕ → ℕ → Insertion → List (Option KeptTokens) → Type 0
-AreInOrder first past at written [] = ReadsWithin first past written × ChangesEnd first written at past
+AreInOrder first past at written [] = ChangesEnd first written at past
 AreInOrder first past at written (None ∷ kept) = AreInOrder first past at written kept
 AreInOrder first past at written (Some k ∷ kept) =
-    ReadsWithin first past written × ChangesSomething written at k.from × (k.from < k.to)
-    × AreInOrder first past k.to k.after kept
+    ChangesSomething written at k.from × (k.from < k.to) × AreInOrder first past k.to k.after kept
 
 abbrev pub IsInOrder : ℕ → ℕ → Fix → Type 0
 IsInOrder first past CommentMarker = past ≡ first + 1

@@ -1,32 +1,24 @@
--- Which findings there is room for: a finding holds numbers of 32 bits, and no number of an index.
-use Rattle.std.specs.Prelude.{ℕ, ◌^◌, nat_lt, ◌==◌, ◌&&◌, Bool, true, Option, Some, None}
+-- Which findings there is room for: a finding holds numbers of 32 bits.
+use Rattle.std.specs.Prelude.{ℕ, ◌^◌, nat_lt, ◌&&◌, Bool, true, Option, Some, None}
 use Rattle.std.specs.List.{list_all}
 use Rattle.tf_rules.specs.declared.finding.Message.{Message}
 use Rattle.tf_rules.specs.declared.fix.Fix.{Fix}
 use Rattle.tf_rules.specs.declared.fix.Fix.TheVariants.{Tokens}
-use Rattle.tf_rules.specs.declared.fix.Insertion.{Insertion}
-use Rattle.tf_rules.specs.declared.fix.Insertion.TheVariants as insertion
 use Rattle.tf_rules.specs.declared.fix.KeptTokens.{KeptTokens}
 
 -- there is room for a number of 32 bits
 abbrev pub fits_u32 : ℕ → Bool
 fits_u32 n = nat_lt n (2 ^ 32)
 
--- there is room for what is written, but for an index that is not the finding's first token
-abbrev pub fits_insertion : ℕ → Insertion → Bool
-fits_insertion first (insertion.Index n) = n == first
-fits_insertion first _ = true
+-- there is room for the numbers of tokens that are kept, and for none
+abbrev pub fits_kept : Option KeptTokens → Bool
+fits_kept None = true
+fits_kept (Some k) = fits_u32 k.from && fits_u32 k.to
 
--- there is room for tokens that are kept with what is written behind them, and for none
-abbrev pub fits_kept : ℕ → Option KeptTokens → Bool
-fits_kept first None = true
-fits_kept first (Some k) = fits_u32 k.from && (fits_u32 k.to && fits_insertion first k.after)
-
--- there is room for a fix where there is for all that it writes and keeps, and for none
-abbrev pub fits_fix : ℕ → Option Fix → Bool
-fits_fix first (Some (Tokens before kept)) =
-    fits_insertion first before && list_all (fits_kept first) kept
-fits_fix first _ = true
+-- there is room for a fix where there is for all that it keeps, and for none
+abbrev pub fits_fix : Option Fix → Bool
+fits_fix (Some (Tokens before kept)) = list_all fits_kept kept
+fits_fix _ = true
 
 -- there is room for the number of the token that a message names, and for none
 abbrev pub fits_name : Option ℕ → Bool
@@ -36,4 +28,4 @@ fits_name (Some n) = fits_u32 n
 -- there is room for a finding of the tokens from first up to past, with this message and fix
 abbrev pub is_representable : ℕ → ℕ → Message → Option Fix → Bool
 is_representable first past message fix =
-    fits_u32 first && (fits_u32 past && (fits_name message.name && fits_fix first fix))
+    fits_u32 first && (fits_u32 past && (fits_name message.name && fits_fix fix))

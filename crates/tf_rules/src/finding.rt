@@ -69,7 +69,7 @@ impl Model for Finding {
       first = f.first;
       past = f.past;
       message = record { kind = f.kind; name = unpack_name f.has_name f.name };
-      fix = unpack_fix f.first f.packed_fix;
+      fix = unpack_fix f.packed_fix;
     } };
 
     ghost invariant = { λ f. IsCanonicalName f.has_name f.name × IsCanonical f.packed_fix };
@@ -87,7 +87,7 @@ impl Model for Finding {
     ghost inverse_ok = { λ f h. rw (
       has_name_round_trip f.has_name f.name,
       name_round_trip f.has_name f.name h.0,
-      fix_round_trip f.first f.packed_fix h.1,
+      fix_round_trip f.packed_fix h.1,
     ) refl };
 }
 
@@ -105,8 +105,7 @@ impl Finding {
     ///
     /// # Errors
     ///
-    /// Returns `AllocError` if a token number does not fit in 32 bits, or if an `Insertion::Index`
-    /// is not the finding's first token.
+    /// Returns `AllocError` if a token number does not fit in 32 bits.
     #[inline]
     pub fn new(
         rule: Rule,
@@ -125,7 +124,7 @@ impl Finding {
         ensures err { IfErr result (λ _. is_representable first past message fix ≡ false) }
     {
         let name = name_to_u32(message.name)?;
-        let packed_fix = PackedFix::of(fix, first)?;
+        let packed_fix = PackedFix::of(fix)?;
         let first = to_u32(first)?;
         let past = to_u32(past)?;
         Ok(Finding {
@@ -182,7 +181,7 @@ impl Finding {
     pub fn fix(&self) -> Option<Fix>
         ensures { result ≡ self.now.fix }
     {
-        self.packed_fix.fix(self.first as usize)
+        self.packed_fix.fix()
     }
 
     /// Whether a fix can mend it.

@@ -1,28 +1,15 @@
-//! The packed form of a fix: token numbers have 32 bits, and `Insertion::Index` has none, since it
-//! is always the finding's first token.
+//! The packed form of a fix: token numbers have 32 bits.
 
-ghost use Rattle.std.specs.Prelude.{◌≡◌, ℕ, ◌&&◌, false, Some, IfOk, IfErr, is_some};
+ghost use Rattle.std.specs.Prelude.{◌≡◌, false, Some, IfOk, IfErr, is_some};
 ghost use Rattle.std.specs.Option.{option_map};
 ghost use Rattle.tf_rules.specs.declared.fix.Fix.TheVariants.{Tokens};
 ghost use Rattle.tf_rules.specs.Findings.{is_fixable};
-ghost use Rattle.tf_rules.specs.Representable.{fits_u32, fits_insertion, fits_kept, fits_fix, fits_name};
-ghost use Rattle.tf_rules.specs.Inner.Unpacking.{unpack_insertion, unpack_kept, unpack_fix, unpack_name};
+ghost use Rattle.tf_rules.specs.Representable.{fits_u32, fits_kept, fits_fix, fits_name};
+ghost use Rattle.tf_rules.specs.Inner.Unpacking.{unpack_kept, unpack_fix, unpack_name};
 ghost use Rattle.tf_rules.specs.Inner.Unpacking.{IsCanonicalRange, IsCanonical, IsCanonicalName};
 
 use crate::fix::{Fix, Insertion, KeptTokens};
 use std::alloc::AllocError;
-
-/// Tokens that a fix writes, as [`Insertion`] has them.
-#[derive(Clone, Copy)]
-pub enum PackedInsertion {
-    Nothing,
-    Index,
-    Length,
-    IsZero,
-    IsPositive,
-    OpenBracket,
-    CloseBracket,
-}
 
 /// What a fix does, without the numbers of the tokens that it keeps: at most two stretches, each
 /// with what is written behind it.
@@ -31,9 +18,9 @@ pub enum PackedFixKind {
     Nothing,
     CommentMarker,
     Tokens {
-        before: PackedInsertion,
-        one: Option<PackedInsertion>,
-        two: Option<PackedInsertion>,
+        before: Insertion,
+        one: Option<Insertion>,
+        two: Option<Insertion>,
     },
 }
 
@@ -77,76 +64,29 @@ pub fn name_to_u32(name: Option<usize>) -> Result<u32, AllocError>
     }
 }
 
-impl PackedInsertion {
-    /// What is written in a finding that begins with token `first`; `AllocError` for the index that
-    /// is another token, which no rule writes.
-    fn of(insertion: Insertion, first: usize) -> Result<PackedInsertion, AllocError>
-        ensures ok { IfOk result (λ written. unpack_insertion first written ≡ insertion) }
-        ensures err { IfErr result (λ _. fits_insertion first insertion ≡ false) }
-    {
-        match insertion {
-            Insertion::Nothing => Ok(PackedInsertion::Nothing),
-            Insertion::Index(number) => {
-                if number == first {
-                    Ok(PackedInsertion::Index)
-                } else {
-                    Err(AllocError)
-                }
-            }
-            Insertion::Length => Ok(PackedInsertion::Length),
-            Insertion::IsZero => Ok(PackedInsertion::IsZero),
-            Insertion::IsPositive => Ok(PackedInsertion::IsPositive),
-            Insertion::OpenBracket => Ok(PackedInsertion::OpenBracket),
-            Insertion::CloseBracket => Ok(PackedInsertion::CloseBracket),
-        }
-    }
-
-    fn insertion(self, first: usize) -> Insertion
-        ensures { result ≡ unpack_insertion first self }
-    {
-        match self {
-            PackedInsertion::Nothing => Insertion::Nothing,
-            PackedInsertion::Index => Insertion::Index(first),
-            PackedInsertion::Length => Insertion::Length,
-            PackedInsertion::IsZero => Insertion::IsZero,
-            PackedInsertion::IsPositive => Insertion::IsPositive,
-            PackedInsertion::OpenBracket => Insertion::OpenBracket,
-            PackedInsertion::CloseBracket => Insertion::CloseBracket,
-        }
-    }
-}
-
 /// The numbers of what is kept, and what is written behind it.
-fn pack_kept(
-    kept: Option<KeptTokens>,
-    first: usize,
-) -> Result<(PackedRange, Option<PackedInsertion>), AllocError>
+fn pack_kept(kept: Option<KeptTokens>) -> Result<(PackedRange, Option<Insertion>), AllocError>
     ensures ok { IfOk result
-        (λ s. (option_map (unpack_kept first s.0) s.1 ≡ kept) × IsCanonicalRange s.1 s.0) }
-    ensures err { IfErr result (λ _. fits_kept first kept ≡ false) }
+        (λ s. (option_map (unpack_kept s.0) s.1 ≡ kept) × IsCanonicalRange s.1 s.0) }
+    ensures err { IfErr result (λ _. fits_kept kept ≡ false) }
 {
     let Some(kept) = kept else {
         return Ok((EMPTY_RANGE, None));
     };
     let from = to_u32(kept.from)?;
     let to = to_u32(kept.to)?;
-    let after = PackedInsertion::of(kept.after, first)?;
-    Ok((PackedRange { from, to }, Some(after)))
+    Ok((PackedRange { from, to }, Some(kept.after)))
 }
 
-fn unpack_kept(
-    range: PackedRange,
-    after: Option<PackedInsertion>,
-    first: usize,
-) -> Option<KeptTokens>
-    ensures { result ≡ option_map (unpack_kept first range) after }
+fn unpack_kept(range: PackedRange, after: Option<Insertion>) -> Option<KeptTokens>
+    ensures { result ≡ option_map (unpack_kept range) after }
 {
     match after {
         None => None,
         Some(after) => Some(KeptTokens {
             from: range.from as usize,
             to: range.to as usize,
-            after: after.insertion(first),
+            after,
         }),
     }
 }
@@ -162,18 +102,13 @@ fn without_tokens(outline: PackedFixKind) -> PackedFix
     }
 }
 
-fn pack_tokens(
-    before: Insertion,
-    kept: [Option<KeptTokens>; 2],
-    first: usize,
-) -> Result<PackedFix, AllocError>
+fn pack_tokens(before: Insertion, kept: [Option<KeptTokens>; 2]) -> Result<PackedFix, AllocError>
     ensures ok { IfOk result
-        (λ packed_fix. (unpack_fix first packed_fix ≡ Some (Tokens before kept)) × IsCanonical packed_fix) }
-    ensures err { IfErr result (λ _. fits_fix first (Some (Tokens before kept)) ≡ false) }
+        (λ packed_fix. (unpack_fix packed_fix ≡ Some (Tokens before kept)) × IsCanonical packed_fix) }
+    ensures err { IfErr result (λ _. fits_fix (Some (Tokens before kept)) ≡ false) }
 {
-    let before = PackedInsertion::of(before, first)?;
-    let (one, behind_one) = pack_kept(kept[0], first)?;
-    let (two, behind_two) = pack_kept(kept[1], first)?;
+    let (one, behind_one) = pack_kept(kept[0])?;
+    let (two, behind_two) = pack_kept(kept[1])?;
     Ok(PackedFix {
         outline: PackedFixKind::Tokens {
             before,
@@ -186,23 +121,22 @@ fn pack_tokens(
 }
 
 impl PackedFix {
-    /// What mends a finding that begins with token `first`; `AllocError` where a number has no
-    /// room.
-    pub fn of(fix: Option<Fix>, first: usize) -> Result<PackedFix, AllocError>
-        ensures ok { IfOk result (λ packed_fix. (unpack_fix first packed_fix ≡ fix) × IsCanonical packed_fix) }
-        ensures err { IfErr result (λ _. fits_fix first fix ≡ false) }
+    /// What mends a finding; `AllocError` where a number has no room.
+    pub fn of(fix: Option<Fix>) -> Result<PackedFix, AllocError>
+        ensures ok { IfOk result (λ packed_fix. (unpack_fix packed_fix ≡ fix) × IsCanonical packed_fix) }
+        ensures err { IfErr result (λ _. fits_fix fix ≡ false) }
     {
         match fix {
             None => Ok(without_tokens(PackedFixKind::Nothing)),
             Some(Fix::CommentMarker) => Ok(without_tokens(PackedFixKind::CommentMarker)),
-            Some(Fix::Tokens { before, kept }) => pack_tokens(before, kept, first),
+            Some(Fix::Tokens { before, kept }) => pack_tokens(before, kept),
         }
     }
 
     /// Whether it is a fix.
     #[inline]
     pub fn is_fix(&self) -> bool
-        ensures { (first : ℕ) → result ≡ is_fixable (unpack_fix first self.now) }
+        ensures { result ≡ is_fixable (unpack_fix self.now) }
     {
         match self.outline {
             PackedFixKind::Nothing => false,
@@ -210,19 +144,16 @@ impl PackedFix {
         }
     }
 
-    /// The fix of a finding that begins with token `first`, where there is one.
-    pub fn fix(&self, first: usize) -> Option<Fix>
-        ensures { result ≡ unpack_fix first self.now }
+    /// The fix, where there is one.
+    pub fn fix(&self) -> Option<Fix>
+        ensures { result ≡ unpack_fix self.now }
     {
         match self.outline {
             PackedFixKind::Nothing => None,
             PackedFixKind::CommentMarker => Some(Fix::CommentMarker),
             PackedFixKind::Tokens { before, one, two } => Some(Fix::Tokens {
-                before: before.insertion(first),
-                kept: [
-                    unpack_kept(self.one, one, first),
-                    unpack_kept(self.two, two, first),
-                ],
+                before,
+                kept: [unpack_kept(self.one, one), unpack_kept(self.two, two)],
             }),
         }
     }

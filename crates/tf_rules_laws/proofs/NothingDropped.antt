@@ -109,8 +109,8 @@ bared first past h =
     (and (nat_lt (first + 2) (past - 2)) (nat_lt first (past - 2) && nat_lt (past - 2) past) (grind (arith, h))
     (and (nat_lt first (past - 2)) (nat_lt (past - 2) past) (grind (arith, h)) (grind (arith, h))))
 
-indexed : (n : ℕ) → is_in_order n (n + 1) (insert_only (Index n)) ≡ true
-indexed n = and (nat_le n n && nat_lt n (n + 1)) (nat_le n (n + 1)) (and (nat_le n n) (nat_lt n (n + 1)) (grind arith) (grind arith)) (grind arith)
+indexed : (n : ℕ) → is_in_order n (n + 1) (insert_only Index) ≡ true
+indexed n = let e : nat_le n (n + 1) ≡ true = grind arith in e
 
 -- ---- lists
 
@@ -208,7 +208,7 @@ module _ (rules : RuleSet) (pairs : List Pair) (ts : List Token) (count : length
   index_kept : (splat : Bool) (x : Tail) → IsLegacyWithin ts x → (l : TailLayer) → out-Tail x ≡ l → AreKept (length pairs) (index_findings pairs splat l)
   index_kept splat x w (Tail-F.LegacyIndex n) h =
       let b = w n h in
-      keep (length pairs) DeprecatedIndex n (n + 1) plain_message _ (omega arith) (omega (arith, b, count)) (fits n (n + 1) (not splat) (insert_only (Index n)) (indexed n))
+      keep (length pairs) DeprecatedIndex n (n + 1) plain_message _ (omega arith) (omega (arith, b, count)) (fits n (n + 1) (not splat) (insert_only Index) (indexed n))
   index_kept splat x w (Tail-F.Name n) h = none
   index_kept splat x w Tail-F.AttributeSplat h = none
   index_kept splat x w Tail-F.FullSplat h = none

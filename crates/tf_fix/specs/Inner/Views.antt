@@ -1,5 +1,5 @@
 -- For proofs: what the values of the code stand for.
-use Rattle.std.specs.Prelude.{ℕ, ◌+◌, ◌*◌, ◌<◌, ◌≤◌, List, [], ◌∷◌, length, map, Option, Some, None, ⊤}
+use Rattle.std.specs.Prelude.{ℕ, ◌+◌, ◌*◌, ◌<◌, ◌≤◌, List, [], ◌∷◌, length, map, Some, None, ⊤}
 use Rattle.hcl_token.specs.Tokens.{Pair}
 use Rattle.tf_fix.specs.FindingReplacements.{spelling_at, inserted, inserted_parts, empty_gap}
 use Rattle.tf_fix.specs.Parts.{Part}
@@ -10,8 +10,6 @@ use Rattle.tf_fix.specs.declared.boundary.Boundary.TheVariants.{Gap as BeforeGap
 use Rattle.tf_fix.specs.declared.prev_token.PrevToken.{PrevToken}
 use Rattle.tf_fix.specs.declared.prev_token.PrevToken.TheVariants.{Nothing as NothingNear, Token as TokenNear}
 use Rattle.tf_rules.specs.declared.fix.Insertion.{Insertion}
-use Rattle.tf_rules.specs.declared.fix.KeptTokens.{KeptTokens}
-use Rattle.tf_rules.specs.declared.fix.Insertion.TheVariants.{Index}
 use Rattle.tf_fix.specs.declared.splice.Replacement.{Replacement as Replacing}
 
 -- how many parts stand before the place
@@ -36,20 +34,19 @@ abbrev pub tail_of : Boundary → List Part
 tail_of (BeforeGap i) = []
 tail_of (BeforeToken i) = empty_gap
 
-abbrev pub replacement_parts : List Pair → Boundary → Boundary → Insertion → List Part
-replacement_parts pairs from to written = inserted_parts (skip_of from) (inserted pairs written) (tail_of to)
+abbrev pub replacement_parts : List Pair → Boundary → Boundary → ℕ → Insertion → List Part
+replacement_parts pairs from to first written = inserted_parts (skip_of from) (inserted pairs first written) (tail_of to)
 
--- what comes can be read from the tokens
-abbrev pub CanInsert : List Pair → Insertion → Type 0
-CanInsert pairs (Index i) = (i < length pairs) × (1 ≤ length (spelling_at pairs i))
-CanInsert pairs insertion = ⊤
+-- the token of this number is there, and has a byte
+abbrev pub HasByte : List Pair → ℕ → Type 0
+HasByte pairs i = (i < length pairs) × (1 ≤ length (spelling_at pairs i))
 
 abbrev pub replacement : List Pair → Replacing → Replacement
 replacement pairs r =
     record {
       from = boundary_index r.from;
       to = boundary_index r.to;
-      inserted_parts = replacement_parts pairs r.from r.to r.insertion;
+      inserted_parts = replacement_parts pairs r.from r.to r.first r.insertion;
     }
 
 abbrev pub replacements : List Pair → List Replacing → List Replacement
@@ -60,13 +57,7 @@ abbrev pub next_index : ℕ → List Replacement → ℕ
 next_index end [] = end
 next_index end (r ∷ rs) = r.from
 
-abbrev pub CanInsertAll : List Pair → List Replacing → Type 0
-CanInsertAll pairs [] = ⊤
-CanInsertAll pairs (r ∷ rs) = CanInsert pairs r.insertion × CanInsertAll pairs rs
-
--- what a fix writes can be read from the tokens
-abbrev pub CanInsertKept : List Pair → Insertion → List (Option KeptTokens) → Type 0
-CanInsertKept pairs written [] = CanInsert pairs written
-CanInsertKept pairs written (None ∷ kept) = CanInsertKept pairs written kept
-CanInsertKept pairs written (Some k ∷ kept) =
-    CanInsert pairs written × CanInsertKept pairs k.after kept
+-- the first token of each finding has a byte
+abbrev pub HaveBytes : List Pair → List Replacing → Type 0
+HaveBytes pairs [] = ⊤
+HaveBytes pairs (r ∷ rs) = HasByte pairs r.first × HaveBytes pairs rs

@@ -11,7 +11,7 @@ use Rattle.tf_rules.proofs.AllFoundBy.{From, none, maybe}
 
 pub of_rule : (pairs : List Pair) (splat : Bool) (t : TailLayer) → From pairs DeprecatedIndex (index_findings pairs splat t)
 of_rule pairs splat (Tail-F.Name n) = none
-of_rule pairs splat (Tail-F.LegacyIndex n) = maybe (not splat) (insert_only (insertion.Index n)) refl refl refl
+of_rule pairs splat (Tail-F.LegacyIndex n) = maybe (not splat) (insert_only insertion.Index) refl refl refl
 of_rule pairs splat Tail-F.AttributeSplat = none
 of_rule pairs splat Tail-F.FullSplat = none
 of_rule pairs splat (Tail-F.Index e) = none

@@ -5,28 +5,16 @@ use Rattle.std.proofs.Common.{ap, sym}
 use Rattle.tf_rules.specs.declared.fix.Fix.{Fix}
 use Rattle.tf_rules.specs.declared.fix.Fix.TheVariants.{CommentMarker, Tokens}
 use Rattle.tf_rules.specs.declared.fix.Insertion.{Insertion}
-use Rattle.tf_rules.specs.declared.fix.Insertion.TheVariants as insertion
 use Rattle.tf_rules.specs.declared.fix.KeptTokens.{KeptTokens}
 use Rattle.tf_rules.specs.declared.packed.PackedFix.{PackedFix}
 use Rattle.tf_rules.specs.declared.packed.PackedFixKind.{PackedFixKind}
 use Rattle.tf_rules.specs.declared.packed.PackedFixKind.TheVariants as outline
 use Rattle.tf_rules.specs.declared.packed.PackedRange.{PackedRange}
-use Rattle.tf_rules.specs.declared.packed.PackedInsertion.{PackedInsertion}
-use Rattle.tf_rules.specs.declared.packed.PackedInsertion.TheVariants as written
-use Rattle.tf_rules.specs.Inner.Unpacking.{unpack_insertion, unpack_kept, unpack_kind, unpack_fix, unpack_name, IsCanonicalRange, AreCanonicalRanges, IsCanonical, IsCanonicalName}
+use Rattle.tf_rules.specs.Inner.Unpacking.{unpack_kept, unpack_kind, unpack_fix, unpack_name, IsCanonicalRange, AreCanonicalRanges, IsCanonical, IsCanonicalName}
 
-abbrev pub pack_insertion : Insertion → PackedInsertion
-pack_insertion insertion.Nothing = written.Nothing
-pack_insertion (insertion.Index n) = written.Index
-pack_insertion insertion.Length = written.Length
-pack_insertion insertion.IsZero = written.IsZero
-pack_insertion insertion.IsPositive = written.IsPositive
-pack_insertion insertion.OpenBracket = written.OpenBracket
-pack_insertion insertion.CloseBracket = written.CloseBracket
-
-abbrev pub pack_after : Option KeptTokens → Option PackedInsertion
+abbrev pub pack_after : Option KeptTokens → Option Insertion
 pack_after None = None
-pack_after (Some k) = Some (pack_insertion k.after)
+pack_after (Some k) = Some k.after
 
 abbrev pub pack_range : Option KeptTokens → PackedRange
 pack_range None = record { from = 0; to = 0 }
@@ -38,7 +26,7 @@ make_packed_fix outline one two = record { outline = outline; one = one; two = t
 abbrev pub pack_fix : Option Fix → PackedFix
 pack_fix (Some CommentMarker) = make_packed_fix outline.CommentMarker (pack_range None) (pack_range None)
 pack_fix (Some (Tokens before (one ∷ two ∷ []))) =
-    make_packed_fix (outline.Tokens (pack_insertion before) (pack_after one) (pack_after two)) (pack_range one)
+    make_packed_fix (outline.Tokens before (pack_after one) (pack_after two)) (pack_range one)
     (pack_range two)
 pack_fix _ = make_packed_fix outline.Nothing (pack_range None) (pack_range None)
 
@@ -50,42 +38,32 @@ abbrev pub pack_name : Option ℕ → ℕ
 pack_name None = 0
 pack_name (Some n) = n
 
-insertion_round_trip : (first : ℕ) (w : PackedInsertion) → pack_insertion (unpack_insertion first w) ≡ w
-insertion_round_trip first written.Nothing = refl
-insertion_round_trip first written.Index = refl
-insertion_round_trip first written.Length = refl
-insertion_round_trip first written.IsZero = refl
-insertion_round_trip first written.IsPositive = refl
-insertion_round_trip first written.OpenBracket = refl
-insertion_round_trip first written.CloseBracket = refl
+after_round_trip : (s : PackedRange) (b : Option Insertion) → pack_after (option_map (unpack_kept s) b) ≡ b
+after_round_trip s None = refl
+after_round_trip s (Some w) = refl
 
-after_round_trip : (first : ℕ) (s : PackedRange) (b : Option PackedInsertion)
-    → pack_after (option_map (unpack_kept first s) b) ≡ b
-after_round_trip first s None = refl
-after_round_trip first s (Some w) = ap Some (insertion_round_trip first w)
-
-range_round_trip : (first : ℕ) (s : PackedRange) (b : Option PackedInsertion) → IsCanonicalRange b s
-    → pack_range (option_map (unpack_kept first s) b) ≡ s
-range_round_trip first s None is = rw (is.0, is.1) refl
-range_round_trip first s (Some w) is = refl
+range_round_trip : (s : PackedRange) (b : Option Insertion) → IsCanonicalRange b s
+    → pack_range (option_map (unpack_kept s) b) ≡ s
+range_round_trip s None is = rw (is.0, is.1) refl
+range_round_trip s (Some w) is = refl
 
 same_packed_fix : (o : PackedFixKind) (a b c d : PackedRange) → a ≡ c → b ≡ d
     → make_packed_fix o a b ≡ make_packed_fix o c d
 same_packed_fix o a b c d e f = rw (e, f) refl
 
-kind_round_trip : (first : ℕ) (o : PackedFixKind) (one two : PackedRange) → AreCanonicalRanges o one two
-    → pack_fix (unpack_kind first o one two) ≡ make_packed_fix o one two
-kind_round_trip first outline.Nothing one two is =
-    same_packed_fix _ _ _ _ _ (range_round_trip first one None is.0) (range_round_trip first two None is.1)
-kind_round_trip first outline.CommentMarker one two is =
-    same_packed_fix _ _ _ _ _ (range_round_trip first one None is.0) (range_round_trip first two None is.1)
-kind_round_trip first (outline.Tokens before b c) one two is =
-    rw (insertion_round_trip first before, after_round_trip first one b, after_round_trip first two c)
-    (same_packed_fix _ _ _ _ _ (range_round_trip first one b is.0) (range_round_trip first two c is.1))
+kind_round_trip : (o : PackedFixKind) (one two : PackedRange) → AreCanonicalRanges o one two
+    → pack_fix (unpack_kind o one two) ≡ make_packed_fix o one two
+kind_round_trip outline.Nothing one two is =
+    same_packed_fix _ _ _ _ _ (range_round_trip one None is.0) (range_round_trip two None is.1)
+kind_round_trip outline.CommentMarker one two is =
+    same_packed_fix _ _ _ _ _ (range_round_trip one None is.0) (range_round_trip two None is.1)
+kind_round_trip (outline.Tokens before b c) one two is =
+    rw (after_round_trip one b, after_round_trip two c)
+    (same_packed_fix _ _ _ _ _ (range_round_trip one b is.0) (range_round_trip two c is.1))
 
 -- a fix gives back what is held of it
-pub fix_round_trip : (first : ℕ) (m : PackedFix) → IsCanonical m → pack_fix (unpack_fix first m) ≡ m
-fix_round_trip first m is = kind_round_trip first m.outline m.one m.two is
+pub fix_round_trip : (m : PackedFix) → IsCanonical m → pack_fix (unpack_fix m) ≡ m
+fix_round_trip m is = kind_round_trip m.outline m.one m.two is
 
 -- and so does a name
 pub name_round_trip : (has_name : Bool) (n : ℕ) → IsCanonicalName has_name n

@@ -4,48 +4,33 @@ use Rattle.std.specs.Option.{option_map}
 use Rattle.tf_rules.specs.declared.fix.Fix.{Fix}
 use Rattle.tf_rules.specs.declared.fix.Fix.TheVariants.{CommentMarker, Tokens}
 use Rattle.tf_rules.specs.declared.fix.Insertion.{Insertion}
-use Rattle.tf_rules.specs.declared.fix.Insertion.TheVariants as insertion
 use Rattle.tf_rules.specs.declared.fix.KeptTokens.{KeptTokens}
 use Rattle.tf_rules.specs.declared.packed.PackedFix.{PackedFix}
 use Rattle.tf_rules.specs.declared.packed.PackedFixKind.{PackedFixKind}
 use Rattle.tf_rules.specs.declared.packed.PackedFixKind.TheVariants as outline
 use Rattle.tf_rules.specs.declared.packed.PackedRange.{PackedRange}
-use Rattle.tf_rules.specs.declared.packed.PackedInsertion.{PackedInsertion}
-use Rattle.tf_rules.specs.declared.packed.PackedInsertion.TheVariants as written
-
--- what is written in a finding that begins with token first
-abbrev pub unpack_insertion : ℕ → PackedInsertion → Insertion
-unpack_insertion first written.Nothing = insertion.Nothing
-unpack_insertion first written.Index = insertion.Index first
-unpack_insertion first written.Length = insertion.Length
-unpack_insertion first written.IsZero = insertion.IsZero
-unpack_insertion first written.IsPositive = insertion.IsPositive
-unpack_insertion first written.OpenBracket = insertion.OpenBracket
-unpack_insertion first written.CloseBracket = insertion.CloseBracket
 
 -- the tokens that are kept, and what is written behind them
-abbrev pub unpack_kept : ℕ → PackedRange → PackedInsertion → KeptTokens
-unpack_kept first s after =
-    record { from = s.from; to = s.to; after = unpack_insertion first after }
+abbrev pub unpack_kept : PackedRange → Insertion → KeptTokens
+unpack_kept s after = record { from = s.from; to = s.to; after = after }
 
--- the fix of a finding that begins with token first, by what it does and the tokens that it keeps
-abbrev pub unpack_kind : ℕ → PackedFixKind → PackedRange → PackedRange → Option Fix
-unpack_kind first outline.Nothing one two = None
-unpack_kind first outline.CommentMarker one two = Some CommentMarker
-unpack_kind first (outline.Tokens before b c) one two =
-    Some (Tokens (unpack_insertion first before)
-    (option_map (unpack_kept first one) b ∷ option_map (unpack_kept first two) c ∷ []))
+-- a fix by what it does and the tokens that it keeps
+abbrev pub unpack_kind : PackedFixKind → PackedRange → PackedRange → Option Fix
+unpack_kind outline.Nothing one two = None
+unpack_kind outline.CommentMarker one two = Some CommentMarker
+unpack_kind (outline.Tokens before b c) one two =
+    Some (Tokens before (option_map (unpack_kept one) b ∷ option_map (unpack_kept two) c ∷ []))
 
 -- the same by all that is held of it
-abbrev pub unpack_fix : ℕ → PackedFix → Option Fix
-unpack_fix first m = unpack_kind first m.outline m.one m.two
+abbrev pub unpack_fix : PackedFix → Option Fix
+unpack_fix m = unpack_kind m.outline m.one m.two
 
 -- the token that a message names
 abbrev pub unpack_name : Bool → ℕ → Option ℕ
 unpack_name has_name n = if has_name then Some n else None
 
 -- the numbers of tokens that are kept are 0 where none are
-abbrev pub IsCanonicalRange : Option PackedInsertion → PackedRange → Type 0
+abbrev pub IsCanonicalRange : Option Insertion → PackedRange → Type 0
 IsCanonicalRange None s = (s.from ≡ 0) × (s.to ≡ 0)
 IsCanonicalRange (Some after) s = ⊤
 

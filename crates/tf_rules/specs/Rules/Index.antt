@@ -13,5 +13,5 @@ use Rattle.tf_rules.specs.TreeLayers.{TailLayer}
 -- back from it.
 abbrev pub index_findings : List Pair → Bool → TailLayer → List Finding
 index_findings pairs splat (Tail-F.LegacyIndex n) =
-    finding_at DeprecatedIndex n (n + 1) plain_message (when (not splat) (insert_only (Index n)))
+    finding_at DeprecatedIndex n (n + 1) plain_message (when (not splat) (insert_only Index))
 index_findings pairs splat _ = []

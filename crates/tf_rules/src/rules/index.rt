@@ -48,7 +48,7 @@ fn check_legacy_index(
         return Ok(());
     }
     let fix = Fix::Tokens {
-        before: Insertion::Index(n),
+        before: Insertion::Index,
         kept: [None, None],
     };
     let fix = fix.when(!splat);

@@ -1,8 +1,11 @@
-use Rattle.std.proofs.Common.{Some, ap, sym, ◌∙◌}
-use Rattle.tf_fix.proofs.NonemptyLemmas.{fix_insertion}
+use Rattle.std.proofs.Common.{◌<◌, ℕ, length, subst, sym, arith}
+use Rattle.tf_fix.specs.Inner.Views.{HasByte}
+use Rattle.tf_fix.proofs.NonemptyLemmas.{has_byte}
 use Rattle.tf_fix.proofs.replacement_list.push_finding_replacements.Goals as goal
 
 pub push_kept_replacements-requires : goal.push_kept_replacements-requires
 push_kept_replacements-requires c =
     let one = c.args.one.now in
-    record { insertion = fix_insertion c.args.scanned.now.pairs one.first one.past _ _ one.fix c.requires.nonempty c.requires.fits.0 c.requires.fits.1 (sym c.fix.ensures ∙ (c.in-Some.is ∙ ap Some c.in-Tokens.is)) }
+    let fits = c.requires.fits in
+    let lt : one.first < length c.args.scanned.now.pairs = omega (arith, fits.0, fits.2) in
+    record { byte = subst (λ (i : ℕ). HasByte c.args.scanned.now.pairs i) (sym c.first.ensures) (has_byte c.args.scanned.now.pairs one.first c.requires.nonempty lt) }

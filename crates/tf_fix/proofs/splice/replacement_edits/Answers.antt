@@ -61,4 +61,4 @@ loop-left-preserved c =
     let next = turn pairs last whole c.loop-left.edits.items c.in_ok-replacement_edit.field-0 (prev_view c.loop-left.prev) (prev_view c.prev_before-prev.result) (boundary_index c.loop-left.at)
     one (rest) told c.prev_before-prev.ensures e_is in
     let P : List EditEntry → Prev → Type 0 = λ es prev. IsTold pairs last whole es prev (boundary_index one.to) (rest) in
-    subst (λ es. P es (prev_view c.prev_after_insertion-prev.result)) (sym pushed) (subst (λ prev. P (c.loop-left.edits.items ++ c.in_ok-replacement_edit.field-0 ∷ []) prev) (sym (c.prev_after_insertion-prev.ensures pairs ∙ sym (insertion_after pairs (prev_view c.prev_before-prev.result) one.from one.to one.insertion))) next)
+    subst (λ es. P es (prev_view c.prev_after_insertion-prev.result)) (sym pushed) (subst (λ prev. P (c.loop-left.edits.items ++ c.in_ok-replacement_edit.field-0 ∷ []) prev) (sym (c.prev_after_insertion-prev.ensures pairs one.first ∙ sym (insertion_after pairs (prev_view c.prev_before-prev.result) one.from one.to one.first one.insertion))) next)

@@ -3,10 +3,10 @@ use Rattle.std.proofs.lemmas.Bool.Decides.{nat_tests}
 use Rattle.tf_rules.specs.declared.fix.Fix.{Fix}
 use Rattle.tf_rules.specs.declared.fix.Fix.TheVariants.{CommentMarker, Tokens}
 use Rattle.tf_rules.specs.declared.fix.Insertion.{Insertion}
-use Rattle.tf_rules.specs.declared.fix.Insertion.TheVariants.{Nothing, Index}
+use Rattle.tf_rules.specs.declared.fix.Insertion.TheVariants.{Nothing}
 use Rattle.tf_rules.specs.declared.fix.KeptTokens.{KeptTokens}
 use Rattle.tf_rules.specs.Findings.{is_fix_valid, IsFixValid}
-use Rattle.tf_rules.specs.Fixes.{reads_within, changes_something, changes_end, are_in_order, ReadsWithin, ChangesSomething, ChangesEnd, AreInOrder}
+use Rattle.tf_rules.specs.Fixes.{changes_something, changes_end, are_in_order, ChangesSomething, ChangesEnd, AreInOrder}
 use Rattle.tf_rules.proofs.finding.is_valid_is_exact.Goals as goal
 
 left : (a b : Bool) → (a && b) ≡ true → a ≡ true
@@ -26,10 +26,6 @@ within a b e = grind (arith, nat_tests)
 same : (a b : ℕ) → (a == b) ≡ true → a ≡ b
 same a b e = grind (arith, nat_tests)
 
-read : (first past : ℕ) (written : Insertion) → reads_within first past written ≡ true → ReadsWithin first past written
-read first past (Index n) e = (within _ _ (left _ _ e), below _ _ (right _ _ e))
-read first past written e = tt
-
 something : (written : Insertion) (at to : ℕ) → changes_something written at to ≡ true → ChangesSomething written at to
 something Nothing at to e = below _ _ e
 something written at to e = within _ _ e
@@ -39,12 +35,11 @@ ending first Nothing at past e = (below _ _ (left _ _ e), below _ _ (right _ _ e
 ending first written at past e = within _ _ e
 
 in_order : (first past at : ℕ) (written : Insertion) (kept : List (Option KeptTokens)) → are_in_order first past at written kept ≡ true → AreInOrder first past at written kept
-in_order first past at written [] e = (read first past written (left _ _ e), ending first written at past (right _ _ e))
+in_order first past at written [] e = ending first written at past e
 in_order first past at written (None ∷ kept) e = in_order first past at written kept e
 in_order first past at written (Some k ∷ kept) e =
     let a = right _ _ e in
-    let b = right _ _ a in
-    (read first past written (left _ _ e), something written at k.from (left _ _ a), below _ _ (left _ _ b), in_order first past k.to k.after kept (right _ _ b))
+    (something written at k.from (left _ _ e), below _ _ (left _ _ a), in_order first past k.to k.after kept (right _ _ a))
 
 fix_fits : (first past : ℕ) (fix : Option Fix) → is_fix_valid first past fix ≡ true → IsFixValid first past fix
 fix_fits first past None e = tt
