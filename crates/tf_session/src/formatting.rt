@@ -11,6 +11,7 @@ ghost use Rattle.hcl_scan.specs.Tokenization.{MAX_TEXT};
 ghost use Rattle.hcl_scan.specs.Follows.{tokens_of};
 ghost use Rattle.tf_session.specs.Parsing.{DoesParse};
 ghost use Rattle.tf_session.specs.Formatting.{fmt_rewrite};
+ghost use Rattle.tf_lint.specs.FixResult.{changed_text, changed_edits};
 ghost use Rattle.tf_session.specs.Records.{StepsTo};
 ghost use Rattle.tf_session.specs.Rewrites.{Rewrites, RefusesText};
 ghost use Rattle.tf_session.specs.declared.command.Command.TheVariants.{Fmt};
@@ -20,9 +21,8 @@ use crate::command::Fault;
 use crate::reading::check_syntax;
 use edit_record::lists::Change as _;
 use edit_record::lists::laws::{apply_is_exact, change_is_one_to_one};
-use hcl_layout::{formatted_text, is_parsed_laid_out, laws, layout_of_parsed};
+use hcl_layout::{formatted_text, is_parsed_laid_out, layout_of_parsed};
 use hcl_scan::Scanned;
-use hcl_text_laws::laws::parsed_tokens_are_apart;
 use std::alloc::Global;
 use tf_lint::NewText;
 
@@ -33,32 +33,33 @@ pub fn fmt_text(alloc: Global, text: &[u8]) -> Result<Option<NewText>, Fault>
         (λ o. IfSome o (λ change. Transforms change.edits text.now change.text.items)) }
     ensures fault { IfErr result (λ fault. RefusesText Fmt text.now fault) }
 {
-    laws::laid_out_is_text();
-    laws::one_layout();
-    parsed_tokens_are_apart();
     let scanned = check_syntax(alloc, text)?;
     let change = layout_change(alloc, &scanned)?;
-    if change.text.as_slice() == text {
-        return Ok(None);
-    }
-    Ok(Some(change))
+    Ok(change)
 }
 
-/// The layout of a text that parses.
-fn layout_change(alloc: Global, scanned: &Scanned<'_>) -> Result<NewText, Fault>
+/// The layout of a text that parses, with its edits; none where there are no edits, so that no copy
+/// of the text is made.
+fn layout_change(alloc: Global, scanned: &Scanned<'_>) -> Result<Option<NewText>, Fault>
     requires { (t : tree.Tree) × IsFile (tokens_of scanned.now.pairs) MAX_NESTING t }
-    ensures layout { IfOk result (λ change. IsLayout scanned.now.text change.text.items) }
-    ensures short { IfOk result (λ change. length change.text.items ≤ MAX_TEXT) }
-    ensures edits { IfOk result (λ change. change.edits ≡ layout_edits scanned.now) }
-    ensures transforms { IfOk result (λ change. Transforms change.edits scanned.now.text change.text.items) }
+    ensures layout { IfOk result
+        (λ change. IsLayout scanned.now.text (changed_text scanned.now.text change)) }
+    ensures short { IfOk result (λ change. length (changed_text scanned.now.text change) ≤ MAX_TEXT) }
+    ensures edits { IfOk result
+        (λ change. changed_edits scanned.now.text change ≡ layout_edits scanned.now) }
+    ensures transforms { IfOk result
+        (λ o. IfSome o (λ change. Transforms change.edits scanned.now.text change.text.items)) }
     ensures fault { IfErr result
         (λ fault. (fault ≡ Memory) ⊎ ((fault ≡ TooLong) × IsTooLong scanned.now.text)) }
 {
     let edits = layout_of_parsed(alloc, scanned)?;
+    if edits.edits().is_empty() {
+        return Ok(None);
+    }
     apply_is_exact(&edits);
     change_is_one_to_one(&edits);
     match edits.apply(alloc, scanned.text()) {
-        Ok(text) => Ok(NewText { text, edits }),
+        Ok(text) => Ok(Some(NewText { text, edits })),
         Err(refused) => Err(Fault::from(refused)),
     }
 }

@@ -1,9 +1,28 @@
 -- The edits of the layout stand in the text, and make it.
-use Rattle.std.proofs.Common.{◌∙◌, rules, ap, inl}
+use Rattle.std.proofs.Common.{◌≡◌, ◌∙◌, length, rules, ap, inl, sym}
+use Rattle.std.proofs.lemmas.List.{nil_from_length}
 use Rattle.edit_record.specs.Lists.Pieces.{Transforms}
 use Rattle.tf_session.specs.Faults.{fault_of_refused}
-use Rattle.tf_session.proofs.LayoutLemmas.{made, only_memory}
+use Rattle.tf_session.proofs.LayoutLemmas.{made, only_memory, stays}
 use Rattle.tf_session.proofs.formatting.layout_change.Goals as goal
+
+pub returns-then-is_empty-clause-layout : goal.returns-then-is_empty-clause-layout
+returns-then-is_empty-clause-layout c =
+    let zero : length c.edits-2.result.now ≡ 0 = search rules in
+    let none = sym c.edits-2.ensures.same ∙ nil_from_length c.edits-2.result.now zero in
+    (stays c.in_ok-edits.edits c.args.scanned.now.text c.requires.0 (c.in_ok-edits.ensures.edits c.requires.0 c.requires.1) none).0
+
+pub returns-then-is_empty-clause-short : goal.returns-then-is_empty-clause-short
+returns-then-is_empty-clause-short c =
+    let zero : length c.edits-2.result.now ≡ 0 = search rules in
+    let none = sym c.edits-2.ensures.same ∙ nil_from_length c.edits-2.result.now zero in
+    (stays c.in_ok-edits.edits c.args.scanned.now.text c.requires.0 (c.in_ok-edits.ensures.edits c.requires.0 c.requires.1) none).1
+
+pub returns-then-is_empty-clause-edits : goal.returns-then-is_empty-clause-edits
+returns-then-is_empty-clause-edits c =
+    let zero : length c.edits-2.result.now ≡ 0 = search rules in
+    let none = sym c.edits-2.ensures.same ∙ nil_from_length c.edits-2.result.now zero in
+    (stays c.in_ok-edits.edits c.args.scanned.now.text c.requires.0 (c.in_ok-edits.ensures.edits c.requires.0 c.requires.1) none).2 ∙ c.in_ok-edits.ensures.exact
 
 pub returns-in-Ok-clause-layout : goal.returns-in-Ok-clause-layout
 returns-in-Ok-clause-layout c =
