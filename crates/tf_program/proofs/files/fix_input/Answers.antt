@@ -11,10 +11,10 @@ returns-in_err-text-2-clause-fault g c =
 
 pub returns-clause-done : goal.returns-clause-done
 returns-clause-done g c =
-    fixes c.args.name.now c.args.rules _ _ _ c.in_ok-text.text.items c.in_ok-text-2.has_fix.done c.in_ok-text-2.has_fix.lines.items c.in_ok-text-2.text.items c.deref.result.now c.write_fixed.result
+    fixes c.args.name.now c.args.rules _ _ _ c.in_ok-text.text.items c.in_ok-text-2.fixed.done c.in_ok-text-2.fixed.lines.items c.in_ok-text-2.text.items c.deref.result.now c.write_fixed.result
     c.in_ok-text.ensures.text c.in_ok-text-2.ensures.done c.deref.ensures.value c.write_fixed.ensures.outcome c.write_fixed.ensures.text c.write_fixed.ensures.lines
 
 pub returns-clause-fault : goal.returns-clause-fault
 returns-clause-fault g c =
-    not_write c.args.name.now c.args.rules _ _ _ c.in_ok-text.text.items c.in_ok-text-2.has_fix.done c.in_ok-text-2.has_fix.lines.items c.in_ok-text-2.text.items c.deref.result.now c.write_fixed.result
+    not_write c.args.name.now c.args.rules _ _ _ c.in_ok-text.text.items c.in_ok-text-2.fixed.done c.in_ok-text-2.fixed.lines.items c.in_ok-text-2.text.items c.deref.result.now c.write_fixed.result
     c.in_ok-text.ensures.text c.in_ok-text-2.ensures.done c.deref.ensures.value c.write_fixed.ensures.fault
