@@ -88,8 +88,8 @@ pub record IsVersion (old : Bool) (text : List ℕ) : Type 0 where
   pub is_old : old ≡ true → text ≡ codes "tfrec 1" ++ drop 7 text
   pub if_old : (rest : List ℕ) → text ≡ codes "tfrec 1" ++ rest → old ≡ true
 
--- The first error of a text: it begins with some records of its version, and what follows them is no
--- record, for this reason.
+-- The first error of a text: it begins with some records of its version, and what follows them is
+-- no record, for this reason.
 pub record IsFirstError (text : List ℕ) (error : TextError) : Type 0 where
   pub old : Bool
   pub version : IsVersion old text

@@ -1,5 +1,5 @@
--- How a record of version 1 is read: its steps are read and squashed in order, or the first error. They
--- say which error `decode` returns for such a text.
+-- How a record of version 1 is read: its steps are read and squashed in order, or the first error.
+-- They say which error `decode` returns for such a text.
 use Rattle.std.specs.Prelude.{◌≡◌, ◌⊎◌, ℕ, zero, suc, ◌-◌, List, length, Result, Ok, Err, codes}
 use Rattle.edit_record.specs.declared.lists.record.Word.{Word}
 use Rattle.edit_record.specs.declared.fault.FaultKind.TheVariants.{Head, End, Steps}
@@ -46,10 +46,12 @@ SquashAt first n t e rest =
 
 -- The next step squashes with those before it, which are `edits`, and the error is in what follows;
 -- or it does not squash with them, and that is the error, where the step begins.
-abbrev pub SquashError : EditList → EditList → ℕ → (EditList → TextError → Type 0) → TextError → Type 0
+abbrev pub SquashError : EditList → EditList → ℕ → (EditList → TextError → Type 0) → TextError
+    → Type 0
 SquashError edits next left Later error =
     ((both : EditList) × IsSquash edits next both × Later both error)
-    ⊎ (((both : EditList) → IsSquash edits next both → ⊥) × (error ≡ record { kind = Steps; left = left }))
+    ⊎ (((both : EditList) → IsSquash edits next both → ⊥)
+    × (error ≡ record { kind = Steps; left = left }))
 
 -- the first error of n steps that follow `edits`, to which those before them squash
 abbrev pub StepsError : ℕ → EditList → List ℕ → TextError → Type 0

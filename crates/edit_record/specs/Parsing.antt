@@ -21,7 +21,8 @@ abbrev pub cut_short : {A : Type 0} → Result A TextError
 cut_short = error CutShort 0
 
 infixl 10 ◌>>=◌
-abbrev pub ◌>>=◌ : {A B : Type 0} → Result A TextError → (A → Result B TextError) → Result B TextError
+abbrev pub ◌>>=◌ : {A B : Type 0} → Result A TextError → (A → Result B TextError)
+    → Result B TextError
 (Ok x) >>= f = f x
 (Err e) >>= f = Err e
 

@@ -69,7 +69,8 @@ fn squash_two(
     left: usize,
 ) -> Result<Edits, DecodeStop>
     ensures squash { IsSquashOrStop first.now second.now result }
-    ensures error { IfErr result (λ stop. HasError stop (λ e. e ≡ record { kind = Steps; left = left })) }
+    ensures error { IfErr result
+        (λ stop. HasError stop (λ e. e ≡ record { kind = Steps; left = left })) }
 {
     let bad = TextError {
         kind: FaultKind::Steps,

@@ -30,7 +30,8 @@ fn word_bytes(word: Word) -> &'static [u8]
 /// Returns the parts of the head of a record and of its list of edits.
 fn head_parts(rec: &Record) -> [Part<'_>; 4]
     ensures { flat_map part_text result
-        ≡ record_head rec.now.word ++ list_head rec.now.edits.old_len (length rec.now.edits.entries) }
+        ≡ record_head rec.now.word
+        ++ list_head rec.now.edits.old_len (length rec.now.edits.entries) }
 {
     let list = rec.edits();
     [

@@ -20,13 +20,15 @@ pub use crate::swaps::laws::{move_to_end_is_unique, swap_is_unique};
 
 /// A text is the text of one journal at most, of either version.
 pub fn text_is_unambiguous()
-    ensures { (text : List ℕ) (rs ss : List JournalEntry) → IsJournalText text rs → IsJournalText text ss
+    ensures { (text : List ℕ) (rs ss : List JournalEntry) → IsJournalText text rs
+        → IsJournalText text ss
         → rs ≡ ss }
 {}
 
 /// A text has one first error at most: memory aside, `decode` refuses it in one way.
 pub fn first_error_is_unique()
-    ensures { (text : List ℕ) (e f : TextError) → IsFirstError text e → IsFirstError text f → e ≡ f }
+    ensures { (text : List ℕ) (e f : TextError) → IsFirstError text e → IsFirstError text f
+        → e ≡ f }
 {}
 
 /// If the text of some records, followed by more bytes, is the text of a journal, then the journal
@@ -39,6 +41,7 @@ pub fn text_prefix_is_unambiguous()
 
 /// Old records and those that they migrate to turn the same texts into each other.
 pub fn migration_preserves_meaning()
-    ensures { (olds : List OldRecord) (rs : List JournalEntry) → MigrateAllTo olds rs → (t u : List ℕ)
+    ensures { (olds : List OldRecord) (rs : List JournalEntry) → MigrateAllTo olds rs
+        → (t u : List ℕ)
         → journal_transforms rs t u ↔ TransformsInOrder old_transforms olds t u }
 {}

@@ -45,7 +45,8 @@ steps_allocate zero t = false
 steps_allocate (suc n) t = is_ok (expect (codes "step ") Head t)
 
 abbrev pub old_record_allocates : List ℕ → Bool
-old_record_allocates t = old_head_allocates t || is_ok_and (old_head_at t) (λ head. steps_allocate head.0.others head.1)
+old_record_allocates t =
+    old_head_allocates t || is_ok_and (old_head_at t) (λ head. steps_allocate head.0.others head.1)
 
 abbrev pub allocates : Bool → List ℕ → Bool
 allocates true t = old_record_allocates t

@@ -23,7 +23,8 @@ IsStop takes stops.Memory read = takes ≡ true
 IsStop takes (stops.Bad e) read = read ≡ Err e
 
 -- what a reader that takes memory returned, seen by view, is what is read
-abbrev pub IsRead : {X Y : Type 0} → (X → Y) → Bool → Result X DecodeStop → Result Y TextError → Type 0
+abbrev pub IsRead : {X Y : Type 0} → (X → Y) → Bool → Result X DecodeStop → Result Y TextError
+    → Type 0
 IsRead view takes (Ok x) read = read ≡ Ok (view x)
 IsRead view takes (Err e) read = IsStop takes e read
 
@@ -54,7 +55,8 @@ RecordsAt old t (r ∷ rs) = (rest : List ℕ) × RecordAt old t r rest × Recor
 
 -- the text begins with the text of these records
 abbrev pub StartsWith : Bool → List ℕ → List JournalEntry → List ℕ → Type 0
-StartsWith old text records rest = (done : List ℕ) × IsTextOf old done records × (text ≡ done ++ rest)
+StartsWith old text records rest =
+    (done : List ℕ) × IsTextOf old done records × (text ≡ done ++ rest)
 
 -- a reader that stopped at an error returned the right one
 abbrev pub HasError : DecodeStop → (TextError → Type 0) → Type 0

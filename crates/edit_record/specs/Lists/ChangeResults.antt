@@ -61,7 +61,8 @@ IsChangeCallResult direction e t (Err Memory) = HasExpectedLen direction e t
 -- A text has one result: two statements of what applying or undoing edits returns agree. So where
 -- undoing is refused, no text becomes this one.
 abbrev pub ChangeResultIsUnique : Type 0
-ChangeResultIsUnique = (direction : Direction) (e : EditList) (t : List ℕ) (r s : Result (List ℕ) Refused)
+ChangeResultIsUnique =
+    (direction : Direction) (e : EditList) (t : List ℕ) (r s : Result (List ℕ) Refused)
     → IsChangeResult direction e t r → IsChangeResult direction e t s → r ≡ s
 
 -- a call returned this, unless memory ran out

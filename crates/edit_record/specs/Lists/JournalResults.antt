@@ -26,7 +26,8 @@ pub record IsFirstRefusal (direction : Direction) (rs : List JournalEntry) (t : 
   pub refuses : IsChangeResult direction item.edits input (Err why)
 
 -- the text on the other side, or else why the first record that refuses does so
-abbrev pub IsJournalResult : Direction → List JournalEntry → List ℕ → Result (List ℕ) Refused → Type 0
+abbrev pub IsJournalResult : Direction → List JournalEntry → List ℕ → Result (List ℕ) Refused
+    → Type 0
 IsJournalResult Forward rs t (Ok u) = journal_transforms rs t u
 IsJournalResult Backward rs u (Ok t) = journal_transforms rs t u
 IsJournalResult direction rs t (Err why) = IsFirstRefusal direction rs t why
@@ -45,7 +46,8 @@ JournalMayAllocate direction rs t =
     (r : JournalEntry) → first_record direction rs ≡ Some r → HasExpectedLen direction r.edits t
 
 -- what a call on a journal returned, memory included
-abbrev pub IsJournalCallResult : Direction → List JournalEntry → List ℕ → Result (Vec ℕ) Refused → Type 0
+abbrev pub IsJournalCallResult : Direction → List JournalEntry → List ℕ → Result (Vec ℕ) Refused
+    → Type 0
 IsJournalCallResult direction rs t (Ok v) = IsJournalResult direction rs t (Ok v.items)
 IsJournalCallResult direction rs t (Err (Length expected found)) =
     IsJournalResult direction rs t (Err (Length expected found))

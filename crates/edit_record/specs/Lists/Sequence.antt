@@ -3,10 +3,12 @@ use Rattle.std.specs.Prelude.{◌≡◌, ℕ, List, [], ◌∷◌, Result, Ok, E
 use Rattle.edit_record.specs.declared.lists.change.Refused.{Refused}
 
 -- the changes turn t into u: there is a text between each two of them
-abbrev pub TransformsInOrder : {C : Type 0} → (C → List ℕ → List ℕ → Type 0) → List C → List ℕ → List ℕ
+abbrev pub TransformsInOrder : {C : Type 0} → (C → List ℕ → List ℕ → Type 0) → List C → List ℕ
+    → List ℕ
     → Type 0
 TransformsInOrder turns [] t u = t ≡ u
-TransformsInOrder turns (c ∷ cs) t u = (between : List ℕ) × turns c t between × TransformsInOrder turns cs between u
+TransformsInOrder turns (c ∷ cs) t u =
+    (between : List ℕ) × turns c t between × TransformsInOrder turns cs between u
 
 -- the result of one more change after a result
 infixl 10 ◌>>=◌

@@ -64,7 +64,8 @@ IsValidList e = AreValidEdits e.old_len (new_len e) e.entries
 -- edits are made into the list of just these edits if and only if they are valid
 abbrev pub MakeIsExact : ℕ → List EditEntry → Type 0
 MakeIsExact old_len es = (e : EditList)
-    → (make_edits old_len es ≡ Ok e) ↔ ((e ≡ as_list old_len es) × AreValidEdits old_len (new_len e) es)
+    → (make_edits old_len es ≡ Ok e)
+    ↔ ((e ≡ as_list old_len es) × AreValidEdits old_len (new_len e) es)
 
 -- the lengths that the texts on both sides of edits have
 abbrev pub LengthsMatch : EditList → List ℕ → List ℕ → Type 0

@@ -81,7 +81,8 @@ groups_of (suc n) g xs ys =
     groups_of n (record h { second = with_next ys h.second }) xs (drop 1 ys) in
     if next_touches xs g.second then first g
     else (if next_touches ys g.first then second g
-    else g ∷ (if first_span_is_next xs ys then first (empty_group (next_start xs)) else second (empty_group (next_start ys))))
+    else g ∷ (if first_span_is_next xs ys then first (empty_group (next_start xs))
+    else second (empty_group (next_start ys))))
 
 -- where an edit is, and how much it removes and adds
 pub record Extent : Type 0 where

@@ -12,7 +12,8 @@ AreComposable a b = (t : List ℕ) × (u : List ℕ) × (v : List ℕ) × Transf
 
 -- c turns a text into another if and only if a and then b do
 abbrev pub IsComposition : EditList → EditList → EditList → Type 0
-IsComposition c a b = (t v : List ℕ) → Transforms c t v ↔ ((u : List ℕ) × Transforms a t u × Transforms b u v)
+IsComposition c a b =
+    (t v : List ℕ) → Transforms c t v ↔ ((u : List ℕ) × Transforms a t u × Transforms b u v)
 
 -- the first edits of a list
 abbrev pub take_edits : ℕ → EditList → EditList

@@ -7,8 +7,10 @@ use Rattle.edit_record.specs.Squashes.Squash.{AreComposable, IsComposition, IsSq
 -- If the lists of one grouping are composable, those of the other are too, and both groupings turn
 -- the same texts.
 pub record SquashIsAssociative (a b c : EditList) : Type 0 where
-  pub last_composable : (ab : EditList) → IsComposition ab a b → AreComposable ab c → AreComposable b c
-  pub first_composable : (bc : EditList) → IsComposition bc b c → AreComposable a bc → AreComposable a b
+  pub last_composable : (ab : EditList) → IsComposition ab a b → AreComposable ab c
+      → AreComposable b c
+  pub first_composable : (bc : EditList) → IsComposition bc b c → AreComposable a bc
+      → AreComposable a b
   pub both_composable : (ab bc : EditList) → IsComposition ab a b → IsComposition bc b c
       → AreComposable ab c ↔ AreComposable a bc
   pub equivalent : (ab bc left right : EditList) → IsComposition ab a b → IsComposition bc b c

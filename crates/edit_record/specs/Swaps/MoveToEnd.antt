@@ -18,7 +18,8 @@ IsMovedToEnd a (b ∷ bs) (c ∷ cs) last =
 pub record MovesToEndUniquely (a : EditList) (bs : List EditList) : Type 0 where
   pub one : (cs ds : List EditList) (last other : EditList) → IsMovedToEnd a bs cs last
       → IsMovedToEnd a bs ds other → (cs ≡ ds) × (last ≡ other)
-  pub equivalent : (cs : List EditList) (last : EditList) → IsMovedToEnd a bs cs last → (t v : List ℕ)
+  pub equivalent : (cs : List EditList) (last : EditList) → IsMovedToEnd a bs cs last
+      → (t v : List ℕ)
       → ((u : List ℕ) × Transforms a t u × TransformsInOrder Transforms bs u v)
       ↔ ((w : List ℕ) × TransformsInOrder Transforms cs t w × Transforms last w v)
 

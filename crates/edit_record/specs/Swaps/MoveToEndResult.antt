@@ -19,7 +19,8 @@ moved_or a (Some m) = m
 -- why two lists cannot be swapped: the second is for texts of another length, edits meet, or a text
 -- would be too long
 abbrev pub LengthMismatch : EditList → EditList → ℕ → ℕ → Type 0
-LengthMismatch a b expected found = (new_len a ≢ b.old_len) × (expected ≡ b.old_len) × (found ≡ new_len a)
+LengthMismatch a b expected found =
+    (new_len a ≢ b.old_len) × (expected ≡ b.old_len) × (found ≡ new_len a)
 
 abbrev pub SomeMeet : EditList → EditList → Type 0
 SomeMeet a b = (new_len a ≡ b.old_len) × (i : ℕ) × (j : ℕ) × FirstMeeting a b i j
@@ -48,10 +49,12 @@ MoveMayAllocate a (r ∷ rs) = CanSwap a r.edits
 
 -- What `move_to_end` returns: the records as they are without a before them, with their commands,
 -- and a as it is after them all; or the first record that cannot be swapped, and why.
-abbrev pub IsMoveToEndResult : EditList → List JournalEntry → Result (Vec Record × Option Edits) MoveFault
+abbrev pub IsMoveToEndResult : EditList → List JournalEntry
+    → Result (Vec Record × Option Edits) MoveFault
     → Type 0
 IsMoveToEndResult a rs (Ok x) =
-    IsMovedToEnd a (edits_of rs) (edits_of x.0.items) (moved_or a x.1) × (words_of x.0.items ≡ words_of rs)
+    IsMovedToEnd a (edits_of rs) (edits_of x.0.items) (moved_or a x.1)
+    × (words_of x.0.items ≡ words_of rs)
 IsMoveToEndResult a rs (Err (Length expected found)) =
     (k : ℕ) × FailsAt a (edits_of rs) k (λ n b. LengthMismatch n b expected found)
 IsMoveToEndResult a rs (Err (Blocked k)) = FailsAt a (edits_of rs) k SomeMeet

@@ -77,7 +77,8 @@ pub record IsSwap (a b b2 a2 : EditList) : Type 0 where
   pub seconds : AreRelocated (added_spans 0 0 a.entries) (removed_spans b.entries) b.entries b2.entries
   pub firsts : AreRelocated (removed_spans b.entries) (added_spans 0 0 a.entries) a.entries a2.entries
   pub equivalent : (t v : List ℕ)
-      → ((u : List ℕ) × Transforms a t u × Transforms b u v) ↔ ((u : List ℕ) × Transforms b2 t u × Transforms a2 u v)
+      → ((u : List ℕ) × Transforms a t u × Transforms b u v)
+      ↔ ((u : List ℕ) × Transforms b2 t u × Transforms a2 u v)
 
 -- two lists can be swapped in one way at most
 abbrev pub SwapIsUnique : Type 0
@@ -113,6 +114,7 @@ pub record SwapMayAllocate (a b : EditList) : Type 0 where
 abbrev pub IsSwapResult : EditList → EditList → Result (EditList × EditList) SwapFault → Type 0
 IsSwapResult a b (Ok x) = SwapTo a b x.0 x.1
 IsSwapResult a b (Err LengthsDiffer) = new_len a ≢ b.old_len
-IsSwapResult a b (Err (Meets first second)) = (new_len a ≡ b.old_len) × FirstMeeting a b first second
+IsSwapResult a b (Err (Meets first second)) =
+    (new_len a ≡ b.old_len) × FirstMeeting a b first second
 IsSwapResult a b (Err TooLong) = (new_len a ≡ b.old_len) × NoneMeet a b × ExceedsLimit a b
 IsSwapResult a b (Err Memory) = SwapMayAllocate a b

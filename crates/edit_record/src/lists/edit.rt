@@ -79,7 +79,8 @@ impl Edit {
 
     /// Moves the edit to another offset. It allocates nothing.
     pub fn set_at(&mut self, at: usize)
-        ensures { self.new ≡ record { at = at; removed = self.old.removed; added = self.old.added } }
+        ensures { self.new
+            ≡ record { at = at; removed = self.old.removed; added = self.old.added } }
     {
         self.at = at;
     }

@@ -33,8 +33,10 @@ pub fn change_is_one_to_one<C: Change>(change: &C)
 /// States what `apply` and `undo` of edits return: the other text; else `Length` if the length
 /// differs; else `Differs` with the number of the first edit whose bytes the text does not have.
 pub fn edit_results_are_exact(edits: &Edits)
-    ensures forward { (t : List ℕ) → IsChangeResult Forward edits.now t (apply_edits Forward edits.now t) }
-    ensures backward { (u : List ℕ) → IsChangeResult Backward edits.now u (apply_edits Backward edits.now u) }
+    ensures forward { (t : List ℕ)
+        → IsChangeResult Forward edits.now t (apply_edits Forward edits.now t) }
+    ensures backward { (u : List ℕ)
+        → IsChangeResult Backward edits.now u (apply_edits Backward edits.now u) }
 {}
 
 /// What edits return for a text is unique: a text that they refuse has no text on the other side,
@@ -76,5 +78,6 @@ pub fn pieces_transform()
 /// `Edits::make` accepts the changed pieces of a text within the limit, if none of them is empty on
 /// both sides, and the new text is within the limit too; else the new text is too long.
 pub fn pieces_make_valid_edits()
-    ensures { (ps : List Piece) → ChangesAreNonempty ps → length (old_text ps) ≤ MAX_TEXT → PiecesMakeValidEdits ps }
+    ensures { (ps : List Piece) → ChangesAreNonempty ps → length (old_text ps) ≤ MAX_TEXT
+        → PiecesMakeValidEdits ps }
 {}

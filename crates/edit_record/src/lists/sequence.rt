@@ -44,7 +44,8 @@ pub(crate) fn apply_records(
     text: &[u8],
 ) -> Result<Vec<u8>, Refused>
     ensures agrees { AgreesWith result (journal_forward records.now text.now) }
-    ensures memory { IfErr result (λ e. e ≡ Memory → JournalMayAllocate Forward records.now text.now) }
+    ensures memory { IfErr result (λ e. e ≡ Memory
+        → JournalMayAllocate Forward records.now text.now) }
 {
     match records {
         [] => Ok(Vec::from_slice(alloc, text)?),
@@ -63,7 +64,8 @@ pub(crate) fn undo_records(
     text: &[u8],
 ) -> Result<Vec<u8>, Refused>
     ensures agrees { AgreesWith result (journal_backward records.now text.now) }
-    ensures memory { IfErr result (λ e. e ≡ Memory → JournalMayAllocate Backward records.now text.now) }
+    ensures memory { IfErr result (λ e. e ≡ Memory
+        → JournalMayAllocate Backward records.now text.now) }
 {
     match records {
         [] => Ok(Vec::from_slice(alloc, text)?),

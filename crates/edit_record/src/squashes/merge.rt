@@ -216,7 +216,8 @@ impl<'a> Merge<'a> {
     /// they differ.
     pub(crate) fn cancel_common(&mut self) -> bool
         ensures same { let n = common_len (state self.old) in
-            IsTrue result ↔ (take n self.old.first_pending.now ≡ take n self.old.second_pending.now) }
+            IsTrue result
+            ↔ (take n self.old.first_pending.now ≡ take n self.old.second_pending.now) }
         ensures cancelled { IsTrue result → state self.new ≡ cancel_common (state self.old) }
     {
         let n = self.first_pending.len().min(self.second_pending.len());

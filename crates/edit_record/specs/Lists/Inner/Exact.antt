@@ -19,7 +19,8 @@ tested false r f u e = absurd cc
 -- what turns, by the relation
 pub walks_from_transforms : (e : EditList) (t u : List ℕ) → Transforms e t u
     → Walks Forward 0 e.entries SameRest t u
-walks_from_transforms e t u h = rw (← h.edits_are, ← h.old_is, ← h.new_is) (walks_from_pieces 0 h.pieces)
+walks_from_transforms e t u h =
+    rw (← h.edits_are, ← h.old_is, ← h.new_is) (walks_from_pieces 0 h.pieces)
 
 pub transforms_from_walks : (e : EditList) (t u : List ℕ) → length t ≡ e.old_len
     → Walks Forward 0 e.entries SameRest t u → Transforms e t u
@@ -32,7 +33,8 @@ transforms_from_walks e t u len g = let p = pieces_from_walks 0 e.entries t u g 
       edits_are = p.edits_are;
     }
 
-pub forward_exact : (e : EditList) (t u : List ℕ) → (apply_edits Forward e t ≡ Ok u) ↔ Transforms e t u
+pub forward_exact : (e : EditList) (t u : List ℕ) → (apply_edits Forward e t ≡ Ok u)
+    ↔ Transforms e t u
 forward_exact e t u = (
   λ h. let p = tested (eqb (length t) e.old_len) _ _ u h in
       transforms_from_walks e t u (eqb-true _ _ p.0) (walks_from_walk Forward 0 0 e.entries t u p.1),
@@ -40,7 +42,8 @@ forward_exact e t u = (
       (walk_from_walks Forward 0 0 e.entries t u (walks_from_transforms e t u h)),
 )
 
-pub backward_exact : (e : EditList) (t u : List ℕ) → (apply_edits Backward e u ≡ Ok t) ↔ Transforms e t u
+pub backward_exact : (e : EditList) (t u : List ℕ) → (apply_edits Backward e u ≡ Ok t)
+    ↔ Transforms e t u
 backward_exact e t u = (
   λ h.
       let p = tested (eqb (length u + removed_len e.entries)

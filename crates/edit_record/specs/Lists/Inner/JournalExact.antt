@@ -6,10 +6,12 @@ use Rattle.edit_record.specs.Lists.Journal.{JournalEntry, record_transforms, rec
 use Rattle.edit_record.specs.Lists.Inner.SequenceExact.{forward_all_exact, backward_all_exact, forward_all_never, backward_all_never}
 use Rattle.edit_record.specs.Lists.Inner.Exact.{forward_exact, backward_exact, answer_never_memory}
 
-pub record_applies : (r : JournalEntry) (t u : List ℕ) → (record_forward r t ≡ Ok u) ↔ record_transforms r t u
+pub record_applies : (r : JournalEntry) (t u : List ℕ) → (record_forward r t ≡ Ok u)
+    ↔ record_transforms r t u
 record_applies r = forward_exact r.edits
 
-pub record_undoes : (r : JournalEntry) (t u : List ℕ) → (record_backward r u ≡ Ok t) ↔ record_transforms r t u
+pub record_undoes : (r : JournalEntry) (t u : List ℕ) → (record_backward r u ≡ Ok t)
+    ↔ record_transforms r t u
 record_undoes r = backward_exact r.edits
 
 pub record_never_memory : (r : JournalEntry) (t : List ℕ)

@@ -12,7 +12,8 @@ bind_ok (Err d) f u e = absurd cc
 module _ {C : Type 0} (turns : C → List ℕ → List ℕ → Type 0)
     (answer : C → List ℕ → Result (List ℕ) Refused) where
   pub forward_all_exact : ((c : C) (t u : List ℕ) → (answer c t ≡ Ok u) ↔ turns c t u)
-      → (cs : List C) (t u : List ℕ) → (forward_all answer cs t ≡ Ok u) ↔ TransformsInOrder turns cs t u
+      → (cs : List C) (t u : List ℕ) → (forward_all answer cs t ≡ Ok u)
+      ↔ TransformsInOrder turns cs t u
   forward_all_exact exact [] t u = (λ e. cc, λ e. ap (λ (x : List ℕ). Ok x) e)
   forward_all_exact exact (c ∷ cs) t u = (
     λ e. let p = bind_ok (answer c t) (forward_all answer cs) u e in
@@ -21,7 +22,8 @@ module _ {C : Type 0} (turns : C → List ℕ → List ℕ → Type 0)
   )
 
   pub backward_all_exact : ((c : C) (t u : List ℕ) → (answer c u ≡ Ok t) ↔ turns c t u)
-      → (cs : List C) (t u : List ℕ) → (backward_all answer cs u ≡ Ok t) ↔ TransformsInOrder turns cs t u
+      → (cs : List C) (t u : List ℕ) → (backward_all answer cs u ≡ Ok t)
+      ↔ TransformsInOrder turns cs t u
   backward_all_exact exact [] t u = (λ e. cc, λ e. ap (λ (x : List ℕ). Ok x) (sym e))
   backward_all_exact exact (c ∷ cs) t u = (
     λ e. let p = bind_ok (backward_all answer cs u) (answer c) t e in

@@ -20,7 +20,8 @@ matches_at_is from at bytes t p q =
 -- ---- pieces and the relation
 
 walks_prepend : (from : ℕ) (b : List ℕ) (es : List EditEntry) (t u : List ℕ)
-    → Walks Forward (from + length b) es SameRest t u → Walks Forward from es SameRest (b ++ t) (b ++ u)
+    → Walks Forward (from + length b) es SameRest t u
+    → Walks Forward from es SameRest (b ++ t) (b ++ u)
 walks_prepend from b [] t u g = ap (λ (x : List ℕ). b ++ x) g
 walks_prepend from b (e ∷ es) t u g =
     let gap = g.gap in
@@ -56,7 +57,8 @@ pub record InPieces (from : ℕ) (es : List EditEntry) (t u : List ℕ) : Type 0
   pub new_is : new_text pieces ≡ u
   pub edits_are : changed_entries from pieces ≡ es
 
-pub pieces_from_walks : (from : ℕ) (es : List EditEntry) (t u : List ℕ) → Walks Forward from es SameRest t u
+pub pieces_from_walks : (from : ℕ) (es : List EditEntry) (t u : List ℕ)
+    → Walks Forward from es SameRest t u
     → InPieces from es t u
 pieces_from_walks from [] t u g =
     record {
@@ -136,7 +138,8 @@ matches_at_true from at bytes t e =
       later = leb-true from at p.0;
       in_bounds = leb-true (at - from) (length t) q.0;
       is = sym (take-append-drop (at - from) t)
-          ∙ ap (λ (x : List ℕ). take (at - from) t ++ x) (prefix_is bytes (drop (at - from) t) same);
+          ∙ ap (λ (x : List ℕ). take (at - from) t ++ x)
+          (prefix_is bytes (drop (at - from) t) same);
     }
 
 prepend_ok : (bytes u : List ℕ) (r : Result (List ℕ) Refused) → prepend bytes r ≡ Ok u

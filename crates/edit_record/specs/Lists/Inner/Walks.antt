@@ -6,8 +6,8 @@ use Rattle.edit_record.specs.declared.lists.direction.Direction.{Direction}
 use Rattle.edit_record.specs.Lists.Apply.{read_bytes, written_bytes}
 
 -- some bytes stay, the edit's bytes become others, and for what is left K holds
-pub record EditStep (direction : Direction) (from : ℕ) (e : EditEntry) (K : List ℕ → List ℕ → Type 0)
-    (t u : List ℕ) : Type 0 where
+pub record EditStep (direction : Direction) (from : ℕ) (e : EditEntry)
+    (K : List ℕ → List ℕ → Type 0) (t u : List ℕ) : Type 0 where
   pub kept : List ℕ
   pub t_rest : List ℕ
   pub u_rest : List ℕ

@@ -26,7 +26,8 @@ pub record State : Type 0 where
 
 -- the edits with one more, if it is not empty
 abbrev pub push_nonempty : List EditEntry → EditEntry → List EditEntry
-push_nonempty out e = if (length e.removed == 0) && (length e.added == 0) then out else out ++ e ∷ []
+push_nonempty out e =
+    if (length e.removed == 0) && (length e.added == 0) then out else out ++ e ∷ []
 
 -- the edit that is being made ends; what the one list has left, the other keeps
 abbrev pub finish_edit : State → State
@@ -49,7 +50,8 @@ finish_edit s = record {
 
 -- both lists keep n bytes
 abbrev pub skip_kept : ℕ → State → State
-skip_kept n s = record s { at = s.at + n; first_end = s.first_end + n; second_end = s.second_end + n }
+skip_kept n s =
+    record s { at = s.at + n; first_end = s.first_end + n; second_end = s.second_end + n }
 
 -- with the next edit of the first list, after bytes that the second removed and the first keeps
 abbrev pub with_first : EditEntry → State → State
@@ -90,11 +92,13 @@ reaches (e ∷ es) from n = nat_le (e.at - from) n
 -- the next edit of a list touches the edit that is being made, through an edit of the other list
 abbrev pub joins_first : State → List EditEntry → Bool
 joins_first s xs =
-    s.has_second && ((length s.first_pending == 0) && reaches xs s.first_end (length s.second_pending))
+    s.has_second
+    && ((length s.first_pending == 0) && reaches xs s.first_end (length s.second_pending))
 
 abbrev pub joins_second : State → List EditEntry → Bool
 joins_second s ys =
-    s.has_first && ((length s.second_pending == 0) && reaches ys s.second_end (length s.first_pending))
+    s.has_first
+    && ((length s.second_pending == 0) && reaches ys s.second_end (length s.first_pending))
 
 -- whether the first list has the next edit
 abbrev pub first_is_next : State → List EditEntry → List EditEntry → Bool
@@ -145,18 +149,21 @@ StartsFrom from (e ∷ es) = from ≤ e.at
 -- the next edit can be taken: its list has nothing left, and the other reaches it
 abbrev pub CanTakeFirst : State → List EditEntry → Type 0
 CanTakeFirst s [] = ⊥
-CanTakeFirst s (e ∷ xs) = (length s.first_pending ≡ 0) × (e.at - s.first_end ≤ length s.second_pending)
+CanTakeFirst s (e ∷ xs) =
+    (length s.first_pending ≡ 0) × (e.at - s.first_end ≤ length s.second_pending)
 
 abbrev pub CanTakeSecond : State → List EditEntry → List EditEntry → Type 0
 CanTakeSecond s xs [] = length xs ≡ 0
-CanTakeSecond s xs (e ∷ ys) = (length s.second_pending ≡ 0) × (e.at - s.second_end ≤ length s.first_pending)
+CanTakeSecond s xs (e ∷ ys) =
+    (length s.second_pending ≡ 0) × (e.at - s.second_end ≤ length s.first_pending)
 
 abbrev pub CanTake : Bool → State → List EditEntry → List EditEntry → Type 0
 CanTake true s xs ys = CanTakeFirst s xs
 CanTake false s xs ys = CanTakeSecond s xs ys
 
 -- the state with the next edit, and the edits that are left
-abbrev pub take_next : Bool → State → List EditEntry → List EditEntry → State × List EditEntry × List EditEntry
+abbrev pub take_next : Bool → State → List EditEntry → List EditEntry → State × List EditEntry
+    × List EditEntry
 take_next true s [] ys = (s, [], ys)
 take_next true s (e ∷ xs) ys = (with_first e s, xs, ys)
 take_next false s xs [] = (s, xs, [])

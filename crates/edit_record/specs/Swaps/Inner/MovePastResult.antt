@@ -9,7 +9,8 @@ use Rattle.edit_record.specs.Swaps.MoveToEndResult.{LengthMismatch, SomeMeet, Sw
 use Rattle.edit_record.specs.declared.swaps.reorder.MoveFault.{MoveFault}
 use Rattle.edit_record.specs.declared.swaps.reorder.MoveFault.TheVariants.{Length, Blocked, TooLong, Memory}
 
-abbrev pub IsMovePastResult : EditList → JournalEntry → ℕ → Result (Record × Edits) MoveFault → Type 0
+abbrev pub IsMovePastResult : EditList → JournalEntry → ℕ → Result (Record × Edits) MoveFault
+    → Type 0
 IsMovePastResult a r k (Ok x) = SwapTo a r.edits x.0.edits x.1 × (x.0.word ≡ r.word)
 IsMovePastResult a r k (Err (Length expected found)) = LengthMismatch a r.edits expected found
 IsMovePastResult a r k (Err (Blocked n)) = (n ≡ k) × SomeMeet a r.edits

@@ -34,8 +34,10 @@ pub record HasMovedPast (a b : EditList) (us : List EditEntry) (m n : MovingEdit
   pub new_len : n.new_len ≡ m.new_len
 
 -- what moving edits after one record returns
-abbrev pub MovesPastRecord : EditList → JournalEntry → ℕ → MovingEdits → Result Record MoveFault → Type 0
-MovesPastRecord a r k n (Ok before) = SwapTo a r.edits before.edits (edits_now n) × (before.word ≡ r.word) × IsWellFormed n
+abbrev pub MovesPastRecord : EditList → JournalEntry → ℕ → MovingEdits → Result Record MoveFault
+    → Type 0
+MovesPastRecord a r k n (Ok before) =
+    SwapTo a r.edits before.edits (edits_now n) × (before.word ≡ r.word) × IsWellFormed n
 MovesPastRecord a r k n (Err (Length expected found)) = LengthMismatch a r.edits expected found
 MovesPastRecord a r k n (Err (Blocked number)) = (number ≡ k) × SomeMeet a r.edits
 MovesPastRecord a r k n (Err TooLong) = SwapIsTooLong a r.edits

@@ -18,7 +18,8 @@ relocate from e to = record { at = to + (e.at - from); removed = e.removed; adde
 -- the two in the other order. The offsets are those after the edits that are done: in the old text,
 -- in the text between, and in the text between of the other order. The moves say of which list the
 -- next edit is: it ends before the next one of the other list begins.
-abbrev pub IsSwapTrace : List Bool → ℕ → ℕ → ℕ → List EditEntry → List EditEntry → List EditEntry → List EditEntry
+abbrev pub IsSwapTrace : List Bool → ℕ → ℕ → ℕ → List EditEntry → List EditEntry → List EditEntry
+    → List EditEntry
     → Type 0
 IsSwapTrace [] old mid other [] [] [] [] = Unit {0}
 IsSwapTrace (true ∷ ms) old mid other (x ∷ xs) ys us (v ∷ vs) =
@@ -101,7 +102,8 @@ pub record SwapInvariant (la lb ab rb : ℕ) (s : State) (xs ys : List EditEntry
   pub other_balance : s.other + rb + added_len ys ≡ s.old + ab + removed_len ys
 
 abbrev pub HoldsInvariant : State → List EditEntry → List EditEntry → Type 0
-HoldsInvariant s xs ys = (la : ℕ) × (lb : ℕ) × (ab : ℕ) × (rb : ℕ) × SwapInvariant la lb ab rb s xs ys
+HoldsInvariant s xs ys =
+    (la : ℕ) × (lb : ℕ) × (ab : ℕ) × (rb : ℕ) × SwapInvariant la lb ab rb s xs ys
 
 -- nothing is done
 abbrev pub initial : State
