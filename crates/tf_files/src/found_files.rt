@@ -1,5 +1,8 @@
 //! Whether two files, with their journals, have anything in common.
 
+ghost use Rattle.std.specs.Prelude.{◌≡◌, ◌↔◌, true};
+ghost use Rattle.tf_files.specs.Common.{IsFound, IsFoundToo, HaveCommon};
+
 use crate::file_paths::{FilePaths, is_absent, is_not_found};
 use std::alloc::Global;
 use std::fs::{self, Metadata, OpenFile};
@@ -65,19 +68,31 @@ impl FoundFiles {
     }
 
     /// Returns whether one of these files is one of the others, too.
-    pub fn share(&self, others: &FoundFiles) -> bool {
-        others.has(Some(self.text))
-            || others.has(self.journal)
-            || others.has(self.new_text)
-            || others.has(self.new_journal)
+    pub fn share(&self, others: &FoundFiles) -> bool
+        ensures { result ≡ true ↔ HaveCommon self.now others.now }
+    {
+        others.has(self.text)
+            || others.has_too(self.journal)
+            || others.has_too(self.new_text)
+            || others.has_too(self.new_journal)
     }
 
-    fn has(&self, id: Option<FileId>) -> bool {
-        id.is_some()
-            && (id == Some(self.text)
-                || id == self.journal
-                || id == self.new_text
-                || id == self.new_journal)
+    fn has(&self, id: FileId) -> bool
+        ensures { result ≡ true ↔ IsFound id self.now }
+    {
+        id == self.text
+            || self.journal == Some(id)
+            || self.new_text == Some(id)
+            || self.new_journal == Some(id)
+    }
+
+    fn has_too(&self, id: Option<FileId>) -> bool
+        ensures { result ≡ true ↔ IsFoundToo id self.now }
+    {
+        match id {
+            Some(id) => self.has(id),
+            None => false,
+        }
     }
 }
 

@@ -32,15 +32,19 @@ pub struct Batch<'a> {
     alloc: Global,
     entries: Vec<Entry<'a>>,
     bytes: usize,
+    /// How many files are still to be changed.
+    left: usize,
     pub outcome: RunOutcome,
 }
 
 impl<'a> Batch<'a> {
-    pub fn new(alloc: Global) -> Batch<'a> {
+    /// A batch of no file, for a run over so many.
+    pub fn new(alloc: Global, files: usize) -> Batch<'a> {
         Batch {
             alloc,
             entries: Vec::new(alloc),
             bytes: 0,
+            left: files,
             outcome: RunOutcome::default(),
         }
     }
@@ -54,6 +58,7 @@ impl<'a> Batch<'a> {
         output: &mut O,
         faults: &mut F,
     ) {
+        self.left = self.left.saturating_sub(1);
         if !self.admits(rt, name) {
             self.finish(rt, output, faults);
         }
@@ -114,10 +119,13 @@ impl<'a> Batch<'a> {
         }
     }
 
+    /// Returns whether an entry may wait for others: one that has changed begins a batch, unless it
+    /// is the last.
     fn lets_wait(&self, entry: &Entry<'a>) -> bool {
+        let is_alone = self.entries.is_empty();
         match entry.changed_file() {
-            Some(file) => file.can_wait(),
-            None => !self.entries.is_empty(),
+            Some(file) => file.can_wait() && (!is_alone || self.left > 0),
+            None => !is_alone,
         }
     }
 

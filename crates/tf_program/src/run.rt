@@ -84,7 +84,7 @@ fn run_task<R: Files, I: Read, O: Write, F: Write>(
     output: &mut O,
     faults: &mut F,
 ) -> RunOutcome {
-    let mut batch = Batch::new(alloc);
+    let mut batch = Batch::new(alloc, task.files.len());
     for name in &task.files {
         if *name == STANDARD_INPUT {
             batch.finish(rt, output, faults);

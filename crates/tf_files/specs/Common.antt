@@ -1,0 +1,21 @@
+-- Which files two files with their journals have in common.
+use Rattle.std.specs.Prelude.{◌≡◌, ◌⊎◌, Option, Some, None}
+use Rattle.tf_files.specs.declared.found_files.FileId.{FileId}
+use Rattle.tf_files.specs.declared.found_files.FoundFiles.{FoundFiles}
+
+-- this is one of the files that were found
+abbrev pub IsFound : FileId → FoundFiles → Type 0
+IsFound id found =
+    (id ≡ found.text) ⊎ (found.journal ≡ Some id) ⊎ (found.new_text ≡ Some id)
+    ⊎ (found.new_journal ≡ Some id)
+
+-- there is such a file, and it is one of those that were found
+abbrev pub IsFoundToo : Option FileId → FoundFiles → Type 0
+IsFoundToo None found = ⊥
+IsFoundToo (Some id) found = IsFound id found
+
+-- one of the files is one of the others, too
+abbrev pub HaveCommon : FoundFiles → FoundFiles → Type 0
+HaveCommon ours others =
+    IsFound ours.text others ⊎ IsFoundToo ours.journal others ⊎ IsFoundToo ours.new_text others
+    ⊎ IsFoundToo ours.new_journal others
