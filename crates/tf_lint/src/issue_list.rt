@@ -59,6 +59,22 @@ pub fn issues_of(
     Ok(issues)
 }
 
+/// A capacity for the line of an issue without the name of its file: enough for the longest words
+/// of a rule and for any place, if the names that it quotes are short.
+const LINE_CAPACITY: usize = 128;
+
+/// An empty text with capacity for the lines of `count` issues, since a text that grows leaves
+/// smaller freed blocks. Longer lines make it grow.
+fn with_line_capacity(alloc: Global, name: &str, count: usize) -> Result<String, AllocError>
+    ensures { IfOk result (λ lines. string_bytes lines ≡ []) }
+{
+    let capacity = name
+        .len()
+        .saturating_add(LINE_CAPACITY)
+        .saturating_mul(count);
+    String::with_capacity(alloc, capacity)
+}
+
 /// A report on the file of this name: the line of the issue of each of these findings in a text, in
 /// their order, each followed by LF. No issue is made for it.
 pub fn lines_of_findings(
@@ -73,7 +89,10 @@ pub fn lines_of_findings(
         ≡ lines_of name.now (map (report_of scanned.now.pairs) found.now)) }
     ensures allocates { IfErr result (λ _. 0 < length found.now) }
 {
-    let mut lines = String::new(alloc);
+    if found.is_empty() {
+        return Ok(String::new(alloc));
+    }
+    let mut lines = with_line_capacity(alloc, name, found.len())?;
     let mut places = scanned.places();
     for finding in found {
         let place = places.of(finding.first());
@@ -88,7 +107,10 @@ pub fn lines_of_issues(alloc: Global, name: &str, found: &[Issue]) -> Result<Str
         (λ lines. string_bytes lines ≡ lines_of name.now (reports found.now)) }
     ensures allocates { IfErr result (λ _. 0 < length found.now) }
 {
-    let mut lines = String::new(alloc);
+    if found.is_empty() {
+        return Ok(String::new(alloc));
+    }
+    let mut lines = with_line_capacity(alloc, name, found.len())?;
     for issue in found {
         issue.add_line(name, &mut lines)?;
         lines.push_str("\n")?;
