@@ -15,8 +15,9 @@ use tf_session::{Command, RunFault};
 /// are open.
 const MOST_FILES: usize = 64;
 
-/// How many bytes are held at most, unless one file has more: new texts, journals and lines.
-const MOST_BYTES: usize = 1 << 24;
+/// How many bytes are held at most, unless one file has more: new texts, journals and lines. What
+/// the allocator loses beside them makes it 16 MB at most.
+const MOST_BYTES: usize = 12 << 20;
 
 /// A file that a command has worked on, until it is saved and reported.
 #[derive(Drop)]
