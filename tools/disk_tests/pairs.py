@@ -141,10 +141,8 @@ def race(program, history, first, second):
         both = Pair(check, Scene(program, f"{disk}/s", "name", history), first, second)
         for _ in range(RACES):
             both.race(chance)
-    # Both commands can be in the instants of their renames: 1 to 4 times of 400 came with 0.3.0, and
-    # with 0.4.0 as well.
     unfit = check.outcomes["the journal does not fit"]
-    check.require(unfit <= RACES // 100, f"the journal does not fit, {unfit} times")
+    check.require(unfit <= RACES // 200, f"the journal does not fit, {unfit} times")
     return check
 
 
