@@ -5,18 +5,19 @@ use Rattle.std.specs.List.{flat_map, AllByRecursion}
 use Rattle.std.proofs.lemmas.List.Concat.{flat_map-cons}
 use Rattle.edit_record.specs.Lists.Pieces.{EditEntry, EditList}
 use Rattle.edit_record.specs.Lists.Journal.{JournalEntry}
-use Rattle.edit_record.specs.Text.{space, newline, max_number, NumbersFit, number_text, edit_text, list_head, list_text, word_text, steps, step_text}
+use Rattle.edit_record.specs.Text.{newline, NumbersFit, number_text, edit_text, list_head, list_text, word_text, steps, step_text}
 use Rattle.edit_record.specs.Lists.Validity.{IsValidList}
-use Rattle.edit_record.specs.Decoding.{FollowsHead, mark_after, ReachesFirstEdit, OldReachesFirstEdit, DecodeMayAllocate}
+use Rattle.edit_record.specs.Decoding.{mark_after, ReachesEdit, ReachesFirstEdit, OldReachesFirstEdit, DecodeMayAllocate}
 use Rattle.edit_record.specs.declared.fault.FaultKind.TheVariants.{Head}
 use Rattle.edit_record.specs.declared.fault.TextError.{TextError}
-use Rattle.edit_record.specs.Parsing.{expect, number_at, edit_at, word_at}
+use Rattle.edit_record.specs.Parsing.{expect, number_at, edit_at, list_head_at, word_at}
 use Rattle.edit_record.specs.OldParsing.{step_at, OldHead, old_head_at}
 use Rattle.edit_record.specs.Inner.Allocating.{is_ok_and, edits_allocate, edit_list_allocates, record_allocates, step_allocates, old_head_allocates, steps_allocate, old_record_allocates, allocates}
 use Rattle.edit_record.specs.Inner.ParseResults.{RecordAt}
 use Rattle.edit_record.proofs.Choices.{ok_is, through, through_one}
 use Rattle.edit_record.proofs.Numbers.{number_takes}
-use Rattle.edit_record.proofs.Fields.{expect_takes, edit_takes, edit_fits}
+use Rattle.edit_record.proofs.Heads.{ListHeadIs, list_head_takes}
+use Rattle.edit_record.proofs.Fields.{expect_takes, edit_takes}
 use Rattle.edit_record.proofs.Making.{has_numbers}
 use Rattle.edit_record.proofs.Records.{three, four, word_takes, step_takes}
 
@@ -65,62 +66,44 @@ step_taken i count t text x lt begun e = one_more_allocates i count t text lt be
 
 -- ---- a list of edits that has begun
 
--- its head, and the first edit, or this mark where there is none
-record Opens (mark t : List ℕ) : Type 0 where
-  pub old_len : ℕ
-  pub count : ℕ
-  pub old_len_fits : old_len ≤ max_number
-  pub count_fits : count ≤ max_number
-  pub next : List ℕ
-  pub next_is : FollowsHead old_len count mark next
-  pub rest : List ℕ
-  pub is : t ≡ number_text space old_len ++ (number_text newline count ++ (next ++ rest))
-
 first_fits : (es : List EditEntry) (f : EditEntry) (others : List EditEntry) → es ≡ f ∷ others → AllByRecursion NumbersFit es → NumbersFit f
 first_fits es f others is h = let all : AllByRecursion NumbersFit (f ∷ others) = subst (λ (l : List EditEntry). AllByRecursion NumbersFit l) is h in all.0
 
-opens_at : (mark t t1 t2 : List ℕ) (old_len count : ℕ) → t ≡ number_text space old_len ++ t1 → t1 ≡ number_text newline count ++ t2 → old_len ≤ max_number → count ≤ max_number → edits_allocate count t2 ≡ true → Opens mark t
-opens_at mark t t1 t2 old_len zero e1 e2 long many h = absurd cc
-opens_at mark t t1 t2 old_len (suc n) e1 e2 long many h =
-    ok_read (edit_at t2) h λ x x_is.
-    let e3 = edit_takes t2 x.0 x.1 x_is in
+opens_at : (mark t t1 : List ℕ) (old_len count : ℕ) → ListHeadIs (old_len, count) t t1 → edits_allocate count t1 ≡ true → ReachesEdit mark t
+opens_at mark t t1 old_len zero head h = absurd cc
+opens_at mark t t1 old_len (suc n) head h =
+    ok_read (edit_at t1) h λ x x_is.
+    let first = edit_takes t1 x.0 x.1 x_is in
     record {
       old_len = old_len;
       count = suc n;
-      old_len_fits = long;
-      count_fits = many;
+      old_len_fits = head.old_len;
+      count_fits = head.count;
       next = edit_text x.0;
-      next_is = (x.0, refl, edit_fits t2 x.0 x.1 x_is);
+      next_is = (x.0, refl, first.1);
       rest = x.1;
-      is = e1 ∙ ap (λ (y : List ℕ). number_text space old_len ++ y) (e2 ∙ ap (λ (y : List ℕ). number_text newline (suc n) ++ y) e3);
+      is = head.text ∙ ap (λ (y : List ℕ). list_head old_len (suc n) ++ y) first.0;
     }
 
-list_opens : (mark t : List ℕ) → edit_list_allocates t ≡ true → Opens mark t
+list_opens : (mark t : List ℕ) → edit_list_allocates t ≡ true → ReachesEdit mark t
 unfolding edit_list_allocates
 list_opens mark t h =
-    found_ok (number_at 0 max_number space t) _ h λ old_len old_len_is h1.
-    found_ok (number_at 0 max_number newline old_len.1) _ h1 λ count count_is h2.
-    let n0 = number_takes 0 max_number space t old_len (omega arith) old_len_is in
-    let n1 = number_takes 0 max_number newline old_len.1 count (omega arith) count_is in
-    opens_at mark t old_len.1 count.1 old_len.0 count.0 n0.0 n1.0 n0.2 n1.2 h2
-
-two : (a b c rest : List ℕ) → ((a ++ b) ++ c) ++ rest ≡ a ++ (b ++ (c ++ rest))
-two a b c rest = simp append_assoc
+    found_ok (list_head_at t) _ h λ head head_is h1. opens_at mark t head.1 head.0.0 head.0.1 (list_head_takes t head.0 head.1 head_is) h1
 
 -- one that stands whole, with the mark behind it
-whole_opens : (e : EditList) (es : List EditEntry) (mark rest : List ℕ) → e.entries ≡ es → IsValidList e → Opens mark (list_text e ++ (mark ++ rest))
+whole_opens : (e : EditList) (es : List EditEntry) (mark rest : List ℕ) → e.entries ≡ es → IsValidList e → ReachesEdit mark (list_text e ++ (mark ++ rest))
 whole_opens e [] mark rest is made =
-    let parts = two (number_text space e.old_len) (number_text newline (length e.entries)) (flat_map edit_text e.entries) (mark ++ rest) in
-    let none : (es : List EditEntry) → es ≡ [] → number_text newline (length es) ++ (flat_map edit_text es ++ (mark ++ rest)) ≡ number_text newline 0 ++ (mark ++ rest) = λ es h. ap (λ (x : List EditEntry). number_text newline (length x) ++ (flat_map edit_text x ++ (mark ++ rest))) h in
-    record { old_len = e.old_len; count = 0; old_len_fits = (has_numbers e made).old_len; count_fits = omega arith; next = mark; next_is = (refl, made.old_fits); rest = rest; is = parts ∙ ap (λ (y : List ℕ). number_text space e.old_len ++ y) (none e.entries is) }
+    let parts = append_assoc (list_head e.old_len (length e.entries)) (flat_map edit_text e.entries) (mark ++ rest) in
+    let none : (es : List EditEntry) → es ≡ [] → list_head e.old_len (length es) ++ (flat_map edit_text es ++ (mark ++ rest)) ≡ list_head e.old_len 0 ++ (mark ++ rest) = λ es h. ap (λ (x : List EditEntry). list_head e.old_len (length x) ++ (flat_map edit_text x ++ (mark ++ rest))) h in
+    record { old_len = e.old_len; count = 0; old_len_fits = (has_numbers e made).old_len; count_fits = omega arith; next = mark; next_is = (refl, made.old_fits); rest = rest; is = parts ∙ none e.entries is }
 whole_opens e (f ∷ es) mark rest is made =
     let fits = has_numbers e made in
     let n = length es in
-    let parts = two (number_text space e.old_len) (number_text newline (length e.entries)) (flat_map edit_text e.entries) (mark ++ rest) in
+    let parts = append_assoc (list_head e.old_len (length e.entries)) (flat_map edit_text e.entries) (mark ++ rest) in
     let cut : flat_map edit_text (f ∷ es) ++ (mark ++ rest) ≡ edit_text f ++ (flat_map edit_text es ++ (mark ++ rest)) =
     ap (λ (y : List ℕ). y ++ (mark ++ rest)) (flat_map-cons edit_text f es) ∙ append_assoc (edit_text f) (flat_map edit_text es) (mark ++ rest) in
-    let some = ap (λ (x : List EditEntry). number_text newline (length x) ++ (flat_map edit_text x ++ (mark ++ rest))) is ∙ ap (λ (y : List ℕ). number_text newline (suc n) ++ y) cut in
-    record { old_len = e.old_len; count = suc n; old_len_fits = fits.old_len; count_fits = omega (arith, fits.count, ap length is); next = edit_text f; next_is = (f, refl, first_fits e.entries f es is fits.edits); rest = flat_map edit_text es ++ (mark ++ rest); is = parts ∙ ap (λ (y : List ℕ). number_text space e.old_len ++ y) some }
+    let some = ap (λ (x : List EditEntry). list_head e.old_len (length x) ++ (flat_map edit_text x ++ (mark ++ rest))) is ∙ ap (λ (y : List ℕ). list_head e.old_len (suc n) ++ y) cut in
+    record { old_len = e.old_len; count = suc n; old_len_fits = fits.old_len; count_fits = omega (arith, fits.count, ap length is); next = edit_text f; next_is = (f, refl, first_fits e.entries f es is fits.edits); rest = flat_map edit_text es ++ (mark ++ rest); is = parts ∙ some }
 
 -- ---- a record that has begun
 
@@ -130,35 +113,24 @@ head_one a b rest = sym (append_assoc a b rest)
 head_two : (a b c rest : List ℕ) → a ++ (b ++ (c ++ rest)) ≡ (a ++ b ++ c) ++ rest
 head_two a b c rest = simp append_assoc
 
-from_new : (t t1 t2 : List ℕ) (word : _) → t ≡ codes "tfrec 2 " ++ t1 → t1 ≡ word_text word ++ t2 → Opens (codes "end\n") t2 → ReachesFirstEdit t
+from_new : (t t1 t2 : List ℕ) (word : _) → t ≡ codes "tfrec 2 " ++ t1 → t1 ≡ word_text word ++ t2 → ReachesEdit (codes "end\n") t2 → ReachesFirstEdit t
 from_new t t1 t2 word e1 e2 o = record {
   word = word;
-  old_len = o.old_len;
-  count = o.count;
-  old_len_fits = o.old_len_fits;
-  count_fits = o.count_fits;
-  next = o.next;
-  next_is = o.next_is;
-  rest = o.rest;
-  is = e1 ∙ ap (λ (y : List ℕ). codes "tfrec 2 " ++ y) (e2 ∙ ap (λ (y : List ℕ). word_text word ++ y) (o.is ∙ head_one (number_text space o.old_len) (number_text newline o.count) (o.next ++ o.rest)))
-      ∙ head_one (codes "tfrec 2 ") (word_text word) (list_head o.old_len o.count ++ (o.next ++ o.rest));
+  list = t2;
+  is = e1 ∙ ap (λ (y : List ℕ). codes "tfrec 2 " ++ y) e2 ∙ head_one (codes "tfrec 2 ") (word_text word) t2;
+  reaches = o;
 }
 
-from_old : (t t1 t2 t3 t4 : List ℕ) (word : _) (n : ℕ) → t ≡ codes "tfrec 1 " ++ t1 → t1 ≡ word_text word ++ t2 → t2 ≡ number_text newline n ++ t3 → 0 < n → n ≤ 64 → t3 ≡ codes "step " ++ t4 → Opens (mark_after n) t4 → OldReachesFirstEdit t
+from_old : (t t1 t2 t3 t4 : List ℕ) (word : _) (n : ℕ) → t ≡ codes "tfrec 1 " ++ t1 → t1 ≡ word_text word ++ t2 → t2 ≡ number_text newline n ++ t3 → 0 < n → n ≤ 64 → t3 ≡ codes "step " ++ t4 → ReachesEdit (mark_after n) t4 → OldReachesFirstEdit t
 from_old t t1 t2 t3 t4 word n e1 e2 e3 some few e4 o = record {
   word = word;
   steps = n;
   has_steps = some;
   steps_within_limit = few;
-  old_len = o.old_len;
-  count = o.count;
-  old_len_fits = o.old_len_fits;
-  count_fits = o.count_fits;
-  next = o.next;
-  next_is = o.next_is;
-  rest = o.rest;
-  is = e1 ∙ ap (λ (y : List ℕ). codes "tfrec 1 " ++ y) (e2 ∙ ap (λ (y : List ℕ). word_text word ++ y) (e3 ∙ ap (λ (y : List ℕ). number_text newline n ++ y) (e4 ∙ ap (λ (y : List ℕ). codes "step " ++ y) (o.is ∙ head_one (number_text space o.old_len) (number_text newline o.count) (o.next ++ o.rest)))))
-      ∙ head_two (codes "tfrec 1 ") (word_text word) (number_text newline n) (codes "step " ++ (list_head o.old_len o.count ++ (o.next ++ o.rest)));
+  list = t4;
+  is = e1 ∙ ap (λ (y : List ℕ). codes "tfrec 1 " ++ y) (e2 ∙ ap (λ (y : List ℕ). word_text word ++ y) (e3 ∙ ap (λ (y : List ℕ). number_text newline n ++ y) e4))
+      ∙ head_two (codes "tfrec 1 ") (word_text word) (number_text newline n) (codes "step " ++ t4);
+  reaches = o;
 }
 
 record_opens : (t : List ℕ) → record_allocates t ≡ true → ReachesFirstEdit t
@@ -202,9 +174,9 @@ old_steps_open t head after e h =
     let taken = step_takes t3 first t4 first_is in
     let n = number_takes 1 64 newline t2 (count, t3) (omega arith) count_is in
     let t3_is : t3 ≡ codes "step " ++ (list_text first ++ t4) = taken.0 ∙ append_assoc (codes "step ") (list_text first) t4 in
-    let opens : Opens (codes "step ") (list_text first ++ (codes "step " ++ x)) = whole_opens first first.entries (codes "step ") x refl taken.1 in
-    let opens_here : Opens (mark_after count) (list_text first ++ t4) =
-    subst (λ (m : List ℕ). Opens m (list_text first ++ t4)) (sym mark) (subst (λ (y : List ℕ). Opens (codes "step ") (list_text first ++ y)) (sym step_is) opens) in
+    let opens : ReachesEdit (codes "step ") (list_text first ++ (codes "step " ++ x)) = whole_opens first first.entries (codes "step ") x refl taken.1 in
+    let opens_here : ReachesEdit (mark_after count) (list_text first ++ t4) =
+    subst (λ (m : List ℕ). ReachesEdit m (list_text first ++ t4)) (sym mark) (subst (λ (y : List ℕ). ReachesEdit (codes "step ") (list_text first ++ y)) (sym step_is) opens) in
     from_old t t1 t2 t3 (list_text first ++ t4) word count (expect_takes (codes "tfrec 1 ") Head t t1 begins) (word_takes t1 word t2 word_is)
     n.0 n.1 n.2 t3_is opens_here
 
@@ -243,7 +215,7 @@ record_out true t r rest h =
     let cut : flat_map step_text (steps old) ++ (codes "end\n" ++ rest) ≡ codes "step " ++ (list_text old.first ++ later) =
     ap (λ (y : List ℕ). y ++ (codes "end\n" ++ rest)) (flat_map-cons step_text old.first old.others) ∙ append_assoc (step_text old.first) (flat_map step_text old.others) (codes "end\n" ++ rest)
     ∙ append_assoc (codes "step ") (list_text old.first) later in
-    let opens : Opens (mark_after n) (list_text old.first ++ later) = subst (λ (y : List ℕ). Opens (mark_after n) (list_text old.first ++ y)) (sym b.1) (whole_opens old.first old.first.entries (mark_after n) b.0 refl h.2.made.0) in
+    let opens : ReachesEdit (mark_after n) (list_text old.first ++ later) = subst (λ (y : List ℕ). ReachesEdit (mark_after n) (list_text old.first ++ y)) (sym b.1) (whole_opens old.first old.first.entries (mark_after n) b.0 refl h.2.made.0) in
     inr (from_old t _ _ _ _ old.word n parts refl refl (omega arith) h.2.within_limit cut opens)
 
 -- ---- in the loop over records

@@ -1,6 +1,7 @@
 pub mod Choices
 pub mod Many
 pub mod Numbers
+pub mod Heads
 pub mod Fields
 pub mod Making
 pub mod Records

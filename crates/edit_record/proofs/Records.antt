@@ -9,13 +9,14 @@ use Rattle.edit_record.specs.declared.lists.record.Word.TheVariants.{Fmt, Fix}
 use Rattle.edit_record.specs.Lists.Pieces.{EditList, as_list}
 use Rattle.edit_record.specs.Lists.Validity.{make_edits, IsValidList}
 use Rattle.edit_record.specs.Lists.Journal.{JournalEntry}
-use Rattle.edit_record.specs.Text.{space, newline, max_number, number_text, edit_text, list_text, word_text, record_text, OldRecord, steps, step_text, old_record_text}
+use Rattle.edit_record.specs.Text.{space, newline, number_text, edit_text, list_head, list_text, word_text, record_text, OldRecord, steps, step_text, old_record_text}
 use Rattle.edit_record.specs.declared.fault.FaultKind.TheVariants.{Head, End}
-use Rattle.edit_record.specs.Parsing.{strip, expect, number_at, edits_at, if_valid, edit_list_at, word_of, bare_word_at, word_at, record_at}
+use Rattle.edit_record.specs.Parsing.{strip, expect, number_at, edits_at, if_valid, list_head_at, edit_list_at, word_of, bare_word_at, word_at, record_at}
 use Rattle.edit_record.specs.OldParsing.{step_at, steps_at, OldHead, old_head_at, old_record_at}
 use Rattle.edit_record.proofs.Choices.{ok_is, through, through_one, goes_on, part}
 use Rattle.edit_record.proofs.Many.{many_take, many_again}
 use Rattle.edit_record.proofs.Numbers.{number_takes, number_again}
+use Rattle.edit_record.proofs.Heads.{list_head_takes, list_head_again}
 use Rattle.edit_record.proofs.Fields.{after_takes, expect_takes, edits_take, edits_again}
 use Rattle.edit_record.proofs.Making.{valid_is, valid_again, has_numbers}
 
@@ -23,37 +24,30 @@ valid_found : (left : ℕ) (r : Result EditList BadEdits) (t rest : List ℕ) (e
 valid_found left (Ok x) t rest e h = let p = ok_is (x, t) (e, rest) h in (ap (λ (y : EditList × List ℕ). Ok y.0) p, ap (λ (y : EditList × List ℕ). y.1) p)
 valid_found left (Err d) t rest e h = absurd cc
 
-two : (a b c rest : List ℕ) → ((a ++ b) ++ c) ++ rest ≡ a ++ (b ++ (c ++ rest))
-two a b c rest = simp append_assoc
-
 pub list_takes : (left : ℕ) (t : List ℕ) (e : EditList) (rest : List ℕ) → edit_list_at left t ≡ Ok (e, rest) → (t ≡ list_text e ++ rest) × IsValidList e
 unfolding edit_list_at
 list_takes left t e rest h =
-    through (number_at 0 max_number space t) _ (e, rest) h λ old_len t1 old_len_is h1.
-    through (number_at 0 max_number newline t1) _ (e, rest) h1 λ count t2 count_is h2.
-    through (edits_at count t2) _ (e, rest) h2 λ es t3 es_is h3.
-    let m = valid_found left (make_edits old_len es) t3 rest e h3 in
-    let i = valid_is old_len es e m.0 in
-    let n0 = (number_takes 0 max_number space t (old_len, t1) (omega arith) old_len_is).0 in
-    let n1 = (number_takes 0 max_number newline t1 (count, t2) (omega arith) count_is).0 in
-    let es_take = edits_take count t2 es t3 es_is in
-    let m1 : t1 ≡ number_text newline (length es) ++ t2 = n1 ∙ ap (λ (k : ℕ). number_text newline k ++ t2) (sym es_take.1) in
-    let whole = part (number_text space old_len) t t1 _ n0 (part (number_text newline (length es)) t1 t2 _ m1 es_take.0) ∙ sym (two (number_text space old_len) (number_text newline (length es)) (flat_map edit_text es) t3) in
-    (subst (λ (x : EditList). t ≡ list_text x ++ rest) i.0 (whole ∙ ap (λ (x : List ℕ). list_text (as_list old_len es) ++ x) m.1), i.1)
+    through (list_head_at t) _ (e, rest) h λ n t1 n_is h1.
+    through (edits_at n.1 t1) _ (e, rest) h1 λ es t2 es_is h2.
+    let m = valid_found left (make_edits n.0 es) t2 rest e h2 in
+    let i = valid_is n.0 es e m.0 in
+    let es_take = edits_take n.1 t1 es t2 es_is in
+    let head = list_head n.0 (length es) in
+    let head_is : t ≡ head ++ t1 = (list_head_takes t n t1 n_is).text ∙ ap (λ (k : ℕ). list_head n.0 k ++ t1) (sym es_take.1) in
+    let whole = part head t t1 _ head_is es_take.0 ∙ sym (append_assoc head (flat_map edit_text es) t2) in
+    (subst (λ (x : EditList). t ≡ list_text x ++ rest) i.0 (whole ∙ ap (λ (x : List ℕ). list_text (as_list n.0 es) ++ x) m.1), i.1)
 
 pub list_again : (left : ℕ) (e : EditList) (rest : List ℕ) → IsValidList e → edit_list_at left (list_text e ++ rest) ≡ Ok (e, rest)
 unfolding edit_list_at
 list_again left e rest made_e =
     let n = has_numbers e made_e in
-    let t2 = flat_map edit_text e.entries ++ rest in
-    let t1 = number_text newline (length e.entries) ++ t2 in
-    let t0 = number_text space e.old_len ++ t1 in
+    let t1 = flat_map edit_text e.entries ++ rest in
+    let head = list_head e.old_len (length e.entries) in
     let last : if_valid left (make_edits e.old_len e.entries) rest ≡ Ok (e, rest) = rw (valid_again e made_e) refl in
-    let read : edit_list_at left t0 ≡ Ok (e, rest) =
-    goes_on (number_at 0 max_number space t0) _ (e.old_len, t1) _ (number_again 0 max_number space e.old_len t1 (omega arith) refl (omega arith) n.old_len)
-    (goes_on (number_at 0 max_number newline t1) _ (length e.entries, t2) _ (number_again 0 max_number newline (length e.entries) t2 (omega arith) refl (omega arith) n.count)
-    (goes_on (edits_at (length e.entries) t2) _ (e.entries, rest) _ (edits_again e.entries rest n.edits) last)) in
-    ap (edit_list_at left) (two (number_text space e.old_len) (number_text newline (length e.entries)) (flat_map edit_text e.entries) rest) ∙ read
+    let read : edit_list_at left (head ++ t1) ≡ Ok (e, rest) =
+    goes_on (list_head_at (head ++ t1)) _ ((e.old_len, length e.entries), t1) _ (list_head_again e.old_len (length e.entries) t1 n.old_len n.count)
+    (goes_on (edits_at (length e.entries) t1) _ (e.entries, rest) _ (edits_again e.entries rest n.edits) last) in
+    ap (edit_list_at left) (append_assoc head (flat_map edit_text e.entries) rest) ∙ read
 
 -- the word without the space behind it
 bare : Word → List ℕ

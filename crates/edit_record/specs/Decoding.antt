@@ -20,40 +20,40 @@ abbrev pub FollowsHead : ℕ → ℕ → List ℕ → List ℕ → Type 0
 FollowsHead old_len zero mark next = (next ≡ mark) × (old_len ≤ MAX_TEXT)
 FollowsHead old_len (suc n) mark next = (e : EditEntry) × (next ≡ edit_text e) × NumbersFit e
 
--- The text begins with the head of a record, and with the whole of what follows the head. Each
--- number is within its limit.
-pub record ReachesFirstEdit (text : List ℕ) : Type 0 where
-  pub word : Word
+-- The text begins with the head of a list of edits, whose numbers are within the limit, and with the
+-- whole of what follows the head.
+pub record ReachesEdit (mark text : List ℕ) : Type 0 where
   pub old_len : ℕ
   pub count : ℕ
   pub old_len_fits : old_len ≤ max_number
   pub count_fits : count ≤ max_number
   pub next : List ℕ
-  pub next_is : FollowsHead old_len count (codes "end\n") next
+  pub next_is : FollowsHead old_len count mark next
   pub rest : List ℕ
-  pub is : text ≡ record_head word ++ (list_head old_len count ++ (next ++ rest))
+  pub is : text ≡ list_head old_len count ++ (next ++ rest)
+
+-- the text begins with the head of a record, and reaches the first edit of its list
+pub record ReachesFirstEdit (text : List ℕ) : Type 0 where
+  pub word : Word
+  pub list : List ℕ
+  pub is : text ≡ record_head word ++ list
+  pub reaches : ReachesEdit (codes "end\n") list
 
 -- the mark that follows the first of n steps
 abbrev pub mark_after : ℕ → List ℕ
 mark_after (suc (suc n)) = codes "step "
 mark_after n = codes "end\n"
 
--- The text begins with the head of a record of version 1, and with the whole of what follows the
--- head of its first step.
+-- the text begins with the head of a record of version 1, and reaches the first edit of its first
+-- step
 pub record OldReachesFirstEdit (text : List ℕ) : Type 0 where
   pub word : Word
   pub steps : ℕ
-  pub old_len : ℕ
-  pub count : ℕ
   pub has_steps : 0 < steps
   pub steps_within_limit : steps ≤ 64
-  pub old_len_fits : old_len ≤ max_number
-  pub count_fits : count ≤ max_number
-  pub next : List ℕ
-  pub next_is : FollowsHead old_len count (mark_after steps) next
-  pub rest : List ℕ
-  pub is : text ≡ old_record_head word steps
-      ++ (codes "step " ++ (list_head old_len count ++ (next ++ rest)))
+  pub list : List ℕ
+  pub is : text ≡ old_record_head word steps ++ (codes "step " ++ list)
+  pub reaches : ReachesEdit (mark_after steps) list
 
 -- `decode` can run out of memory on this text: it reaches the end of the first edit, or of an empty
 -- list. Before that it allocates nothing.

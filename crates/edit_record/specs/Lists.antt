@@ -6,4 +6,5 @@ pub mod Apply
 pub mod Sequence
 pub mod Journal
 pub mod JournalResults
+pub mod Equality
 pub mod Inner

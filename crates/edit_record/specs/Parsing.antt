@@ -70,15 +70,21 @@ number_at least limit stop t = number_on (length t) least limit stop false 0 t
 unfoldable pub bytes_at : ℕ → List ℕ → Result (List ℕ × List ℕ) TextError
 bytes_at n t = if nat_lt (length t) n then cut_short else Ok (take n t, drop n t)
 
+-- the head of an edit: its place, how many bytes it removes, and how many it adds
+unfoldable pub edit_head_at : List ℕ → Result ((ℕ × ℕ × ℕ) × List ℕ) TextError
+edit_head_at t = do
+  at ← number_at 0 max_number space t
+  removed ← number_at 0 max_number space at.1
+  added ← number_at 0 max_number newline removed.1
+  Ok ((at.0, removed.0, added.0), added.1)
+
 unfoldable pub edit_at : List ℕ → Result (EditEntry × List ℕ) TextError
 edit_at t = do
-  at ← number_at 0 max_number space t
-  r ← number_at 0 max_number space at.1
-  w ← number_at 0 max_number newline r.1
-  removed ← bytes_at r.0 w.1
-  added ← bytes_at w.0 removed.1
+  head ← edit_head_at t
+  removed ← bytes_at head.0.1 head.1
+  added ← bytes_at head.0.2 removed.1
   rest ← expect (newline ∷ []) End added.1
-  Ok (record { at = at.0; removed = removed.0; added = added.0 }, rest)
+  Ok (record { at = head.0.0; removed = removed.0; added = added.0 }, rest)
 
 -- `n` of them, one after another
 abbrev pub repeat_at : {X : Type 0} → (List ℕ → Result (X × List ℕ) TextError) → ℕ → List ℕ
@@ -95,14 +101,20 @@ abbrev pub if_valid : ℕ → Result EditList BadEdits → List ℕ → Result (
 if_valid left (Ok e) t = Ok (e, t)
 if_valid left (Err d) t = error Edits left
 
+-- the head of a list of edits: the length of the texts that they apply to, and how many they are
+unfoldable pub list_head_at : List ℕ → Result ((ℕ × ℕ) × List ℕ) TextError
+list_head_at t = do
+  old_len ← number_at 0 max_number space t
+  count ← number_at 0 max_number newline old_len.1
+  Ok ((old_len.0, count.0), count.1)
+
 -- A list of edits. If these are no list, the error is where the record begins, which is `left`
 -- bytes before the end.
 unfoldable pub edit_list_at : ℕ → List ℕ → Result (EditList × List ℕ) TextError
 edit_list_at left t = do
-  old_len ← number_at 0 max_number space t
-  count ← number_at 0 max_number newline old_len.1
-  edits ← edits_at count.0 count.1
-  if_valid left (make_edits old_len.0 edits.0) edits.1
+  head ← list_head_at t
+  edits ← edits_at head.0.1 head.1
+  if_valid left (make_edits head.0.0 edits.0) edits.1
 
 -- what follows the one word, or the other; or, of a text that is a part of a word, that it is cut
 -- short

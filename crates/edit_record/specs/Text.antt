@@ -29,11 +29,15 @@ max_number = 33554432
 abbrev pub number_text : ℕ → ℕ → List ℕ
 number_text stop n = decimal n ++ stop ∷ []
 
--- an edit: a line with its place, how many bytes it removes and how many it adds; then these bytes,
--- and the end of the line
+-- the head of an edit: its place, how many bytes it removes, and how many it adds
+abbrev pub edit_head : ℕ → ℕ → ℕ → List ℕ
+edit_head at removed added =
+    number_text space at ++ number_text space removed ++ number_text newline added
+
+-- an edit: its head, the bytes that it removes, those that it adds, and the end of the line
 abbrev pub edit_text : EditEntry → List ℕ
-edit_text e = number_text space e.at ++ number_text space (length e.removed)
-    ++ number_text newline (length e.added) ++ e.removed ++ e.added ++ newline ∷ []
+edit_text e =
+    edit_head e.at (length e.removed) (length e.added) ++ e.removed ++ e.added ++ newline ∷ []
 
 -- the numbers of an edit are within the limit
 pub record NumbersFit (e : EditEntry) : Type 0 where

@@ -1,22 +1,16 @@
 //! Reading a journal.
-ghost use Rattle.std.specs.Prelude.{◌≡◌, IfErr};
+ghost use Rattle.std.specs.Prelude.{IfErr};
 ghost use Rattle.edit_record.specs.Decoding.{RecordError, IsDecodeResult};
-ghost use Rattle.edit_record.specs.declared.fault.FaultKind.TheVariants.{Steps};
-ghost use Rattle.edit_record.specs.Inner.ParseResults.{IsRead, ParsesAs, HasError, IsSquashOrStop, OldRecordAt, RecordAt, IsReadResult};
-ghost use Rattle.edit_record.specs.Inner.Allocating.{record_allocates, step_allocates, old_head_allocates, steps_allocate, old_record_allocates, allocates};
+ghost use Rattle.edit_record.specs.Inner.ParseResults.{IsRead, ParsesAs, HasError, RecordAt, IsReadResult};
+ghost use Rattle.edit_record.specs.Inner.Allocating.{record_allocates, allocates};
 ghost use Rattle.edit_record.specs.Parsing.{record_at};
-ghost use Rattle.edit_record.specs.OldParsing.{step_at, old_head_at, SquashAt, StepsError, OldRecordError};
-ghost use Rattle.edit_record.specs.Inner.OldHead.{head_view};
 
 use crate::RecordFault;
-use crate::fault::{DecodeStop, FaultKind, TextError};
-use crate::lists::{Edits, Journal, Record, Word};
-use crate::readers::{expect, list_of_edits, number, word};
-use crate::squashes::{Unmet, squash};
+use crate::fault::{DecodeStop, FaultKind};
+use crate::lists::{Journal, Record};
+use crate::readers::{expect, list_of_edits, word};
+use crate::version_1::old_record;
 use std::alloc::Global;
-
-/// The most steps of a record of version 1.
-const MAX_STEPS: usize = 64;
 
 /// Reads a record of version 2.
 #[tactic(auto, unfolding(crate::specs::Parsing::record_at, crate::specs::Inner::Allocating::record_allocates))]
@@ -26,103 +20,6 @@ fn record(alloc: Global, text: &[u8]) -> Result<(Record, &[u8]), DecodeStop>
     let rest = expect(b"tfrec 2 ", FaultKind::Head, text)?;
     let (word, rest) = word(rest)?;
     let (edits, rest) = list_of_edits(alloc, text.len(), rest)?;
-    let rest = expect(b"end\n", FaultKind::End, rest)?;
-    Ok((Record::make(word, edits), rest))
-}
-
-/// Reads a step of a record of version 1.
-#[tactic(auto, unfolding(crate::specs::OldParsing::step_at, crate::specs::Inner::Allocating::step_allocates))]
-fn step(alloc: Global, text: &[u8]) -> Result<(Edits, &[u8]), DecodeStop>
-    ensures { IsRead (λ x. (x.0, x.1.now)) (step_allocates text.now) result (step_at text.now) }
-{
-    let rest = expect(b"step ", FaultKind::Head, text)?;
-    list_of_edits(alloc, text.len(), rest)
-}
-
-/// Reads `count` further steps, and squashes `first` and these, each with the result before it.
-fn squash_steps(
-    alloc: Global,
-    first: Edits,
-    count: usize,
-    text: &[u8],
-) -> Result<(Edits, &[u8]), DecodeStop>
-    ensures parses { ParsesAs (λ x. x.0) (λ x. x.1.now) (steps_allocate count text.now) result
-        (SquashAt first count text.now) }
-    ensures error { IfErr result (λ stop. HasError stop (StepsError count first text.now)) }
-{
-    let mut edits = first;
-    let mut rest = text;
-    for _ in 0..count {
-        let (next, after) = step(alloc, rest)?;
-        edits = squash_two(alloc, &edits, &next, rest.len())?;
-        rest = after;
-    }
-    Ok((edits, rest))
-}
-
-/// Squashes two steps. If they cannot follow each other, the error is `left` bytes before the end
-/// of the text.
-fn squash_two(
-    alloc: Global,
-    first: &Edits,
-    second: &Edits,
-    left: usize,
-) -> Result<Edits, DecodeStop>
-    ensures squash { IsSquashOrStop first.now second.now result }
-    ensures error { IfErr result
-        (λ stop. HasError stop (λ e. e ≡ record { kind = Steps; left = left })) }
-{
-    let bad = TextError {
-        kind: FaultKind::Steps,
-        left,
-    };
-    match squash(alloc, first, second) {
-        Ok(edits) => Ok(edits),
-        Err(Unmet::Memory) => Err(DecodeStop::Memory),
-        Err(_) => Err(DecodeStop::Bad(bad)),
-    }
-}
-
-/// The part of a record of version 1 before its second step.
-struct OldHead {
-    word: Word,
-    first: Edits,
-    /// The number of further steps.
-    others: usize,
-}
-
-/// Reads the part of a record of version 1 before its second step.
-#[tactic(auto, unfolding(crate::specs::OldParsing::old_head_at, crate::specs::Inner::Allocating::old_head_allocates))]
-fn old_head(alloc: Global, text: &[u8]) -> Result<(OldHead, &[u8]), DecodeStop>
-    ensures { IsRead (λ x. (head_view x.0, x.1.now)) (old_head_allocates text.now) result
-        (old_head_at text.now) }
-{
-    let rest = expect(b"tfrec 1 ", FaultKind::Head, text)?;
-    let (word, rest) = word(rest)?;
-    let (count, rest) = number(1, MAX_STEPS, b'\n', rest)?;
-    let (first, rest) = step(alloc, rest)?;
-    let others = count - 1;
-    let head = OldHead {
-        word,
-        first,
-        others,
-    };
-    Ok((head, rest))
-}
-
-/// Reads a record of version 1 and squashes its steps into one list.
-fn old_record(alloc: Global, text: &[u8]) -> Result<(Record, &[u8]), DecodeStop>
-    ensures parses { ParsesAs (λ x. x.0) (λ x. x.1.now) (old_record_allocates text.now) result
-        (OldRecordAt text.now) }
-    ensures error { IfErr result (λ stop. HasError stop (OldRecordError text.now)) }
-{
-    let (head, rest) = old_head(alloc, text)?;
-    let OldHead {
-        word,
-        first,
-        others,
-    } = head;
-    let (edits, rest) = squash_steps(alloc, first, others, rest)?;
     let rest = expect(b"end\n", FaultKind::End, rest)?;
     Ok((Record::make(word, edits), rest))
 }

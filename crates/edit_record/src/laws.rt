@@ -9,7 +9,7 @@ ghost use Rattle.edit_record.specs.Text.{IsCurrentText, IsJournalText, OldRecord
 
 pub use crate::lists::laws::{
     apply_is_deterministic, apply_is_exact, change_is_one_to_one, change_result_is_unique,
-    edit_results_are_exact, journal_results_are_exact, make_is_exact, pieces_make_valid_edits,
+    edit_results_are_exact, equality_is_exact, journal_results_are_exact, make_is_exact, pieces_make_valid_edits,
     pieces_transform, transformed_lengths_match, undo_is_exact,
 };
 pub use crate::squashes::laws::{

@@ -15,6 +15,7 @@ pub mod lists;
 mod readers;
 pub mod squashes;
 pub mod swaps;
+mod version_1;
 
 pub use decoder::decode;
 pub use encoder::{encode, encoded_len};

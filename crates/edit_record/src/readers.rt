@@ -4,7 +4,7 @@ ghost use Rattle.std.specs.Prelude.{◌≡◌, ◌<◌, ◌^◌, option_map, IfO
 ghost use Rattle.edit_record.specs.Inner.ParseResults.{IsParsed, IsRead};
 ghost use Rattle.edit_record.specs.Inner.Allocating.{edits_allocate, edit_list_allocates};
 ghost use Rattle.edit_record.specs.Lists.Validity.{make_edits};
-ghost use Rattle.edit_record.specs.Parsing.{strip, expect, number_at, bytes_at, edit_at, edits_at, if_valid, edit_list_at, bare_word_at, word_at};
+ghost use Rattle.edit_record.specs.Parsing.{strip, expect, number_at, bytes_at, edit_head_at, edit_at, edits_at, if_valid, list_head_at, edit_list_at, bare_word_at, word_at};
 ghost use Rattle.edit_record.specs.declared.fault.FaultKind.{FaultKind};
 
 use crate::fault::{DecodeStop, FaultKind, TextError};
@@ -109,14 +109,23 @@ fn bytes(count: usize, text: &[u8]) -> Result<(&[u8], &[u8]), TextError>
     Ok(text.split_at(count))
 }
 
+/// Reads the head of an edit: its place, how many bytes it removes, and how many it adds.
+#[tactic(auto, unfolding(crate::specs::Parsing::edit_head_at))]
+fn edit_head(text: &[u8]) -> Result<((usize, usize, usize), &[u8]), TextError>
+    ensures { IsParsed (λ x. (x.0, x.1.now)) result (edit_head_at text.now) }
+{
+    let (at, rest) = number(0, MAX_NUMBER, b' ', text)?;
+    let (removed, rest) = number(0, MAX_NUMBER, b' ', rest)?;
+    let (added, rest) = number(0, MAX_NUMBER, b'\n', rest)?;
+    Ok(((at, removed, added), rest))
+}
+
 /// Reads an edit. It allocates only after all bytes of the edit, and its line end, are read.
 #[tactic(auto, unfolding(crate::specs::Parsing::edit_at))]
 fn edit(alloc: Global, text: &[u8]) -> Result<(Edit, &[u8]), DecodeStop>
     ensures { IsRead (λ x. (x.0, x.1.now)) (is_ok (edit_at text.now)) result (edit_at text.now) }
 {
-    let (at, rest) = number(0, MAX_NUMBER, b' ', text)?;
-    let (removed, rest) = number(0, MAX_NUMBER, b' ', rest)?;
-    let (added, rest) = number(0, MAX_NUMBER, b'\n', rest)?;
+    let ((at, removed, added), rest) = edit_head(text)?;
     let (removed, rest) = bytes(removed, rest)?;
     let (added, rest) = bytes(added, rest)?;
     let rest = expect(b"\n", FaultKind::End, rest)?;
@@ -154,6 +163,17 @@ fn checked_list(old_len: usize, edits: Vec<Edit>, left: usize) -> Result<Edits, 
     }
 }
 
+/// Reads the head of a list of edits: the length of the texts that they apply to, and how many they
+/// are.
+#[tactic(auto, unfolding(crate::specs::Parsing::list_head_at))]
+fn list_head(text: &[u8]) -> Result<((usize, usize), &[u8]), TextError>
+    ensures { IsParsed (λ x. (x.0, x.1.now)) result (list_head_at text.now) }
+{
+    let (old_len, rest) = number(0, MAX_NUMBER, b' ', text)?;
+    let (count, rest) = number(0, MAX_NUMBER, b'\n', rest)?;
+    Ok(((old_len, count), rest))
+}
+
 /// Reads a list of edits. If the edits are no list, the error is `left` bytes before the end of the
 /// text.
 #[tactic(auto, unfolding(crate::specs::Parsing::edit_list_at, crate::specs::Inner::Allocating::edit_list_allocates))]
@@ -165,8 +185,7 @@ pub(crate) fn list_of_edits(
     ensures { IsRead (λ x. (x.0, x.1.now)) (edit_list_allocates text.now) result
         (edit_list_at left text.now) }
 {
-    let (old_len, rest) = number(0, MAX_NUMBER, b' ', text)?;
-    let (count, rest) = number(0, MAX_NUMBER, b'\n', rest)?;
+    let ((old_len, count), rest) = list_head(text)?;
     let (edits, rest) = edits(alloc, count, rest)?;
     let list = checked_list(old_len, edits, left)?;
     Ok((list, rest))

@@ -3,8 +3,8 @@
 use Rattle.std.specs.Prelude.{ℕ, zero, suc, List, Result, Ok, Err, Bool, true, false, codes, is_ok, ◌||◌}
 use Rattle.edit_record.specs.declared.fault.FaultKind.TheVariants.{Head}
 use Rattle.edit_record.specs.declared.fault.TextError.{TextError}
-use Rattle.edit_record.specs.Text.{space, newline, max_number}
-use Rattle.edit_record.specs.Parsing.{expect, number_at, edit_at, word_at}
+use Rattle.edit_record.specs.Text.{newline}
+use Rattle.edit_record.specs.Parsing.{expect, number_at, edit_at, list_head_at, word_at}
 use Rattle.edit_record.specs.OldParsing.{old_head_at}
 
 -- something is read, and of it this is true
@@ -18,10 +18,7 @@ edits_allocate zero t = false
 edits_allocate (suc n) t = is_ok (edit_at t)
 
 unfoldable pub edit_list_allocates : List ℕ → Bool
-edit_list_allocates t =
-    is_ok_and (number_at 0 max_number space t) λ old_len.
-    is_ok_and (number_at 0 max_number newline old_len.1) λ count.
-    edits_allocate count.0 count.1
+edit_list_allocates t = is_ok_and (list_head_at t) λ head. edits_allocate head.0.1 head.1
 
 unfoldable pub record_allocates : List ℕ → Bool
 record_allocates t =

@@ -6,3 +6,4 @@ pub mod WalkExact
 pub mod Exact
 pub mod SequenceExact
 pub mod JournalExact
+pub mod EqualityExact

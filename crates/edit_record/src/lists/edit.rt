@@ -150,6 +150,51 @@ fn store_on_heap(alloc: Global, removed: &[u8], added: &[u8]) -> Result<Storage,
     Ok(Storage::Heap(Box::new(alloc, long)?))
 }
 
+impl Clone for Edit {
+    ghost is_clone = { λ edit copy. copy ≡ edit };
+
+    fn clone(&self) -> Result<Edit, AllocError> {
+        let storage = match &self.storage {
+            Storage::Inline {
+                removed_end,
+                len,
+                bytes,
+            } => Storage::Inline {
+                removed_end: *removed_end,
+                len: *len,
+                bytes: *bytes,
+            },
+            Storage::Heap(long) => {
+                store_on_heap(*long.bytes.allocator(), self.removed(), self.added())?
+            }
+        };
+        Ok(Edit {
+            at: self.at,
+            storage,
+        })
+    }
+}
+
+impl PartialEq for Edit {
+    ghost use Rattle.std.specs.Cmp.{partial_equiv_from_equiv};
+    ghost use Rattle.edit_record.specs.Lists.Equality.{is_same_edit};
+    ghost use Rattle.edit_record.specs.Lists.Inner.EqualityExact.{equivalence, edits_exact};
+
+    ghost eq = { is_same_edit };
+
+    ghost laws = { partial_equiv_from_equiv (equivalence edits_exact) };
+
+    fn eq(&self, other: &Edit) -> bool {
+        self.at == other.at && self.removed() == other.removed() && self.added() == other.added()
+    }
+}
+
+impl Eq for Edit {
+    ghost use Rattle.edit_record.specs.Lists.Inner.EqualityExact.{equivalence, edits_exact};
+
+    ghost laws = { equivalence edits_exact };
+}
+
 impl Debug for Edit {
     fn fmt<W: fmt::Write>(&self, f: &mut fmt::Formatter<W>) -> fmt::Result {
         f.debug_struct("Edit")

@@ -3,7 +3,7 @@ ghost use Rattle.std.specs.Prelude.{◌≡◌, ◌+◌};
 use crate::lists::direction::Direction;
 use crate::lists::pass::apply_edits;
 use crate::lists::{BadEdits, Change, Edit, Refused};
-use std::alloc::Global;
+use std::alloc::{AllocError, Global};
 use std::marker::Model;
 
 /// The most bytes of a text, old or new: 16 MiB.
@@ -116,6 +116,38 @@ impl Edits {
     {
         self.edits
     }
+}
+
+impl Clone for Edits {
+    ghost is_clone = { λ edits copy. copy ≡ edits };
+
+    fn clone(&self) -> Result<Edits, AllocError> {
+        Ok(Edits {
+            old_len: self.old_len,
+            new_len: self.new_len,
+            edits: self.edits.clone()?,
+        })
+    }
+}
+
+impl PartialEq for Edits {
+    ghost use Rattle.std.specs.Cmp.{partial_equiv_from_equiv};
+    ghost use Rattle.edit_record.specs.Lists.Equality.{is_same_list};
+    ghost use Rattle.edit_record.specs.Lists.Inner.EqualityExact.{equivalence, lists_exact};
+
+    ghost eq = { is_same_list };
+
+    ghost laws = { partial_equiv_from_equiv (equivalence lists_exact) };
+
+    fn eq(&self, other: &Edits) -> bool {
+        self.old_len == other.old_len && self.edits == other.edits
+    }
+}
+
+impl Eq for Edits {
+    ghost use Rattle.edit_record.specs.Lists.Inner.EqualityExact.{equivalence, lists_exact};
+
+    ghost laws = { equivalence lists_exact };
 }
 
 impl Change for Edits {

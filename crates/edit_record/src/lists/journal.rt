@@ -2,7 +2,7 @@ ghost use Rattle.std.specs.Prelude.{◌≡◌, ◌≤◌, ◌+◌, [], ◌∷◌
 
 use crate::lists::sequence::{apply_records, undo_records};
 use crate::lists::{Change, Record, Refused};
-use std::alloc::{AllocFailed, Global};
+use std::alloc::{AllocError, AllocFailed, Global};
 use std::marker::Model;
 
 /// The records of the commands that changed a text, the oldest first.
@@ -68,6 +68,36 @@ impl Journal {
     {
         self.records.as_slice()
     }
+}
+
+impl Clone for Journal {
+    ghost is_clone = { λ journal copy. copy ≡ journal };
+
+    fn clone(&self) -> Result<Journal, AllocError> {
+        Ok(Journal {
+            records: self.records.clone()?,
+        })
+    }
+}
+
+impl PartialEq for Journal {
+    ghost use Rattle.std.specs.Cmp.{partial_equiv_from_equiv};
+    ghost use Rattle.edit_record.specs.Lists.Equality.{is_same_journal};
+    ghost use Rattle.edit_record.specs.Lists.Inner.EqualityExact.{equivalence, journals_exact};
+
+    ghost eq = { is_same_journal };
+
+    ghost laws = { partial_equiv_from_equiv (equivalence journals_exact) };
+
+    fn eq(&self, other: &Journal) -> bool {
+        self.records == other.records
+    }
+}
+
+impl Eq for Journal {
+    ghost use Rattle.edit_record.specs.Lists.Inner.EqualityExact.{equivalence, journals_exact};
+
+    ghost laws = { equivalence journals_exact };
 }
 
 impl Change for Journal {

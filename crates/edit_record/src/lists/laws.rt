@@ -1,12 +1,13 @@
 //! Laws of changes and of edits. The functions do nothing: a call makes a law's clause available to
 //! the proof of its caller.
-ghost use Rattle.std.specs.Prelude.{◌≡◌, ◌≤◌, ◌↔◌, List, ℕ, Ok, length};
+ghost use Rattle.std.specs.Prelude.{◌≡◌, ◌≤◌, ◌↔◌, List, ℕ, Ok, length, true};
 ghost use Rattle.edit_record.specs.Lists.Pieces.{EditEntry, EditList, Piece, Transforms, old_text};
 ghost use Rattle.edit_record.specs.Lists.Validity.{MakeIsExact, LengthsMatch, ApplyIsDeterministic};
 ghost use Rattle.edit_record.specs.Lists.PieceEdits.{ChangesAreNonempty, PiecesTransform, PiecesMakeValidEdits};
 ghost use Rattle.edit_record.specs.Lists.ChangeResults.{IsChangeResult, ChangeResultIsUnique};
 ghost use Rattle.edit_record.specs.Lists.Journal.{JournalEntry, journal_forward, journal_backward};
 ghost use Rattle.edit_record.specs.Lists.JournalResults.{IsJournalResult};
+ghost use Rattle.edit_record.specs.Lists.Equality.{is_same_edit, is_same_list, is_same_record, is_same_journal};
 ghost use Rattle.edit_record.specs.declared.lists.edits.TheConstants.{MAX_TEXT};
 ghost use Rattle.edit_record.specs.Lists.Apply.{apply_edits};
 ghost use Rattle.edit_record.specs.declared.lists.direction.Direction.TheVariants.{Forward, Backward};
@@ -68,6 +69,14 @@ pub fn apply_is_deterministic()
 /// the limit.
 pub fn make_is_exact()
     ensures { (old_len : ℕ) (es : List EditEntry) → MakeIsExact old_len es }
+{}
+
+/// Edits, lists, records and journals are equal by `==` if and only if clauses see one value.
+pub fn equality_is_exact()
+    ensures edits { (a b : EditEntry) → (is_same_edit a b ≡ true) ↔ (a ≡ b) }
+    ensures lists { (a b : EditList) → (is_same_list a b ≡ true) ↔ (a ≡ b) }
+    ensures records { (a b : JournalEntry) → (is_same_record a b ≡ true) ↔ (a ≡ b) }
+    ensures journals { (a b : List JournalEntry) → (is_same_journal a b ≡ true) ↔ (a ≡ b) }
 {}
 
 /// The changed pieces of a text turn it into the new text.

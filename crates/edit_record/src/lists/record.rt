@@ -1,7 +1,8 @@
 ghost use Rattle.std.specs.Prelude.{◌≡◌};
+ghost use Rattle.edit_record.specs.Lists.Equality.{is_same_word};
 
 use crate::lists::{Change, Edits, Refused};
-use std::alloc::Global;
+use std::alloc::{AllocError, Global};
 use std::marker::Model;
 
 /// The command that made a record.
@@ -48,6 +49,47 @@ impl Record {
         ensures { result.now ≡ self.now.edits }
     {
         &self.edits
+    }
+}
+
+impl Clone for Record {
+    ghost is_clone = { λ rec copy. copy ≡ rec };
+
+    fn clone(&self) -> Result<Record, AllocError> {
+        Ok(Record {
+            word: self.word,
+            edits: self.edits.clone()?,
+        })
+    }
+}
+
+impl PartialEq for Record {
+    ghost use Rattle.std.specs.Cmp.{partial_equiv_from_equiv};
+    ghost use Rattle.edit_record.specs.Lists.Equality.{is_same_record};
+    ghost use Rattle.edit_record.specs.Lists.Inner.EqualityExact.{equivalence, records_exact};
+
+    ghost eq = { is_same_record };
+
+    ghost laws = { partial_equiv_from_equiv (equivalence records_exact) };
+
+    fn eq(&self, other: &Record) -> bool {
+        is_same_word(self.word, other.word) && self.edits == other.edits
+    }
+}
+
+impl Eq for Record {
+    ghost use Rattle.edit_record.specs.Lists.Inner.EqualityExact.{equivalence, records_exact};
+
+    ghost laws = { equivalence records_exact };
+}
+
+/// Returns whether both are one command. For the proof: a derived `==` names no function.
+fn is_same_word(one: Word, other: Word) -> bool
+    ensures { result ≡ is_same_word one other }
+{
+    match (one, other) {
+        (Word::Fmt, Word::Fmt) | (Word::Fix, Word::Fix) => true,
+        _ => false,
     }
 }
 

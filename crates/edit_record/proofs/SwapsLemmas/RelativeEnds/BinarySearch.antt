@@ -7,18 +7,18 @@ use Rattle.edit_record.specs.Swaps.Inner.RelativeEnds.{plus, no_offset, ends_of,
 use Rattle.edit_record.proofs.SwapsLemmas.RelativeEnds.RelativeEndsLemmas.{Halves, halves_beyond, ends_len, from_nowhere, all_right}
 
 pub record Searching (at : ℕ) (es left : List EndOffset) (count : ℕ) (last : EndOffset) (next : Option ℕ) : Type 0 where
-  pub front : List EndOffset
-  pub back : List EndOffset
-  pub cut : es ≡ (front ++ map (plus last) (ends_of left)) ++ back
-  pub count_is : count ≡ length front
-  pub last_is : LastEndsBefore at front last
-  pub next_is : NextEndsAt at back next
+  pub prefix : List EndOffset
+  pub suffix : List EndOffset
+  pub split : es ≡ (prefix ++ map (plus last) (ends_of left)) ++ suffix
+  pub count_is : count ≡ length prefix
+  pub last_is : LastEndsBefore at prefix last
+  pub next_is : NextEndsAt at suffix next
 
 pub searching : (at : ℕ) (run : List EndOffset) → Searching at (ends_of run) run 0 no_offset None
 searching at run = record {
-  front = [];
-  back = [];
-  cut = sym (append-nil _ ∙ from_nowhere (ends_of run));
+  prefix = [];
+  suffix = [];
+  split = sym (append-nil _ ∙ from_nowhere (ends_of run));
   count_is = refl;
   last_is = inl (refl, refl);
   next_is = refl;
@@ -32,32 +32,32 @@ parts_of left before last x end behind h is = halves_beyond last left before x b
 lens_of : (before : List EndOffset) (last : EndOffset) → length (map (plus last) (ends_of before)) ≡ length before
 lens_of before last = length-map (ends_of before) (plus last) ∙ ends_len before
 
-to_right : (es front back l r : List EndOffset) (m : List EndOffset) (end : EndOffset) → es ≡ (front ++ m) ++ back → m ≡ l ++ end ∷ r → es ≡ (((front ++ l) ++ end ∷ []) ++ r) ++ back
-to_right es front back l r m end cut parts =
-    cut ∙ ap (λ (z : List EndOffset). (front ++ z) ++ back) parts ∙ ap (λ (z : List EndOffset). z ++ back) (sym (append_assoc front l (end ∷ r)) ∙ sym (append_assoc (front ++ l) (end ∷ []) r))
+to_right : (es prefix suffix l r : List EndOffset) (m : List EndOffset) (end : EndOffset) → es ≡ (prefix ++ m) ++ suffix → m ≡ l ++ end ∷ r → es ≡ (((prefix ++ l) ++ end ∷ []) ++ r) ++ suffix
+to_right es prefix suffix l r m end split parts =
+    split ∙ ap (λ (z : List EndOffset). (prefix ++ z) ++ suffix) parts ∙ ap (λ (z : List EndOffset). z ++ suffix) (sym (append_assoc prefix l (end ∷ r)) ∙ sym (append_assoc (prefix ++ l) (end ∷ []) r))
 
-to_left : (es front back l r : List EndOffset) (m : List EndOffset) (end : EndOffset) → es ≡ (front ++ m) ++ back → m ≡ l ++ end ∷ r → es ≡ (front ++ l) ++ end ∷ (r ++ back)
-to_left es front back l r m end cut parts =
-    cut ∙ ap (λ (z : List EndOffset). (front ++ z) ++ back) parts ∙ ap (λ (z : List EndOffset). z ++ back) (sym (append_assoc front l (end ∷ r))) ∙ append_assoc (front ++ l) (end ∷ r) back
+to_left : (es prefix suffix l r : List EndOffset) (m : List EndOffset) (end : EndOffset) → es ≡ (prefix ++ m) ++ suffix → m ≡ l ++ end ∷ r → es ≡ (prefix ++ l) ++ end ∷ (r ++ suffix)
+to_left es prefix suffix l r m end split parts =
+    split ∙ ap (λ (z : List EndOffset). (prefix ++ z) ++ suffix) parts ∙ ap (λ (z : List EndOffset). z ++ suffix) (sym (append_assoc prefix l (end ∷ r))) ∙ append_assoc (prefix ++ l) (end ∷ r) suffix
 
 -- the middle of what is left is one of the ends
-middle_among : (es front back l r : List EndOffset) (m : List EndOffset) (end : EndOffset) → es ≡ (front ++ m) ++ back → m ≡ l ++ end ∷ r → AllByRecursion IsSmall es → IsSmall end
-middle_among es front back l r m end cut parts small =
-    let a = subst (λ (z : List EndOffset). AllByRecursion IsSmall z) (to_left es front back l r m end cut parts) small in
-    (all_right IsSmall (front ++ l) (end ∷ (r ++ back)) a).0
+middle_among : (es prefix suffix l r : List EndOffset) (m : List EndOffset) (end : EndOffset) → es ≡ (prefix ++ m) ++ suffix → m ≡ l ++ end ∷ r → AllByRecursion IsSmall es → IsSmall end
+middle_among es prefix suffix l r m end split parts small =
+    let a = subst (λ (z : List EndOffset). AllByRecursion IsSmall z) (to_left es prefix suffix l r m end split parts) small in
+    (all_right IsSmall (prefix ++ l) (end ∷ (r ++ suffix)) a).0
 
 pub middle_small : (at : ℕ) (es left before : List EndOffset) (count : ℕ) (last : EndOffset) (next : Option ℕ) (x : EndOffset) (behind : List EndOffset) → Searching at es left count last next → Halves left before x behind → AllByRecursion IsSmall es → IsSmall (plus last x)
 middle_small at es left before count last next x behind s h small =
-    middle_among es s.front s.back _ _ (map (plus last) (ends_of left)) (plus last x) s.cut (parts_of left before last x (plus last x) behind h refl) small
+    middle_among es s.prefix s.suffix _ _ (map (plus last) (ends_of left)) (plus last x) s.split (parts_of left before last x (plus last x) behind h refl) small
 
 pub count_fits : (at : ℕ) (run left before : List EndOffset) (count : ℕ) (last : EndOffset) (next : Option ℕ) (x : EndOffset) (behind : List EndOffset) → Searching at (ends_of run) left count last next → Halves left before x behind → count + (length before + 1) ≤ length run
 count_fits at run left before count last next x behind s h =
     let c = s.count_is in
-    let l = ap length s.cut in
+    let l = ap length s.split in
     let e = ends_len run in
     let m = lens_of left last in
-    let a = length-append (s.front ++ map (plus last) (ends_of left)) s.back in
-    let b = length-append s.front (map (plus last) (ends_of left)) in
+    let a = length-append (s.prefix ++ map (plus last) (ends_of left)) s.suffix in
+    let b = length-append s.prefix (map (plus last) (ends_of left)) in
     let k = h.lens in
     omega (arith, c, l, e, m, a, b, k)
 
@@ -67,23 +67,23 @@ goes_right at es left before count last next x end behind s h is lt =
     let l = map (plus last) (ends_of before) in
     let n = lens_of before last in
     let c = s.count_is in
-    let len1 = length-append (s.front ++ l) (end ∷ []) in
-    let len2 = length-append s.front l in
+    let len1 = length-append (s.prefix ++ l) (end ∷ []) in
+    let len2 = length-append s.prefix l in
     record {
-      front = (s.front ++ l) ++ end ∷ [];
-      back = s.back;
-      cut = to_right es s.front s.back l _ _ end s.cut (parts_of left before last x end behind h is);
+      prefix = (s.prefix ++ l) ++ end ∷ [];
+      suffix = s.suffix;
+      split = to_right es s.prefix s.suffix l _ _ end s.split (parts_of left before last x end behind h is);
       count_is = omega (arith, n, c, len1, len2);
-      last_is = inr (s.front ++ l, refl, lt);
+      last_is = inr (s.prefix ++ l, refl, lt);
       next_is = s.next_is;
     }
 
 pub goes_left : (at : ℕ) (es left before : List EndOffset) (count : ℕ) (last : EndOffset) (next : Option ℕ) (x end : EndOffset) (behind : List EndOffset) → Searching at es left count last next → Halves left before x behind → end ≡ plus last x → at ≤ end.new
     → Searching at es before count last (Some end.new)
 goes_left at es left before count last next x end behind s h is le = record {
-  front = s.front;
-  back = end ∷ (map (plus end) (ends_of behind) ++ s.back);
-  cut = to_left es s.front s.back _ _ _ end s.cut (parts_of left before last x end behind h is);
+  prefix = s.prefix;
+  suffix = end ∷ (map (plus end) (ends_of behind) ++ s.suffix);
+  split = to_left es s.prefix s.suffix _ _ _ end s.split (parts_of left before last x end behind h is);
   count_is = s.count_is;
   last_is = s.last_is;
   next_is = (refl, le);
@@ -95,35 +95,35 @@ nothing_left left rest r z = let l = length-drop (length left / 2) left in let n
 pub found : (at : ℕ) (es left : List EndOffset) (count : ℕ) (last : EndOffset) (next : Option ℕ) → Searching at es left count last next → left ≡ [] → IsPartition at es count last next
 found at es left count last next s e =
     let t = subst (λ (l : List EndOffset). Searching at es l count last next) e s in
-    record { front = t.front; back = t.back; cut = t.cut ∙ ap (λ (z : List EndOffset). z ++ t.back) (append-nil t.front); count_is = t.count_is; last_is = t.last_is; next_is = t.next_is }
+    record { prefix = t.prefix; suffix = t.suffix; split = t.split ∙ ap (λ (z : List EndOffset). z ++ t.suffix) (append-nil t.prefix); count_is = t.count_is; last_is = t.last_is; next_is = t.next_is }
 
 -- ---- the edit of a number
 
 -- what is at the number i of what is left is the edit of that number
 pub record Seeking (number : ℕ) (es left : List EndOffset) (i : ℕ) (last : EndOffset) : Type 0 where
-  pub front : List EndOffset
-  pub back : List EndOffset
-  pub cut : es ≡ (front ++ map (plus last) (ends_of left)) ++ back
-  pub number_is : number ≡ length front + i
+  pub prefix : List EndOffset
+  pub suffix : List EndOffset
+  pub split : es ≡ (prefix ++ map (plus last) (ends_of left)) ++ suffix
+  pub number_is : number ≡ length prefix + i
   pub i_lt : i < length left
 
 pub seeking : (number : ℕ) (run : List EndOffset) → number < length run → Seeking number (ends_of run) run number no_offset
-seeking number run lt = record { front = []; back = []; cut = sym (append-nil _ ∙ from_nowhere (ends_of run)); number_is = omega arith; i_lt = lt }
+seeking number run lt = record { prefix = []; suffix = []; split = sym (append-nil _ ∙ from_nowhere (ends_of run)); number_is = omega arith; i_lt = lt }
 
 pub sought_small : (number : ℕ) (es left before : List EndOffset) (i : ℕ) (last : EndOffset) (x : EndOffset) (behind : List EndOffset) → Seeking number es left i last → Halves left before x behind → AllByRecursion IsSmall es → IsSmall (plus last x)
 sought_small number es left before i last x behind s h small =
-    middle_among es s.front s.back _ _ (map (plus last) (ends_of left)) (plus last x) s.cut (parts_of left before last x (plus last x) behind h refl) small
+    middle_among es s.prefix s.suffix _ _ (map (plus last) (ends_of left)) (plus last x) s.split (parts_of left before last x (plus last x) behind h refl) small
 
 pub sought : (number : ℕ) (es left before : List EndOffset) (i : ℕ) (last x end : EndOffset) (behind : List EndOffset) → Seeking number es left i last → Halves left before x behind → end ≡ plus last x → i ≡ length before → IsEndOf es number end
 sought number es left before i last x end behind s h is same =
     let l = map (plus last) (ends_of before) in
     let n = lens_of before last in
     let c = s.number_is in
-    let len = length-append s.front l in
+    let len = length-append s.prefix l in
     record {
-      front = s.front ++ l;
-      back = map (plus end) (ends_of behind) ++ s.back;
-      cut = to_left es s.front s.back l _ _ end s.cut (parts_of left before last x end behind h is);
+      prefix = s.prefix ++ l;
+      suffix = map (plus end) (ends_of behind) ++ s.suffix;
+      split = to_left es s.prefix s.suffix l _ _ end s.split (parts_of left before last x end behind h is);
       number_is = omega (arith, n, c, len, same);
     }
 
@@ -134,21 +134,21 @@ seeks_right number es left before i last x end behind s h is lt =
     let c = s.number_is in
     let k = s.i_lt in
     let t = h.lens in
-    let len1 = length-append (s.front ++ l) (end ∷ []) in
-    let len2 = length-append s.front l in
+    let len1 = length-append (s.prefix ++ l) (end ∷ []) in
+    let len2 = length-append s.prefix l in
     record {
-      front = (s.front ++ l) ++ end ∷ [];
-      back = s.back;
-      cut = to_right es s.front s.back l _ _ end s.cut (parts_of left before last x end behind h is);
+      prefix = (s.prefix ++ l) ++ end ∷ [];
+      suffix = s.suffix;
+      split = to_right es s.prefix s.suffix l _ _ end s.split (parts_of left before last x end behind h is);
       number_is = omega (arith, n, c, len1, len2, lt);
       i_lt = omega (arith, k, t, lt);
     }
 
 pub seeks_left : (number : ℕ) (es left before : List EndOffset) (i : ℕ) (last x : EndOffset) (behind : List EndOffset) → Seeking number es left i last → Halves left before x behind → i < length before → Seeking number es before i last
 seeks_left number es left before i last x behind s h lt = record {
-  front = s.front;
-  back = plus last x ∷ (map (plus (plus last x)) (ends_of behind) ++ s.back);
-  cut = to_left es s.front s.back _ _ _ (plus last x) s.cut (parts_of left before last x (plus last x) behind h refl);
+  prefix = s.prefix;
+  suffix = plus last x ∷ (map (plus (plus last x)) (ends_of behind) ++ s.suffix);
+  split = to_left es s.prefix s.suffix _ _ _ (plus last x) s.split (parts_of left before last x (plus last x) behind h refl);
   number_is = s.number_is;
   i_lt = lt;
 }

@@ -193,9 +193,9 @@ front_before at n xs front back last p e (inr some) =
 pub found_by : (m : MovingEdits) (at count : ℕ) (last : EndOffset) (next : Option ℕ) → IsWellFormed m → IsPartition at (ends_of m.ends.items) count last next → Found at (edits_now m).entries (added_spans 0 0 (edits_now m).entries) count next
 found_by m at count last next moving p =
     let xs = (edits_now m).entries in
-    let cut = sym moving.ends ∙ p.cut in
-    let h = halves at m.old_len 0 0 0 0 xs p.front p.back moving.made.disjoint refl cut (front_before at m.old_len xs p.front p.back last moving.made.disjoint cut p.last_is) in
-    found_in at xs (added_spans 0 0 xs) p.back count next (subst (λ (k : ℕ). Halves at xs (added_spans 0 0 xs) p.back k) (sym p.count_is) h) p.next_is
+    let cut = sym moving.ends ∙ p.split in
+    let h = halves at m.old_len 0 0 0 0 xs p.prefix p.suffix moving.made.disjoint refl cut (front_before at m.old_len xs p.prefix p.suffix last moving.made.disjoint cut p.last_is) in
+    found_in at xs (added_spans 0 0 xs) p.suffix count next (subst (λ (k : ℕ). Halves at xs (added_spans 0 0 xs) p.suffix k) (sym p.count_is) h) p.next_is
 
 -- the edit that is found, by its number in the code
 pub record Itself (m : MovingEdits) (count : ℕ) (x : EditEntry) : Type 0 where

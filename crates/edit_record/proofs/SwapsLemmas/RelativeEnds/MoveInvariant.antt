@@ -258,11 +258,11 @@ module _ (la lb ab rb : ℕ) (a b : List EditEntry) where
   decided s xs y ys es come gone bound at count last next g0 le at_is p =
       let w = g0.under.fair.second_placed.0.later in
       let g = going_more s xs (y ∷ ys) es come gone bound (y.at + come) (omega (arith, le, w)) g0 in
-      elim (cuts (ends_at 0 0 s.vs) (ends_at (added_len s.vs) (removed_len s.vs) (later s.old s.other xs)) p.front p.back (sym g.ends ∙ p.cut)) [
-        | behind mids f h ↦ decided_behind s xs y ys es come gone at count last next p.front mids p.back g at_is p.cut p.count_is p.last_is p.next_is f h
+      elim (cuts (ends_at 0 0 s.vs) (ends_at (added_len s.vs) (removed_len s.vs) (later s.old s.other xs)) p.prefix p.suffix (sym g.ends ∙ p.split)) [
+        | behind mids f h ↦ decided_behind s xs y ys es come gone at count last next p.prefix mids p.suffix g at_is p.split p.count_is p.last_is p.next_is f h
         | is_before z zs f h ↦
             let d = done_ends s.other (y.at + come) gone 0 0 s.vs g.done in
-            let z_before = (all_right (λ e. (e.old ≤ s.other) × (e.new + gone < y.at + come)) p.front (z ∷ zs) (subst (λ (l : List EndOffset). AllByRecursion (λ e. (e.old ≤ s.other) × (e.new + gone < y.at + come)) l) f d)).0.1 in
+            let z_before = (all_right (λ e. (e.old ≤ s.other) × (e.new + gone < y.at + come)) p.prefix (z ∷ zs) (subst (λ (l : List EndOffset). AllByRecursion (λ e. (e.old ≤ s.other) × (e.new + gone < y.at + come)) l) f d)).0.1 in
             let k = subst (λ (l : List EndOffset). NextEndsAt at l next) h p.next_is in
             let z_behind = k.1 in
             absurd (omega (arith, z_before, z_behind, at_is))

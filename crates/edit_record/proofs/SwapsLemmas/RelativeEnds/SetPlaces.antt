@@ -43,13 +43,13 @@ put_one_at all now es i y x end d t l m is x_is e h =
     let same : x ≡ y = x_is ∙ (λ j. get_or (now_is j) (sym len j) x) ∙ get_or-append_seam p y (drop (i + 1) all) x in
     let n = e.number_is in
     let whole : all ≡ take i all ++ y ∷ drop (i + 1) all = sym (take-append-drop i all) ∙ ap (λ (z : List EditEntry). take i all ++ z) d in
-    let front_len : length e.front ≡ length (take i all) = omega (arith, n, l) in
-    let held : length y.removed ≤ end.old = hold_at (take i all) y (drop (i + 1) all) e.front end e.back front_len (subst (λ (z : List EditEntry). FitRemoved z (e.front ++ end ∷ e.back)) whole (subst (λ (z : List EndOffset). FitRemoved all z) e.cut h)) in
+    let front_len : length e.prefix ≡ length (take i all) = omega (arith, n, l) in
+    let held : length y.removed ≤ end.old = hold_at (take i all) y (drop (i + 1) all) e.prefix end e.suffix front_len (subst (λ (z : List EditEntry). FitRemoved z (e.prefix ++ end ∷ e.suffix)) whole (subst (λ (z : List EndOffset). FitRemoved all z) e.split h)) in
     record {
       holds = subst (λ (z : EditEntry). length z.removed ≤ end.old) (sym same) held;
       next = λ v v_is.
           let pushed : with_ends (take (i + 1) all) es ≡ p ++ put_at y end ∷ [] =
-          (λ j. with_ends (t j) (e.cut j)) ∙ placed_push (take i all) y e.front end e.back front_len ∙ (λ j. with_ends (take i all) (sym e.cut j) ++ put_at y end ∷ []) in
+          (λ j. with_ends (t j) (e.split j)) ∙ placed_push (take i all) y e.prefix end e.suffix front_len ∙ (λ j. with_ends (take i all) (sym e.split j) ++ put_at y end ∷ []) in
           let v_at : v ≡ put_at y end = v_is ∙ ap (λ (z : EditEntry). put_at z end) same in
           (λ j. set (now_is j) (sym len j) v) ∙ set-append_seam p y (drop (i + 1) all) v ∙ ap (λ (z : EditEntry). p ++ z ∷ drop (i + 1) all) v_at
           ∙ sym (append_assoc p (put_at y end ∷ []) (drop (i + 1) all)) ∙ ap (λ (z : List EditEntry). z ++ drop (i + 1) all) (sym pushed);

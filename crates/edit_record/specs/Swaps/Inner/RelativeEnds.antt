@@ -29,9 +29,9 @@ IsSmall e = (e.old ≤ 2 ^ 40) × (e.new ≤ 2 ^ 40)
 
 -- the last edit of these, which ends before the place, or none
 abbrev pub LastEndsBefore : ℕ → List EndOffset → EndOffset → Type 0
-LastEndsBefore at front last =
-    ((front ≡ []) × (last ≡ no_offset))
-    ⊎ ((init : List EndOffset) × (front ≡ init ++ last ∷ []) × (last.new < at))
+LastEndsBefore at es last =
+    ((es ≡ []) × (last ≡ no_offset))
+    ⊎ ((init : List EndOffset) × (es ≡ init ++ last ∷ []) × (last.new < at))
 
 -- the first edit of these, which ends at the place or after it, or none
 abbrev pub NextEndsAt : ℕ → List EndOffset → Option ℕ → Type 0
@@ -42,19 +42,19 @@ NextEndsAt at (e ∷ es) next = (next ≡ Some e.new) × (at ≤ e.new)
 -- edit
 pub record IsPartition (at : ℕ) (es : List EndOffset) (count : ℕ) (last : EndOffset)
     (next : Option ℕ) : Type 0 where
-  pub front : List EndOffset
-  pub back : List EndOffset
-  pub cut : es ≡ front ++ back
-  pub count_is : count ≡ length front
-  pub last_is : LastEndsBefore at front last
-  pub next_is : NextEndsAt at back next
+  pub prefix : List EndOffset
+  pub suffix : List EndOffset
+  pub split : es ≡ prefix ++ suffix
+  pub count_is : count ≡ length prefix
+  pub last_is : LastEndsBefore at prefix last
+  pub next_is : NextEndsAt at suffix next
 
 -- the end of the edit of this number
 pub record IsEndOf (es : List EndOffset) (number : ℕ) (end : EndOffset) : Type 0 where
-  pub front : List EndOffset
-  pub back : List EndOffset
-  pub cut : es ≡ front ++ end ∷ back
-  pub number_is : number ≡ length front
+  pub prefix : List EndOffset
+  pub suffix : List EndOffset
+  pub split : es ≡ prefix ++ end ∷ suffix
+  pub number_is : number ≡ length prefix
 
 -- `later` bytes later, and `earlier` bytes earlier
 abbrev pub shifted : EndOffset → ℕ → EndOffset → EndOffset

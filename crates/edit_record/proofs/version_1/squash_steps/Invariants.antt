@@ -1,7 +1,7 @@
 use Rattle.std.proofs.Common.{◌≡◌, ◌-◌, ◌⊎◌, true}
 use Rattle.edit_record.specs.Inner.Allocating.{steps_allocate}
 use Rattle.edit_record.proofs.Steps.{Alike, ErrorsAlike}
-use Rattle.edit_record.proofs.decoder.squash_steps.Given as goal
+use Rattle.edit_record.proofs.version_1.squash_steps.Given as goal
 
 abbrev pub invariant-loop : goal.invariant-loop
 invariant-loop l = record {

@@ -1,7 +1,7 @@
 use Rattle.std.proofs.lemmas.Result.{err_from_is_err_and}
 use Rattle.edit_record.specs.Inner.OldHead.{head_view}
 use Rattle.edit_record.proofs.Steps.{no_head, no_others, no_end, old_is, head_error, steps_error, end_error}
-use Rattle.edit_record.proofs.decoder.old_record.Goals as goal
+use Rattle.edit_record.proofs.version_1.old_record.Goals as goal
 
 pub returns-in_err-head-clause-parses : goal.returns-in_err-head-clause-parses
 returns-in_err-head-clause-parses c =

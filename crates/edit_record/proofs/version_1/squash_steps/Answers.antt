@@ -2,7 +2,7 @@ use Rattle.std.proofs.Common.{inr}
 use Rattle.std.proofs.lemmas.Result.{err_from_is_err_and}
 use Rattle.edit_record.proofs.Allocating.{step_allocated, step_taken}
 use Rattle.edit_record.proofs.Steps.{one_step, no_step, no_squash, all_steps, one_step_error, step_error, squash_error}
-use Rattle.edit_record.proofs.decoder.squash_steps.Goals as goal
+use Rattle.edit_record.proofs.version_1.squash_steps.Goals as goal
 
 pub returns-in_err-next-clause-parses : goal.returns-in_err-next-clause-parses
 returns-in_err-next-clause-parses c =
