@@ -14,6 +14,7 @@ pub mod laws;
 mod pass;
 mod record;
 mod sequence;
+mod two_lists;
 
 pub use change::{Change, Refused};
 pub use edit::{BadEdits, Edit};
@@ -21,3 +22,4 @@ pub use edits::{Edits, MAX_TEXT};
 pub use journal::Journal;
 pub use record::{Record, Word};
 pub use sequence::{apply_all, undo_all};
+pub(crate) use two_lists::has_more;

@@ -1,10 +1,10 @@
-ghost use Rattle.std.specs.Prelude.{◌≡◌, ◌↔◌, ◌+◌, ◌<◌, length, IfErr, IsTrue};
+ghost use Rattle.std.specs.Prelude.{◌≡◌, ◌+◌, ◌<◌, length, IfErr};
 ghost use Rattle.edit_record.specs.Lists.Validity.{new_len};
 ghost use Rattle.edit_record.specs.Squashes.Inner.MergeResult.{IsMergeResult};
 ghost use Rattle.edit_record.specs.Squashes.Squash.{IsSquashResult};
 ghost use Rattle.edit_record.specs.declared.squashes.squash_lists.Unmet.TheVariants.{Memory};
 
-use crate::lists::{Edit, Edits};
+use crate::lists::{Edit, Edits, has_more};
 use crate::squashes::merge::Merge;
 use std::alloc::{AllocError, Global};
 use thiserror::Error;
@@ -89,10 +89,4 @@ fn merge_nonempty<'a>(
     }
     merge.finish_edit(alloc)?;
     Ok(merge.into_edits())
-}
-
-fn has_more(xs: &[Edit], ys: &[Edit]) -> bool
-    ensures { IsTrue result ↔ (0 < length xs.now + length ys.now) }
-{
-    !xs.is_empty() || !ys.is_empty()
 }

@@ -6,7 +6,7 @@ ghost use Rattle.edit_record.specs.Swaps.Inner.SwapState.{IsSwapDone};
 ghost use Rattle.edit_record.specs.Swaps.Inner.SwapStateView.{state};
 ghost use Rattle.edit_record.specs.declared.swaps.swap_lists.SwapFault.TheVariants.{Memory};
 
-use crate::lists::{Edit, Edits, MAX_TEXT};
+use crate::lists::{Edits, MAX_TEXT, has_more};
 use crate::swaps::swap_state::SwapState;
 use std::alloc::{AllocError, AllocFailed, Global};
 use thiserror::Error;
@@ -151,10 +151,4 @@ fn swap_edits<'a>(
         }
     }
     Ok(state)
-}
-
-fn has_more(xs: &[Edit], ys: &[Edit]) -> bool
-    ensures { IsTrue result ↔ (0 < length xs.now + length ys.now) }
-{
-    !xs.is_empty() || !ys.is_empty()
 }

@@ -1,9 +1,10 @@
 -- The ends of a list, one after another.
-use Rattle.std.proofs.Common.{◌≡◌, ℕ, zero, suc, ◌+◌, ◌-◌, ◌/◌, ◌^◌, ◌≤◌, List, [], ◌∷◌, ◌++◌, length, map, drop, take, replicate, get_or, refl, arith, sym, ap, ◌∙◌, subst, length-append, append_assoc}
+use Rattle.std.proofs.Common.{◌≡◌, ℕ, zero, suc, ◌+◌, ◌-◌, ◌/◌, ◌^◌, ◌≤◌, ◌<◌, List, [], ◌∷◌, ◌++◌, length, map, drop, take, replicate, get_or, refl, arith, sym, ap, ◌∙◌, subst, length-append, append_assoc}
 use Rattle.std.specs.List.{AllByRecursion}
 use Rattle.std.proofs.lemmas.List.{take_at, drop_at, append-nil, take-append-drop, nil_from_length, length-replicate}
-use Rattle.edit_record.specs.Lists.Pieces.{EditEntry, added_len, removed_len}
-use Rattle.edit_record.specs.Lists.Validity.{AreDisjoint, AreValidEdits}
+use Rattle.edit_record.specs.declared.lists.edits.TheConstants.{MAX_TEXT}
+use Rattle.edit_record.specs.Lists.Pieces.{EditEntry, EditList, added_len, removed_len}
+use Rattle.edit_record.specs.Lists.Validity.{AreDisjoint, AreValidEdits, new_len}
 use Rattle.edit_record.proofs.ListsLemmas.Placed.{placed_room}
 use Rattle.edit_record.specs.declared.swaps.relative_ends.EndOffset.{EndOffset}
 use Rattle.edit_record.specs.Swaps.Inner.RelativeEnds.{no_offset, ends, ends_of, plus, IsSmall, EndsAfterBy, CanShift, shifted, shifted_from}
@@ -12,6 +13,7 @@ use Rattle.edit_record.proofs.SwapsLemmas.Spans.{all_map}
 use Rattle.edit_record.proofs.SwapsLemmas.RelativeEnds.RelativeEndsLemmas.{Halved, halved_or, ends_step, ends_len, one_reach, all_left, all_right, all_both}
 use Rattle.edit_record.proofs.SwapsLemmas.RelativeEnds.PendingEnds.{ends_append, ends_len_at}
 use Rattle.edit_record.proofs.SwapsLemmas.RelativeEnds.MoveInvariant.{sum_added, sum_removed}
+use Rattle.edit_record.proofs.SwapsLemmas.RelativeEnds.MovePastEach.{made_second, few_added, next_item}
 
 -- ---- all of them nowhere
 
@@ -187,3 +189,18 @@ pub begins : (n k m : ℕ) (es : List EditEntry) (run : List EndOffset) → AreV
 begins n k m es run h is len =
     let l = ap length is ∙ length-replicate m no_offset ∙ len in
     (built_start n k es (ends_of run) h (starts_nowhere run es (subst (λ (z : List EndOffset). AllByRecursion (λ r. r ≡ no_offset) z) (sym is) (replicate_all m)) l), l)
+
+-- ---- the next edit of a list, by its number in the code
+
+pub record NextOf (e : EditList) (y : EditEntry) (i old : ℕ) (found : List EndOffset) : Type 0 where
+  pub built : Built e.old_len e.entries i old found
+  pub left : built.left ≡ y ∷ drop (i + 1) e.entries
+  pub fits : e.old_len ≤ MAX_TEXT
+  pub small : e.old_len ≤ 2 ^ 35
+  pub few : added_len e.entries ≤ 2 ^ 35
+
+pub next_of : (e : EditList) (items : List EditEntry) (i old : ℕ) (y : EditEntry) (found : List EndOffset) → items ≡ e.entries → AreValidEdits e.old_len (new_len e) items → i < length items → y ≡ get_or items i y → Built e.old_len e.entries i old found → NextOf e y i old found
+next_of e items i old y found same disjoint lt is b =
+    let made = made_second e items same disjoint in
+    let fits = made.old_fits in
+    record { built = b; left = left_next e.old_len e.entries i old found b y (next_item items e.entries i y same lt is); fits = fits; small = omega (arith, fits); few = few_added e.old_len (new_len e) e.entries made }

@@ -218,6 +218,15 @@ itself m at count end moving f =
       added = λ d. ap (λ (z : EditEntry). length z.added) ((λ i. get_or (s.is i) (at_front i) d) ∙ get_or-append_seam s.front s.y s.rest d) ∙ ap length (sym s.added);
     }
 
+-- how many bytes it adds, as the code reads them
+pub itself_adds : (m : MovingEdits) (at count end : ℕ) (moving : IsWellFormed m) (f : Next at (edits_now m).entries (added_spans 0 0 (edits_now m).entries) count end) (item : EditEntry) (bytes : List ℕ)
+    → bytes ≡ item.added → item ≡ get_or m.edits.items count item → length bytes ≡ length f.x.added
+itself_adds m at count end moving f item bytes adds is = ap length adds ∙ ap (λ (z : EditEntry). length z.added) is ∙ (itself m at count end moving f).added item
+
+-- an edit of the second list, by its number in the code
+pub numbered : (b : EditList) (items : List EditEntry) (j : ℕ) (y : EditEntry) → items ≡ b.entries → j < length items → y ≡ get_or items j y → (j < length b.entries) × (y ≡ get_or b.entries j y)
+numbered b items j y same lt is = subst (λ (l : List EditEntry). (j < length l) × (y ≡ get_or l j y)) same (lt, is)
+
 -- ---- what the code has found
 
 pub small_now : (m : MovingEdits) → IsWellFormed m → AllByRecursion IsSmall (ends_of m.ends.items)

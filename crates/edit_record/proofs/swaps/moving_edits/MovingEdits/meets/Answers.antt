@@ -1,11 +1,10 @@
-use Rattle.std.proofs.Common.{◌≡◌, ◌<◌, List, length, get_or, arith, sym, ap, ◌∙◌, subst}
+use Rattle.std.proofs.Common.{◌<◌, List, length, arith, sym, ap, ◌∙◌, subst}
 use Rattle.std.specs.List.{AllByRecursion}
 use Rattle.std.proofs.lemmas.Bool.{leb-true, leb-false, false≢true}
-use Rattle.edit_record.specs.Lists.Pieces.{EditEntry}
 use Rattle.edit_record.specs.declared.swaps.relative_ends.EndOffset.{EndOffset}
 use Rattle.edit_record.specs.Swaps.Inner.RelativeEnds.{ends_of, IsSmall}
 use Rattle.edit_record.specs.Swaps.Inner.MovingEditsView.{edits_now}
-use Rattle.edit_record.proofs.SwapsLemmas.RelativeEnds.FirstMeeting.{all_apart, first_met, itself, next_here, nothing_here, past_all, past_one, placed_at, small_now}
+use Rattle.edit_record.proofs.SwapsLemmas.RelativeEnds.FirstMeeting.{all_apart, first_met, itself, itself_adds, numbered, next_here, nothing_here, past_all, past_one, placed_at, small_now}
 use Rattle.edit_record.proofs.swaps.moving_edits.MovingEdits.meets.Goals as goal
 use Rattle.edit_record.proofs.swaps.moving_edits.MovingEdits.meets.Goals.{in-Some, in-None}
 
@@ -23,13 +22,10 @@ pub overflow_sub-touches : goal.overflow_sub-touches
 overflow_sub-touches c =
     let m = c.args.self.now in
     let f = next_here m c.edit-item.result c.requires c.at-at.result c.partition_before-count.result.count c.partition_before-count.result.last c.partition_before-count.result.next c.deref.result.now c.at-at.ensures c.deref.ensures.value c.partition_before-count.ensures c.in-Some.end c.in-Some.is in
-    let it = itself m c.edit-item.result.at c.partition_before-count.result.count c.in-Some.end c.requires f in
-    let e1 = ap length c.added.ensures in
-    let e2 = ap (λ (z : EditEntry). length z.added) c.index.ensures in
-    let e3 = it.added c.index.result.now in
+    let adds = itself_adds m c.edit-item.result.at c.partition_before-count.result.count c.in-Some.end c.requires f c.index.result.now c.added.result.now c.added.ensures c.index.ensures in
     let p = f.past_is in
     let l = f.len_is in
-    omega (arith, e1, e2, e3, p, l)
+    omega (arith, adds, p, l)
 
 pub overflow_add-touches : goal.overflow_add-touches
 overflow_add-touches c =
@@ -49,20 +45,15 @@ returns-then-touches-clause-met c =
     let y = c.edit-item.result in
     let j = c.loop-edit.edit-index in
     let count = c.partition_before-count.result.count in
-    let same = c.edits-edit-items.ensures.same in
-    let there : j < length b.entries = subst (λ (l : List EditEntry). j < length l) same c.loop-edit-test.true in
-    let is : y ≡ get_or b.entries j y = subst (λ (l : List EditEntry). y ≡ get_or l j y) same c.edit-item.is in
+    let n = numbered b c.edits-edit-items.result.now j y c.edits-edit-items.ensures.same c.loop-edit-test.true c.edit-item.is in
     elim c.match-next.branch [
       | in-Some w ↦
           let f = next_here m y c.requires c.at-at.result count c.partition_before-count.result.last c.partition_before-count.result.next c.deref.result.now c.at-at.ensures c.deref.ensures.value c.partition_before-count.ensures w.in-Some.end w.in-Some.is in
-          let it = itself m y.at count w.in-Some.end c.requires f in
-          let e1 = ap length w.added.ensures in
-          let e2 = ap (λ (z : EditEntry). length z.added) w.index.ensures in
-          let e3 = it.added w.index.result.now in
-          let r = ap length w.removed.ensures in
-          let a = c.at-at.ensures in
+          let adds = itself_adds m y.at count w.in-Some.end c.requires f w.index.result.now w.added.result.now w.added.ensures w.index.ensures in
+          let removes = ap length w.removed.ensures in
+          let at_is = c.at-at.ensures in
           let le = leb-true _ _ (sym w.touches-is ∙ c.if-touches.true) in
-          λ t. (count, j, first_met (edits_now m) b j y there is c.loop-edit.invariant count w.in-Some.end f (omega (arith, le, e1, e2, e3, r, a)))
+          λ t. (count, j, first_met (edits_now m) b j y n.0 n.1 c.loop-edit.invariant count w.in-Some.end f (omega (arith, le, adds, removes, at_is)))
       | in-None w ↦ absurd (false≢true (sym w.touches-is ∙ c.if-touches.true))
     ]
 
@@ -73,22 +64,17 @@ loop-edit-preserved c =
     let y = c.edit-item.result in
     let j = c.loop-edit.edit-index in
     let count = c.partition_before-count.result.count in
-    let same = c.edits-edit-items.ensures.same in
-    let there : j < length b.entries = subst (λ (l : List EditEntry). j < length l) same c.loop-edit-test.true in
-    let is : y ≡ get_or b.entries j y = subst (λ (l : List EditEntry). y ≡ get_or l j y) same c.edit-item.is in
+    let n = numbered b c.edits-edit-items.result.now j y c.edits-edit-items.ensures.same c.loop-edit-test.true c.edit-item.is in
     elim c.match-next.branch [
       | in-Some w ↦
           let f = next_here m y c.requires c.at-at.result count c.partition_before-count.result.last c.partition_before-count.result.next c.deref.result.now c.at-at.ensures c.deref.ensures.value c.partition_before-count.ensures w.in-Some.end w.in-Some.is in
-          let it = itself m y.at count w.in-Some.end c.requires f in
-          let e1 = ap length w.added.ensures in
-          let e2 = ap (λ (z : EditEntry). length z.added) w.index.ensures in
-          let e3 = it.added w.index.result.now in
-          let r = ap length w.removed.ensures in
-          let a = c.at-at.ensures in
+          let adds = itself_adds m y.at count w.in-Some.end c.requires f w.index.result.now w.added.result.now w.added.ensures w.index.ensures in
+          let removes = ap length w.removed.ensures in
+          let at_is = c.at-at.ensures in
           let lt = leb-false _ _ (sym w.touches-is ∙ c.if-touches.false) in
-          past_one (edits_now m) b j y there is c.loop-edit.invariant count w.in-Some.end f (omega (arith, lt, e1, e2, e3, r, a))
+          past_one (edits_now m) b j y n.0 n.1 c.loop-edit.invariant count w.in-Some.end f (omega (arith, lt, adds, removes, at_is))
       | in-None w ↦
-          past_all (edits_now m) b j y there is c.loop-edit.invariant count
+          past_all (edits_now m) b j y n.0 n.1 c.loop-edit.invariant count
           (nothing_here m y c.requires c.at-at.result count c.partition_before-count.result.last c.partition_before-count.result.next c.deref.result.now c.at-at.ensures c.deref.ensures.value c.partition_before-count.ensures w.in-None.is)
     ]
 
