@@ -9,8 +9,8 @@ ghost use Rattle.edit_record.specs.Text.{IsCurrentText, IsJournalText, OldRecord
 
 pub use crate::lists::laws::{
     apply_is_deterministic, apply_is_exact, change_is_one_to_one, change_result_is_unique,
-    edit_results_are_exact, equality_is_exact, journal_results_are_exact, make_is_exact, pieces_make_valid_edits,
-    pieces_transform, transformed_lengths_match, undo_is_exact,
+    edit_results_are_exact, equality_is_exact, journal_results_are_exact, make_is_exact,
+    pieces_make_valid_edits, pieces_transform, transformed_lengths_match, undo_is_exact,
 };
 pub use crate::squashes::laws::{
     composable_lists_squash, edits_are_valid, squash_all_is_unique, squash_is_associative,
