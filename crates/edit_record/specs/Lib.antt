@@ -1,3 +1,5 @@
+pub mod CurrentText
+pub mod OldText
 pub mod Text
 pub mod Parsing
 pub mod OldParsing
