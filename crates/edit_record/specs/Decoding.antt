@@ -20,8 +20,8 @@ abbrev pub FollowsHead : ℕ → ℕ → List ℕ → List ℕ → Type 0
 FollowsHead old_len zero mark next = (next ≡ mark) × (old_len ≤ MAX_TEXT)
 FollowsHead old_len (suc n) mark next = (e : EditEntry) × (next ≡ edit_text e) × NumbersFit e
 
--- The text begins with the head of a list of edits, whose numbers are within the limit, and with the
--- whole of what follows the head.
+-- The text begins with the head of a list of edits, whose numbers are within the limit, and with
+-- the whole of what follows the head.
 pub record ReachesEdit (mark text : List ℕ) : Type 0 where
   pub old_len : ℕ
   pub count : ℕ

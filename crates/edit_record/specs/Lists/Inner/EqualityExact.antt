@@ -11,23 +11,33 @@ use Rattle.edit_record.specs.Lists.Journal.{JournalEntry}
 use Rattle.edit_record.specs.Lists.Equality.{is_same_edit, is_same_list, is_same_word, is_same_record, is_same_journal}
 
 -- a test of equality is an equivalence
-pub equivalence : {A : Type 0} {test : A → A → Bool} → ((x y : A) → Decides (test x y) (x ≡ y)) → IsEquivalence test
+pub equivalence : {A : Type 0} {test : A → A → Bool} → ((x y : A) → Decides (test x y) (x ≡ y))
+    → IsEquivalence test
 equivalence {A} {test} exact = record {
   refl = λ x. (exact x x).1 refl;
-  symm = λ x y. both_ways (test x y) (test y x) (λ e. (exact y x).1 (sym ((exact x y).0 e))) (λ e. (exact x y).1 (sym ((exact y x).0 e)));
+  symm = λ x y. both_ways (test x y) (test y x)
+      (λ e. (exact y x).1 (sym ((exact x y).0 e)))
+      (λ e. (exact x y).1 (sym ((exact y x).0 e)));
   congr = λ x y z e. ap (λ (w : A). test w z) ((exact x y).0 e);
 }
 
-edit_is : (a b : EditEntry) → ((a.at ≡ b.at) × (a.removed ≡ b.removed)) × (a.added ≡ b.added) → a ≡ b
+edit_is : (a b : EditEntry)
+    → ((a.at ≡ b.at) × (a.removed ≡ b.removed)) × (a.added ≡ b.added) → a ≡ b
 edit_is a b p = λ i. record { at = p.0.0 i; removed = p.0.1 i; added = p.1 i }
 
-edit_parts : (a b : EditEntry) → a ≡ b → ((a.at ≡ b.at) × (a.removed ≡ b.removed)) × (a.added ≡ b.added)
-edit_parts a b e = ((ap (λ (x : EditEntry). x.at) e, ap (λ (x : EditEntry). x.removed) e), ap (λ (x : EditEntry). x.added) e)
+edit_parts : (a b : EditEntry) → a ≡ b
+    → ((a.at ≡ b.at) × (a.removed ≡ b.removed)) × (a.added ≡ b.added)
+edit_parts a b e = (
+  (ap (λ (x : EditEntry). x.at) e, ap (λ (x : EditEntry). x.removed) e),
+  ap (λ (x : EditEntry). x.added) e,
+)
 
 pub edits_exact : (a b : EditEntry) → Decides (is_same_edit a b) (a ≡ b)
 edits_exact a b =
     Decides-like (is_same_edit a b) (edit_is a b) (edit_parts a b)
-    (Decides-and _ _ (Decides-and _ _ (Decides-eqb a.at b.at) (pointwise_decides Decides-eqb a.removed b.removed)) (pointwise_decides Decides-eqb a.added b.added))
+    (Decides-and _ _
+    (Decides-and _ _ (Decides-eqb a.at b.at) (pointwise_decides Decides-eqb a.removed b.removed))
+    (pointwise_decides Decides-eqb a.added b.added))
 
 list_is : (a b : EditList) → (a.old_len ≡ b.old_len) × (a.entries ≡ b.entries) → a ≡ b
 list_is a b p = λ i. record { old_len = p.0 i; entries = p.1 i }
@@ -38,7 +48,8 @@ list_parts a b e = (ap (λ (x : EditList). x.old_len) e, ap (λ (x : EditList). 
 pub lists_exact : (a b : EditList) → Decides (is_same_list a b) (a ≡ b)
 lists_exact a b =
     Decides-like (is_same_list a b) (list_is a b) (list_parts a b)
-    (Decides-and _ _ (Decides-eqb a.old_len b.old_len) (pointwise_decides edits_exact a.entries b.entries))
+    (Decides-and _ _ (Decides-eqb a.old_len b.old_len)
+    (pointwise_decides edits_exact a.entries b.entries))
 
 words_exact : (a b : Word) → Decides (is_same_word a b) (a ≡ b)
 words_exact Fmt Fmt = (λ e. refl, λ e. refl)
