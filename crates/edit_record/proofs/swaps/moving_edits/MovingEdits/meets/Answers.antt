@@ -1,4 +1,4 @@
-use Rattle.std.proofs.Common.{◌<◌, List, length, arith, sym, ap, ◌∙◌, subst}
+use Rattle.std.proofs.Common.{List, length, arith, sym, ap, ◌∙◌, subst}
 use Rattle.std.specs.List.{AllByRecursion}
 use Rattle.std.proofs.lemmas.Bool.{leb-true, leb-false, false≢true}
 use Rattle.edit_record.specs.declared.swaps.relative_ends.EndOffset.{EndOffset}
