@@ -1,5 +1,5 @@
 //! Writing a journal.
-ghost use Rattle.std.specs.Prelude.{◌≡◌, ◌+◌, ◌-◌, ◌^◌, ◌≤◌, ◌++◌, List, length, min, decimal, OnOk, IfOk, IfErr, ◌<◌};
+ghost use Rattle.std.specs.Prelude.{◌≡◌, ◌+◌, ◌-◌, ◌^◌, ◌≤◌, ◌++◌, length, min, decimal, OnOk, IfOk, IfErr, ◌<◌};
 ghost use Rattle.std.specs.List.{flat_map};
 ghost use Rattle.edit_record.specs.Text.{word_text, edit_text, list_head, record_head, record_text, journal_text, IsCurrentText};
 ghost use Rattle.edit_record.specs.Inner.PartText.{part_text};

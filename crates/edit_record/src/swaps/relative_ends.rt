@@ -4,7 +4,7 @@
 //! after the end of the last edit before the run; the edits before and after it are two runs in
 //! the same form, of which the second starts where the middle edit ends. So a search by halves
 //! comes to each edit by adding up, and an edit that moves takes along what starts at its end.
-ghost use Rattle.std.specs.Prelude.{◌≡◌, ◌+◌, ◌^◌, ◌≤◌, ◌<◌, length};
+ghost use Rattle.std.specs.Prelude.{◌≡◌, ◌+◌, ◌^◌, ◌<◌, length};
 ghost use Rattle.std.specs.List.{AllByRecursion};
 ghost use Rattle.edit_record.specs.Swaps.Inner.RelativeEnds.{plus, ends_of, IsSmall, IsPartition, IsEndOf, shifted_from, CanShift};
 

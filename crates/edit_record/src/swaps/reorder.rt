@@ -1,7 +1,7 @@
 //! Moving one record's edits to the end of the records that follow it.
 ghost use Rattle.std.specs.Prelude.{◌≡◌, ◌<◌, ◌≤◌, length};
 ghost use Rattle.edit_record.specs.Swaps.Inner.MovePastResult.{IsMovePastResult};
-ghost use Rattle.edit_record.specs.Swaps.MoveToEndResult.{IsMoveToEndResult, moved_or};
+ghost use Rattle.edit_record.specs.Swaps.MoveToEndResult.{IsMoveToEndResult};
 ghost use Rattle.edit_record.specs.declared.swaps.reorder.MoveFault.TheVariants.{Memory};
 
 use crate::lists::{Edits, Record};
