@@ -5,15 +5,14 @@
 //! the front of a line, so do its tokens. The rest is cut as texts of their own, each a number of
 //! lines.
 
-ghost use Rattle.std.specs.Prelude.{◌≡◌, ◌<◌, ◌≤◌, ◌+◌, ◌-◌, ◌^◌, ◌++◌, ◌∷◌, ℕ, true, false, Some, [], length, drop, slice_get, slice_range, IsTrue, IsUtf8, OnOk, IfOk, IfErr, ◌⊎◌};
+ghost use Rattle.std.specs.Prelude.{◌≡◌, ◌<◌, ◌≤◌, ◌+◌, ◌-◌, ◌^◌, ◌++◌, ◌∷◌, ℕ, true, false, Some, [], length, drop, slice_get, slice_range, IsTrue, OnOk, IfOk};
 ghost use Rattle.hcl_token.specs.declared.kind.Kind.TheVariants.{LineEnd};
 ghost use Rattle.hcl_token.specs.Tokens.{Pair, whole_text};
 ghost use Rattle.hcl_token.specs.Pairs.{InOrder, pairs_of};
 ghost use Rattle.hcl_scan.specs.Tokenization.{IsTokenization, MAX_TEXT};
-ghost use Rattle.hcl_scan.specs.Fault.{IsFault};
+ghost use Rattle.hcl_scan.specs.ScanResult.{IsScanFault, IsScanResult};
 ghost use Rattle.hcl_scan.specs.Follows.{AreApart, FollowsFrom, IsApart};
 ghost use Rattle.hcl_rescan.specs.Inner.WholeLines.{AreSelfContained, EndsWithLineEnd, IsRescannedTo, IsLineStart, IsLineRange, IsRescanned, depth_after, tokens_at};
-ghost use Rattle.hcl_scan.specs.declared.fault.ScanFault.TheVariants.{Memory};
 
 use hcl_scan::{Item, Kind, MAX_TEXT, ScanFault, Scanned, Token, scan_in};
 use std::alloc::{AllocError, Global};
@@ -464,7 +463,7 @@ fn rescan_tokens(
 /// that.
 fn memory_fault(text: &[u8]) -> ScanFault
     requires { length text.now ≤ MAX_TEXT }
-    ensures { ((result ≡ Memory) × IsUtf8 text.now) ⊎ IsFault text.now result }
+    ensures { IsScanFault text.now result }
 {
     match simdutf8::compat::from_utf8(text) {
         Err(e) => ScanFault::NotUtf8 {
@@ -485,13 +484,12 @@ pub fn rescan<'t>(
     replaced: &[ReplacedRange],
 ) -> Result<Scanned<'t>, ScanFault>
     requires { AreApart old.now.pairs }
-    ensures text { IfOk result (λ s. s.text ≡ text.now) }
-    ensures tokenization { IfOk result (λ s. IsTokenization text.now s.pairs s.last) }
-    ensures fault { IfErr result
-        (λ e. ((e ≡ Memory) × (length text.now ≤ MAX_TEXT) × IsUtf8 text.now)
-        ⊎ IsFault text.now e) }
+    ensures { IsScanResult text.now result }
 {
     let mut items = buffer;
+    if text.is_empty() {
+        return scan_in(alloc, items, text);
+    }
     if text.len() > MAX_TEXT {
         return scan_in(alloc, items, text);
     }

@@ -10,7 +10,7 @@ use Rattle.hcl_scan.specs.Modes.{Mode, mode_of, modes_after}
 use Rattle.hcl_scan.proofs.OpenMarkers.{HaveMarkers}
 use Rattle.hcl_scan.specs.Lexeme.{IsLongest}
 use Rattle.hcl_scan.specs.Tokenization.{IsGap, TokenizesFrom, TokenizesPrefix, byte_order_mark}
-use Rattle.hcl_scan.specs.Fault.{opening_places_after, opening_places_after_pairs}
+use Rattle.hcl_scan.specs.Inner.OpeningPlaces.{opening_places_after, opening_places_after_pairs}
 use Rattle.hcl_scan.proofs.MarkerLemmas.{markers_after}
 use Rattle.hcl_scan.proofs.Unique.{pair_of}
 
@@ -60,7 +60,7 @@ modes_prefix : (b : Bool) (body : List Pair)
 modes_prefix true body = refl
 modes_prefix false body = refl
 
-modes_tokenized : (text : List ℕ) (pairs : List Pair) (rest : List ℕ) (left : List Mode) → TokenizesPrefix text pairs rest left → modes_after_pairs [] pairs ≡ left
+pub modes_tokenized : (text : List ℕ) (pairs : List Pair) (rest : List ℕ) (left : List Mode) → TokenizesPrefix text pairs rest left → modes_after_pairs [] pairs ≡ left
 modes_tokenized text pairs rest left c =
     ap (modes_after_pairs []) c.prefix ∙ modes_prefix (is_prefix_of byte_order_mark text) c.body ∙ modes_left c.body [] left rest c.tokenizes
 

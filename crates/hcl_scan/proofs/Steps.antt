@@ -16,11 +16,13 @@ use Rattle.hcl_scan.proofs.OpenMarkers.{HaveMarkers}
 use Rattle.hcl_scan.specs.Lexeme.{IsLexeme, IsLongest}
 use Rattle.hcl_scan.specs.Inner.NextToken.{LexedToken, expression_token, token, gap_length}
 use Rattle.hcl_scan.specs.Tokenization.{IsGap, TokenizesFrom, TokenizesPrefix, IsTokenization, MAX_TEXT, mark_prefix}
-use Rattle.hcl_scan.specs.Fault.{EndsInFault, fault_at, innermost_template, opening_places_after, opening_places_after_pairs}
+use Rattle.hcl_scan.specs.Fault.{EndsInFault, fault_at}
+use Rattle.hcl_scan.specs.Inner.OpeningPlaces.{innermost_place, opening_places_after, opening_places_after_pairs}
 use Rattle.hcl_scan.proofs.TokenizedTo.{IsTokenizedTo}
 use Rattle.hcl_scan.proofs.Pieces.{prefix_all}
 use Rattle.hcl_scan.proofs.Found.{IsFound, Sound, Beats}
 use Rattle.hcl_scan.proofs.MarkerLemmas.{marker_of_mode}
+use Rattle.hcl_scan.proofs.OpeningPlaces.{template_place}
 use Rattle.hcl_scan.proofs.Sound.{sound}
 use Rattle.hcl_scan.proofs.Beats.{beats}
 use Rattle.hcl_scan.proofs.Longest.{found_longest, none_found, token_no_whitespace, gap_is}
@@ -175,7 +177,7 @@ finished text items at start places short u c start_is end =
 -- no token can be cut
 pub stopped : (text : List ℕ) (items : List Token) (at start : ℕ) (modes : List Mode) (places : List ℕ) → IsTokenizedTo text items at modes places
     → start ≡ at + gap_length (mode_of modes) (drop at text) → token (mode_of modes) (drop start text) ≡ None → (modes ≡ [] → start ≢ length text)
-    → EndsInFault text (fault_at (mode_of modes) (innermost_template modes places) start (drop start text))
+    → EndsInFault text (fault_at (mode_of modes) (innermost_place modes places) start (drop start text))
 stopped text items at start modes places c start_is none unfinished =
     let mode : Mode = mode_of modes in
     let m : HasMarker mode = marker_tokenized text items at modes places c in
@@ -202,6 +204,7 @@ stopped text items at start modes places c start_is none unfinished =
       past = λ plain. subst (λ (x : List ℕ). is_whitespace (slice_index x 0) ≡ false) (drop-drop (gap_length mode t) at text ∙ ap (λ n. drop n text) (sym start_is)) (past_gap mode t plain);
       unfinished = λ e z. unfinished e (omega (arith, ap length z, length-drop {A = ℕ} start text, g.within));
       fault_is =
-          ap (λ n. fault_at mode (innermost_template modes places) n rest) (sym place)
-          ∙ ap (λ (x : List ℕ). fault_at mode (innermost_template modes x) (length (whole_text pairs gap)) rest) c.places;
+          ap (λ n. fault_at mode (innermost_place modes places) n rest) (sym place)
+          ∙ ap (λ (x : List ℕ). fault_at mode (innermost_place modes x) (length (whole_text pairs gap)) rest) c.places
+          ∙ ap (λ n. fault_at mode n (length (whole_text pairs gap)) rest) (sym (template_place text pairs (drop at text) modes c.tokenizes));
     }

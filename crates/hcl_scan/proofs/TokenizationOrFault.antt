@@ -13,7 +13,8 @@ use Rattle.hcl_scan.specs.declared.fault.ScanFault.{ScanFault}
 use Rattle.hcl_scan.specs.declared.fault.ScanFault.TheVariants.{TooLong, NotUtf8}
 use Rattle.hcl_scan.specs.Modes.{Mode, mode_of, modes_after}
 use Rattle.hcl_scan.specs.Tokenization.{IsTokenization, MAX_TEXT}
-use Rattle.hcl_scan.specs.Fault.{IsFault, EndsInFault, opening_places_after}
+use Rattle.hcl_scan.specs.Fault.{IsFault, EndsInFault}
+use Rattle.hcl_scan.specs.Inner.OpeningPlaces.{opening_places_after}
 use Rattle.hcl_scan.specs.Inner.NextToken.{LexedToken, token, gap_length}
 use Rattle.hcl_scan.specs.Inner.MarkToken.{mark_tokens, mark_length}
 use Rattle.hcl_scan.proofs.TokenizedTo.{IsTokenizedTo}

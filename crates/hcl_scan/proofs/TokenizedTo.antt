@@ -4,7 +4,7 @@ use Rattle.hcl_token.specs.declared.token.Token.{Token}
 use Rattle.hcl_token.specs.Pairs.{pairs_of, InOrder}
 use Rattle.hcl_scan.specs.Modes.{Mode}
 use Rattle.hcl_scan.specs.Tokenization.{TokenizesPrefix}
-use Rattle.hcl_scan.specs.Fault.{opening_places_after_pairs}
+use Rattle.hcl_scan.specs.Inner.OpeningPlaces.{opening_places_after_pairs}
 
 -- the text up to a place is cut into these items, in these modes, the openings of which stand at these places
 pub record IsTokenizedTo (text : List ℕ) (items : List Token) (at : ℕ) (modes : List Mode) (openings : List ℕ) : Type 0 where

@@ -1,15 +1,14 @@
 -- The error of a text that has no tokens, and its place. The errors, their order and their places
 -- are this project's own; the tokens are those of the HCL native syntax specification, Lexical
 -- Elements.
-use Rattle.std.specs.Prelude.{◌≡◌, ◌≢◌, ℕ, ◌+◌, ◌<◌, ◌≤◌, false, ◌&&◌, if◌then◌else◌, List, [], ◌∷◌, ◌++◌, length, drop, slice_index, IsUtf8, ◌==◌, ◌⊎◌}
+use Rattle.std.specs.Prelude.{◌≡◌, ◌≢◌, ℕ, suc, ◌+◌, ◌-◌, ◌<◌, ◌≤◌, false, ◌&&◌, if◌then◌else◌, List, [], ◌∷◌, ◌++◌, length, map, zip, drop, slice_index, IsUtf8, ◌==◌, ◌⊎◌}
 use Rattle.std.specs.Str.{IsValidUpTo}
 use Rattle.hcl_token.specs.declared.kind.Kind.{Kind}
-use Rattle.hcl_token.specs.declared.kind.Kind.TheVariants.{OpenBrace, CloseBrace, QuoteOpen, QuoteClose, HereOpen, HereClose, InterpOpen, DirectiveOpen, SeqClose}
 use Rattle.hcl_token.specs.Tokens.{Pair, whole_text}
 use Rattle.hcl_scan.specs.declared.fault.ScanFault.{ScanFault}
 use Rattle.hcl_scan.specs.declared.fault.ScanFault.TheVariants.{TooLong, NotUtf8, BadCharacter, BadEscape, OpenString, OpenTemplate, OpenHeredoc, OpenComment}
 use Rattle.hcl_scan.specs.Characters.{is_whitespace}
-use Rattle.hcl_scan.specs.Modes.{Mode, mode_of, is_literal, is_braces, is_in_sequence, modes_after}
+use Rattle.hcl_scan.specs.Modes.{Mode, mode_of, is_literal, is_braces, modes_after}
 use Rattle.hcl_scan.specs.Modes.Mode.{Expression, Sequence, Braces, Quoted, Heredoc}
 use Rattle.hcl_scan.specs.Lexeme.{IsLexeme}
 use Rattle.hcl_scan.specs.Tokenization.{IsGap, TokenizesPrefix, MAX_TEXT}
@@ -19,33 +18,27 @@ abbrev pub HasNoToken : Mode → List ℕ → Type 0
 HasNoToken mode rest = (gap s more : List ℕ) (kind : Kind) → IsGap mode gap → IsLexeme mode kind s more
     → rest ≢ gap ++ (s ++ more)
 
--- the places of the openings that are not closed, innermost first, one for each mode: behind a
--- token that begins at this place
-abbrev pub opening_places_after : Kind → ℕ → List Mode → List ℕ → List ℕ
-opening_places_after QuoteOpen at modes places = at ∷ places
-opening_places_after HereOpen at modes places = at ∷ places
-opening_places_after InterpOpen at modes places = at ∷ places
-opening_places_after DirectiveOpen at modes places = at ∷ places
-opening_places_after QuoteClose at modes places = drop 1 places
-opening_places_after HereClose at modes places = drop 1 places
-opening_places_after SeqClose at modes places = drop 1 places
-opening_places_after OpenBrace at modes places = if is_in_sequence (mode_of modes) then at ∷ places else places
-opening_places_after CloseBrace at modes places =
-    if is_braces (mode_of modes) then drop 1 places else places
-opening_places_after _ at modes places = places
+-- The openings that are not closed, innermost first: each by the mode of the text after it and the
+-- place where it begins. After a token that begins at this place there are as many as there are
+-- modes then: an opening more is the token, and each other one keeps its place.
+abbrev pub openings_after : Kind → List ℕ → ℕ → List (Mode × ℕ) → List (Mode × ℕ)
+openings_after kind spelling at openings =
+    let before : List Mode = map (λ (o : Mode × ℕ). o.0) openings in
+    let after : List Mode = modes_after kind spelling before in
+    let places : List ℕ = map (λ (o : Mode × ℕ). o.1) openings in
+    zip after (drop (suc (length before) - length after) (at ∷ places))
 
--- behind these pairs, of which the first gap begins at this place
-abbrev pub opening_places_after_pairs : ℕ → List Mode → List ℕ → List Pair → List ℕ
-opening_places_after_pairs at modes places [] = places
-opening_places_after_pairs at modes places (p ∷ ps) =
-    opening_places_after_pairs (at + length p.gap + length p.spelling) (modes_after p.kind p.spelling modes)
-    (opening_places_after p.kind (at + length p.gap) modes places) ps
+-- after these pairs, of which the first gap begins at this place
+abbrev pub openings_after_pairs : ℕ → List (Mode × ℕ) → List Pair → List (Mode × ℕ)
+openings_after_pairs at openings [] = openings
+openings_after_pairs at openings (p ∷ ps) =
+    openings_after_pairs (at + length p.gap + length p.spelling)
+    (openings_after p.kind p.spelling (at + length p.gap) openings) ps
 
 -- where the innermost template, or template sequence, begins: a `{` is none
-abbrev pub innermost_template : List Mode → List ℕ → ℕ
-innermost_template [] places = 0
-innermost_template (mode ∷ modes) [] = 0
-innermost_template (mode ∷ modes) (at ∷ places) = if is_braces mode then innermost_template modes places else at
+abbrev pub innermost_template : List (Mode × ℕ) → ℕ
+innermost_template [] = 0
+innermost_template (o ∷ openings) = if is_braces o.0 then innermost_template openings else o.1
 
 -- outside of literal text
 abbrev pub token_fault : ℕ → List ℕ → ScanFault
@@ -81,7 +74,7 @@ pub record EndsInFault (text : List ℕ) (fault : ScanFault) : Type 0 where
   -- the text is not cut to its end
   pub unfinished : left ≡ [] → rest ≢ []
   pub fault_is : fault
-      ≡ fault_at (mode_of left) (innermost_template left (opening_places_after_pairs 0 [] [] pairs))
+      ≡ fault_at (mode_of left) (innermost_template (openings_after_pairs 0 [] pairs))
       (length (whole_text pairs gap)) rest
 
 -- the fault of a text: it has too many bytes; else it is not UTF-8 at the first byte of the first

@@ -7,7 +7,7 @@ ghost use Rattle.hcl_scan.specs.Modes.{mode_of, is_braces, is_in_sequence, is_at
 ghost use Rattle.hcl_scan.specs.Modes.Mode.{Sequence, Heredoc};
 ghost use Rattle.hcl_scan.specs.Runs.{is_line_start_after};
 ghost use Rattle.hcl_token.specs.declared.kind.Kind.TheVariants.{HereLit};
-ghost use Rattle.hcl_scan.specs.Fault.{opening_places_after, innermost_template};
+ghost use Rattle.hcl_scan.specs.Inner.OpeningPlaces.{opening_places_after, innermost_place};
 ghost use Rattle.hcl_scan.specs.Inner.Openings.{mode_view, modes_of, places_of, with_line_start, with_line_start_in, is_not_line_break};
 
 use crate::bytes::{byte_at, slice};
@@ -293,7 +293,7 @@ pub fn update_openings<'t>(
 
 /// Where the innermost template, or template sequence, begins.
 pub fn innermost_template_start(openings: &[Opening<'_>]) -> usize
-    ensures { result ≡ innermost_template (modes_of openings.now) (places_of openings.now) }
+    ensures { result ≡ innermost_place (modes_of openings.now) (places_of openings.now) }
 {
     let mut i = openings.len();
     while i > 0 {

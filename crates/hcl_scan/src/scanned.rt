@@ -1,13 +1,12 @@
 //! A text with its cut.
 
-ghost use Rattle.std.specs.Prelude.{◌≡◌, ◌+◌, ◌<◌, ◌≤◌, ◌↔◌, [], Some, IsTrue, IsUtf8, length, drop, IfOk, IfErr, IsOk, ◌⊎◌};
+ghost use Rattle.std.specs.Prelude.{◌≡◌, ◌+◌, ◌<◌, ◌≤◌, ◌↔◌, [], Some, IsTrue, IsUtf8, length, drop};
 ghost use Rattle.hcl_token.specs.TokenizedText.{TokenizedText, AreUtf8, kind_of, spelling_of, gap_of, clusters_of, item_of, joins_of, pairs_in_range};
 ghost use Rattle.hcl_token.specs.Pairs.{InOrder, pairs_of};
 ghost use Rattle.hcl_token.specs.TokenLists.{IsTokenListOf};
 ghost use Rattle.hcl_token.specs.Place.{place_of};
-ghost use Rattle.hcl_scan.specs.Tokenization.{IsTokenization, MAX_TEXT};
-ghost use Rattle.hcl_scan.specs.Fault.{IsFault};
-ghost use Rattle.hcl_scan.specs.declared.fault.ScanFault.TheVariants.{Memory};
+ghost use Rattle.hcl_scan.specs.Tokenization.{IsTokenization};
+ghost use Rattle.hcl_scan.specs.ScanResult.{IsScanResult};
 
 use crate::fault::ScanFault;
 use crate::tokenize::tokenize;
@@ -38,13 +37,7 @@ impl<'t> Model for Scanned<'t> {
 ///
 /// HCL native syntax specification, Lexical Elements and Templates.
 pub fn scan<'t>(alloc: Global, text: &'t [u8]) -> Result<Scanned<'t>, ScanFault>
-    ensures text { IfOk result (λ s. s.text ≡ text.now) }
-    ensures tokenization { IfOk result (λ s. IsTokenization text.now s.pairs s.last) }
-    ensures fault { IfErr result
-        (λ e. ((e ≡ Memory) × (length text.now ≤ MAX_TEXT) × IsUtf8 text.now)
-        ⊎ IsFault text.now e) }
-    // Nothing is allocated for the empty text.
-    ensures empty { text.now ≡ [] → IsOk result }
+    ensures { IsScanResult text.now result }
 {
     scan_in(alloc, Vec::new(alloc), text)
 }
@@ -56,12 +49,7 @@ pub fn scan_in<'t>(
     buffer: Vec<Token>,
     text: &'t [u8],
 ) -> Result<Scanned<'t>, ScanFault>
-    ensures text { IfOk result (λ s. s.text ≡ text.now) }
-    ensures tokenization { IfOk result (λ s. IsTokenization text.now s.pairs s.last) }
-    ensures fault { IfErr result
-        (λ e. ((e ≡ Memory) × (length text.now ≤ MAX_TEXT) × IsUtf8 text.now)
-        ⊎ IsFault text.now e) }
-    ensures empty { text.now ≡ [] → IsOk result }
+    ensures { IsScanResult text.now result }
 {
     let (items, last_gap_at) = tokenize(alloc, buffer, text)?;
     Ok(Scanned::of_tokens(text, items, last_gap_at))

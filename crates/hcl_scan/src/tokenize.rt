@@ -1,11 +1,12 @@
 //! Where the tokens of a whole text stand.
 
-ghost use Rattle.std.specs.Prelude.{◌≡◌, ◌+◌, ◌<◌, ◌≤◌, ◌++◌, ◌∷◌, length, drop, IsUtf8, IfOk, IfErr, IsOk, OnOk, IsTrue, ◌↔◌, [], ◌⊎◌};
+ghost use Rattle.std.specs.Prelude.{◌≡◌, ◌+◌, ◌<◌, ◌≤◌, ◌++◌, ◌∷◌, length, drop, IfOk, IfErr, IsOk, OnOk, IsTrue, ◌↔◌, [], ◌⊎◌};
 ghost use Rattle.hcl_token.specs.Pairs.{pairs_of, InOrder};
 ghost use Rattle.hcl_scan.specs.Characters.{is_prefix_of};
 ghost use Rattle.hcl_scan.specs.Tokenization.{IsTokenization, MAX_TEXT, byte_order_mark};
 ghost use Rattle.hcl_scan.specs.declared.fault.ScanFault.TheVariants.{Memory};
-ghost use Rattle.hcl_scan.specs.Fault.{EndsInFault, IsFault, token_fault, fault_at};
+ghost use Rattle.hcl_scan.specs.Fault.{EndsInFault, token_fault, fault_at};
+ghost use Rattle.hcl_scan.specs.ScanResult.{IsScanFault};
 ghost use Rattle.hcl_scan.specs.Inner.Openings.{mode_view};
 ghost use Rattle.hcl_scan.specs.Inner.MarkToken.{mark_tokens, mark_length, token_at};
 
@@ -163,9 +164,7 @@ pub fn tokenize(
     ensures tokenization { IfOk result
         (λ r. IsTokenization text.now (pairs_of text.now r.0.items) (drop r.1 text.now)) }
     ensures order { IfOk result (λ r. InOrder 0 r.0.items r.1 × (r.1 ≤ length text.now)) }
-    ensures fault { IfErr result
-        (λ e. ((e ≡ Memory) × (length text.now ≤ MAX_TEXT) × IsUtf8 text.now)
-        ⊎ IsFault text.now e) }
+    ensures fault { IfErr result (λ e. IsScanFault text.now e) }
     ensures empty { text.now ≡ [] → IsOk result }
 {
     if text.is_empty() {

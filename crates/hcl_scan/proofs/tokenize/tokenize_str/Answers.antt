@@ -4,7 +4,8 @@ use Rattle.hcl_token.specs.declared.token.Token.{Token}
 use Rattle.hcl_scan.specs.declared.mode.Opening.{Opening}
 use Rattle.hcl_scan.specs.Modes.{Mode, mode_of, modes_after}
 use Rattle.hcl_scan.specs.Modes.Mode.{Expression}
-use Rattle.hcl_scan.specs.Fault.{EndsInFault, innermost_template}
+use Rattle.hcl_scan.specs.Fault.{EndsInFault}
+use Rattle.hcl_scan.specs.Inner.OpeningPlaces.{innermost_place}
 use Rattle.hcl_scan.specs.Inner.Markers.{HasMarker}
 use Rattle.hcl_scan.specs.Inner.Openings.{mode_view, modes_of, places_of}
 use Rattle.hcl_scan.specs.Inner.MarkToken.{mark_tokens}
@@ -54,7 +55,7 @@ returns-in-None-clause-fault c =
     let mode = c.tokens.invariant.mode in
     let start_is = rw mode at c.next_token-next.ensures.gap in
     let none = rw mode at (sym c.next_token-next.ensures.token ∙ c.in-None.is) in
-    let opened = c.innermost_template_start-opened.ensures ∙ ap (λ x. innermost_template (modes_of x) (places_of x)) c.deref-in-None.ensures.value in
+    let opened = c.innermost_template_start-opened.ensures ∙ ap (λ x. innermost_place (modes_of x) (places_of x)) c.deref-in-None.ensures.value in
     let fault = rw (same, mode, opened) at c.fault_at.ensures in
     let unfinished = λ (e : modes ≡ []) (z : start ≡ length text).
     iff_false c.is_done.ensures c.if-is_done.false (z ∙ ap length (sym same), c.deref.ensures.value ∙ none_open c.tokens.openings.items e) in
