@@ -166,9 +166,9 @@ fn relocate(item: Item, from: usize, to: usize) -> Token
     Token::new(to + (item.start - from), to + (item.stop - from), item.kind)
 }
 
-/// Adds the items of tokens of a text as they stand in another one from a place on.
+/// Adds the tokens of tokens of a text as they stand in another one from a place on.
 fn push_relocated(
-    items: &mut Vec<Token>,
+    tokens: &mut Vec<Token>,
     at: usize,
     old: &Scanned<'_>,
     from: LineStart,
@@ -179,12 +179,12 @@ fn push_relocated(
     requires within { to ≤ length old.now.pairs }
     requires fits { at + length (whole_text (slice_range old.now.pairs from.index to) [])
         ≤ MAX_TEXT }
-    ensures { OnOk result (items.new.items
-        ≡ items.old.items ++ tokens_at at (slice_range old.now.pairs from.index to)) }
+    ensures { OnOk result (tokens.new.items
+        ≡ tokens.old.items ++ tokens_at at (slice_range old.now.pairs from.index to)) }
 {
     let _text = old.text();
     for i in from.index..to {
-        items.push(relocate(old.item(i), from.at, at))?;
+        tokens.push(relocate(old.item(i), from.at, at))?;
     }
     Ok(())
 }
@@ -208,28 +208,28 @@ fn has_bytes_at(text: &[u8], at: usize, bytes: &[u8]) -> bool
     same_bytes(slice(text, at, at + bytes.len()), bytes)
 }
 
-/// Adds the items of whole lines of the old text, if their bytes stand in the new one behind what
+/// Adds the tokens of whole lines of the old text, if their bytes stand in the new one behind what
 /// is done, and answers how far that comes.
 fn reuse_lines(
     text: &[u8],
-    items: &mut Vec<Token>,
+    tokens: &mut Vec<Token>,
     at: usize,
     old: &Scanned<'_>,
     from: LineStart,
     to: LineStart,
 ) -> Result<usize, RescanFault>
-    requires rescanned { IsRescannedTo text.now items.old.items at }
+    requires rescanned { IsRescannedTo text.now tokens.old.items at }
     requires short { length text.now ≤ MAX_TEXT }
     requires line_start { IsLineStart old.now from.index from.at }
     requires end_line_start { IsLineStart old.now to.index to.at }
     requires lines { IsLineRange old.now.pairs from.index to.index }
-    ensures { IfOk result (λ end. IsRescannedTo text.now items.new.items end) }
+    ensures { IfOk result (λ end. IsRescannedTo text.now tokens.new.items end) }
 {
     let bytes = slice(old.text(), from.at, to.at);
     if !has_bytes_at(text, at, bytes) {
         return Err(RescanFault::Mismatch);
     }
-    push_relocated(items, at, old, from, to.index)?;
+    push_relocated(tokens, at, old, from, to.index)?;
     Ok(at + bytes.len())
 }
 
@@ -290,18 +290,18 @@ fn scan_part<'t>(
     }
 }
 
-/// Adds the items of so many bytes, if they are whole lines, and gives back the room for their cut.
+/// Adds the tokens of so many bytes, if they are whole lines, and gives back the room for their cut.
 fn scan_lines(
     alloc: Global,
     text: &[u8],
-    items: &mut Vec<Token>,
+    tokens: &mut Vec<Token>,
     at: usize,
     len: usize,
     scratch: Vec<Token>,
 ) -> Result<Vec<Token>, RescanFault>
-    requires rescanned { IsRescannedTo text.now items.old.items at }
+    requires rescanned { IsRescannedTo text.now tokens.old.items at }
     requires short { length text.now ≤ MAX_TEXT }
-    ensures { IfOk result (λ scratch. IsRescannedTo text.now items.new.items (at + len)) }
+    ensures { IfOk result (λ scratch. IsRescannedTo text.now tokens.new.items (at + len)) }
 {
     if len > text.len() - at {
         return Err(RescanFault::Mismatch);
@@ -311,7 +311,7 @@ fn scan_lines(
         return Err(RescanFault::Mismatch);
     }
     push_relocated(
-        items,
+        tokens,
         at,
         &lines,
         LineStart { index: 0, at: 0 },
@@ -320,23 +320,23 @@ fn scan_lines(
     Ok(lines.into_buffer())
 }
 
-/// Adds the items of what is left of a text, and answers where its last gap begins.
+/// Adds the tokens of what is left of a text, and answers where its last gap begins.
 fn scan_rest(
     alloc: Global,
     text: &[u8],
-    items: &mut Vec<Token>,
+    tokens: &mut Vec<Token>,
     at: usize,
     scratch: Vec<Token>,
 ) -> Result<usize, RescanFault>
-    requires rescanned { IsRescannedTo text.now items.old.items at }
+    requires rescanned { IsRescannedTo text.now tokens.old.items at }
     requires short { length text.now ≤ MAX_TEXT }
-    ensures { IfOk result (λ last_gap_at. IsRescanned text.now items.new.items last_gap_at) }
+    ensures { IfOk result (λ last_gap_at. IsRescanned text.now tokens.new.items last_gap_at) }
 {
     let rest = scan_part(alloc, scratch, slice(text, at, text.len()))?;
     if !can_follow_lines(&rest) {
         return Err(RescanFault::Mismatch);
     }
-    push_relocated(items, at, &rest, LineStart { index: 0, at: 0 }, rest.len())?;
+    push_relocated(tokens, at, &rest, LineStart { index: 0, at: 0 }, rest.len())?;
     Ok(text.len() - rest.last_gap().len())
 }
 
@@ -384,24 +384,24 @@ struct Progress {
     at: usize,
 }
 
-/// Adds the items of the lines up to those in which bytes are replaced, or up to the last.
+/// Adds the tokens of the lines up to those in which bytes are replaced, or up to the last.
 fn reuse_unchanged(
     text: &[u8],
-    items: &mut Vec<Token>,
+    tokens: &mut Vec<Token>,
     old: &Scanned<'_>,
     progress: Progress,
     limit: usize,
 ) -> Result<Progress, RescanFault>
-    requires rescanned { IsRescannedTo text.now items.old.items progress.at }
+    requires rescanned { IsRescannedTo text.now tokens.old.items progress.at }
     requires short { length text.now ≤ MAX_TEXT }
     requires line_start { IsLineStart old.now progress.line_start.index progress.line_start.at }
-    ensures { IfOk result (λ progress. IsRescannedTo text.now items.new.items progress.at
+    ensures { IfOk result (λ progress. IsRescannedTo text.now tokens.new.items progress.at
         × IsLineStart old.now progress.line_start.index progress.line_start.at) }
 {
     let line_start = last_line_start(old, progress.line_start, limit);
     let at = reuse_lines(
         text,
-        items,
+        tokens,
         progress.at,
         old,
         progress.line_start,
@@ -410,24 +410,24 @@ fn reuse_unchanged(
     Ok(Progress { line_start, at })
 }
 
-/// The items of a text that came from one that was cut, and where its last gap begins; unfit where
+/// The tokens of a text that came from one that was cut, and where its last gap begins; unfit where
 /// more was changed than the replaced pieces say, or what was changed is not cut by itself.
 fn rescan_tokens(
     alloc: Global,
     text: &[u8],
     old: &Scanned<'_>,
     replaced: &[ReplacedRange],
-    items: &mut Vec<Token>,
+    tokens: &mut Vec<Token>,
 ) -> Result<usize, RescanFault>
     requires apart { AreApart old.now.pairs }
     requires short { length text.now ≤ MAX_TEXT }
-    ensures { IfOk result (λ last_gap_at. IsRescanned text.now items.new.items last_gap_at) }
+    ensures { IfOk result (λ last_gap_at. IsRescanned text.now tokens.new.items last_gap_at) }
 {
-    items.clear();
+    tokens.clear();
     if has_mark(old) {
         return Err(RescanFault::Mismatch);
     }
-    items.reserve(text.len() / 8)?;
+    tokens.reserve(text.len() / 8)?;
     let mut scratch = Vec::new(alloc);
     let mut progress = Progress {
         line_start: LineStart { index: 0, at: 0 },
@@ -436,7 +436,7 @@ fn rescan_tokens(
     let mut first = 0;
     while first < replaced.len() {
         let limit = replaced[first].at as usize;
-        progress = reuse_unchanged(text, items, old, progress, limit)?;
+        progress = reuse_unchanged(text, tokens, old, progress, limit)?;
         let ChangedLines { to, len, count } = changed_lines(
             old,
             progress.line_start,
@@ -448,15 +448,15 @@ fn rescan_tokens(
             // the list of the whole text.
             return Err(RescanFault::Mismatch);
         }
-        scratch = scan_lines(alloc, text, items, progress.at, len, scratch)?;
+        scratch = scan_lines(alloc, text, tokens, progress.at, len, scratch)?;
         progress = Progress {
             line_start: to,
             at: progress.at + len,
         };
         first = count;
     }
-    progress = reuse_unchanged(text, items, old, progress, usize::MAX)?;
-    scan_rest(alloc, text, items, progress.at, scratch)
+    progress = reuse_unchanged(text, tokens, old, progress, usize::MAX)?;
+    scan_rest(alloc, text, tokens, progress.at, scratch)
 }
 
 /// The fault of a text for the cut of which memory was refused: ill-formed bytes are told before
@@ -486,16 +486,16 @@ pub fn rescan<'t>(
     requires { AreApart old.now.pairs }
     ensures { IsScanResult text.now result }
 {
-    let mut items = buffer;
+    let mut tokens = buffer;
     if text.is_empty() {
-        return scan_in(alloc, items, text);
+        return scan_in(alloc, tokens, text);
     }
     if text.len() > MAX_TEXT {
-        return scan_in(alloc, items, text);
+        return scan_in(alloc, tokens, text);
     }
-    match rescan_tokens(alloc, text, old, replaced, &mut items) {
-        Ok(last_gap_at) => { Ok(Scanned::of_tokens(text, items, last_gap_at)) }
+    match rescan_tokens(alloc, text, old, replaced, &mut tokens) {
+        Ok(last_gap_at) => { Ok(Scanned::of_tokens(text, tokens, last_gap_at)) }
         Err(RescanFault::Memory) => Err(memory_fault(text)),
-        Err(RescanFault::Mismatch) => scan_in(alloc, items, text),
+        Err(RescanFault::Mismatch) => scan_in(alloc, tokens, text),
     }
 }

@@ -87,12 +87,12 @@ places_push text pairs rest left start gap s kind c e =
     ∙ ap (λ n. opening_places_after kind n (modes_after_pairs [] pairs) openings) place
     ∙ ap (λ (m : List Mode). opening_places_after kind start m openings) (modes_tokenized text pairs rest left c)
 
--- ---- items
+-- ---- tokens
 
-pub order-push : (items : List Token) (from at : ℕ) (item : Token) → InOrder from items at → at ≤ item.start → item.start ≤ item.stop → InOrder from (items ++ item ∷ []) item.stop
+pub order-push : (tokens : List Token) (from at : ℕ) (item : Token) → InOrder from tokens at → at ≤ item.start → item.start ≤ item.stop → InOrder from (tokens ++ item ∷ []) item.stop
 order-push [] from at item o h k = (omega arith, k, refl)
-order-push (x ∷ items) from at item o h k = (o.0, o.1, order-push items x.stop at item o.2 h k)
+order-push (x ∷ tokens) from at item o h k = (o.0, o.1, order-push tokens x.stop at item o.2 h k)
 
-pub pairs-push : (text : List ℕ) (items : List Token) (from at : ℕ) (item : Token) → InOrder from items at → pairs_from text from (items ++ item ∷ []) ≡ pairs_from text from items ++ pair_at text at item ∷ []
+pub pairs-push : (text : List ℕ) (tokens : List Token) (from at : ℕ) (item : Token) → InOrder from tokens at → pairs_from text from (tokens ++ item ∷ []) ≡ pairs_from text from tokens ++ pair_at text at item ∷ []
 pairs-push text [] from at item o = ap (λ n. pair_at text n item ∷ []) o
-pairs-push text (x ∷ items) from at item o = ap (λ (ps : List Pair). pair_at text from x ∷ ps) (pairs-push text items x.stop at item o.2)
+pairs-push text (x ∷ tokens) from at item o = ap (λ (ps : List Pair). pair_at text from x ∷ ps) (pairs-push text tokens x.stop at item o.2)

@@ -6,10 +6,10 @@ use Rattle.hcl_scan.specs.Modes.{Mode}
 use Rattle.hcl_scan.specs.Tokenization.{TokenizesPrefix}
 use Rattle.hcl_scan.specs.Inner.OpeningPlaces.{opening_places_after_pairs}
 
--- the text up to a place is cut into these items, in these modes, the openings of which stand at these places
-pub record IsTokenizedTo (text : List ℕ) (items : List Token) (at : ℕ) (modes : List Mode) (openings : List ℕ) : Type 0 where
+-- the text up to a place is cut into these tokens, in these modes, the openings of which stand at these places
+pub record IsTokenizedTo (text : List ℕ) (tokens : List Token) (at : ℕ) (modes : List Mode) (openings : List ℕ) : Type 0 where
   pub within : at ≤ length text
   pub utf8 : IsUtf8 (drop at text)
-  pub tokenizes : TokenizesPrefix text (pairs_of text items) (drop at text) modes
-  pub places : openings ≡ opening_places_after_pairs 0 [] [] (pairs_of text items)
-  pub order : InOrder 0 items at
+  pub tokenizes : TokenizesPrefix text (pairs_of text tokens) (drop at text) modes
+  pub places : openings ≡ opening_places_after_pairs 0 [] [] (pairs_of text tokens)
+  pub order : InOrder 0 tokens at

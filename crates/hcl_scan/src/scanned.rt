@@ -51,8 +51,8 @@ pub fn scan_in<'t>(
 ) -> Result<Scanned<'t>, ScanFault>
     ensures { IsScanResult text.now result }
 {
-    let (items, last_gap_at) = tokenize(alloc, buffer, text)?;
-    Ok(Scanned::of_tokens(text, items, last_gap_at))
+    let (tokens, last_gap_at) = tokenize(alloc, buffer, text)?;
+    Ok(Scanned::of_tokens(text, tokens, last_gap_at))
 }
 
 impl<'t> Scanned<'t> {

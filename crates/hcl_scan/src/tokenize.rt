@@ -75,34 +75,34 @@ fn starts_with_mark(text: &[u8]) -> bool
 
 /// The byte order mark at the front of a text, if one stands there, becomes the first item; the
 /// answer is its length.
-fn push_mark(items: &mut Vec<Token>, text: &[u8]) -> Result<usize, AllocError>
-    ensures items { OnOk result (items.new.items ≡ items.old.items ++ mark_tokens text.now) }
+fn push_mark(tokens: &mut Vec<Token>, text: &[u8]) -> Result<usize, AllocError>
+    ensures tokens { OnOk result (tokens.new.items ≡ tokens.old.items ++ mark_tokens text.now) }
     ensures length { IfOk result (λ at. at ≡ mark_length text.now) }
 {
     if !starts_with_mark(text) {
         return Ok(0);
     }
-    items.push(Token::new(0, 3, Kind::Mark))?;
+    tokens.push(Token::new(0, 3, Kind::Mark))?;
     Ok(3)
 }
 
 /// One token more.
 fn push_token(
-    items: &mut Vec<Token>,
+    tokens: &mut Vec<Token>,
     start: usize,
     stop: usize,
     kind: Kind,
 ) -> Result<(), AllocError>
     requires start { start < MAX_TEXT }
     requires stop { stop ≤ MAX_TEXT }
-    ensures { OnOk result (items.new.items ≡ items.old.items ++ token_at start stop kind ∷ []) }
+    ensures { OnOk result (tokens.new.items ≡ tokens.old.items ++ token_at start stop kind ∷ []) }
 {
-    items.reserve(1)?;
-    items.push_reserved(Token::new(start as u32, stop as u32, kind));
+    tokens.reserve(1)?;
+    tokens.push_reserved(Token::new(start as u32, stop as u32, kind));
     Ok(())
 }
 
-/// The items of a text, in a list that has room, and where its last gap begins.
+/// The tokens of a text, in a list that has room, and where its last gap begins.
 fn tokenize_str(
     alloc: Global,
     buffer: Vec<Token>,
@@ -115,26 +115,26 @@ fn tokenize_str(
     ensures fault { IfErr result (λ e. (e ≡ Memory) ⊎ EndsInFault text.now e) }
 {
     let bytes = text.as_bytes();
-    let mut items = buffer;
-    items.clear();
-    items.reserve(text.len() / 8)?;
+    let mut tokens = buffer;
+    tokens.clear();
+    tokens.reserve(text.len() / 8)?;
     let mut openings: Vec<Opening<'_>> = Vec::new(alloc);
-    let mut at = push_mark(&mut items, bytes)?;
+    let mut at = push_mark(&mut tokens, bytes)?;
     let mut mode = Mode::Expression;
-    'tokens: loop {
+    'scan: loop {
         let next = next_token(text, at, mode);
         let start = next.start;
         match next.token {
             None => {
                 if is_done(&openings, start, bytes.len()) {
-                    return Ok((items, at));
+                    return Ok((tokens, at));
                 }
                 let opened = innermost_template_start(&openings);
                 return Err(fault_at(bytes, mode, opened, start));
             }
             Some((kind, len)) => {
                 let stop = start + len;
-                push_token(&mut items, start, stop, kind)?;
+                push_token(&mut tokens, start, stop, kind)?;
                 if can_change_openings(kind) {
                     update_openings(&mut openings, kind, slice(bytes, start, stop), start)?;
                     mode = mode_of(&openings);
@@ -149,9 +149,9 @@ fn tokenize_str(
 fn cleared(buffer: Vec<Token>) -> Vec<Token>
     ensures { result.items ≡ [] }
 {
-    let mut items = buffer;
-    items.clear();
-    items
+    let mut tokens = buffer;
+    tokens.clear();
+    tokens
 }
 
 /// Returns the tokens of a text, in the memory of a list, and where its last gap begins; or its

@@ -51,14 +51,14 @@ pub record IsLineRange (pairs : List Pair) (from to : ℕ) : Type 0 where
   pub ordered : from ≤ to
   pub lines : AreWholeLines (slice_range pairs from to)
 
--- the text up to a place is whole lines, of which these are the items
-pub record IsRescannedTo (text : List ℕ) (items : List Token) (at : ℕ) : Type 0 where
+-- the text up to a place is whole lines, of which these are the tokens
+pub record IsRescannedTo (text : List ℕ) (tokens : List Token) (at : ℕ) : Type 0 where
   pub within : at ≤ length text
-  pub lines : AreWholeLines (pairs_of text items)
-  pub text_is : text ≡ whole_text (pairs_of text items) (drop at text)
-  pub order : InOrder 0 items at
+  pub lines : AreWholeLines (pairs_of text tokens)
+  pub text_is : text ≡ whole_text (pairs_of text tokens) (drop at text)
+  pub order : InOrder 0 tokens at
 
--- the items of pairs that stand in a text from this place on
+-- the tokens of pairs that stand in a text from this place on
 abbrev pub tokens_at : ℕ → List Pair → List Token
 tokens_at at [] = []
 tokens_at at (p ∷ ps) =
@@ -69,8 +69,8 @@ tokens_at at (p ∷ ps) =
     }
     ∷ tokens_at (at + length p.gap + length p.spelling) ps
 
--- the text is cut into these items, and the last gap begins at this place
-pub record IsRescanned (text : List ℕ) (items : List Token) (last_gap_at : ℕ) : Type 0 where
-  pub tokenization : IsTokenization text (pairs_of text items) (drop last_gap_at text)
-  pub order : InOrder 0 items last_gap_at
+-- the text is cut into these tokens, and the last gap begins at this place
+pub record IsRescanned (text : List ℕ) (tokens : List Token) (last_gap_at : ℕ) : Type 0 where
+  pub tokenization : IsTokenization text (pairs_of text tokens) (drop last_gap_at text)
+  pub order : InOrder 0 tokens last_gap_at
   pub within : last_gap_at ≤ length text
