@@ -105,8 +105,7 @@ pairs_open [] at openings = (refl, refl)
 pairs_open (p ∷ ps) at openings =
     let next : ℕ = at + length p.gap + length p.spelling in
     let one = token_opens p.kind p.spelling (at + length p.gap) openings in
-    let rest = pairs_open ps next (openings_after p.kind p.spelling (at + length p.gap) openings) in
-    (
+    let rest = pairs_open ps next (openings_after p.kind p.spelling (at + length p.gap) openings) in (
       rest.0 ∙ ap (λ (x : List Mode). modes_after_pairs x ps) one.0,
       rest.1 ∙ ap₂ (λ (x : List Mode) (y : List ℕ). opening_places_after_pairs next x y ps) one.0 one.1,
     )

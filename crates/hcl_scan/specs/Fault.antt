@@ -13,7 +13,7 @@ use Rattle.hcl_scan.specs.Modes.Mode.{Expression, Sequence, Braces, Quoted, Here
 use Rattle.hcl_scan.specs.Lexeme.{IsLexeme}
 use Rattle.hcl_scan.specs.Tokenization.{IsGap, TokenizesPrefix, MAX_TEXT}
 
--- no gap and token can be cut from the front of this text
+-- this text does not begin with a gap and a token of the mode
 abbrev pub HasNoToken : Mode → List ℕ → Type 0
 HasNoToken mode rest = (gap s more : List ℕ) (kind : Kind) → IsGap mode gap → IsLexeme mode kind s more
     → rest ≢ gap ++ (s ++ more)
@@ -45,22 +45,22 @@ abbrev pub token_fault : ℕ → List ℕ → ScanFault
 token_fault at rest =
     if slice_index rest 0 == 47 && slice_index rest 1 == 42 then OpenComment at else BadCharacter at
 
--- the fault where no token can be cut: in this mode, whose innermost template begins at `opened`,
--- at this place, with this text from there on
+-- the error where no token begins: in this mode, whose innermost template begins at `opened`, at
+-- this place, with this text from there on
 abbrev pub fault_at : Mode → ℕ → ℕ → List ℕ → ScanFault
 fault_at Expression opened at rest = token_fault at rest
 fault_at Sequence opened at [] = OpenTemplate opened
 fault_at Sequence opened at (b ∷ rest) = token_fault at (b ∷ rest)
 fault_at Braces opened at [] = OpenTemplate opened
 fault_at Braces opened at (b ∷ rest) = token_fault at (b ∷ rest)
--- behind a `\` no escape, a line end, or the end of the text
+-- no escape after a `\`, a line end, or the end of the text
 fault_at Quoted opened at rest =
     if slice_index rest 0 == 92 then BadEscape at else OpenString opened
 -- the end of the text
 fault_at (Heredoc name at_line_start) opened at rest = OpenHeredoc opened
 
--- the fault stands at the end of the longest front of the text that can be cut, openings left open
--- allowed
+-- the error is at the end of the longest prefix of the text that has tokens; openings may be left
+-- open in it
 pub record EndsInFault (text : List ℕ) (fault : ScanFault) : Type 0 where
   pub pairs : List Pair
   pub gap : List ℕ
@@ -68,16 +68,16 @@ pub record EndsInFault (text : List ℕ) (fault : ScanFault) : Type 0 where
   pub left : List Mode
   pub tokenizes : TokenizesPrefix text pairs (gap ++ rest) left
   pub ends : HasNoToken (mode_of left) (gap ++ rest)
-  -- past the blanks
+  -- after whitespace
   pub whitespace : IsGap (mode_of left) gap
   pub past : is_literal (mode_of left) ≡ false → is_whitespace (slice_index rest 0) ≡ false
-  -- the text is not cut to its end
+  -- the tokens are not those of the whole text
   pub unfinished : left ≡ [] → rest ≢ []
   pub fault_is : fault
       ≡ fault_at (mode_of left) (innermost_template (openings_after_pairs 0 [] pairs))
       (length (whole_text pairs gap)) rest
 
--- the fault of a text: it has too many bytes; else it is not UTF-8 at the first byte of the first
+-- the error of a text: it has too many bytes; else it is not UTF-8 at the first byte of the first
 -- sequence that is ill-formed; else as above
 abbrev pub IsFault : List ℕ → ScanFault → Type 0
 IsFault text fault =

@@ -1,4 +1,4 @@
-//! Where the tokens of a whole text stand.
+//! The tokens of a whole text.
 
 ghost use Rattle.std.specs.Prelude.{◌≡◌, ◌+◌, ◌<◌, ◌≤◌, ◌++◌, ◌∷◌, length, drop, IfOk, IfErr, IsOk, OnOk, IsTrue, ◌↔◌, [], ◌⊎◌};
 ghost use Rattle.hcl_token.specs.Pairs.{pairs_of, InOrder};
@@ -19,7 +19,7 @@ use crate::token::next_token;
 use hcl_token::{Kind, MAX_TEXT, Token};
 use std::alloc::{AllocError, Global};
 
-/// The fault outside of literal text, at a place where no token can be cut.
+/// Returns the error outside of literal text, at a place where no token begins.
 fn token_fault(text: &[u8], at: usize) -> ScanFault
     requires { at ≤ length text.now }
     ensures { result ≡ token_fault at (drop at text.now) }
@@ -31,7 +31,7 @@ fn token_fault(text: &[u8], at: usize) -> ScanFault
     }
 }
 
-/// The fault at a place where no token can be cut, in a template that begins at `opened`.
+/// Returns the error at a place where no token begins, in a template that begins at `opened`.
 fn fault_at(text: &[u8], mode: Mode<'_>, opened: usize, at: usize) -> ScanFault
     requires { at ≤ length text.now }
     ensures { result ≡ fault_at (mode_view mode.entry) opened at (drop at text.now) }
@@ -59,22 +59,22 @@ fn fault_at(text: &[u8], mode: Mode<'_>, opened: usize, at: usize) -> ScanFault
     }
 }
 
-/// Whether the text is cut to its end.
+/// Whether the tokens are those of the whole text.
 fn is_done(openings: &[Opening<'_>], start: usize, len: usize) -> bool
     ensures { IsTrue result ↔ ((start ≡ len) × (openings.now ≡ [])) }
 {
     start == len && openings.is_empty()
 }
 
-/// Whether a byte order mark stands at the front.
+/// Whether the text begins with a byte order mark.
 fn starts_with_mark(text: &[u8]) -> bool
     ensures { result ≡ is_prefix_of byte_order_mark text.now }
 {
     byte_at(text, 0) == 0xef && byte_at(text, 1) == 0xbb && byte_at(text, 2) == 0xbf
 }
 
-/// The byte order mark at the front of a text, if one stands there, becomes the first item; the
-/// answer is its length.
+/// Adds the byte order mark, if the text begins with one, as the first token, and returns its
+/// length, else 0.
 fn push_mark(tokens: &mut Vec<Token>, text: &[u8]) -> Result<usize, AllocError>
     ensures tokens { OnOk result (tokens.new.items ≡ tokens.old.items ++ mark_tokens text.now) }
     ensures length { IfOk result (λ at. at ≡ mark_length text.now) }
@@ -86,7 +86,7 @@ fn push_mark(tokens: &mut Vec<Token>, text: &[u8]) -> Result<usize, AllocError>
     Ok(3)
 }
 
-/// One token more.
+/// Adds a token.
 fn push_token(
     tokens: &mut Vec<Token>,
     start: usize,
@@ -102,7 +102,7 @@ fn push_token(
     Ok(())
 }
 
-/// The tokens of a text, in a list that has room, and where its last gap begins.
+/// Returns the tokens of a text, in a buffer, and where its last gap begins.
 fn tokenize_str(
     alloc: Global,
     buffer: Vec<Token>,

@@ -23,12 +23,12 @@ pairs_from text at (token ∷ tokens) = pair_at text at token ∷ pairs_from tex
 abbrev pub pairs_of : List ℕ → List Token → List Pair
 pairs_of text tokens = pairs_from text 0 tokens
 
--- the text with its tokens, and with what is behind the last of them
+-- the text with its tokens, and with what follows the last of them
 abbrev pub tokenized_text : List ℕ → List Token → ℕ → TokenizedText
 tokenized_text text tokens last_gap_at =
     record { text = text; pairs = pairs_of text tokens; last = drop last_gap_at text }
 
--- the gaps and the tokens stand one behind the other, from this place to that
+-- the gaps and the tokens are consecutive, from this place to that
 abbrev pub InOrder : ℕ → List Token → ℕ → Type 0
 InOrder at [] last = at ≡ last
 InOrder at (token ∷ tokens) last =

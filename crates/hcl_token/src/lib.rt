@@ -1,5 +1,4 @@
-//! Tokens of the HCL native syntax: their kinds, where they stand in a text, and what gap stands
-//! before each.
+//! Tokens of the HCL native syntax: their kinds, their places in a text, and the gaps between them.
 #![tactic(auto)]
 
 mod graphemes;

@@ -1,4 +1,4 @@
-//! Lines and columns, told by going forward over the tokens.
+//! Lines and columns, counted forward over the tokens.
 
 ghost use Rattle.std.specs.Prelude.{◌≡◌, ℕ, true, ◌+◌, ◌^◌, ◌<◌, ◌≤◌, [], ◌∷◌, length, slice_range, take, count_by, IsUtf8};
 ghost use Rattle.hcl_token.specs.Pairs.{pair_at, pairs_from, pairs_of};
@@ -15,14 +15,14 @@ use memchr::memrchr;
 /// The greatest number of bytes whose line ends are counted in 8 bits.
 const MAX_U8_COUNT: usize = 255;
 
-/// So many bytes at a time are counted of a longer piece: a multiple of 32, so that none of them is
-/// done alone.
+/// How many bytes of a longer piece are counted at a time: a multiple of 32, so that the processor
+/// counts none of them by itself.
 const CHUNK: usize = 224;
 
 /// The place at the beginning of a text.
 pub(crate) const FIRST_PLACE: Place = Place { line: 1, column: 1 };
 
-/// The bytes of a text from one place to another.
+/// Returns the bytes of a text from one place up to another.
 pub(crate) fn slice(text: &[u8], from: u32, to: u32) -> &[u8]
     requires ordered { from ≤ to }
     requires within { to ≤ length text.now }
@@ -31,7 +31,7 @@ pub(crate) fn slice(text: &[u8], from: u32, to: u32) -> &[u8]
     &text[from as usize..to as usize]
 }
 
-/// Where the gap before a token begins, or the gap behind the last token.
+/// Returns where the gap before token `i` begins, or the gap after the last token.
 pub(crate) fn gap_at(tokens: &[Token], i: usize) -> u32
     requires { i ≤ length tokens.now }
     ensures { result ≡ gap_at tokens.now i }
@@ -39,7 +39,7 @@ pub(crate) fn gap_at(tokens: &[Token], i: usize) -> u32
     if i == 0 { 0 } else { tokens[i - 1].stop() }
 }
 
-/// The tokens from one number to another.
+/// Returns the tokens from one number up to another.
 pub(crate) fn token_range(tokens: &[Token], from: usize, to: usize) -> &[Token]
     requires ordered { from ≤ to }
     requires within { to ≤ length tokens.now }
@@ -99,7 +99,7 @@ fn last_line(piece: &[u8]) -> &[u8]
     }
 }
 
-/// The place behind a piece of text.
+/// Returns the place after a piece of text that begins at `at`.
 fn place_after_piece(at: Place, piece: &[u8]) -> Place
     requires utf8 { IsUtf8 piece.now }
     requires line { at.line + length piece.now < 2 ^ 32 }
@@ -120,7 +120,7 @@ fn place_after_piece(at: Place, piece: &[u8]) -> Place
     }
 }
 
-/// The place behind a token and the gap before it, which begins at `from`.
+/// Returns the place after a token and the gap before it, which begins at byte `from`.
 fn place_after_token(text: &[u8], token: Token, from: u32, at: Place) -> Place
     requires { IsTokenRange text.now (token ∷ []) from token.stop at }
     ensures value { result ≡ place_after_pair at (pair_at text.now from token) }
@@ -134,7 +134,7 @@ fn place_after_token(text: &[u8], token: Token, from: u32, at: Place) -> Place
     }
 }
 
-/// The place behind tokens, one after the other; the gap before the first begins at `from`.
+/// Returns the place after tokens, one by one; the gap before the first begins at byte `from`.
 fn place_after_each(text: &[u8], tokens: &[Token], from: u32, at: Place) -> Place
     requires { (to : ℕ) × IsTokenRange text.now tokens.now from to at }
     ensures { result ≡ place_after_pairs at (pairs_from text.now from tokens.now) }
@@ -148,7 +148,7 @@ fn place_after_each(text: &[u8], tokens: &[Token], from: u32, at: Place) -> Plac
     place
 }
 
-/// The place behind a piece of text in which each byte ends a line or is a column.
+/// Returns the place after a piece of text in which each byte ends a line or is a column.
 fn place_after_ascii(at: Place, piece: &[u8]) -> Place
     requires ascii { is_ascii_without_cr piece.now ≡ true }
     requires line { at.line + length piece.now < 2 ^ 32 }
@@ -167,8 +167,8 @@ fn place_after_ascii(at: Place, piece: &[u8]) -> Place
     }
 }
 
-/// The place behind tokens that take the bytes between two offsets. Where all of these are ASCII
-/// without CR, they are one piece.
+/// Returns the place after tokens that take the bytes between two offsets. If all of these are
+/// ASCII without CR, they are counted as one piece.
 fn place_after_tokens(text: &[u8], tokens: &[Token], from: u32, to: u32, at: Place) -> Place
     requires { IsTokenRange text.now tokens.now from to at }
     ensures value { result ≡ place_after_pairs at (pairs_from text.now from tokens.now) }

@@ -10,9 +10,9 @@ use crate::line_column::{gap_line, token_line};
 use crate::token::Token;
 use std::marker::Model;
 
-/// The lines on which the tokens of a text begin. The text is read forward, from the token of the
-/// last call; from the beginning, for a token before that one. Line feeds are counted and no
-/// columns. No call takes memory.
+/// A cursor over the lines of the tokens of a text. The text is read forward, from the token of the
+/// last call; from the start, for a token before that one. Line feeds are counted and no columns.
+/// No call allocates.
 #[derive(Drop)]
 pub struct Lines<'s> {
     text: &'s [u8],

@@ -11,8 +11,8 @@ use crate::place::Place;
 use crate::token::Token;
 use std::marker::Model;
 
-/// Where the tokens of a text stand, by line and column. The text is read forward, from the token
-/// that was asked for last; from the front, for one before that. No call takes memory.
+/// A cursor over the lines and columns of the tokens of a text. The text is read forward, from the
+/// token of the last call; from the start, for a token before that one. No call allocates.
 #[derive(Drop)]
 pub struct Places<'s> {
     text: &'s [u8],

@@ -1,4 +1,4 @@
-//! Whether tokens of two texts are the same, told by where they lie.
+//! Whether tokens of two texts are the same, by their bytes and their places.
 
 ghost use Rattle.std.specs.Prelude.{◌≡◌, ◌+◌, ◌%◌, ◌^◌, ◌↔◌, [], IsTrue, length};
 ghost use Rattle.hcl_token.specs.Inner.SameTokens.{IsTokenRun, AreShiftedBy, IsShiftedBy, token_run};
@@ -7,14 +7,15 @@ ghost use Rattle.hcl_token.specs.Tokens.{whole_text};
 use crate::line_column::slice;
 use crate::token::Token;
 
-/// How far a place is behind another, modulo 2^32.
+/// Returns the distance from `other` to `one`, modulo 2^32.
 fn distance(one: u32, other: u32) -> u32
     ensures { (result + other) % 2 ^ 32 ≡ one }
 {
     one.wrapping_sub(other)
 }
 
-/// Whether a token is of the kind of another, and lies so many bytes behind it, modulo 2^32.
+/// Whether a token is of the kind of another, and begins and ends `distance` bytes after it, modulo
+/// 2^32.
 fn is_shifted_by(one: Token, other: Token, distance: u32) -> bool
     ensures { IsTrue result ↔ IsShiftedBy distance one other }
 {

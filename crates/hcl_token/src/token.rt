@@ -7,7 +7,7 @@ use crate::kind::Kind;
 use std::marker::Model;
 
 /// A token of a text, whose spelling is the bytes from `start` to `stop`, counted from 0. The gap
-/// before it begins where the token before it stops, and at the front before the first.
+/// before it begins where the token before it stops; that before the first token, at 0.
 ///
 /// It takes 8 bytes: a token begins before the end of its text, so 24 bits hold its start, which
 /// is `low` + 65,536 * `high`.

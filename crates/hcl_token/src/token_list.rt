@@ -2,8 +2,7 @@
 
 use crate::token::Token;
 
-/// The tokens of a text, without it: they say where it is cut, so that the text may move while
-/// nothing reads it.
+/// The tokens of a text, without the text, which may be moved while nothing reads it.
 #[derive(Drop)]
 pub struct TokenList {
     pub(crate) tokens: Vec<Token>,

@@ -1,4 +1,4 @@
--- Items as the scanner makes them: a token, and the byte order mark at the front of a text.
+-- Tokens as the scanner makes them: by their place, and the byte order mark at the start of a text.
 use Rattle.std.specs.Prelude.{ℕ, List, [], ◌∷◌, if◌then◌else◌}
 use Rattle.hcl_token.specs.declared.token.Token.{Token}
 use Rattle.hcl_token.specs.declared.kind.Kind.{Kind}

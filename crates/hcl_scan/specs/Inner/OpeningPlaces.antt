@@ -1,5 +1,6 @@
--- The places of the openings that are not closed, innermost first, one for each mode, as the scanner
--- keeps them. `OpeningPlaces` of proofs/ shows that they are those of `openings_after_pairs`.
+-- The places of the openings that are not closed, innermost first, one for each mode, as the
+-- scanner keeps them. `OpeningPlaces` of proofs/ shows that they are those of
+-- `openings_after_pairs`.
 use Rattle.std.specs.Prelude.{ℕ, ◌+◌, List, [], ◌∷◌, length, drop, if◌then◌else◌}
 use Rattle.hcl_token.specs.declared.kind.Kind.{Kind}
 use Rattle.hcl_token.specs.declared.kind.Kind.TheVariants.{OpenBrace, CloseBrace, QuoteOpen, QuoteClose, HereOpen, HereClose, InterpOpen, DirectiveOpen, SeqClose}

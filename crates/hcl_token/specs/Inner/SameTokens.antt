@@ -10,7 +10,7 @@ use Rattle.hcl_token.specs.Pairs.{pairs_from, InOrder}
 abbrev pub none : Token
 none = record { start = 0; stop = 0; kind = Mark }
 
--- a token is of the kind of another, and lies so many bytes behind it, modulo 2 ^ 32
+-- a token is of the kind of another, and begins and ends this many bytes after it, modulo 2 ^ 32
 pub record IsShiftedBy (distance : ℕ) (x y : Token) : Type 0 where
   pub kind : x.kind ≡ y.kind
   pub start : (distance + y.start) % 2 ^ 32 ≡ x.start
@@ -21,7 +21,7 @@ abbrev pub AreShiftedBy : ℕ → List Token → List Token → Type 0
 AreShiftedBy distance xs ys =
     (k : ℕ) → k < length xs → IsShiftedBy distance (slice_index_or xs k none) (slice_index_or ys k none)
 
--- tokens that stand in a text
+-- consecutive tokens of a text, at least one
 pub record IsTokenRun (text : List ℕ) (tokens : List Token) : Type 0 where
   pub some : 0 < length tokens
   pub order : (at : ℕ) × (last : ℕ) × InOrder at tokens last × (last ≤ length text)
