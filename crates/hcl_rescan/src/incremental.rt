@@ -14,7 +14,7 @@ ghost use Rattle.hcl_scan.specs.ScanResult.{IsScanFault, IsScanResult};
 ghost use Rattle.hcl_scan.specs.Follows.{AreApart, FollowsFrom, IsApart};
 ghost use Rattle.hcl_rescan.specs.Inner.WholeLines.{AreSelfContained, EndsWithLineEnd, IsRescannedTo, IsLineStart, IsLineRange, IsRescanned, depth_after, tokens_at};
 
-use hcl_scan::{Item, Kind, MAX_TEXT, ScanFault, Scanned, Token, scan_in};
+use hcl_scan::{Item, Kind, MAX_TEXT, ScanFault, Scanned, Span, scan_in};
 use std::alloc::{AllocError, Global};
 
 /// Bytes of an old text that were replaced: where they begin in the old text, in bytes from 0, how
@@ -150,7 +150,7 @@ fn next_line_start(
 }
 
 /// Returns a token as it is if the bytes from place `from` on move to place `to`.
-fn relocate(item: Item, from: usize, to: usize) -> Token
+fn relocate(item: Item, from: usize, to: usize) -> Span
     requires start { from ≤ item.start }
     requires stop { item.start ≤ item.stop }
     requires from { from ≤ MAX_TEXT }
@@ -162,12 +162,12 @@ fn relocate(item: Item, from: usize, to: usize) -> Token
 {
     let from = from as u32;
     let to = to as u32;
-    Token::new(to + (item.start - from), to + (item.stop - from), item.kind)
+    Span::new(to + (item.start - from), to + (item.stop - from), item.kind)
 }
 
 /// Adds tokens of a text, with their places in another one, where they begin at byte `at`.
 fn push_relocated(
-    tokens: &mut Vec<Token>,
+    tokens: &mut Vec<Span>,
     at: usize,
     old: &Scanned<'_>,
     from: LineStart,
@@ -211,7 +211,7 @@ fn has_bytes_at(text: &[u8], at: usize, bytes: &[u8]) -> bool
 /// returns where they end.
 fn reuse_lines(
     text: &[u8],
-    tokens: &mut Vec<Token>,
+    tokens: &mut Vec<Span>,
     at: usize,
     old: &Scanned<'_>,
     from: LineStart,
@@ -276,7 +276,7 @@ fn ends_with_line_end(scanned: &Scanned<'_>) -> bool
 /// Returns the tokens of a text by itself; `Mismatch` if it has none.
 fn scan_part<'t>(
     alloc: Global,
-    buffer: Vec<Token>,
+    buffer: Vec<Span>,
     text: &'t [u8],
 ) -> Result<Scanned<'t>, RescanFault>
     ensures text { IfOk result (λ s. s.text ≡ text.now) }
@@ -293,11 +293,11 @@ fn scan_part<'t>(
 fn scan_lines(
     alloc: Global,
     text: &[u8],
-    tokens: &mut Vec<Token>,
+    tokens: &mut Vec<Span>,
     at: usize,
     len: usize,
-    scratch: Vec<Token>,
-) -> Result<Vec<Token>, RescanFault>
+    scratch: Vec<Span>,
+) -> Result<Vec<Span>, RescanFault>
     requires rescanned { IsRescannedTo text.now tokens.old.items at }
     requires short { length text.now ≤ MAX_TEXT }
     ensures { IfOk result (λ scratch. IsRescannedTo text.now tokens.new.items (at + len)) }
@@ -323,9 +323,9 @@ fn scan_lines(
 fn scan_rest(
     alloc: Global,
     text: &[u8],
-    tokens: &mut Vec<Token>,
+    tokens: &mut Vec<Span>,
     at: usize,
-    scratch: Vec<Token>,
+    scratch: Vec<Span>,
 ) -> Result<usize, RescanFault>
     requires rescanned { IsRescannedTo text.now tokens.old.items at }
     requires short { length text.now ≤ MAX_TEXT }
@@ -385,7 +385,7 @@ struct Progress {
 /// Adds the tokens of the unchanged lines up to byte `limit` of the old text.
 fn reuse_unchanged(
     text: &[u8],
-    tokens: &mut Vec<Token>,
+    tokens: &mut Vec<Span>,
     old: &Scanned<'_>,
     progress: Progress,
     limit: usize,
@@ -415,7 +415,7 @@ fn rescan_tokens(
     text: &[u8],
     old: &Scanned<'_>,
     replaced: &[ReplacedRange],
-    tokens: &mut Vec<Token>,
+    tokens: &mut Vec<Span>,
 ) -> Result<usize, RescanFault>
     requires apart { AreApart old.now.pairs }
     requires short { length text.now ≤ MAX_TEXT }
@@ -481,7 +481,7 @@ fn memory_fault(text: &[u8]) -> ScanFault
 /// Those of `scan_in`.
 pub fn rescan<'t>(
     alloc: Global,
-    buffer: Vec<Token>,
+    buffer: Vec<Span>,
     text: &'t [u8],
     old: &Scanned<'_>,
     replaced: &[ReplacedRange],

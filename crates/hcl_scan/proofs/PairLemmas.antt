@@ -2,7 +2,7 @@
 use Rattle.std.proofs.Common.{◌≡◌, ℕ, ◌+◌, ◌≤◌, Bool, true, false, List, [], ◌∷◌, ◌++◌, length, if◌then◌else◌, refl, sym, ap, subst, ◌∙◌, arith, length-append}
 use Rattle.hcl_token.specs.declared.kind.Kind.{Kind}
 use Rattle.hcl_token.specs.declared.kind.Kind.TheVariants.{Mark}
-use Rattle.hcl_token.specs.declared.token.Token.{Token}
+use Rattle.hcl_token.specs.declared.span.Span.{Span}
 use Rattle.hcl_token.specs.Tokens.{Pair, whole_text}
 use Rattle.hcl_token.specs.Pairs.{InOrder, pair_at, pairs_from}
 use Rattle.hcl_scan.specs.Characters.{is_prefix_of}
@@ -89,10 +89,10 @@ places_push text pairs rest left start gap s kind c e =
 
 -- ---- tokens
 
-pub order-push : (tokens : List Token) (from at : ℕ) (item : Token) → InOrder from tokens at → at ≤ item.start → item.start ≤ item.stop → InOrder from (tokens ++ item ∷ []) item.stop
+pub order-push : (tokens : List Span) (from at : ℕ) (item : Span) → InOrder from tokens at → at ≤ item.start → item.start ≤ item.stop → InOrder from (tokens ++ item ∷ []) item.stop
 order-push [] from at item o h k = (omega arith, k, refl)
 order-push (x ∷ tokens) from at item o h k = (o.0, o.1, order-push tokens x.stop at item o.2 h k)
 
-pub pairs-push : (text : List ℕ) (tokens : List Token) (from at : ℕ) (item : Token) → InOrder from tokens at → pairs_from text from (tokens ++ item ∷ []) ≡ pairs_from text from tokens ++ pair_at text at item ∷ []
+pub pairs-push : (text : List ℕ) (tokens : List Span) (from at : ℕ) (item : Span) → InOrder from tokens at → pairs_from text from (tokens ++ item ∷ []) ≡ pairs_from text from tokens ++ pair_at text at item ∷ []
 pairs-push text [] from at item o = ap (λ n. pair_at text n item ∷ []) o
 pairs-push text (x ∷ tokens) from at item o = ap (λ (ps : List Pair). pair_at text from x ∷ ps) (pairs-push text tokens x.stop at item o.2)

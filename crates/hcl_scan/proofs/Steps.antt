@@ -5,7 +5,7 @@ use Rattle.std.proofs.lemmas.List.Sums.{prefix_len-le-length}
 use Rattle.std.proofs.lemmas.Bool.{false≢true}
 use Rattle.std.specs.List.{list_all, prefix_len}
 use Rattle.hcl_token.specs.declared.kind.Kind.{Kind}
-use Rattle.hcl_token.specs.declared.token.Token.{Token}
+use Rattle.hcl_token.specs.declared.span.Span.{Span}
 use Rattle.hcl_token.specs.Tokens.{Pair, whole_text}
 use Rattle.hcl_token.specs.Pairs.{pairs_of}
 use Rattle.hcl_scan.specs.Characters.{is_whitespace}
@@ -33,7 +33,7 @@ use Rattle.hcl_scan.proofs.PairLemmas.{joining_more, joining_rest, tokenizes_mor
 markers_tokenized : (text : List ℕ) (pairs : List Pair) (rest : List ℕ) (left : List Mode) → TokenizesPrefix text pairs rest left → HaveMarkers left
 markers_tokenized text pairs rest left c = markers_after_pairs c.body [] left rest tt c.tokenizes
 
-pub marker_tokenized : (text : List ℕ) (tokens : List Token) (at : ℕ) (modes : List Mode) (places : List ℕ) → IsTokenizedTo text tokens at modes places → HasMarker (mode_of modes)
+pub marker_tokenized : (text : List ℕ) (tokens : List Span) (at : ℕ) (modes : List Mode) (places : List ℕ) → IsTokenizedTo text tokens at modes places → HasMarker (mode_of modes)
 marker_tokenized text tokens at modes places c = marker_of_mode modes (markers_tokenized text (pairs_of text tokens) (drop at text) modes c.tokenizes)
 
 gap_is_gap : (mode : Mode) (t : List ℕ) → (gap_length mode t ≤ length t) × IsGap mode (take (gap_length mode t) t)
@@ -68,7 +68,7 @@ gap_at text mode at start within u e =
     }
 
 -- the cut goes on by a token
-pub one_more : (text : List ℕ) (tokens : List Token) (at : ℕ) (modes : List Mode) (places : List ℕ) (start : ℕ) (kind : Kind) (len : ℕ)
+pub one_more : (text : List ℕ) (tokens : List Span) (at : ℕ) (modes : List Mode) (places : List ℕ) (start : ℕ) (kind : Kind) (len : ℕ)
     → IsTokenizedTo text tokens at modes places
     → start ≡ at + gap_length (mode_of modes) (drop at text)
     → token (mode_of modes) (drop start text) ≡ Some (kind, len)
@@ -78,7 +78,7 @@ pub one_more : (text : List ℕ) (tokens : List Token) (at : ℕ) (modes : List 
 one_more text tokens at modes places start kind len c start_is found =
     let mode : Mode = mode_of modes in
     let stop : ℕ = start + len in
-    let item : Token = record { start = start; stop = stop; kind = kind } in
+    let item : Span = record { start = start; stop = stop; kind = kind } in
     let m : HasMarker mode = marker_tokenized text tokens at modes places c in
     let g : GapAt text mode at start = gap_at text mode at start c.within c.utf8 start_is in
     let t : List ℕ = drop start text in
@@ -161,7 +161,7 @@ past_gap : (mode : Mode) (t : List ℕ) → is_literal mode ≡ false → is_whi
 past_gap mode t plain = rw plain (prefix_then_not is_whitespace t refl)
 
 -- the text is cut to its end
-pub finished : (text : List ℕ) (tokens : List Token) (at start : ℕ) (places : List ℕ) → length text ≤ MAX_TEXT → IsUtf8 text → IsTokenizedTo text tokens at [] places
+pub finished : (text : List ℕ) (tokens : List Span) (at start : ℕ) (places : List ℕ) → length text ≤ MAX_TEXT → IsUtf8 text → IsTokenizedTo text tokens at [] places
     → start ≡ at + gap_length Expression (drop at text) → start ≡ length text → IsTokenization text (pairs_of text tokens) (drop at text)
 finished text tokens at start places short u c start_is end =
     let g : GapAt text Expression at start = gap_at text Expression at start c.within c.utf8 start_is in
@@ -175,7 +175,7 @@ finished text tokens at start places short u c start_is end =
     }
 
 -- no token can be cut
-pub stopped : (text : List ℕ) (tokens : List Token) (at start : ℕ) (modes : List Mode) (places : List ℕ) → IsTokenizedTo text tokens at modes places
+pub stopped : (text : List ℕ) (tokens : List Span) (at start : ℕ) (modes : List Mode) (places : List ℕ) → IsTokenizedTo text tokens at modes places
     → start ≡ at + gap_length (mode_of modes) (drop at text) → token (mode_of modes) (drop start text) ≡ None → (modes ≡ [] → start ≢ length text)
     → EndsInFault text (fault_at (mode_of modes) (innermost_place modes places) start (drop start text))
 stopped text tokens at start modes places c start_is none unfinished =

@@ -6,7 +6,7 @@ use Rattle.std.specs.Str.{IsValidUpTo, is_utf8}
 use Rattle.std.specs.Str.Lossy.{valid_len_up_to, utf8_valid_len}
 use Rattle.bstr.proofs.lemmas.LossyLemmas.{utf8_valid_len-cases}
 use Rattle.hcl_token.specs.declared.kind.Kind.{Kind}
-use Rattle.hcl_token.specs.declared.token.Token.{Token}
+use Rattle.hcl_token.specs.declared.span.Span.{Span}
 use Rattle.hcl_token.specs.Pairs.{pairs_of}
 use Rattle.hcl_token.specs.Tokens.{Pair}
 use Rattle.hcl_scan.specs.declared.fault.ScanFault.{ScanFault}
@@ -29,7 +29,7 @@ abbrev HasFault : List ℕ → Type 0
 HasFault text = (fault : ScanFault) × IsFault text fault
 
 -- where no token can be cut the text ends, or stops at a fault
-at_end : (text : List ℕ) (tokens : List Token) (at start : ℕ) (modes : List Mode) (places : List ℕ) → length text ≤ MAX_TEXT → IsUtf8 text
+at_end : (text : List ℕ) (tokens : List Span) (at start : ℕ) (modes : List Mode) (places : List ℕ) → length text ≤ MAX_TEXT → IsUtf8 text
     → IsTokenizedTo text tokens at modes places → start ≡ at + gap_length (mode_of modes) (drop at text) → token (mode_of modes) (drop start text) ≡ None
     → HasTokenization text ⊎ HasFault text
 at_end text tokens at start [] places short u c start_is none =
@@ -44,7 +44,7 @@ at_end text tokens at start (m ∷ modes) places short u c start_is none =
     no_modes e = omega (arith, ap length e)
 
 -- the cut goes on until then
-go_on : (fuel : ℕ) (text : List ℕ) (tokens : List Token) (at : ℕ) (modes : List Mode) (places : List ℕ) → length text ≤ MAX_TEXT → IsUtf8 text
+go_on : (fuel : ℕ) (text : List ℕ) (tokens : List Span) (at : ℕ) (modes : List Mode) (places : List ℕ) → length text ≤ MAX_TEXT → IsUtf8 text
     → IsTokenizedTo text tokens at modes places → length text < at + fuel → HasTokenization text ⊎ HasFault text
 go_on zero text tokens at modes places short u c enough = absurd (omega (arith, enough, c.within))
 go_on (suc fuel) text tokens at modes places short u c enough =

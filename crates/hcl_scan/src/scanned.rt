@@ -10,7 +10,7 @@ ghost use Rattle.hcl_scan.specs.ScanResult.{IsScanResult};
 
 use crate::fault::ScanFault;
 use crate::tokenize::tokenize;
-use hcl_token::{Item, Kind, Lines, Place, Places, Token, TokenList, Tokens};
+use hcl_token::{Item, Kind, Lines, Place, Places, Span, TokenList, Tokens};
 use std::alloc::Global;
 use std::marker::Model;
 
@@ -48,7 +48,7 @@ pub fn scan<'t>(alloc: Global, text: &'t [u8]) -> Result<Scanned<'t>, ScanFault>
 /// buffer are dropped.
 pub fn scan_in<'t>(
     alloc: Global,
-    buffer: Vec<Token>,
+    buffer: Vec<Span>,
     text: &'t [u8],
 ) -> Result<Scanned<'t>, ScanFault>
     ensures { IsScanResult text.now result }
@@ -59,7 +59,7 @@ pub fn scan_in<'t>(
 
 impl<'t> Scanned<'t> {
     /// Returns a text with its tokens; the gap after the last begins at byte `last_gap_at`.
-    pub fn of_tokens(text: &'t [u8], tokens: Vec<Token>, last_gap_at: usize) -> Scanned<'t>
+    pub fn of_tokens(text: &'t [u8], tokens: Vec<Span>, last_gap_at: usize) -> Scanned<'t>
         requires tokenization { IsTokenization text.now (pairs_of text.now tokens.items) (drop last_gap_at text.now) }
         requires order { InOrder 0 tokens.items last_gap_at }
         requires within { last_gap_at ≤ length text.now }
@@ -72,7 +72,7 @@ impl<'t> Scanned<'t> {
     }
 
     /// Returns the buffer of the tokens, emptied.
-    pub fn into_buffer(self) -> Vec<Token>
+    pub fn into_buffer(self) -> Vec<Span>
         ensures { result.items ≡ [] }
     {
         self.tokens.into_buffer()

@@ -16,7 +16,7 @@ use crate::mode::{
     Mode, Opening, can_change_openings, innermost_template_start, mode_of, update_openings,
 };
 use crate::token::next_token;
-use hcl_token::{Kind, MAX_TEXT, Token};
+use hcl_token::{Kind, MAX_TEXT, Span};
 use std::alloc::{AllocError, Global};
 
 /// Returns the error outside of literal text, at a place where no token begins.
@@ -75,20 +75,20 @@ fn starts_with_mark(text: &[u8]) -> bool
 
 /// Adds the byte order mark, if the text begins with one, as the first token, and returns its
 /// length, else 0.
-fn push_mark(tokens: &mut Vec<Token>, text: &[u8]) -> Result<usize, AllocError>
+fn push_mark(tokens: &mut Vec<Span>, text: &[u8]) -> Result<usize, AllocError>
     ensures tokens { OnOk result (tokens.new.items ≡ tokens.old.items ++ mark_tokens text.now) }
     ensures length { IfOk result (λ at. at ≡ mark_length text.now) }
 {
     if !starts_with_mark(text) {
         return Ok(0);
     }
-    tokens.push(Token::new(0, 3, Kind::Mark))?;
+    tokens.push(Span::new(0, 3, Kind::Mark))?;
     Ok(3)
 }
 
 /// Adds a token.
 fn push_token(
-    tokens: &mut Vec<Token>,
+    tokens: &mut Vec<Span>,
     start: usize,
     stop: usize,
     kind: Kind,
@@ -98,16 +98,16 @@ fn push_token(
     ensures { OnOk result (tokens.new.items ≡ tokens.old.items ++ token_at start stop kind ∷ []) }
 {
     tokens.reserve(1)?;
-    tokens.push_reserved(Token::new(start as u32, stop as u32, kind));
+    tokens.push_reserved(Span::new(start as u32, stop as u32, kind));
     Ok(())
 }
 
 /// Returns the tokens of a text, in a buffer, and where its last gap begins.
 fn tokenize_str(
     alloc: Global,
-    buffer: Vec<Token>,
+    buffer: Vec<Span>,
     text: &str,
-) -> Result<(Vec<Token>, usize), ScanFault>
+) -> Result<(Vec<Span>, usize), ScanFault>
     requires { length text.now ≤ MAX_TEXT }
     ensures tokenization { IfOk result
         (λ r. IsTokenization text.now (pairs_of text.now r.0.items) (drop r.1 text.now)) }
@@ -146,7 +146,7 @@ fn tokenize_str(
 }
 
 /// Returns a list without its elements.
-fn cleared(buffer: Vec<Token>) -> Vec<Token>
+fn cleared(buffer: Vec<Span>) -> Vec<Span>
     ensures { result.items ≡ [] }
 {
     let mut tokens = buffer;
@@ -158,9 +158,9 @@ fn cleared(buffer: Vec<Token>) -> Vec<Token>
 /// error. Nothing is allocated for a text that is empty, too long or not UTF-8.
 pub fn tokenize(
     alloc: Global,
-    buffer: Vec<Token>,
+    buffer: Vec<Span>,
     text: &[u8],
-) -> Result<(Vec<Token>, usize), ScanFault>
+) -> Result<(Vec<Span>, usize), ScanFault>
     ensures tokenization { IfOk result
         (λ r. IsTokenization text.now (pairs_of text.now r.0.items) (drop r.1 text.now)) }
     ensures order { IfOk result (λ r. InOrder 0 r.0.items r.1 × (r.1 ≤ length text.now)) }

@@ -10,7 +10,7 @@ mod lines;
 mod place;
 mod places;
 mod same_tokens;
-mod token;
+mod span;
 mod token_list;
 mod tokens;
 
@@ -21,6 +21,6 @@ pub use kind::Kind;
 pub use lines::Lines;
 pub use place::Place;
 pub use places::Places;
-pub use token::Token;
+pub use span::Span;
 pub use token_list::TokenList;
 pub use tokens::{MAX_TEXT, Tokens};

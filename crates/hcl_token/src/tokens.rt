@@ -17,7 +17,7 @@ use crate::lines::Lines;
 use crate::place::Place;
 use crate::places::Places;
 use crate::same_tokens::are_same_tokens;
-use crate::token::Token;
+use crate::span::Span;
 use crate::token_list::TokenList;
 use std::marker::Model;
 
@@ -30,7 +30,7 @@ pub const MAX_TEXT: usize = 16_777_216;
 #[derive(Drop)]
 pub struct Tokens<'t> {
     text: &'t [u8],
-    tokens: Vec<Token>,
+    tokens: Vec<Span>,
     last_gap_at: u32,
 }
 
@@ -45,7 +45,7 @@ impl<'t> Model for Tokens<'t> {
 impl<'t> Tokens<'t> {
     /// Returns a text with its tokens, which are consecutive from its start on; the gap after the
     /// last of them begins at byte `last_gap_at`.
-    pub fn new(text: &'t [u8], tokens: Vec<Token>, last_gap_at: usize) -> Tokens<'t>
+    pub fn new(text: &'t [u8], tokens: Vec<Span>, last_gap_at: usize) -> Tokens<'t>
         requires order { InOrder 0 tokens.items last_gap_at }
         requires within { last_gap_at ≤ length text.now }
         requires short { length text.now ≤ MAX_TEXT }
@@ -62,7 +62,7 @@ impl<'t> Tokens<'t> {
     }
 
     /// Returns the buffer of the tokens, emptied.
-    pub fn into_buffer(self) -> Vec<Token>
+    pub fn into_buffer(self) -> Vec<Span>
         ensures { result.items ≡ [] }
     {
         let mut buffer = self.tokens;

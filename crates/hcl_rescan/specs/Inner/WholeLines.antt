@@ -1,6 +1,6 @@
 -- Whole lines of tokens, and a text that begins with whole lines.
 use Rattle.std.specs.Prelude.{◌≡◌, ℕ, ◌+◌, ◌-◌, ◌≤◌, min, List, [], ◌∷◌, length, take, drop, slice_range, ⊤}
-use Rattle.hcl_token.specs.declared.token.Token.{Token}
+use Rattle.hcl_token.specs.declared.span.Span.{Span}
 use Rattle.hcl_token.specs.declared.kind.Kind.{Kind}
 use Rattle.hcl_token.specs.declared.kind.Kind.TheVariants.{LineEnd, OpenBrace, CloseBrace, QuoteOpen, QuoteClose, HereOpen, HereClose, InterpOpen, DirectiveOpen, SeqClose}
 use Rattle.hcl_token.specs.TokenizedText.{TokenizedText}
@@ -52,14 +52,14 @@ pub record IsLineRange (pairs : List Pair) (from to : ℕ) : Type 0 where
   pub lines : AreWholeLines (slice_range pairs from to)
 
 -- the text up to a place is whole lines, of which these are the tokens
-pub record IsRescannedTo (text : List ℕ) (tokens : List Token) (at : ℕ) : Type 0 where
+pub record IsRescannedTo (text : List ℕ) (tokens : List Span) (at : ℕ) : Type 0 where
   pub within : at ≤ length text
   pub lines : AreWholeLines (pairs_of text tokens)
   pub text_is : text ≡ whole_text (pairs_of text tokens) (drop at text)
   pub order : InOrder 0 tokens at
 
 -- the tokens of pairs that are in a text from this place on
-abbrev pub tokens_at : ℕ → List Pair → List Token
+abbrev pub tokens_at : ℕ → List Pair → List Span
 tokens_at at [] = []
 tokens_at at (p ∷ ps) =
     record {
@@ -70,7 +70,7 @@ tokens_at at (p ∷ ps) =
     ∷ tokens_at (at + length p.gap + length p.spelling) ps
 
 -- the text has these tokens, and its last gap begins at this place
-pub record IsRescanned (text : List ℕ) (tokens : List Token) (last_gap_at : ℕ) : Type 0 where
+pub record IsRescanned (text : List ℕ) (tokens : List Span) (last_gap_at : ℕ) : Type 0 where
   pub tokenization : IsTokenization text (pairs_of text tokens) (drop last_gap_at text)
   pub order : InOrder 0 tokens last_gap_at
   pub within : last_gap_at ≤ length text

@@ -1,6 +1,6 @@
 use Rattle.std.proofs.Common.{◌≡◌, ◌+◌, ℕ, List, [], ◌∷◌, ◌++◌, length, slice_range, sym, ap, subst, subst₂, ◌∙◌, inr}
 use Rattle.std.proofs.lemmas.Bool.{iff_false}
-use Rattle.hcl_token.specs.declared.token.Token.{Token}
+use Rattle.hcl_token.specs.declared.span.Span.{Span}
 use Rattle.hcl_scan.specs.declared.mode.Opening.{Opening}
 use Rattle.hcl_scan.specs.Modes.{Mode, mode_of, modes_after}
 use Rattle.hcl_scan.specs.Modes.Mode.{Expression}
@@ -18,9 +18,9 @@ use Rattle.hcl_scan.proofs.tokenize.tokenize_str.Goals as goal
 pub scan-init : goal.scan-init
 scan-init c =
     let text = c.as_bytes-bytes.result.now in
-    let tokens = c.in_ok-at.ensures.tokens ∙ ap (λ (x : List Token). x ++ mark_tokens text) (c.in_ok-reserve.ensures.items ∙ c.clear.ensures.items) in
+    let tokens = c.in_ok-at.ensures.tokens ∙ ap (λ (x : List Span). x ++ mark_tokens text) (c.in_ok-reserve.ensures.items ∙ c.clear.ensures.items) in
     let none = c.new-openings.ensures.items in
-    let begun = subst₂ (λ (x : List Token) n. IsTokenizedTo text x n [] []) (sym tokens) (sym c.in_ok-at.ensures.length) (started text c.as_bytes-bytes.ensures.utf8) in
+    let begun = subst₂ (λ (x : List Span) n. IsTokenizedTo text x n [] []) (sym tokens) (sym c.in_ok-at.ensures.length) (started text c.as_bytes-bytes.ensures.utf8) in
     record {
       tokenization = subst (λ (o : List Opening). IsTokenizedTo text c.push_mark.new.tokens.items c.in_ok-at.at (modes_of o) (places_of o)) (sym none) begun;
       mode = sym (ap (λ (o : List Opening). mode_of (modes_of o)) none);
@@ -77,14 +77,14 @@ scan-preserved c =
     let start_is = rw mode at c.next_token-next.ensures.gap in
     let found = rw mode at (sym c.next_token-next.ensures.token ∙ c.in-Some.is) in
     let more = one_more text c.scan.tokens.items at modes places start kind c.in-Some.len state start_is found in
-    let item : Token = record { start = start; stop = stop; kind = kind } in
+    let item : Span = record { start = start; stop = stop; kind = kind } in
     let pushed = c.in_ok-push_token-in-Some.ensures in
     let shifted = c.can_change_openings.ensures.modes (slice_range text start stop) modes c.if-can_change_openings.false in
     let placed = c.can_change_openings.ensures.places start modes places c.if-can_change_openings.false in
     let tokens = c.scan.tokens.items ++ item ∷ [] in
     let next = subst₂ (λ (m : List Mode) (o : List ℕ). IsTokenizedTo text tokens stop m o) shifted placed more.1 in
     record {
-      tokenization = subst₂ (λ (x : List ℕ) (xs : List Token). IsTokenizedTo x xs stop modes places) (sym same) (sym pushed) next;
+      tokenization = subst₂ (λ (x : List ℕ) (xs : List Span). IsTokenizedTo x xs stop modes places) (sym same) (sym pushed) next;
       mode = mode;
     }
 
@@ -103,7 +103,7 @@ scan-preserved-in_ok-update_openings-in-Some c =
     let start_is = rw mode at c.next_token-next.ensures.gap in
     let found = rw mode at (sym c.next_token-next.ensures.token ∙ c.in-Some.is) in
     let more = one_more text c.scan.tokens.items at modes places start kind c.in-Some.len state start_is found in
-    let item : Token = record { start = start; stop = stop; kind = kind } in
+    let item : Span = record { start = start; stop = stop; kind = kind } in
     let pushed = c.in_ok-push_token-in-Some.ensures in
     let spelling = rw same at c.slice.ensures in
     let shifted = c.in_ok-update_openings-in-Some.ensures.modes ∙ ap (λ (s : List ℕ). modes_after kind s modes) spelling in
@@ -111,6 +111,6 @@ scan-preserved-in_ok-update_openings-in-Some c =
     let tokens = c.scan.tokens.items ++ item ∷ [] in
     let next = subst₂ (λ (m : List Mode) (o : List ℕ). IsTokenizedTo text tokens stop m o) (sym shifted) (sym placed) more.1 in
     record {
-      tokenization = subst₂ (λ (x : List ℕ) (xs : List Token). IsTokenizedTo x xs stop (modes_of c.update_openings.new.openings.items) (places_of c.update_openings.new.openings.items)) (sym same) (sym pushed) next;
+      tokenization = subst₂ (λ (x : List ℕ) (xs : List Span). IsTokenizedTo x xs stop (modes_of c.update_openings.new.openings.items) (places_of c.update_openings.new.openings.items)) (sym same) (sym pushed) next;
       mode = c.mode_of-mode.ensures ∙ ap (λ x. mode_of (modes_of x)) c.deref-then-can_change_openings.ensures.value;
     }
