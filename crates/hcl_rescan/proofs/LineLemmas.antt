@@ -4,7 +4,7 @@ use Rattle.std.proofs.lemmas.List.Folds.{drop_split}
 use Rattle.std.specs.List.{list_all}
 use Rattle.std.specs.Option.{option_map}
 use Rattle.hcl_token.specs.declared.item.Item.{Item}
-use Rattle.hcl_token.specs.declared.token.Token.{Token}
+use Rattle.hcl_token.specs.declared.span.Span.{Span}
 use Rattle.hcl_token.specs.declared.kind.Kind.{Kind}
 use Rattle.hcl_token.specs.declared.kind.Kind.TheVariants.{Mark, LineEnd, LineComment, QuoteLit, HereLit}
 use Rattle.hcl_token.specs.TokenizedText.{TokenizedText, kind_of, item_of, item_after}
@@ -263,7 +263,7 @@ items_more (q ∷ ps) p at =
     let next : ℕ = at + length q.gap + length q.spelling in
     let far : next + length (whole_text ps []) ≡ at + length (whole_text (q ∷ ps) []) =
     omega (arith, length-append q.gap (q.spelling ++ whole_text ps []), length-append q.spelling (whole_text ps [])) in
-    ap (λ (x : List Token). record { start = at + length q.gap; stop = next; kind = q.kind } ∷ x)
+    ap (λ (x : List Span). record { start = at + length q.gap; stop = next; kind = q.kind } ∷ x)
     (items_more ps p next ∙ ap (λ n. tokens_at next ps ++ tokens_at n (p ∷ [])) far)
 
 range_at : (text a b rest : List ℕ) (at : ℕ) → drop at text ≡ a ++ (b ++ rest) → slice_range text (at + length a) (at + length a + length b) ≡ b
@@ -275,7 +275,7 @@ range_at text a b rest at e =
 same_pair : (p : Pair) (gap spelling : List ℕ) → gap ≡ p.gap → spelling ≡ p.spelling → ◌≡◌ {A = Pair} (record { gap = gap; kind = p.kind; spelling = spelling }) p
 same_pair p gap spelling e f = ap₂ (λ (x y : List ℕ). record { gap = x; kind = p.kind; spelling = y }) e f
 
--- pairs that stand in a text are those of their items
+-- pairs that stand in a text are those of their tokens
 pub pairs_again : (ps : List Pair) (text : List ℕ) (at : ℕ) (rest : List ℕ) → drop at text ≡ whole_text ps rest → pairs_from text at (tokens_at at ps) ≡ ps
 pairs_again [] text at rest e = refl
 pairs_again (p ∷ ps) text at rest e =
@@ -301,31 +301,31 @@ order_again (p ∷ ps) at =
     omega (arith, length-append p.gap (p.spelling ++ whole_text ps []), length-append p.spelling (whole_text ps [])) in
     (omega arith, omega arith, subst (λ n. InOrder next (tokens_at next ps) n) far (order_again ps next))
 
-order_both : (xs ys : List Token) (from at to : ℕ) → InOrder from xs at → InOrder at ys to → InOrder from (xs ++ ys) to
+order_both : (xs ys : List Span) (from at to : ℕ) → InOrder from xs at → InOrder at ys to → InOrder from (xs ++ ys) to
 order_both [] ys from at to a b = subst (λ n. InOrder n ys to) (sym a) b
 order_both (x ∷ xs) ys from at to a b = (a.0, a.1, order_both xs ys x.stop at to a.2 b)
 
 -- tokens behind others begin where these end
-pairs_both : (text : List ℕ) (xs ys : List Token) (from at : ℕ) → InOrder from xs at → pairs_from text from (xs ++ ys) ≡ pairs_from text from xs ++ pairs_from text at ys
+pairs_both : (text : List ℕ) (xs ys : List Span) (from at : ℕ) → InOrder from xs at → pairs_from text from (xs ++ ys) ≡ pairs_from text from xs ++ pairs_from text at ys
 pairs_both text [] ys from at a = ap (λ n. pairs_from text n ys) a
 pairs_both text (x ∷ xs) ys from at a = ap (λ (ps : List Pair). pair_at text from x ∷ ps) (pairs_both text xs ys x.stop at a.2)
 
 -- what pairs that stand behind the text begun do to it
-record Grown (text : List ℕ) (items : List Token) (at : ℕ) (ps : List Pair) (rest : List ℕ) : Type 0 where
-  pairs : pairs_of text (items ++ tokens_at at ps) ≡ pairs_of text items ++ ps
-  text_is : text ≡ whole_text (pairs_of text (items ++ tokens_at at ps)) rest
-  order : InOrder 0 (items ++ tokens_at at ps) (at + length (whole_text ps []))
+record Grown (text : List ℕ) (tokens : List Span) (at : ℕ) (ps : List Pair) (rest : List ℕ) : Type 0 where
+  pairs : pairs_of text (tokens ++ tokens_at at ps) ≡ pairs_of text tokens ++ ps
+  text_is : text ≡ whole_text (pairs_of text (tokens ++ tokens_at at ps)) rest
+  order : InOrder 0 (tokens ++ tokens_at at ps) (at + length (whole_text ps []))
   rest_is : drop (at + length (whole_text ps [])) text ≡ rest
   within : at + length (whole_text ps []) + length rest ≡ length text
 
-rescanned_after : (text : List ℕ) (items : List Token) (at : ℕ) (ps : List Pair) (rest : List ℕ) → IsRescannedTo text items at → drop at text ≡ whole_text ps rest → Grown text items at ps rest
-rescanned_after text items at ps rest b e =
-    let pairs : pairs_of text (items ++ tokens_at at ps) ≡ pairs_of text items ++ ps =
-    pairs_both text items (tokens_at at ps) 0 at b.order ∙ ap (λ (x : List Pair). pairs_of text items ++ x) (pairs_again ps text at rest e) in
+rescanned_after : (text : List ℕ) (tokens : List Span) (at : ℕ) (ps : List Pair) (rest : List ℕ) → IsRescannedTo text tokens at → drop at text ≡ whole_text ps rest → Grown text tokens at ps rest
+rescanned_after text tokens at ps rest b e =
+    let pairs : pairs_of text (tokens ++ tokens_at at ps) ≡ pairs_of text tokens ++ ps =
+    pairs_both text tokens (tokens_at at ps) 0 at b.order ∙ ap (λ (x : List Pair). pairs_of text tokens ++ x) (pairs_again ps text at rest e) in
     record {
       pairs = pairs;
-      text_is = b.text_is ∙ ap (whole_text (pairs_of text items)) e ∙ sym (whole_both (pairs_of text items) ps rest) ∙ ap (λ (x : List Pair). whole_text x rest) (sym pairs);
-      order = order_both items (tokens_at at ps) 0 at (at + length (whole_text ps [])) b.order (order_again ps at);
+      text_is = b.text_is ∙ ap (whole_text (pairs_of text tokens)) e ∙ sym (whole_both (pairs_of text tokens) ps rest) ∙ ap (λ (x : List Pair). whole_text x rest) (sym pairs);
+      order = order_both tokens (tokens_at at ps) 0 at (at + length (whole_text ps [])) b.order (order_again ps at);
       rest_is =
           sym (drop-drop (length (whole_text ps [])) at text)
           ∙ ap (drop (length (whole_text ps []))) (e ∙ whole_rest ps rest)
@@ -334,30 +334,30 @@ rescanned_after text items at ps rest b e =
     }
 
 -- the text begun, with lines more
-pub rescanned_more : (text : List ℕ) (items : List Token) (at : ℕ) (ps : List Pair) (rest : List ℕ) → IsRescannedTo text items at → AreWholeLines ps → drop at text ≡ whole_text ps rest → IsRescannedTo text (items ++ tokens_at at ps) (at + length (whole_text ps []))
-rescanned_more text items at ps rest b lines e =
-    let more : Grown text items at ps rest = rescanned_after text items at ps rest b e in
+pub rescanned_more : (text : List ℕ) (tokens : List Span) (at : ℕ) (ps : List Pair) (rest : List ℕ) → IsRescannedTo text tokens at → AreWholeLines ps → drop at text ≡ whole_text ps rest → IsRescannedTo text (tokens ++ tokens_at at ps) (at + length (whole_text ps []))
+rescanned_more text tokens at ps rest b lines e =
+    let more : Grown text tokens at ps rest = rescanned_after text tokens at ps rest b e in
     record {
       within = omega (arith, more.within);
-      lines = subst AreWholeLines (sym more.pairs) (lines_both (pairs_of text items) ps b.lines lines);
-      text_is = more.text_is ∙ ap (whole_text (pairs_of text (items ++ tokens_at at ps))) (sym more.rest_is);
+      lines = subst AreWholeLines (sym more.pairs) (lines_both (pairs_of text tokens) ps b.lines lines);
+      text_is = more.text_is ∙ ap (whole_text (pairs_of text (tokens ++ tokens_at at ps))) (sym more.rest_is);
       order = more.order;
     }
 
 -- the text begun, with its last tokens
-pub rescanned_last : (text : List ℕ) (items : List Token) (at : ℕ) (ps : List Pair) (last : List ℕ) → length text ≤ MAX_TEXT → IsRescannedTo text items at → AreSelfContained ps last → list_all is_whitespace last ≡ true → drop at text ≡ whole_text ps last
-    → IsRescanned text (items ++ tokens_at at ps) (length text - length last)
-rescanned_last text items at ps last short b rest blank e =
-    let new : List Pair = pairs_of text (items ++ tokens_at at ps) in
-    let more : Grown text items at ps last = rescanned_after text items at ps last b e in
+pub rescanned_last : (text : List ℕ) (tokens : List Span) (at : ℕ) (ps : List Pair) (last : List ℕ) → length text ≤ MAX_TEXT → IsRescannedTo text tokens at → AreSelfContained ps last → list_all is_whitespace last ≡ true → drop at text ≡ whole_text ps last
+    → IsRescanned text (tokens ++ tokens_at at ps) (length text - length last)
+rescanned_last text tokens at ps last short b rest blank e =
+    let new : List Pair = pairs_of text (tokens ++ tokens_at at ps) in
+    let more : Grown text tokens at ps last = rescanned_after text tokens at ps last b e in
     let end : at + length (whole_text ps []) ≡ length text - length last = omega (arith, more.within) in
     let is_last : drop (length text - length last) text ≡ last = ap (λ n. drop n text) (sym end) ∙ more.rest_is in
-    let are : AreSelfContained new last = subst (λ (x : List Pair). AreSelfContained x last) (sym more.pairs) (last_both (pairs_of text items) ps last b.lines rest) in
+    let are : AreSelfContained new last = subst (λ (x : List Pair). AreSelfContained x last) (sym more.pairs) (last_both (pairs_of text tokens) ps last b.lines rest) in
     let follows : Follows new last [] = record { body = new; prefix = inl refl; follows = are.follow; whitespace = blank } in
     let cut : IsTokenization (whole_text new last) new last = writes_back new last follows are.apart (subst (λ (x : List ℕ). length x ≤ MAX_TEXT) more.text_is short) in
     record {
       tokenization = subst (λ (x : List ℕ). IsTokenization text new x) (sym is_last) (subst (λ (x : List ℕ). IsTokenization x new last) (sym more.text_is) cut);
-      order = subst (λ n. InOrder 0 (items ++ tokens_at at ps) n) end more.order;
+      order = subst (λ n. InOrder 0 (tokens ++ tokens_at at ps) n) end more.order;
       within = omega arith;
     }
 
@@ -456,16 +456,16 @@ moved_fits cut from at i end to item f le inside within e fits =
     ∙ length_both (slice_range ps from (i + 1)) (slice_range ps (i + 1) end) in
     omega (arith, front, known.start, some, here, all, length_one p, fits)
 
-same_token : (token : Token) (start stop : ℕ) (kind : Kind) → token.start ≡ start → token.stop ≡ stop → token.kind ≡ kind
-    → ◌≡◌ {A = Token} token (record { start = start; stop = stop; kind = kind })
+same_token : (token : Span) (start stop : ℕ) (kind : Kind) → token.start ≡ start → token.stop ≡ stop → token.kind ≡ kind
+    → ◌≡◌ {A = Span} token (record { start = start; stop = stop; kind = kind })
 same_token token start stop kind e f g =
-    let with_start : ℕ → Token = λ n. record { start = n; stop = token.stop; kind = token.kind } in
-    let with_stop : ℕ → Token = λ n. record { start = start; stop = n; kind = token.kind } in
-    let with_kind : Kind → Token = λ k. record { start = start; stop = stop; kind = k } in
+    let with_start : ℕ → Span = λ n. record { start = n; stop = token.stop; kind = token.kind } in
+    let with_stop : ℕ → Span = λ n. record { start = start; stop = n; kind = token.kind } in
+    let with_kind : Kind → Span = λ k. record { start = start; stop = stop; kind = k } in
     ap with_start e ∙ ap with_stop f ∙ ap with_kind g
 
 -- one item more of the stretch, as it stands from another place on
-pub moved_more : (cut : TokenizedText) (from at i to : ℕ) (item : Item) (other : Token) → IsLineStart cut from at → from ≤ i → i < length cut.pairs → Some item ≡ item_of cut.pairs i
+pub moved_more : (cut : TokenizedText) (from at i to : ℕ) (item : Item) (other : Span) → IsLineStart cut from at → from ≤ i → i < length cut.pairs → Some item ≡ item_of cut.pairs i
     → other.start ≡ to + (item.start - at) → other.stop ≡ to + (item.stop - at) → other.kind ≡ item.kind
     → tokens_at to (slice_range cut.pairs from (i + 1)) ≡ tokens_at to (slice_range cut.pairs from i) ++ other ∷ []
 moved_more cut from at i to item other f le within e start stop kind =
@@ -480,7 +480,7 @@ moved_more cut from at i to item other f le within e start stop kind =
     (omega (arith, start, front, known.start)) (omega (arith, stop, front, known.stop)) (kind ∙ known.kind) in
     ap (tokens_at to) (range_more cut.pairs from i p le there.1)
     ∙ items_more before p to
-    ∙ ap (λ (x : Token). tokens_at to before ++ x ∷ []) (sym is)
+    ∙ ap (λ (x : Span). tokens_at to before ++ x ∷ []) (sym is)
 
 -- ---- from token to token
 
@@ -501,16 +501,16 @@ line_start_at_line_end cut from at i kind item f le within is end is_item none =
 -- ---- lines taken over
 
 -- lines of the one text whose bytes stand in the other behind what is begun
-pub taken : (text : List ℕ) (items new : List Token) (at : ℕ) (cut : TokenizedText) (from front to end : ℕ) (bytes : List ℕ) → IsRescannedTo text items at → IsLineRange cut.pairs from to → RangeText cut from front to end
-    → bytes ≡ slice_range cut.text front end → drop at text ≡ bytes ++ drop (at + length bytes) text → new ≡ items ++ tokens_at at (slice_range cut.pairs from to) → IsRescannedTo text new (at + length bytes)
-taken text items new at cut from front to end bytes b s t e stands is =
+pub taken : (text : List ℕ) (tokens new : List Span) (at : ℕ) (cut : TokenizedText) (from front to end : ℕ) (bytes : List ℕ) → IsRescannedTo text tokens at → IsLineRange cut.pairs from to → RangeText cut from front to end
+    → bytes ≡ slice_range cut.text front end → drop at text ≡ bytes ++ drop (at + length bytes) text → new ≡ tokens ++ tokens_at at (slice_range cut.pairs from to) → IsRescannedTo text new (at + length bytes)
+taken text tokens new at cut from front to end bytes b s t e stands is =
     let lines : List Pair = slice_range cut.pairs from to in
     let rest : List ℕ = drop (at + length bytes) text in
     let same : bytes ≡ whole_text lines [] = e ∙ t.bytes in
     let whole : drop at text ≡ whole_text lines rest = stands ∙ ap (λ (x : List ℕ). x ++ rest) same ∙ sym (whole_rest lines rest) in
     let size : length bytes ≡ length (whole_text lines []) = ap length same in
-    let more : IsRescannedTo text (items ++ tokens_at at lines) (at + length (whole_text lines [])) = rescanned_more text items at lines rest b s.lines whole in
-    subst (λ (x : List Token). IsRescannedTo text x (at + length bytes)) (sym is) (subst (λ n. IsRescannedTo text (items ++ tokens_at at lines) (at + n)) (sym size) more)
+    let more : IsRescannedTo text (tokens ++ tokens_at at lines) (at + length (whole_text lines [])) = rescanned_more text tokens at lines rest b s.lines whole in
+    subst (λ (x : List Span). IsRescannedTo text x (at + length bytes)) (sym is) (subst (λ n. IsRescannedTo text (tokens ++ tokens_at at lines) (at + n)) (sym size) more)
 
 -- and they fit there
 pub lines_fit : (text bytes : List ℕ) (at : ℕ) (cut : TokenizedText) (from front to end : ℕ) → RangeText cut from front to end → bytes ≡ slice_range cut.text front end
@@ -531,9 +531,9 @@ part_fits text piece at to cut c e le within short =
     omega (arith, size, all, ap length c.tokenizes.text_is, joining_rest cut.pairs cut.last)
 
 -- lines that were cut by themselves
-pub lines_scanned : (text piece : List ℕ) (items new : List Token) (at len : ℕ) (cut : TokenizedText) → IsRescannedTo text items at → at + len ≤ length text → piece ≡ slice_range text at (at + len) → IsTokenization piece cut.pairs cut.last → AreSelfContained cut.pairs cut.last
-    → EndsWithLineEnd cut.pairs → cut.last ≡ [] → new ≡ items ++ tokens_at at (slice_range cut.pairs 0 (length cut.pairs)) → IsRescannedTo text new (at + len)
-lines_scanned text piece items new at len cut b within e c last ended none is =
+pub lines_scanned : (text piece : List ℕ) (tokens new : List Span) (at len : ℕ) (cut : TokenizedText) → IsRescannedTo text tokens at → at + len ≤ length text → piece ≡ slice_range text at (at + len) → IsTokenization piece cut.pairs cut.last → AreSelfContained cut.pairs cut.last
+    → EndsWithLineEnd cut.pairs → cut.last ≡ [] → new ≡ tokens ++ tokens_at at (slice_range cut.pairs 0 (length cut.pairs)) → IsRescannedTo text new (at + len)
+lines_scanned text piece tokens new at len cut b within e c last ended none is =
     let ps : List Pair = cut.pairs in
     let rest : List ℕ = drop (at + len) text in
     let lines : AreWholeLines ps = record { follow = subst (λ (x : List ℕ). FollowsFrom [] ps x []) none last.follow; ended = ended; apart = last.apart } in
@@ -541,19 +541,19 @@ lines_scanned text piece items new at len cut b within e c last ended none is =
     let whole : drop at text ≡ whole_text ps rest = drop_split text at (at + len) (omega arith) ∙ ap (λ (x : List ℕ). x ++ rest) (sym bytes) ∙ sym (whole_rest ps rest) in
     let width : at + len - at ≡ len = omega arith in
     let size : length (whole_text ps []) ≡ len = ap length bytes ∙ length-take-le (at + len - at) (drop at text) (omega (arith, length-drop {A = ℕ} at text)) ∙ width in
-    let more : IsRescannedTo text (items ++ tokens_at at ps) (at + length (whole_text ps [])) = rescanned_more text items at ps rest b lines whole in
-    let same : new ≡ items ++ tokens_at at ps = is ∙ ap (λ (x : List Pair). items ++ tokens_at at x) (all_range ps) in
-    subst (λ (x : List Token). IsRescannedTo text x (at + len)) (sym same) (subst (λ n. IsRescannedTo text (items ++ tokens_at at ps) (at + n)) size more)
+    let more : IsRescannedTo text (tokens ++ tokens_at at ps) (at + length (whole_text ps [])) = rescanned_more text tokens at ps rest b lines whole in
+    let same : new ≡ tokens ++ tokens_at at ps = is ∙ ap (λ (x : List Pair). tokens ++ tokens_at at x) (all_range ps) in
+    subst (λ (x : List Span). IsRescannedTo text x (at + len)) (sym same) (subst (λ n. IsRescannedTo text (tokens ++ tokens_at at ps) (at + n)) size more)
 
 -- what is left, cut by itself
-pub rest_scanned : (text piece : List ℕ) (items new : List Token) (at : ℕ) (cut : TokenizedText) → length text ≤ MAX_TEXT → IsRescannedTo text items at → piece ≡ slice_range text at (length text) → IsTokenization piece cut.pairs cut.last → AreSelfContained cut.pairs cut.last
-    → new ≡ items ++ tokens_at at (slice_range cut.pairs 0 (length cut.pairs)) → IsRescanned text new (length text - length cut.last)
-rest_scanned text piece items new at cut short b e c last is =
+pub rest_scanned : (text piece : List ℕ) (tokens new : List Span) (at : ℕ) (cut : TokenizedText) → length text ≤ MAX_TEXT → IsRescannedTo text tokens at → piece ≡ slice_range text at (length text) → IsTokenization piece cut.pairs cut.last → AreSelfContained cut.pairs cut.last
+    → new ≡ tokens ++ tokens_at at (slice_range cut.pairs 0 (length cut.pairs)) → IsRescanned text new (length text - length cut.last)
+rest_scanned text piece tokens new at cut short b e c last is =
     let ps : List Pair = cut.pairs in
     let all : slice_range text at (length text) ≡ drop at text = take_all (length text - at) (drop at text) (omega (arith, length-drop {A = ℕ} at text)) in
     let whole : drop at text ≡ whole_text ps cut.last = sym all ∙ sym e ∙ c.tokenizes.text_is in
-    let same : new ≡ items ++ tokens_at at ps = is ∙ ap (λ (x : List Pair). items ++ tokens_at at x) (all_range ps) in
-    subst (λ (x : List Token). IsRescanned text x (length text - length cut.last)) (sym same) (rescanned_last text items at ps cut.last short b last c.whitespace whole)
+    let same : new ≡ tokens ++ tokens_at at ps = is ∙ ap (λ (x : List Pair). tokens ++ tokens_at at x) (all_range ps) in
+    subst (λ (x : List Span). IsRescanned text x (length text - length cut.last)) (sym same) (rescanned_last text tokens at ps cut.last short b last c.whitespace whole)
 
 -- ---- tokens that don't join
 

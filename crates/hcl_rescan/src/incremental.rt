@@ -1,25 +1,24 @@
-//! The cut of a text that came from one that was cut: lines that stayed are not cut again.
+//! The tokens of an edited text, by those of the text before the edit: lines that did not change
+//! are not scanned again.
 //!
-//! A line here is a stretch of tokens up to a line end behind which no opening is open. Its tokens
-//! don't depend on what stands before and behind it, so where its bytes stand in the new text at
-//! the front of a line, so do its tokens. The rest is cut as texts of their own, each a number of
-//! lines.
+//! A line here is the tokens up to a line end after which no opening is open. They don't depend on
+//! what precedes and follows the line, so if its bytes are in the new text at the start of a line,
+//! they have the same tokens there. The other lines are scanned as texts of their own.
 
-ghost use Rattle.std.specs.Prelude.{◌≡◌, ◌<◌, ◌≤◌, ◌+◌, ◌-◌, ◌^◌, ◌++◌, ◌∷◌, ℕ, true, false, Some, [], length, drop, slice_get, slice_range, IsTrue, IsUtf8, OnOk, IfOk, IfErr, ◌⊎◌};
+ghost use Rattle.std.specs.Prelude.{◌≡◌, ◌<◌, ◌≤◌, ◌+◌, ◌-◌, ◌^◌, ◌++◌, ◌∷◌, ℕ, true, false, Some, [], length, drop, slice_get, slice_range, IsTrue, OnOk, IfOk};
 ghost use Rattle.hcl_token.specs.declared.kind.Kind.TheVariants.{LineEnd};
 ghost use Rattle.hcl_token.specs.Tokens.{Pair, whole_text};
 ghost use Rattle.hcl_token.specs.Pairs.{InOrder, pairs_of};
 ghost use Rattle.hcl_scan.specs.Tokenization.{IsTokenization, MAX_TEXT};
-ghost use Rattle.hcl_scan.specs.Fault.{IsFault};
+ghost use Rattle.hcl_scan.specs.ScanResult.{IsScanFault, IsScanResult};
 ghost use Rattle.hcl_scan.specs.Follows.{AreApart, FollowsFrom, IsApart};
 ghost use Rattle.hcl_rescan.specs.Inner.WholeLines.{AreSelfContained, EndsWithLineEnd, IsRescannedTo, IsLineStart, IsLineRange, IsRescanned, depth_after, tokens_at};
-ghost use Rattle.hcl_scan.specs.declared.fault.ScanFault.TheVariants.{Memory};
 
-use hcl_scan::{Item, Kind, MAX_TEXT, ScanFault, Scanned, Token, scan_in};
+use hcl_scan::{Item, Kind, MAX_TEXT, ScanFault, Scanned, Span, scan_in};
 use std::alloc::{AllocError, Global};
 
-/// Bytes of an old text in the place of which others stand in the new one: where they begin in the
-/// old text, in bytes from 0, how many they are, and how many the others are.
+/// Bytes of an old text that were replaced: where they begin in the old text, in bytes from 0, how
+/// many they were, and how many are in their place in the new text.
 #[derive(Clone, Copy, Debug, PartialEq, Eq)]
 pub struct ReplacedRange {
     pub at: u32,
@@ -27,12 +26,12 @@ pub struct ReplacedRange {
     pub added: u32,
 }
 
-/// Why a text is not cut from the cut of an old one.
+/// Why the tokens of a text are not found by those of an old one.
 #[derive(Clone, Copy)]
 enum RescanFault {
-    /// A growth was refused.
+    /// An allocation failed.
     Memory,
-    /// The text is not made of old lines and of lines that are cut by themselves.
+    /// The text does not consist of old lines and of lines that can be scanned by themselves.
     Mismatch,
 }
 
@@ -49,7 +48,7 @@ struct LineStart {
     at: usize,
 }
 
-/// The bytes between two places.
+/// Returns the bytes between two places.
 fn slice(text: &[u8], from: usize, to: usize) -> &[u8]
     requires ordered { from ≤ to }
     requires within { to ≤ length text.now }
@@ -65,7 +64,7 @@ fn is_line_end(kind: Kind) -> bool
     matches!(kind, Kind::LineEnd)
 }
 
-/// Whether the byte order mark is a text's first token.
+/// Whether a text's first token is a byte order mark.
 fn has_mark(scanned: &Scanned<'_>) -> bool
     ensures { result ≡ false → FollowsFrom [] scanned.now.pairs scanned.now.last [] }
 {
@@ -74,8 +73,8 @@ fn has_mark(scanned: &Scanned<'_>) -> bool
     count > 0 && matches!(scanned.kind(0), Kind::Mark)
 }
 
-/// How many openings are open behind a token of the kind, of so many before it. A brace opens
-/// something in a template alone.
+/// Returns how many openings are open after a token of the kind, if `depth` are before it. A brace
+/// opens something in a template alone.
 fn depth_after(kind: Kind, depth: usize) -> usize
     requires { depth + 1 < 2 ^ 64 }
     ensures value { result ≡ depth_after kind depth }
@@ -91,7 +90,7 @@ fn depth_after(kind: Kind, depth: usize) -> usize
     }
 }
 
-/// Whether a token ends a line, where so many openings are open.
+/// Whether a token ends a line, if `depth` openings are open.
 fn ends_top_level_line(kind: Kind, depth: usize) -> bool
     ensures kind { result ≡ true → kind ≡ LineEnd }
     ensures none { result ≡ true → depth ≡ 0 }
@@ -99,8 +98,7 @@ fn ends_top_level_line(kind: Kind, depth: usize) -> bool
     is_line_end(kind) && depth == 0
 }
 
-/// The last place at most so far from the front of the text, and behind whole lines, where a line
-/// begins.
+/// Returns the last start of a line at or before byte `limit`, of whole lines from `from` on.
 fn last_line_start(old: &Scanned<'_>, from: LineStart, limit: usize) -> LineStart
     requires { IsLineStart old.now from.index from.at }
     ensures line_start { IsLineStart old.now result.index result.at }
@@ -123,8 +121,8 @@ fn last_line_start(old: &Scanned<'_>, from: LineStart, limit: usize) -> LineStar
     to
 }
 
-/// The first place behind a line of the old text that comes further than so far from its front;
-/// unfit where there is none.
+/// Returns the first start of a line after byte `limit` of the old text, from `from` on; `Mismatch`
+/// if there is none.
 fn next_line_start(
     old: &Scanned<'_>,
     from: LineStart,
@@ -151,8 +149,8 @@ fn next_line_start(
     Err(RescanFault::Mismatch)
 }
 
-/// A token as it stands where the bytes from one place on stand from another on.
-fn relocate(item: Item, from: usize, to: usize) -> Token
+/// Returns a token as it is if the bytes from place `from` on move to place `to`.
+fn relocate(item: Item, from: usize, to: usize) -> Span
     requires start { from ≤ item.start }
     requires stop { item.start ≤ item.stop }
     requires from { from ≤ MAX_TEXT }
@@ -164,12 +162,12 @@ fn relocate(item: Item, from: usize, to: usize) -> Token
 {
     let from = from as u32;
     let to = to as u32;
-    Token::new(to + (item.start - from), to + (item.stop - from), item.kind)
+    Span::new(to + (item.start - from), to + (item.stop - from), item.kind)
 }
 
-/// Adds the items of tokens of a text as they stand in another one from a place on.
+/// Adds tokens of a text, with their places in another one, where they begin at byte `at`.
 fn push_relocated(
-    items: &mut Vec<Token>,
+    tokens: &mut Vec<Span>,
     at: usize,
     old: &Scanned<'_>,
     from: LineStart,
@@ -180,24 +178,24 @@ fn push_relocated(
     requires within { to ≤ length old.now.pairs }
     requires fits { at + length (whole_text (slice_range old.now.pairs from.index to) [])
         ≤ MAX_TEXT }
-    ensures { OnOk result (items.new.items
-        ≡ items.old.items ++ tokens_at at (slice_range old.now.pairs from.index to)) }
+    ensures { OnOk result (tokens.new.items
+        ≡ tokens.old.items ++ tokens_at at (slice_range old.now.pairs from.index to)) }
 {
     let _text = old.text();
     for i in from.index..to {
-        items.push(relocate(old.item(i), from.at, at))?;
+        tokens.push(relocate(old.item(i), from.at, at))?;
     }
     Ok(())
 }
 
-/// Whether two pieces of text are one.
+/// Whether two pieces of text are equal.
 fn same_bytes(a: &[u8], b: &[u8]) -> bool
     ensures { result ≡ true → a.now ≡ b.now }
 {
     a == b
 }
 
-/// Whether the bytes stand in a text at a place.
+/// Whether a text has the bytes at a place.
 fn has_bytes_at(text: &[u8], at: usize, bytes: &[u8]) -> bool
     requires { at ≤ length text.now }
     ensures { result ≡ true
@@ -209,32 +207,32 @@ fn has_bytes_at(text: &[u8], at: usize, bytes: &[u8]) -> bool
     same_bytes(slice(text, at, at + bytes.len()), bytes)
 }
 
-/// Adds the items of whole lines of the old text, if their bytes stand in the new one behind what
-/// is done, and answers how far that comes.
+/// Adds the tokens of whole lines of the old text, if the new one has their bytes at byte `at`, and
+/// returns where they end.
 fn reuse_lines(
     text: &[u8],
-    items: &mut Vec<Token>,
+    tokens: &mut Vec<Span>,
     at: usize,
     old: &Scanned<'_>,
     from: LineStart,
     to: LineStart,
 ) -> Result<usize, RescanFault>
-    requires rescanned { IsRescannedTo text.now items.old.items at }
+    requires rescanned { IsRescannedTo text.now tokens.old.items at }
     requires short { length text.now ≤ MAX_TEXT }
     requires line_start { IsLineStart old.now from.index from.at }
     requires end_line_start { IsLineStart old.now to.index to.at }
     requires lines { IsLineRange old.now.pairs from.index to.index }
-    ensures { IfOk result (λ end. IsRescannedTo text.now items.new.items end) }
+    ensures { IfOk result (λ end. IsRescannedTo text.now tokens.new.items end) }
 {
     let bytes = slice(old.text(), from.at, to.at);
     if !has_bytes_at(text, at, bytes) {
         return Err(RescanFault::Mismatch);
     }
-    push_relocated(items, at, old, from, to.index)?;
+    push_relocated(tokens, at, old, from, to.index)?;
     Ok(at + bytes.len())
 }
 
-/// Whether a token touches the one before it and joins with it.
+/// Whether a token follows the one before it after an empty gap and joins with it.
 fn joins_previous(scanned: &Scanned<'_>, i: usize) -> bool
     requires first { 0 < i }
     requires within { i < length scanned.now.pairs }
@@ -244,7 +242,7 @@ fn joins_previous(scanned: &Scanned<'_>, i: usize) -> bool
     scanned.gap(i).is_empty() && scanned.joins(i - 1, i)
 }
 
-/// Whether no token joins with one that it touches.
+/// Whether no gap between two tokens that join is empty.
 fn are_apart(scanned: &Scanned<'_>) -> bool
     ensures { result ≡ true → AreApart scanned.now.pairs }
 {
@@ -256,7 +254,7 @@ fn are_apart(scanned: &Scanned<'_>) -> bool
     true
 }
 
-/// Whether a text that was cut by itself is cut so behind whole lines too.
+/// Whether a text that was scanned by itself has the same tokens after whole lines.
 fn can_follow_lines(scanned: &Scanned<'_>) -> bool
     ensures { result ≡ true → AreSelfContained scanned.now.pairs scanned.now.last }
 {
@@ -275,10 +273,10 @@ fn ends_with_line_end(scanned: &Scanned<'_>) -> bool
     is_line_end(scanned.kind(count - 1)) && scanned.last_gap().is_empty()
 }
 
-/// The cut of a text by itself; unfit where it has none.
+/// Returns the tokens of a text by itself; `Mismatch` if it has none.
 fn scan_part<'t>(
     alloc: Global,
-    buffer: Vec<Token>,
+    buffer: Vec<Span>,
     text: &'t [u8],
 ) -> Result<Scanned<'t>, RescanFault>
     ensures text { IfOk result (λ s. s.text ≡ text.now) }
@@ -291,18 +289,18 @@ fn scan_part<'t>(
     }
 }
 
-/// Adds the items of so many bytes, if they are whole lines, and gives back the room for their cut.
+/// Adds the tokens of `len` bytes, if they are whole lines, and returns the buffer that they took.
 fn scan_lines(
     alloc: Global,
     text: &[u8],
-    items: &mut Vec<Token>,
+    tokens: &mut Vec<Span>,
     at: usize,
     len: usize,
-    scratch: Vec<Token>,
-) -> Result<Vec<Token>, RescanFault>
-    requires rescanned { IsRescannedTo text.now items.old.items at }
+    scratch: Vec<Span>,
+) -> Result<Vec<Span>, RescanFault>
+    requires rescanned { IsRescannedTo text.now tokens.old.items at }
     requires short { length text.now ≤ MAX_TEXT }
-    ensures { IfOk result (λ scratch. IsRescannedTo text.now items.new.items (at + len)) }
+    ensures { IfOk result (λ scratch. IsRescannedTo text.now tokens.new.items (at + len)) }
 {
     if len > text.len() - at {
         return Err(RescanFault::Mismatch);
@@ -312,7 +310,7 @@ fn scan_lines(
         return Err(RescanFault::Mismatch);
     }
     push_relocated(
-        items,
+        tokens,
         at,
         &lines,
         LineStart { index: 0, at: 0 },
@@ -321,36 +319,35 @@ fn scan_lines(
     Ok(lines.into_buffer())
 }
 
-/// Adds the items of what is left of a text, and answers where its last gap begins.
+/// Adds the tokens of the rest of a text, and returns where its last gap begins.
 fn scan_rest(
     alloc: Global,
     text: &[u8],
-    items: &mut Vec<Token>,
+    tokens: &mut Vec<Span>,
     at: usize,
-    scratch: Vec<Token>,
+    scratch: Vec<Span>,
 ) -> Result<usize, RescanFault>
-    requires rescanned { IsRescannedTo text.now items.old.items at }
+    requires rescanned { IsRescannedTo text.now tokens.old.items at }
     requires short { length text.now ≤ MAX_TEXT }
-    ensures { IfOk result (λ last_gap_at. IsRescanned text.now items.new.items last_gap_at) }
+    ensures { IfOk result (λ last_gap_at. IsRescanned text.now tokens.new.items last_gap_at) }
 {
     let rest = scan_part(alloc, scratch, slice(text, at, text.len()))?;
     if !can_follow_lines(&rest) {
         return Err(RescanFault::Mismatch);
     }
-    push_relocated(items, at, &rest, LineStart { index: 0, at: 0 }, rest.len())?;
+    push_relocated(tokens, at, &rest, LineStart { index: 0, at: 0 }, rest.len())?;
     Ok(text.len() - rest.last_gap().len())
 }
 
-/// Lines of the old text in which bytes are replaced: where the next line begins that stays, how
-/// many bytes stand in their place in the new text, and how many pieces were replaced up to there.
+/// Lines of the old text in which bytes are replaced: where the next unchanged line begins, how
+/// many bytes the new text has in their place, and how many pieces were replaced up to there.
 struct ChangedLines {
     to: LineStart,
     len: usize,
     count: usize,
 }
 
-/// The lines from this one on in which the pieces with this number and those behind it are
-/// replaced.
+/// Returns the lines from `from` on in which piece `first` and those after it are replaced.
 fn changed_lines(
     old: &Scanned<'_>,
     from: LineStart,
@@ -378,31 +375,31 @@ fn changed_lines(
     Ok(ChangedLines { to, len, count })
 }
 
-/// How far a new text is done: so many of its bytes, up to a line of the old one.
+/// The first `at` bytes of a new text are scanned, up to a line of the old one.
 #[derive(Clone, Copy)]
 struct Progress {
     line_start: LineStart,
     at: usize,
 }
 
-/// Adds the items of the lines up to those in which bytes are replaced, or up to the last.
+/// Adds the tokens of the unchanged lines up to byte `limit` of the old text.
 fn reuse_unchanged(
     text: &[u8],
-    items: &mut Vec<Token>,
+    tokens: &mut Vec<Span>,
     old: &Scanned<'_>,
     progress: Progress,
     limit: usize,
 ) -> Result<Progress, RescanFault>
-    requires rescanned { IsRescannedTo text.now items.old.items progress.at }
+    requires rescanned { IsRescannedTo text.now tokens.old.items progress.at }
     requires short { length text.now ≤ MAX_TEXT }
     requires line_start { IsLineStart old.now progress.line_start.index progress.line_start.at }
-    ensures { IfOk result (λ progress. IsRescannedTo text.now items.new.items progress.at
+    ensures { IfOk result (λ progress. IsRescannedTo text.now tokens.new.items progress.at
         × IsLineStart old.now progress.line_start.index progress.line_start.at) }
 {
     let line_start = last_line_start(old, progress.line_start, limit);
     let at = reuse_lines(
         text,
-        items,
+        tokens,
         progress.at,
         old,
         progress.line_start,
@@ -411,24 +408,24 @@ fn reuse_unchanged(
     Ok(Progress { line_start, at })
 }
 
-/// The items of a text that came from one that was cut, and where its last gap begins; unfit where
-/// more was changed than the replaced pieces say, or what was changed is not cut by itself.
+/// Returns the tokens of an edited text, and where its last gap begins; `Mismatch` if more was
+/// changed than the replaced pieces say, or if what was changed can't be scanned by itself.
 fn rescan_tokens(
     alloc: Global,
     text: &[u8],
     old: &Scanned<'_>,
     replaced: &[ReplacedRange],
-    items: &mut Vec<Token>,
+    tokens: &mut Vec<Span>,
 ) -> Result<usize, RescanFault>
     requires apart { AreApart old.now.pairs }
     requires short { length text.now ≤ MAX_TEXT }
-    ensures { IfOk result (λ last_gap_at. IsRescanned text.now items.new.items last_gap_at) }
+    ensures { IfOk result (λ last_gap_at. IsRescanned text.now tokens.new.items last_gap_at) }
 {
-    items.clear();
+    tokens.clear();
     if has_mark(old) {
         return Err(RescanFault::Mismatch);
     }
-    items.reserve(text.len() / 8)?;
+    tokens.reserve(text.len() / 8)?;
     let mut scratch = Vec::new(alloc);
     let mut progress = Progress {
         line_start: LineStart { index: 0, at: 0 },
@@ -437,7 +434,7 @@ fn rescan_tokens(
     let mut first = 0;
     while first < replaced.len() {
         let limit = replaced[first].at as usize;
-        progress = reuse_unchanged(text, items, old, progress, limit)?;
+        progress = reuse_unchanged(text, tokens, old, progress, limit)?;
         let ChangedLines { to, len, count } = changed_lines(
             old,
             progress.line_start,
@@ -445,26 +442,26 @@ fn rescan_tokens(
             first,
         )?;
         if len > text.len() / 2 {
-            // Its lines are cut by themselves into a list of their own: that would be as long as
-            // the list of the whole text.
+            // The changed lines have a list of tokens of their own, which would be as long as that
+            // of the whole text.
             return Err(RescanFault::Mismatch);
         }
-        scratch = scan_lines(alloc, text, items, progress.at, len, scratch)?;
+        scratch = scan_lines(alloc, text, tokens, progress.at, len, scratch)?;
         progress = Progress {
             line_start: to,
             at: progress.at + len,
         };
         first = count;
     }
-    progress = reuse_unchanged(text, items, old, progress, usize::MAX)?;
-    scan_rest(alloc, text, items, progress.at, scratch)
+    progress = reuse_unchanged(text, tokens, old, progress, usize::MAX)?;
+    scan_rest(alloc, text, tokens, progress.at, scratch)
 }
 
-/// The fault of a text for the cut of which memory was refused: ill-formed bytes are told before
-/// that.
+/// Returns the error of a text for whose tokens memory ran out: bytes that are not UTF-8 are
+/// reported before that.
 fn memory_fault(text: &[u8]) -> ScanFault
     requires { length text.now ≤ MAX_TEXT }
-    ensures { ((result ≡ Memory) × IsUtf8 text.now) ⊎ IsFault text.now result }
+    ensures { IsScanFault text.now result }
 {
     match simdutf8::compat::from_utf8(text) {
         Err(e) => ScanFault::NotUtf8 {
@@ -474,30 +471,34 @@ fn memory_fault(text: &[u8]) -> ScanFault
     }
 }
 
-/// The cut of a text that came from one whose tokens don't join, or its fault: what `scan_in`
-/// answers, and lines that stayed are not cut again. The pieces that were replaced are handed in in
-/// order; where more was changed than they say, the text is cut anew.
+/// Returns the tokens of an edited text, as `scan_in` does; lines that did not change are not
+/// scanned again. No gap between two tokens of the old text that join may be empty. `replaced` has
+/// the pieces that were replaced, in order; if more was changed than they say, the whole text is
+/// scanned.
+///
+/// # Errors
+///
+/// Those of `scan_in`.
 pub fn rescan<'t>(
     alloc: Global,
-    buffer: Vec<Token>,
+    buffer: Vec<Span>,
     text: &'t [u8],
     old: &Scanned<'_>,
     replaced: &[ReplacedRange],
 ) -> Result<Scanned<'t>, ScanFault>
     requires { AreApart old.now.pairs }
-    ensures text { IfOk result (λ s. s.text ≡ text.now) }
-    ensures tokenization { IfOk result (λ s. IsTokenization text.now s.pairs s.last) }
-    ensures fault { IfErr result
-        (λ e. ((e ≡ Memory) × (length text.now ≤ MAX_TEXT) × IsUtf8 text.now)
-        ⊎ IsFault text.now e) }
+    ensures { IsScanResult text.now result }
 {
-    let mut items = buffer;
-    if text.len() > MAX_TEXT {
-        return scan_in(alloc, items, text);
+    let mut tokens = buffer;
+    if text.is_empty() {
+        return scan_in(alloc, tokens, text);
     }
-    match rescan_tokens(alloc, text, old, replaced, &mut items) {
-        Ok(last_gap_at) => { Ok(Scanned::of_tokens(text, items, last_gap_at)) }
+    if text.len() > MAX_TEXT {
+        return scan_in(alloc, tokens, text);
+    }
+    match rescan_tokens(alloc, text, old, replaced, &mut tokens) {
+        Ok(last_gap_at) => { Ok(Scanned::of_tokens(text, tokens, last_gap_at)) }
         Err(RescanFault::Memory) => Err(memory_fault(text)),
-        Err(RescanFault::Mismatch) => scan_in(alloc, items, text),
+        Err(RescanFault::Mismatch) => scan_in(alloc, tokens, text),
     }
 }

@@ -1,4 +1,4 @@
-//! The cut of a text that came from one that was cut.
+//! The tokens of an edited text, by those of the text before the edit.
 #![tactic(auto)]
 
 mod incremental;

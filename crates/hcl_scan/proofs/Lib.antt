@@ -25,6 +25,7 @@ pub mod NestedLemmas
 pub mod OneTokenization
 pub mod OpenMarkers
 pub mod OpeningLemmas
+pub mod OpeningPlaces
 pub mod OtherGaps
 pub mod PairLemmas
 pub mod Pieces

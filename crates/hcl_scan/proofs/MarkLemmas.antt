@@ -3,13 +3,13 @@ use Rattle.std.proofs.Common.{◌≡◌, ℕ, Bool, true, false, List, [], ◌�
 use Rattle.std.proofs.lemmas.Str.{IsUtf8-past_char}
 use lib.Utf8.{encode}
 use Rattle.hcl_token.specs.declared.kind.Kind.TheVariants.{Mark}
-use Rattle.hcl_token.specs.declared.token.Token.{Token}
+use Rattle.hcl_token.specs.declared.span.Span.{Span}
 use Rattle.hcl_token.specs.Tokens.{Pair, whole_text}
 use Rattle.hcl_token.specs.Pairs.{pairs_of}
 use Rattle.hcl_scan.specs.Characters.{is_prefix_of}
 use Rattle.hcl_scan.specs.Modes.{Mode}
 use Rattle.hcl_scan.specs.Tokenization.{byte_order_mark, mark_prefix, TokenizesPrefix}
-use Rattle.hcl_scan.specs.Fault.{opening_places_after_pairs}
+use Rattle.hcl_scan.specs.Inner.OpeningPlaces.{opening_places_after_pairs}
 use Rattle.hcl_scan.specs.Inner.MarkToken.{mark_tokens, mark_length}
 use Rattle.hcl_scan.proofs.TokenizedTo.{IsTokenizedTo}
 use Rattle.hcl_scan.proofs.HeredocLemmas.{marker_at}
@@ -46,9 +46,9 @@ started text u =
     elim (is_prefix_of byte_order_mark text) as (λ b. is_prefix_of byte_order_mark text ≡ b → IsTokenizedTo text (mark_tokens text) (mark_length text) [] []) [
       | true ↦ λ h.
           let whole : text ≡ 239 ∷ 187 ∷ 191 ∷ drop 3 text = mark_prefix_bytes text h in
-          let items : List Token = record { start = 0; stop = 3; kind = Mark } ∷ [] in
+          let tokens : List Span = record { start = 0; stop = 3; kind = Mark } ∷ [] in
           let spelling : slice_range text 0 3 ≡ byte_order_mark = ap (λ (x : List ℕ). slice_range x 0 3) whole in
-          let pairs : pairs_of text items ≡ mark ∷ [] = ap (λ (x : List ℕ). record { gap = []; kind = Mark; spelling = x } ∷ []) spelling in
+          let pairs : pairs_of text tokens ≡ mark ∷ [] = ap (λ (x : List ℕ). record { gap = []; kind = Mark; spelling = x } ∷ []) spelling in
           let utf8 : IsUtf8 (drop 3 text) = rw h at (mark_prefix_utf8 text u) in
           let front : mark_prefix text ≡ mark ∷ [] = rw h refl in
           rw h (record {

@@ -16,7 +16,7 @@ use Rattle.hcl_scan.specs.Modes.Mode.{Expression}
 use Rattle.hcl_scan.specs.Lexeme.{IsLexeme}
 use Rattle.hcl_scan.specs.Inner.NextToken.{token, gap_length}
 use Rattle.hcl_scan.specs.Tokenization.{TokenizesPrefix, IsTokenization, mark_prefix}
-use Rattle.hcl_scan.specs.Fault.{HasNoToken, EndsInFault, IsFault, fault_at, innermost_template, opening_places_after_pairs}
+use Rattle.hcl_scan.specs.Fault.{HasNoToken, EndsInFault, IsFault, fault_at, innermost_template, openings_after_pairs}
 use Rattle.hcl_scan.specs.Inner.MarkToken.{mark_length}
 use Rattle.hcl_scan.proofs.Found.{Beats}
 use Rattle.hcl_scan.proofs.Beats.{beats}
@@ -68,9 +68,9 @@ one_stop text fault other u f g =
     let parts = split_same f.gap f.rest g.gap g.rest size same.rests in
     let place : length (whole_text f.pairs f.gap) ≡ length (whole_text g.pairs g.gap) = ap length (ap₂ whole_text same.pairs parts.0) in
     f.fault_is
-    ∙ ap (λ (m : List Mode). fault_at (mode_of m) (innermost_template m (opening_places_after_pairs 0 [] [] f.pairs)) (length (whole_text f.pairs f.gap)) f.rest) same.modes
-    ∙ ap (λ (ps : List Pair). fault_at (mode_of g.left) (innermost_template g.left (opening_places_after_pairs 0 [] [] ps)) (length (whole_text f.pairs f.gap)) f.rest) same.pairs
-    ∙ ap₂ (λ n (t : List ℕ). fault_at (mode_of g.left) (innermost_template g.left (opening_places_after_pairs 0 [] [] g.pairs)) n t) place parts.1
+    ∙ ap (λ (m : List Mode). fault_at (mode_of m) (innermost_template (openings_after_pairs 0 [] f.pairs)) (length (whole_text f.pairs f.gap)) f.rest) same.modes
+    ∙ ap (λ (ps : List Pair). fault_at (mode_of g.left) (innermost_template (openings_after_pairs 0 [] ps)) (length (whole_text f.pairs f.gap)) f.rest) same.pairs
+    ∙ ap₂ (λ n (t : List ℕ). fault_at (mode_of g.left) (innermost_template (openings_after_pairs 0 [] g.pairs)) n t) place parts.1
     ∙ sym g.fault_is
 
 no_tokenization_stop : (text : List ℕ) (fault : ScanFault) (pairs : List Pair) (last : List ℕ) → EndsInFault text fault → IsTokenization text pairs last → ⊥

@@ -2,7 +2,7 @@
 use Rattle.std.proofs.Common.{◌≡◌, ℕ, ◌+◌, ◌≤◌, Bool, true, false, List, [], ◌∷◌, ◌++◌, length, if◌then◌else◌, refl, sym, ap, subst, ◌∙◌, arith, length-append}
 use Rattle.hcl_token.specs.declared.kind.Kind.{Kind}
 use Rattle.hcl_token.specs.declared.kind.Kind.TheVariants.{Mark}
-use Rattle.hcl_token.specs.declared.token.Token.{Token}
+use Rattle.hcl_token.specs.declared.span.Span.{Span}
 use Rattle.hcl_token.specs.Tokens.{Pair, whole_text}
 use Rattle.hcl_token.specs.Pairs.{InOrder, pair_at, pairs_from}
 use Rattle.hcl_scan.specs.Characters.{is_prefix_of}
@@ -10,7 +10,7 @@ use Rattle.hcl_scan.specs.Modes.{Mode, mode_of, modes_after}
 use Rattle.hcl_scan.proofs.OpenMarkers.{HaveMarkers}
 use Rattle.hcl_scan.specs.Lexeme.{IsLongest}
 use Rattle.hcl_scan.specs.Tokenization.{IsGap, TokenizesFrom, TokenizesPrefix, byte_order_mark}
-use Rattle.hcl_scan.specs.Fault.{opening_places_after, opening_places_after_pairs}
+use Rattle.hcl_scan.specs.Inner.OpeningPlaces.{opening_places_after, opening_places_after_pairs}
 use Rattle.hcl_scan.proofs.MarkerLemmas.{markers_after}
 use Rattle.hcl_scan.proofs.Unique.{pair_of}
 
@@ -60,7 +60,7 @@ modes_prefix : (b : Bool) (body : List Pair)
 modes_prefix true body = refl
 modes_prefix false body = refl
 
-modes_tokenized : (text : List ℕ) (pairs : List Pair) (rest : List ℕ) (left : List Mode) → TokenizesPrefix text pairs rest left → modes_after_pairs [] pairs ≡ left
+pub modes_tokenized : (text : List ℕ) (pairs : List Pair) (rest : List ℕ) (left : List Mode) → TokenizesPrefix text pairs rest left → modes_after_pairs [] pairs ≡ left
 modes_tokenized text pairs rest left c =
     ap (modes_after_pairs []) c.prefix ∙ modes_prefix (is_prefix_of byte_order_mark text) c.body ∙ modes_left c.body [] left rest c.tokenizes
 
@@ -87,12 +87,12 @@ places_push text pairs rest left start gap s kind c e =
     ∙ ap (λ n. opening_places_after kind n (modes_after_pairs [] pairs) openings) place
     ∙ ap (λ (m : List Mode). opening_places_after kind start m openings) (modes_tokenized text pairs rest left c)
 
--- ---- items
+-- ---- tokens
 
-pub order-push : (items : List Token) (from at : ℕ) (item : Token) → InOrder from items at → at ≤ item.start → item.start ≤ item.stop → InOrder from (items ++ item ∷ []) item.stop
+pub order-push : (tokens : List Span) (from at : ℕ) (item : Span) → InOrder from tokens at → at ≤ item.start → item.start ≤ item.stop → InOrder from (tokens ++ item ∷ []) item.stop
 order-push [] from at item o h k = (omega arith, k, refl)
-order-push (x ∷ items) from at item o h k = (o.0, o.1, order-push items x.stop at item o.2 h k)
+order-push (x ∷ tokens) from at item o h k = (o.0, o.1, order-push tokens x.stop at item o.2 h k)
 
-pub pairs-push : (text : List ℕ) (items : List Token) (from at : ℕ) (item : Token) → InOrder from items at → pairs_from text from (items ++ item ∷ []) ≡ pairs_from text from items ++ pair_at text at item ∷ []
+pub pairs-push : (text : List ℕ) (tokens : List Span) (from at : ℕ) (item : Span) → InOrder from tokens at → pairs_from text from (tokens ++ item ∷ []) ≡ pairs_from text from tokens ++ pair_at text at item ∷ []
 pairs-push text [] from at item o = ap (λ n. pair_at text n item ∷ []) o
-pairs-push text (x ∷ items) from at item o = ap (λ (ps : List Pair). pair_at text from x ∷ ps) (pairs-push text items x.stop at item o.2)
+pairs-push text (x ∷ tokens) from at item o = ap (λ (ps : List Pair). pair_at text from x ∷ ps) (pairs-push text tokens x.stop at item o.2)

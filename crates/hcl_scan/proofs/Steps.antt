@@ -5,7 +5,7 @@ use Rattle.std.proofs.lemmas.List.Sums.{prefix_len-le-length}
 use Rattle.std.proofs.lemmas.Bool.{false≢true}
 use Rattle.std.specs.List.{list_all, prefix_len}
 use Rattle.hcl_token.specs.declared.kind.Kind.{Kind}
-use Rattle.hcl_token.specs.declared.token.Token.{Token}
+use Rattle.hcl_token.specs.declared.span.Span.{Span}
 use Rattle.hcl_token.specs.Tokens.{Pair, whole_text}
 use Rattle.hcl_token.specs.Pairs.{pairs_of}
 use Rattle.hcl_scan.specs.Characters.{is_whitespace}
@@ -16,11 +16,13 @@ use Rattle.hcl_scan.proofs.OpenMarkers.{HaveMarkers}
 use Rattle.hcl_scan.specs.Lexeme.{IsLexeme, IsLongest}
 use Rattle.hcl_scan.specs.Inner.NextToken.{LexedToken, expression_token, token, gap_length}
 use Rattle.hcl_scan.specs.Tokenization.{IsGap, TokenizesFrom, TokenizesPrefix, IsTokenization, MAX_TEXT, mark_prefix}
-use Rattle.hcl_scan.specs.Fault.{EndsInFault, fault_at, innermost_template, opening_places_after, opening_places_after_pairs}
+use Rattle.hcl_scan.specs.Fault.{EndsInFault, fault_at}
+use Rattle.hcl_scan.specs.Inner.OpeningPlaces.{innermost_place, opening_places_after, opening_places_after_pairs}
 use Rattle.hcl_scan.proofs.TokenizedTo.{IsTokenizedTo}
 use Rattle.hcl_scan.proofs.Pieces.{prefix_all}
 use Rattle.hcl_scan.proofs.Found.{IsFound, Sound, Beats}
 use Rattle.hcl_scan.proofs.MarkerLemmas.{marker_of_mode}
+use Rattle.hcl_scan.proofs.OpeningPlaces.{template_place}
 use Rattle.hcl_scan.proofs.Sound.{sound}
 use Rattle.hcl_scan.proofs.Beats.{beats}
 use Rattle.hcl_scan.proofs.Longest.{found_longest, none_found, token_no_whitespace, gap_is}
@@ -31,8 +33,8 @@ use Rattle.hcl_scan.proofs.PairLemmas.{joining_more, joining_rest, tokenizes_mor
 markers_tokenized : (text : List ℕ) (pairs : List Pair) (rest : List ℕ) (left : List Mode) → TokenizesPrefix text pairs rest left → HaveMarkers left
 markers_tokenized text pairs rest left c = markers_after_pairs c.body [] left rest tt c.tokenizes
 
-pub marker_tokenized : (text : List ℕ) (items : List Token) (at : ℕ) (modes : List Mode) (places : List ℕ) → IsTokenizedTo text items at modes places → HasMarker (mode_of modes)
-marker_tokenized text items at modes places c = marker_of_mode modes (markers_tokenized text (pairs_of text items) (drop at text) modes c.tokenizes)
+pub marker_tokenized : (text : List ℕ) (tokens : List Span) (at : ℕ) (modes : List Mode) (places : List ℕ) → IsTokenizedTo text tokens at modes places → HasMarker (mode_of modes)
+marker_tokenized text tokens at modes places c = marker_of_mode modes (markers_tokenized text (pairs_of text tokens) (drop at text) modes c.tokenizes)
 
 gap_is_gap : (mode : Mode) (t : List ℕ) → (gap_length mode t ≤ length t) × IsGap mode (take (gap_length mode t) t)
 gap_is_gap mode t =
@@ -66,18 +68,18 @@ gap_at text mode at start within u e =
     }
 
 -- the cut goes on by a token
-pub one_more : (text : List ℕ) (items : List Token) (at : ℕ) (modes : List Mode) (places : List ℕ) (start : ℕ) (kind : Kind) (len : ℕ)
-    → IsTokenizedTo text items at modes places
+pub one_more : (text : List ℕ) (tokens : List Span) (at : ℕ) (modes : List Mode) (places : List ℕ) (start : ℕ) (kind : Kind) (len : ℕ)
+    → IsTokenizedTo text tokens at modes places
     → start ≡ at + gap_length (mode_of modes) (drop at text)
     → token (mode_of modes) (drop start text) ≡ Some (kind, len)
     → (0 < len)
-    × IsTokenizedTo text (items ++ record { start = start; stop = start + len; kind = kind } ∷ []) (start + len)
+    × IsTokenizedTo text (tokens ++ record { start = start; stop = start + len; kind = kind } ∷ []) (start + len)
     (modes_after kind (slice_range text start (start + len)) modes) (opening_places_after kind start modes places)
-one_more text items at modes places start kind len c start_is found =
+one_more text tokens at modes places start kind len c start_is found =
     let mode : Mode = mode_of modes in
     let stop : ℕ = start + len in
-    let item : Token = record { start = start; stop = stop; kind = kind } in
-    let m : HasMarker mode = marker_tokenized text items at modes places c in
+    let item : Span = record { start = start; stop = stop; kind = kind } in
+    let m : HasMarker mode = marker_tokenized text tokens at modes places c in
     let g : GapAt text mode at start = gap_at text mode at start c.within c.utf8 start_is in
     let t : List ℕ = drop start text in
     let f : IsFound mode t kind len = subst (Sound mode t) found (sound mode t m g.utf8) in
@@ -93,10 +95,10 @@ one_more text items at modes places start kind len c start_is found =
     let longest : IsLongest mode kind s more = subst₂ (IsLongest mode kind) same.0 same.1 (found_longest mode t kind len m found f) in
     let gap : List ℕ = slice_range text at start in
     let both : drop at text ≡ gap ++ (s ++ more) = g.split ∙ ap (λ (x : List ℕ). gap ++ x) split in
-    let pairs : List Pair = pairs_of text items in
+    let pairs : List Pair = pairs_of text tokens in
     let body : List Pair = c.tokenizes.body in
     let pair : Pair = pair_of gap kind s in
-    let pushed : pairs_of text (items ++ item ∷ []) ≡ pairs ++ pair ∷ [] = pairs-push text items 0 at item c.order in
+    let pushed : pairs_of text (tokens ++ item ∷ []) ≡ pairs ++ pair ∷ [] = pairs-push text tokens 0 at item c.order in
     let text_is : text ≡ whole_text pairs (gap ++ (s ++ more)) = c.tokenizes.text_is ∙ ap (whole_text pairs) both in
     let place : length (whole_text pairs gap) ≡ start =
     omega (arith, ap length text_is, joining_rest pairs (gap ++ (s ++ more)), joining_rest pairs gap, length-append gap (s ++ more), length-append s more, short, ap length split, length-drop {A = ℕ} start text, within) in
@@ -115,7 +117,7 @@ one_more text items at modes places start kind len c start_is found =
           tokenizes = cuts;
         };
         places = openings ∙ ap (opening_places_after_pairs 0 [] []) (sym pushed);
-        order = order-push items 0 at item c.order g.after_at (omega arith);
+        order = order-push tokens 0 at item c.order g.after_at (omega arith);
       },
     )
 
@@ -159,9 +161,9 @@ past_gap : (mode : Mode) (t : List ℕ) → is_literal mode ≡ false → is_whi
 past_gap mode t plain = rw plain (prefix_then_not is_whitespace t refl)
 
 -- the text is cut to its end
-pub finished : (text : List ℕ) (items : List Token) (at start : ℕ) (places : List ℕ) → length text ≤ MAX_TEXT → IsUtf8 text → IsTokenizedTo text items at [] places
-    → start ≡ at + gap_length Expression (drop at text) → start ≡ length text → IsTokenization text (pairs_of text items) (drop at text)
-finished text items at start places short u c start_is end =
+pub finished : (text : List ℕ) (tokens : List Span) (at start : ℕ) (places : List ℕ) → length text ≤ MAX_TEXT → IsUtf8 text → IsTokenizedTo text tokens at [] places
+    → start ≡ at + gap_length Expression (drop at text) → start ≡ length text → IsTokenization text (pairs_of text tokens) (drop at text)
+finished text tokens at start places short u c start_is end =
     let g : GapAt text Expression at start = gap_at text Expression at start c.within c.utf8 start_is in
     let none : drop start text ≡ [] = drop_all start text (omega arith) in
     let all : drop at text ≡ slice_range text at start = g.split ∙ ap (λ (x : List ℕ). slice_range text at start ++ x) none ∙ append-nil (slice_range text at start) in
@@ -173,17 +175,17 @@ finished text items at start places short u c start_is end =
     }
 
 -- no token can be cut
-pub stopped : (text : List ℕ) (items : List Token) (at start : ℕ) (modes : List Mode) (places : List ℕ) → IsTokenizedTo text items at modes places
+pub stopped : (text : List ℕ) (tokens : List Span) (at start : ℕ) (modes : List Mode) (places : List ℕ) → IsTokenizedTo text tokens at modes places
     → start ≡ at + gap_length (mode_of modes) (drop at text) → token (mode_of modes) (drop start text) ≡ None → (modes ≡ [] → start ≢ length text)
-    → EndsInFault text (fault_at (mode_of modes) (innermost_template modes places) start (drop start text))
-stopped text items at start modes places c start_is none unfinished =
+    → EndsInFault text (fault_at (mode_of modes) (innermost_place modes places) start (drop start text))
+stopped text tokens at start modes places c start_is none unfinished =
     let mode : Mode = mode_of modes in
-    let m : HasMarker mode = marker_tokenized text items at modes places c in
+    let m : HasMarker mode = marker_tokenized text tokens at modes places c in
     let t : List ℕ = drop at text in
     let g : GapAt text mode at start = gap_at text mode at start c.within c.utf8 start_is in
     let gap : List ℕ = slice_range text at start in
     let rest : List ℕ = drop start text in
-    let pairs : List Pair = pairs_of text items in
+    let pairs : List Pair = pairs_of text tokens in
     let text_is : text ≡ whole_text pairs (gap ++ rest) = c.tokenizes.text_is ∙ ap (whole_text pairs) g.split in
     let width : length gap ≡ gap_length mode t = length-take-le (start - at) t (omega (arith, g.within, length-drop {A = ℕ} at text)) ∙ omega (arith, g.after_at) in
     let place : length (whole_text pairs gap) ≡ start =
@@ -202,6 +204,7 @@ stopped text items at start modes places c start_is none unfinished =
       past = λ plain. subst (λ (x : List ℕ). is_whitespace (slice_index x 0) ≡ false) (drop-drop (gap_length mode t) at text ∙ ap (λ n. drop n text) (sym start_is)) (past_gap mode t plain);
       unfinished = λ e z. unfinished e (omega (arith, ap length z, length-drop {A = ℕ} start text, g.within));
       fault_is =
-          ap (λ n. fault_at mode (innermost_template modes places) n rest) (sym place)
-          ∙ ap (λ (x : List ℕ). fault_at mode (innermost_template modes x) (length (whole_text pairs gap)) rest) c.places;
+          ap (λ n. fault_at mode (innermost_place modes places) n rest) (sym place)
+          ∙ ap (λ (x : List ℕ). fault_at mode (innermost_place modes x) (length (whole_text pairs gap)) rest) c.places
+          ∙ ap (λ n. fault_at mode n (length (whole_text pairs gap)) rest) (sym (template_place text pairs (drop at text) modes c.tokenizes));
     }

@@ -6,14 +6,15 @@ use Rattle.std.specs.Str.{IsValidUpTo, is_utf8}
 use Rattle.std.specs.Str.Lossy.{valid_len_up_to, utf8_valid_len}
 use Rattle.bstr.proofs.lemmas.LossyLemmas.{utf8_valid_len-cases}
 use Rattle.hcl_token.specs.declared.kind.Kind.{Kind}
-use Rattle.hcl_token.specs.declared.token.Token.{Token}
+use Rattle.hcl_token.specs.declared.span.Span.{Span}
 use Rattle.hcl_token.specs.Pairs.{pairs_of}
 use Rattle.hcl_token.specs.Tokens.{Pair}
 use Rattle.hcl_scan.specs.declared.fault.ScanFault.{ScanFault}
 use Rattle.hcl_scan.specs.declared.fault.ScanFault.TheVariants.{TooLong, NotUtf8}
 use Rattle.hcl_scan.specs.Modes.{Mode, mode_of, modes_after}
 use Rattle.hcl_scan.specs.Tokenization.{IsTokenization, MAX_TEXT}
-use Rattle.hcl_scan.specs.Fault.{IsFault, EndsInFault, opening_places_after}
+use Rattle.hcl_scan.specs.Fault.{IsFault, EndsInFault}
+use Rattle.hcl_scan.specs.Inner.OpeningPlaces.{opening_places_after}
 use Rattle.hcl_scan.specs.Inner.NextToken.{LexedToken, token, gap_length}
 use Rattle.hcl_scan.specs.Inner.MarkToken.{mark_tokens, mark_length}
 use Rattle.hcl_scan.proofs.TokenizedTo.{IsTokenizedTo}
@@ -28,31 +29,31 @@ abbrev HasFault : List ℕ → Type 0
 HasFault text = (fault : ScanFault) × IsFault text fault
 
 -- where no token can be cut the text ends, or stops at a fault
-at_end : (text : List ℕ) (items : List Token) (at start : ℕ) (modes : List Mode) (places : List ℕ) → length text ≤ MAX_TEXT → IsUtf8 text
-    → IsTokenizedTo text items at modes places → start ≡ at + gap_length (mode_of modes) (drop at text) → token (mode_of modes) (drop start text) ≡ None
+at_end : (text : List ℕ) (tokens : List Span) (at start : ℕ) (modes : List Mode) (places : List ℕ) → length text ≤ MAX_TEXT → IsUtf8 text
+    → IsTokenizedTo text tokens at modes places → start ≡ at + gap_length (mode_of modes) (drop at text) → token (mode_of modes) (drop start text) ≡ None
     → HasTokenization text ⊎ HasFault text
-at_end text items at start [] places short u c start_is none =
+at_end text tokens at start [] places short u c start_is none =
     ⊎_elim
-    (λ (end : start ≡ length text). inl (pairs_of text items, drop at text, finished text items at start places short u c start_is end))
-    (λ (more : start ≡ length text → ⊥). inr (_, inr (inr (short, u, stopped text items at start [] places c start_is none (λ _. more)))))
+    (λ (end : start ≡ length text). inl (pairs_of text tokens, drop at text, finished text tokens at start places short u c start_is end))
+    (λ (more : start ≡ length text → ⊥). inr (_, inr (inr (short, u, stopped text tokens at start [] places c start_is none (λ _. more)))))
     (cases_eq start (length text))
-at_end text items at start (m ∷ modes) places short u c start_is none =
-    inr (_, inr (inr (short, u, stopped text items at start (m ∷ modes) places c start_is none (λ e. absurd (no_modes e)))))
+at_end text tokens at start (m ∷ modes) places short u c start_is none =
+    inr (_, inr (inr (short, u, stopped text tokens at start (m ∷ modes) places c start_is none (λ e. absurd (no_modes e)))))
   where
     no_modes : (m ∷ modes) ≡ [] → ⊥
     no_modes e = omega (arith, ap length e)
 
 -- the cut goes on until then
-go_on : (fuel : ℕ) (text : List ℕ) (items : List Token) (at : ℕ) (modes : List Mode) (places : List ℕ) → length text ≤ MAX_TEXT → IsUtf8 text
-    → IsTokenizedTo text items at modes places → length text < at + fuel → HasTokenization text ⊎ HasFault text
-go_on zero text items at modes places short u c enough = absurd (omega (arith, enough, c.within))
-go_on (suc fuel) text items at modes places short u c enough =
+go_on : (fuel : ℕ) (text : List ℕ) (tokens : List Span) (at : ℕ) (modes : List Mode) (places : List ℕ) → length text ≤ MAX_TEXT → IsUtf8 text
+    → IsTokenizedTo text tokens at modes places → length text < at + fuel → HasTokenization text ⊎ HasFault text
+go_on zero text tokens at modes places short u c enough = absurd (omega (arith, enough, c.within))
+go_on (suc fuel) text tokens at modes places short u c enough =
     let start : ℕ = at + gap_length (mode_of modes) (drop at text) in
     elim (token (mode_of modes) (drop start text)) as (λ x. token (mode_of modes) (drop start text) ≡ x → HasTokenization text ⊎ HasFault text) [
-      | None ↦ λ none. at_end text items at start modes places short u c refl none
+      | None ↦ λ none. at_end text tokens at start modes places short u c refl none
       | Some f ↦ λ found.
-          let more = one_more text items at modes places start f.0 f.1 c refl found in
-          go_on fuel text (items ++ record { start = start; stop = start + f.1; kind = f.0 } ∷ []) (start + f.1)
+          let more = one_more text tokens at modes places start f.0 f.1 c refl found in
+          go_on fuel text (tokens ++ record { start = start; stop = start + f.1; kind = f.0 } ∷ []) (start + f.1)
           (modes_after f.0 (slice_range text start (start + f.1)) modes) (opening_places_after f.0 start modes places) short u more.1 (omega (arith, more.0, enough))
     ] refl
 

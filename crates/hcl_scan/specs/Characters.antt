@@ -23,14 +23,14 @@ is_id_continue c = is_xid_continue c || c == 45
 abbrev pub is_sigil : ℕ → Bool
 is_sigil b = b == 36 || b == 37
 
--- A `$` begins `$${` if that stands there, else an opening if `${` stands there, else it is itself;
--- the same for `%`.
+-- The length of the unit that a `$` or a `%` begins, with rest after it: `$${` has three bytes,
+-- `${` is an opening and no unit, and any other `$` is one by itself.
 abbrev pub sigil_length : ℕ → List ℕ → ℕ
 sigil_length sigil rest =
     if slice_index rest 0 == sigil && slice_index rest 1 == 123 then 3
     else (if slice_index rest 0 == 123 then 0 else 1)
 
--- the first text stands at the front of the second
+-- the first text is a prefix of the second
 abbrev pub is_prefix_of : List ℕ → List ℕ → Bool
 is_prefix_of [] t = true
 is_prefix_of (m ∷ ms) [] = false

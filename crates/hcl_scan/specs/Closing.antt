@@ -10,18 +10,18 @@ abbrev pub is_at_line_end_or_eof : List ℕ → Bool
 is_at_line_end_or_eof [] = true
 is_at_line_end_or_eof (b ∷ t) = is_at_line_end (b ∷ t)
 
--- blanks, the marker, blanks, and then a line end or the end of the text
+-- whitespace, the marker, whitespace, and then a line end or the end of the text
 abbrev pub IsClosingLine : List ℕ → List ℕ → List ℕ → Type 0
 IsClosingLine name s rest =
     (before : List ℕ) × (after : List ℕ) × (s ≡ before ++ (name ++ after))
     × (list_all is_whitespace before ≡ true) × (list_all is_whitespace after ≡ true)
     × (is_at_line_end_or_eof rest ≡ true)
 
--- what stands behind blanks and as many bytes as the marker has
+-- the text without its leading whitespace and as many bytes as the marker has
 abbrev pub after_marker : List ℕ → List ℕ → List ℕ
 after_marker name t = drop (length name) (drop (prefix_len is_whitespace t) t)
 
--- a closing line stands at the front
+-- a closing line begins here
 abbrev pub is_closing_line : List ℕ → List ℕ → Bool
 is_closing_line name t =
     is_prefix_of name (drop (prefix_len is_whitespace t) t)

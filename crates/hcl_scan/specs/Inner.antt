@@ -6,5 +6,6 @@ pub mod HeredocToken
 pub mod MarkToken
 pub mod Markers
 pub mod NextToken
+pub mod OpeningPlaces
 pub mod Openings
 pub mod RunLength

@@ -1,4 +1,4 @@
--- The lexemes: for each mode and kind the spellings, given what stands behind.
+-- The lexemes: for each mode and kind the spellings, given what follows.
 -- HCL native syntax specification, Lexical Elements and Templates.
 use Rattle.std.specs.Prelude.{◌≡◌, ◌≢◌, ℕ, suc, ◌≤◌, Bool, true, false, not, ◌&&◌, ◌||◌, if◌then◌else◌, ◌==◌, List, [], ◌∷◌, ◌++◌, length, drop, slice_index, ◌⊎◌, IsTrue, IsUtf8, Option, Some, None, codes}
 use Rattle.std.specs.Char.{is_ascii_digit, is_ascii_hexdigit}
@@ -20,13 +20,13 @@ abbrev pub is_heredoc : Mode → Bool
 is_heredoc (Heredoc name at_line_start) = true
 is_heredoc _ = false
 
--- whether tokens of the kind can stand in the mode; the byte order mark stands in none, but at the
--- front of a text
+-- whether the mode has tokens of the kind; none has the byte order mark, which is at the start of a
+-- text alone
 abbrev pub is_allowed_in : Mode → Kind → Bool
 is_allowed_in mode Mark = false
 is_allowed_in mode QuoteClose = is_quoted mode
 is_allowed_in mode QuoteLit = is_quoted mode
--- a heredoc closes only where a line of it begins
+-- a heredoc closes only at the start of a line
 is_allowed_in mode HereClose = is_heredoc mode && is_at_line_start mode
 is_allowed_in mode HereLit = is_heredoc mode
 is_allowed_in mode InterpOpen = is_literal mode
@@ -53,7 +53,7 @@ abbrev pub has_four_hex : List ℕ → Bool
 has_four_hex t = is_ascii_hexdigit (slice_index t 0) && is_ascii_hexdigit (slice_index t 1)
     && is_ascii_hexdigit (slice_index t 2) && is_ascii_hexdigit (slice_index t 3)
 
--- the number of bytes of the escape behind a `\`, 0 where there is none: one of those letters, `u`
+-- the number of bytes of the escape after a `\`, 0 where there is none: one of those letters, `u`
 -- with four hexadecimal digits, or `U` with eight
 abbrev pub escape_length : List ℕ → ℕ
 escape_length t =
@@ -138,7 +138,7 @@ fixed_spelling QuoteOpen = Some (codes "\"")
 fixed_spelling QuoteClose = Some (codes "\"")
 fixed_spelling _ = None
 
--- the text is a spelling of the kind in the mode, with rest behind it
+-- the text is a spelling of the kind in the mode, with rest after it
 abbrev pub Spells : Mode → Kind → List ℕ → List ℕ → Type 0
 Spells mode LineEnd s rest = IsLineEnd s
 -- `#` or `//` and all up to the line end

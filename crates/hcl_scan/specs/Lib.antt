@@ -7,3 +7,4 @@ pub mod Inner
 pub mod Lexeme
 pub mod Modes
 pub mod Runs
+pub mod ScanResult

@@ -11,7 +11,7 @@ pub data Mode : Type 0 where
   Expression : Mode
   -- in a template sequence, an interpolation or a directive
   Sequence : Mode
-  -- behind a `{` that is not closed, in a template sequence
+  -- after a `{` that is not closed, in a template sequence
   Braces : Mode
   -- in quoted text
   Quoted : Mode
@@ -53,18 +53,18 @@ abbrev pub is_at_line_start : Mode → Bool
 is_at_line_start (Heredoc name at_line_start) = at_line_start
 is_at_line_start _ = false
 
--- the marker that a heredoc's opening names: what stands between `<<` or `<<-` and the line end
+-- the marker that a heredoc's opening names: what is between `<<` or `<<-` and the line end
 abbrev pub marker_of : List ℕ → List ℕ
 marker_of spelling =
     let name = drop (if slice_index spelling 2 == 45 then 3 else 2) spelling in
     take (prefix_len (λ b. not (b == 10 || b == 13)) name) name
 
--- the heredoc goes on behind this piece of its text
+-- the mode of the heredoc after this piece of its text
 abbrev pub after_literal : List ℕ → Mode → Mode
 after_literal piece (Heredoc name at_line_start) = Heredoc name (is_line_start_after at_line_start piece)
 after_literal piece mode = mode
 
--- behind a template sequence no line of the heredoc begins
+-- after a template sequence no line of the heredoc begins
 abbrev pub clear_line_start : List Mode → List Mode
 clear_line_start [] = []
 clear_line_start (Heredoc name at_line_start ∷ modes) = Heredoc name false ∷ modes

@@ -1,4 +1,4 @@
-//! Bytes of a text, and the pieces of it that are told by single bytes.
+//! Bytes of a text, and the pieces of it that single bytes delimit.
 
 ghost use Rattle.std.specs.Prelude.{◌≡◌, ◌+◌, ◌<◌, ◌≤◌, length, drop, slice_index, slice_range};
 ghost use Rattle.std.specs.List.{prefix_len};
@@ -13,7 +13,7 @@ const ID_CONTINUE: u8 = 1;
 /// Flag of a byte that begins an identifier.
 const LETTER: u8 = 2;
 
-/// Flag of a byte that is a unit of quoted text whatever stands behind it.
+/// Flag of a byte that is a unit of quoted text whatever follows it.
 const ORDINARY: u8 = 4;
 
 // For each byte a digit, whose low three bits are the flags above.
@@ -48,7 +48,7 @@ pub fn is_ordinary_quoted(b: u8) -> bool
     CLASS[b as usize] & ORDINARY != 0
 }
 
-/// The byte at a place, 0 past the end.
+/// Returns the byte at a place, 0 at the end and after it.
 pub fn byte_at(text: &[u8], at: usize) -> u8
     ensures value { result ≡ slice_index text.now at }
     ensures within { 0 < result → at < length text.now }
@@ -56,7 +56,7 @@ pub fn byte_at(text: &[u8], at: usize) -> u8
     if at < text.len() { text[at] } else { 0 }
 }
 
-/// Whether an LF or a CR LF stands at the place.
+/// Whether an LF or a CR LF is at the place.
 pub fn is_at_line_end(text: &[u8], at: usize) -> bool
     requires { at ≤ length text.now }
     ensures { result ≡ is_at_line_end (drop at text.now) }
@@ -65,7 +65,7 @@ pub fn is_at_line_end(text: &[u8], at: usize) -> bool
     b == b'\n' || (b == b'\r' && byte_at(text, at + 1) == b'\n')
 }
 
-/// The bytes between two places.
+/// Returns the bytes between two places.
 pub fn slice(text: &[u8], from: usize, to: usize) -> &[u8]
     requires ordered { from ≤ to }
     requires within { to ≤ length text.now }
@@ -80,7 +80,7 @@ fn is_whitespace(b: u8) -> bool
     (b == b' ') | (b == b'\t')
 }
 
-/// The end of the blanks from a place on.
+/// Returns the end of the spaces and tabs from a place on.
 pub fn whitespace_end(text: &[u8], from: usize) -> usize
     requires { from ≤ length text.now }
     ensures value { result ≡ from + prefix_len is_whitespace (drop from text.now) }
@@ -93,9 +93,9 @@ pub fn whitespace_end(text: &[u8], from: usize) -> usize
     at
 }
 
-/// The end of the blanks from a place on, and the byte that stands there, 0 past the end.
+/// Returns the end of the spaces and tabs from a place on and the byte there, 0 at the end.
 ///
-/// Most tokens have no blank before them: so the first byte is asked before the loop.
+/// Most tokens have no whitespace before them, so the first byte is compared before the loop.
 pub fn skip_whitespace(text: &[u8], from: usize) -> (usize, u8)
     requires { from ≤ length text.now }
     ensures value { result.0 ≡ from + prefix_len is_whitespace (drop from text.now) }
@@ -111,7 +111,7 @@ pub fn skip_whitespace(text: &[u8], from: usize) -> (usize, u8)
     }
 }
 
-/// The same behind the first blank.
+/// `skip_whitespace` after the first space or tab.
 fn skip_more_whitespace(text: &[u8], from: usize) -> (usize, u8)
     requires { from ≤ length text.now }
     ensures value { result.0 ≡ from + prefix_len is_whitespace (drop from text.now) }
@@ -128,7 +128,7 @@ fn skip_more_whitespace(text: &[u8], from: usize) -> (usize, u8)
     (at, first)
 }
 
-/// The end of the digits from a place on.
+/// Returns the end of the digits from a place on.
 pub fn digits_end(text: &[u8], from: usize) -> usize
     requires { from ≤ length text.now }
     ensures value { result ≡ from + prefix_len is_ascii_digit (drop from text.now) }

@@ -1,17 +1,17 @@
-//! Why a text has no cut.
+//! Why a text has no tokens.
 
 ghost use Rattle.std.specs.Prelude.{◌≡◌};
 
 use std::alloc::{AllocError, AllocFailed};
 use thiserror::Error;
 
-/// Why a text has no cut, and where. All places count bytes from 0.
+/// Why a text has no tokens, and where. All places are in bytes, from 0.
 ///
-/// HCL native syntax specification, Lexical Elements; the order of the faults and their places are
+/// HCL native syntax specification, Lexical Elements; the order of the errors and their places are
 /// this project's own.
 #[derive(Clone, Copy, Debug, PartialEq, Eq, Error)]
 pub enum ScanFault {
-    /// The text has more than 16,777,216 bytes.
+    /// The text has more than `MAX_TEXT` bytes.
     #[error("the text has more than 16777216 bytes")]
     TooLong,
     /// The first byte of the first ill-formed sequence.
@@ -20,7 +20,7 @@ pub enum ScanFault {
     /// No token begins here.
     #[error("byte {at}: unexpected character")]
     BadCharacter { at: usize },
-    /// A `\` with no escape behind it.
+    /// A `\` with no escape after it.
     #[error("byte {at}: unknown escape")]
     BadEscape { at: usize },
     /// The opening quote of a string that is not closed on its line.
@@ -35,7 +35,7 @@ pub enum ScanFault {
     /// The opening of an inline comment that is not closed.
     #[error("byte {at}: comment is not closed")]
     OpenComment { at: usize },
-    /// A growth was refused.
+    /// An allocation failed.
     #[error("out of memory")]
     Memory,
 }

@@ -19,7 +19,7 @@ fn is_at_line_end_or_eof(text: &[u8], at: usize) -> bool
     at == text.len() || is_at_line_end(text, at)
 }
 
-/// Whether the marker stands at the place.
+/// Whether the marker is at the place.
 fn is_marker_at(text: &[u8], at: usize, marker: &[u8]) -> bool
     requires { at ≤ length text.now }
     ensures value { result ≡ is_prefix_of marker.now (drop at text.now) }
@@ -28,7 +28,7 @@ fn is_marker_at(text: &[u8], at: usize, marker: &[u8]) -> bool
     slice(text, at, text.len()).starts_with(marker)
 }
 
-/// How many bytes the closing line has that begins at the place.
+/// Returns how many bytes the closing line has that begins at the place.
 fn closing_line_len(text: &[u8], at: usize, marker: &[u8]) -> Option<usize>
     requires { at ≤ length text.now }
     ensures { result ≡ (if is_closing_line marker.now (drop at text.now)
@@ -46,7 +46,7 @@ fn closing_line_len(text: &[u8], at: usize, marker: &[u8]) -> Option<usize>
     }
 }
 
-/// The same where a line of the heredoc begins; `fresh` says whether one does.
+/// `closing_line_len` if a line of the heredoc begins at the place.
 fn closing_token_len(text: &[u8], at: usize, marker: &[u8], at_line_start: bool) -> Option<usize>
     requires { at ≤ length text.now }
     ensures { result ≡ (if at_line_start && is_closing_line marker.now (drop at text.now)
@@ -93,7 +93,7 @@ pub fn is_at_opening(text: &[u8], at: usize) -> bool
     is_sigil(byte_at(text, at)) && byte_at(text, at + 1) == b'{'
 }
 
-/// The opening of a template sequence at a place where one stands.
+/// Returns the opening of a template sequence at a place where there is one.
 pub fn opening(text: &[u8], at: usize) -> (Kind, usize)
     requires { at ≤ length text.now }
     ensures { result ≡ opening (drop at text.now) }
@@ -107,7 +107,7 @@ pub fn opening(text: &[u8], at: usize) -> (Kind, usize)
     (kind, len)
 }
 
-/// The opening or the literal text at a place where the heredoc is not closed.
+/// Returns the opening or the literal text at a place where the heredoc is not closed.
 fn heredoc_text_token(
     text: &[u8],
     at: usize,
@@ -128,8 +128,8 @@ fn heredoc_text_token(
     }
 }
 
-/// The token in the text of a heredoc with this marker; `fresh` says whether a line begins at the
-/// place.
+/// Returns the token in the text of a heredoc with this marker; `at_line_start` says whether a line
+/// begins at the place.
 pub fn heredoc_token(
     text: &[u8],
     at: usize,
@@ -145,7 +145,7 @@ pub fn heredoc_token(
     }
 }
 
-/// How many bytes the line end at the place has, 0 where none stands.
+/// Returns how many bytes the line end at the place has, 0 if there is none.
 fn line_end_len(text: &[u8], at: usize) -> usize
     requires { at ≤ length text.now }
     ensures value { result ≡ line_end_length (drop at text.now) }
@@ -161,7 +161,7 @@ fn line_end_len(text: &[u8], at: usize) -> usize
     }
 }
 
-/// How many bytes `<<` or `<<-` has.
+/// Returns how many bytes `<<` or `<<-` has.
 fn heredoc_start_len(text: &[u8], at: usize) -> usize
     requires { at ≤ length text.now }
     ensures { result ≡ heredoc_start_length (drop at text.now) }
@@ -169,7 +169,7 @@ fn heredoc_start_len(text: &[u8], at: usize) -> usize
     if byte_at(text, at + 2) == b'-' { 3 } else { 2 }
 }
 
-/// The opening whose marker stands so many bytes behind the place, if a line end stands behind it.
+/// Returns the opening whose marker is `before` bytes after the place, if a line end follows it.
 fn open_with_marker(text: &str, at: usize, before: usize) -> Option<(Kind, usize)>
     requires within { at + before ≤ length text.now }
     requires utf8 { IsUtf8 (drop (at + before) text.now) }
@@ -201,7 +201,7 @@ pub fn is_at_heredoc_start(text: &[u8], at: usize) -> bool
     byte_at(text, at) == b'<' && byte_at(text, at + 1) == b'<'
 }
 
-/// The opening of a heredoc at the place.
+/// Returns the opening of a heredoc at the place.
 pub fn here_open(text: &str, at: usize) -> Option<(Kind, usize)>
     requires within { at ≤ length text.now }
     requires utf8 { IsUtf8 (drop at text.now) }

@@ -88,7 +88,7 @@ fn ascii_id_end(text: &str, from: usize) -> usize
     ascii_id_end_bytewise(text, at)
 }
 
-/// The same, byte by byte.
+/// `ascii_id_end`, byte by byte.
 fn ascii_id_end_bytewise(text: &str, from: usize) -> usize
     requires within { from ≤ length text.now }
     requires utf8 { IsUtf8 (drop from text.now) }
@@ -123,7 +123,7 @@ pub fn id_end(text: &str, from: usize) -> usize
     }
 }
 
-/// The same, where not all characters are ASCII.
+/// `id_end` where not all characters are ASCII.
 #[cold]
 #[inline(never)]
 fn unicode_id_end(text: &str, from: usize) -> usize

@@ -1,8 +1,8 @@
-//! Cuts a text of the HCL native syntax into tokens.
+//! Splits a text of the HCL native syntax into tokens.
 //!
-//! `scan` answers the cut of a text or its fault, and `Scanned` lends the tokens. That a text has
-//! one cut or one fault, and what can be said of a text that is written token by token, is what
-//! `laws` says.
+//! `scan` returns the tokens of a text, as `Scanned`, or its error. `laws` has what is proved of
+//! them: a text has tokens or an error, one alone, and a text that is written token by token has
+//! the tokens that were written.
 #![tactic(auto)]
 
 mod bytes;
@@ -19,5 +19,5 @@ mod token;
 mod tokenize;
 
 pub use fault::ScanFault;
-pub use hcl_token::{Item, Kind, Lines, MAX_TEXT, Place, Places, Token, TokenList};
+pub use hcl_token::{Item, Kind, Lines, MAX_TEXT, Place, Places, Span, Span as Token, TokenList};
 pub use scanned::{Scanned, scan, scan_in};

@@ -7,7 +7,7 @@ ghost use Rattle.hcl_scan.specs.Modes.{mode_of, is_braces, is_in_sequence, is_at
 ghost use Rattle.hcl_scan.specs.Modes.Mode.{Sequence, Heredoc};
 ghost use Rattle.hcl_scan.specs.Runs.{is_line_start_after};
 ghost use Rattle.hcl_token.specs.declared.kind.Kind.TheVariants.{HereLit};
-ghost use Rattle.hcl_scan.specs.Fault.{opening_places_after, innermost_template};
+ghost use Rattle.hcl_scan.specs.Inner.OpeningPlaces.{opening_places_after, innermost_place};
 ghost use Rattle.hcl_scan.specs.Inner.Openings.{mode_view, modes_of, places_of, with_line_start, with_line_start_in, is_not_line_break};
 
 use crate::bytes::{byte_at, slice};
@@ -21,7 +21,7 @@ pub enum Mode<'t> {
     Expression,
     /// In a template sequence.
     Sequence,
-    /// Behind a `{` in a template sequence.
+    /// After a `{` in a template sequence.
     Braces,
     /// In quoted text.
     Quoted,
@@ -32,7 +32,7 @@ pub enum Mode<'t> {
     },
 }
 
-/// An opening that is not closed: where its token begins, in bytes from 0, and how the text behind
+/// An opening that is not closed: where its token begins, in bytes from 0, and how the text after
 /// it is read.
 #[derive(Clone, Copy)]
 pub struct Opening<'t> {
@@ -40,7 +40,7 @@ pub struct Opening<'t> {
     pub mode: Mode<'t>,
 }
 
-/// How the text behind the last of the openings is read.
+/// Returns how the text after the last of the openings is read.
 pub fn mode_of<'t>(openings: &[Opening<'t>]) -> Mode<'t>
     ensures { mode_view result ≡ mode_of (modes_of openings.now) }
 {
@@ -60,7 +60,7 @@ fn is_in_sequence(mode: Mode<'_>) -> bool
     }
 }
 
-/// Behind a `{` in a template sequence.
+/// After a `{` in a template sequence.
 fn is_braces(mode: Mode<'_>) -> bool
     ensures { result ≡ is_braces (mode_view mode.entry) }
 {
@@ -99,7 +99,7 @@ fn with_line_start<'t>(mode: Mode<'t>, at_line_start: bool) -> Mode<'t>
     }
 }
 
-/// Whether a line begins behind a text, where one begins before it or not.
+/// Whether a line begins after a text; `at_line_start` says whether one begins at its start.
 fn is_line_start_after(at_line_start: bool, text: &[u8]) -> bool
     ensures { result ≡ is_line_start_after at_line_start text.now }
 {
@@ -110,7 +110,7 @@ fn is_line_start_after(at_line_start: bool, text: &[u8]) -> bool
     }
 }
 
-/// The marker that the opening of a heredoc names.
+/// Returns the marker that the opening of a heredoc names.
 fn marker_of(spelling: &[u8]) -> &[u8]
     ensures { result.now ≡ marker_of spelling.now }
 {
@@ -142,7 +142,7 @@ fn marker_end(text: &[u8], from: usize) -> usize
     at
 }
 
-/// One opening more.
+/// Adds an opening.
 #[tactic(auto, using(crate::proofs::OpeningLemmas::opening_lemmas))]
 fn push<'t>(openings: &mut Vec<Opening<'t>>, at: usize, mode: Mode<'t>) -> Result<(), AllocError>
     ensures modes { OnOk result
@@ -155,7 +155,7 @@ fn push<'t>(openings: &mut Vec<Opening<'t>>, at: usize, mode: Mode<'t>) -> Resul
     Ok(())
 }
 
-/// The innermost opening is closed.
+/// Closes the innermost opening.
 #[tactic(auto, using(crate::proofs::OpeningLemmas::opening_lemmas))]
 fn pop<'t>(openings: &mut Vec<Opening<'t>>)
     ensures modes { modes_of openings.new.items ≡ drop 1 (modes_of openings.old.items) }
@@ -184,7 +184,7 @@ fn set_line_start<'t>(
     }
 }
 
-/// A template sequence opens: in a heredoc no line begins behind it.
+/// Opens a template sequence: in a heredoc no line begins after it.
 #[inline(never)]
 fn open_sequence<'t>(openings: &mut Vec<Opening<'t>>, at: usize) -> Result<(), AllocError>
     ensures modes { OnOk result
@@ -196,7 +196,7 @@ fn open_sequence<'t>(openings: &mut Vec<Opening<'t>>, at: usize) -> Result<(), A
     push(openings, at, Mode::Sequence)
 }
 
-/// A heredoc opens, whose marker stands in the spelling.
+/// Opens a heredoc, whose marker is in the spelling.
 #[inline(never)]
 fn open_heredoc<'t>(
     openings: &mut Vec<Opening<'t>>,
@@ -221,7 +221,7 @@ fn open_heredoc<'t>(
     )
 }
 
-/// The innermost opening, a heredoc, goes on behind a piece of its text.
+/// Updates the innermost opening, a heredoc, after a piece of its text.
 #[inline(never)]
 fn continue_heredoc<'t>(openings: &mut Vec<Opening<'t>>, piece: &[u8]) -> Result<(), AllocError>
     ensures modes { OnOk result
@@ -254,7 +254,7 @@ pub fn can_change_openings(kind: Kind) -> bool
     )
 }
 
-/// What a token of this kind and spelling, which begins at a place, does to the openings.
+/// Updates the openings for a token of this kind and spelling that begins at a place.
 pub fn update_openings<'t>(
     openings: &mut Vec<Opening<'t>>,
     kind: Kind,
@@ -291,9 +291,9 @@ pub fn update_openings<'t>(
     Ok(())
 }
 
-/// Where the innermost template, or template sequence, begins.
+/// Returns where the innermost template, or template sequence, begins.
 pub fn innermost_template_start(openings: &[Opening<'_>]) -> usize
-    ensures { result ≡ innermost_template (modes_of openings.now) (places_of openings.now) }
+    ensures { result ≡ innermost_place (modes_of openings.now) (places_of openings.now) }
 {
     let mut i = openings.len();
     while i > 0 {

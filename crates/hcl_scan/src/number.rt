@@ -5,7 +5,7 @@ ghost use Rattle.hcl_scan.specs.Inner.NextToken.{is_sign, is_exponent_letter, fr
 
 use crate::bytes::{byte_at, digits_end};
 
-/// How many bytes the `.` and the digits at a place have, 0 where none stand.
+/// Returns how many bytes the `.` and the digits at a place have, 0 if there are none.
 fn fraction_len(text: &[u8], at: usize) -> usize
     requires { at ≤ length text.now }
     ensures value { result ≡ fraction_length (drop at text.now) }
@@ -30,7 +30,7 @@ fn is_exponent_letter(b: u8) -> bool
     (b == b'e') | (b == b'E')
 }
 
-/// How many bytes the exponent at a place has, 0 where none stands.
+/// Returns how many bytes the exponent at a place has, 0 if there is none.
 fn exponent_len(text: &[u8], at: usize) -> usize
     requires { at ≤ length text.now }
     ensures value { result ≡ exponent_length (drop at text.now) }
@@ -49,7 +49,7 @@ fn exponent_len(text: &[u8], at: usize) -> usize
     }
 }
 
-/// How many bytes the number at a place has, 0 where none stands.
+/// Returns how many bytes the number at a place has, 0 if there is none.
 pub fn number_len(text: &[u8], at: usize) -> usize
     requires { at ≤ length text.now }
     ensures value { result ≡ number_length (drop at text.now) }

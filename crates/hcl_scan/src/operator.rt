@@ -5,8 +5,8 @@ ghost use Rattle.hcl_scan.specs.Inner.NextToken.{single, compound, operator};
 
 use hcl_token::Kind;
 
-/// The longest operator that begins with these bytes, and its length. Past the end of a text stands
-/// a 0.
+/// Returns the longest operator that begins with these bytes, and its length. A byte is 0 at the
+/// end of the text and after it.
 ///
 /// HCL native syntax specification, Operators and Delimiters.
 pub fn operator(first: u8, second: u8, third: u8) -> Option<(Kind, usize)>

@@ -9,26 +9,26 @@ ghost use Rattle.hcl_scan.specs.Inner.RunLength.{run_length};
 
 use crate::bytes::{byte_at, is_at_line_end, is_ordinary_quoted};
 
-/// A unit, told by its length.
+/// A unit, given by its length.
 pub trait Unit {
     ghost len: { Self → UnitLength };
 
-    /// How many bytes the unit at the place has, 0 where there is none; `fresh` says whether a line
-    /// begins there.
+    /// Returns how many bytes the unit at the place has, 0 if there is none; `at_line_start` says
+    /// whether a line begins there.
     fn len_at(&self, text: &[u8], at: usize, at_line_start: bool) -> usize
         requires { at < length text.now }
         ensures value { result ≡ len self.now at_line_start (drop at text.now) }
         ensures within { at + result ≤ length text.now };
 
-    /// Whether the byte is a unit wherever no line begins, and ends no line. Another byte can be one
-    /// too: `len_at` decides.
+    /// Whether the byte is a unit wherever no line begins, and ends no line. Another byte can be a
+    /// unit too, by `len_at`.
     fn is_ordinary(&self, b: u8) -> bool
         ensures unit { result ≡ true → (t : List ℕ) → len self.now false (b ∷ t) ≡ 1 }
         ensures line { result ≡ true → (b == 10) ≡ false };
 }
 
-/// How many of the four bytes at a place are plain, up to the first that is not; no line begins
-/// there.
+/// Returns how many of the four bytes at a place are ordinary, up to the first that is not; no line
+/// begins there.
 fn count_ordinary_of_4<U: Unit>(unit: &U, text: &[u8], at: usize) -> usize
     requires { at + 4 ≤ length text.now }
     ensures run { result + run_length (U.len unit.now) false (drop (at + result) text.now)
@@ -48,7 +48,7 @@ fn count_ordinary_of_4<U: Unit>(unit: &U, text: &[u8], at: usize) -> usize
     }
 }
 
-/// The end of the plain bytes from a place on, at which no line begins.
+/// Returns the end of the ordinary bytes from a place on, at which no line begins.
 fn ordinary_end<U: Unit>(unit: &U, text: &[u8], from: usize) -> usize
     requires { from ≤ length text.now }
     ensures run { result + run_length (U.len unit.now) false (drop result text.now)
@@ -67,7 +67,7 @@ fn ordinary_end<U: Unit>(unit: &U, text: &[u8], from: usize) -> usize
     ordinary_end_bytewise(unit, text, at)
 }
 
-/// The same, byte by byte.
+/// `ordinary_end`, byte by byte.
 fn ordinary_end_bytewise<U: Unit>(unit: &U, text: &[u8], from: usize) -> usize
     requires { from ≤ length text.now }
     ensures run { result + run_length (U.len unit.now) false (drop result text.now)
@@ -82,7 +82,7 @@ fn ordinary_end_bytewise<U: Unit>(unit: &U, text: &[u8], from: usize) -> usize
     at
 }
 
-/// The same where a line begins or not; where one begins no byte is gone over.
+/// `ordinary_end` if no line begins at the place; else no byte is skipped.
 fn skip_ordinary<U: Unit>(unit: &U, text: &[u8], from: usize, at_line_start: bool) -> usize
     requires { from ≤ length text.now }
     ensures run { result + run_length (U.len unit.now) at_line_start (drop result text.now)
@@ -97,7 +97,8 @@ fn skip_ordinary<U: Unit>(unit: &U, text: &[u8], from: usize, at_line_start: boo
     }
 }
 
-/// The end of the longest run of units from a place on; `fresh` says whether a line begins there.
+/// Returns the end of the longest run of units from a place on; `at_line_start` says whether a line
+/// begins there.
 pub fn run_end<U: Unit>(unit: &U, text: &[u8], from: usize, at_line_start: bool) -> usize
     requires { from ≤ length text.now }
     ensures value { result ≡ from + run_length (U.len unit.now) at_line_start (drop from text.now) }
@@ -125,7 +126,7 @@ pub struct CommentUnit;
 impl Unit for CommentUnit {
     ghost len = { λ _. comment_unit };
 
-    fn len_at(&self, text: &[u8], at: usize, _fresh: bool) -> usize {
+    fn len_at(&self, text: &[u8], at: usize, _at_line_start: bool) -> usize {
         if is_at_line_end(text, at) { 0 } else { 1 }
     }
 
@@ -140,7 +141,7 @@ pub struct InlineUnit;
 impl Unit for InlineUnit {
     ghost len = { λ _. inline_unit };
 
-    fn len_at(&self, text: &[u8], at: usize, _fresh: bool) -> usize {
+    fn len_at(&self, text: &[u8], at: usize, _at_line_start: bool) -> usize {
         if text[at] == b'*' && byte_at(text, at + 1) == b'/' {
             0
         } else {
@@ -182,7 +183,7 @@ fn has_eight_hex(text: &[u8], at: usize) -> bool
     has_four_hex(text, at) && has_four_hex(text, at + 4)
 }
 
-/// How many bytes the escape behind a `\` has, 0 where there is none.
+/// Returns how many bytes the escape after a `\` has, 0 if there is none.
 fn escape_len(text: &[u8], at: usize) -> usize
     requires { at ≤ length text.now }
     ensures value { result ≡ escape_length (drop at text.now) }
@@ -200,8 +201,8 @@ fn escape_len(text: &[u8], at: usize) -> usize
     }
 }
 
-/// How many bytes the unit has that begins with a `$` or a `%` before the place, 0 where an opening
-/// begins there.
+/// Returns how many bytes the unit has that begins with a `$` or a `%` before the place, 0 if that
+/// is an opening.
 pub fn sigil_len(text: &[u8], at: usize, sigil: u8) -> usize
     requires within { at ≤ length text.now }
     requires sigil { 0 < sigil }
@@ -231,7 +232,7 @@ impl Unit for QuoteUnit {
     ghost len = { λ _. quote_unit };
 
     #[tactic(auto, using(crate::proofs::UnitLemmas::quote_unit_at))]
-    fn len_at(&self, text: &[u8], at: usize, _fresh: bool) -> usize {
+    fn len_at(&self, text: &[u8], at: usize, _at_line_start: bool) -> usize {
         let b = text[at];
         if b == b'\\' {
             let len = escape_len(text, at + 1);

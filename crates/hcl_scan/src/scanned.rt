@@ -1,23 +1,22 @@
-//! A text with its cut.
+//! A text with its tokens.
 
-ghost use Rattle.std.specs.Prelude.{◌≡◌, ◌+◌, ◌<◌, ◌≤◌, ◌↔◌, [], Some, IsTrue, IsUtf8, length, drop, IfOk, IfErr, IsOk, ◌⊎◌};
+ghost use Rattle.std.specs.Prelude.{◌≡◌, ◌+◌, ◌<◌, ◌≤◌, ◌↔◌, [], Some, IsTrue, IsUtf8, length, drop};
 ghost use Rattle.hcl_token.specs.TokenizedText.{TokenizedText, AreUtf8, kind_of, spelling_of, gap_of, clusters_of, item_of, joins_of, pairs_in_range};
 ghost use Rattle.hcl_token.specs.Pairs.{InOrder, pairs_of};
 ghost use Rattle.hcl_token.specs.TokenLists.{IsTokenListOf};
 ghost use Rattle.hcl_token.specs.Place.{place_of};
-ghost use Rattle.hcl_scan.specs.Tokenization.{IsTokenization, MAX_TEXT};
-ghost use Rattle.hcl_scan.specs.Fault.{IsFault};
-ghost use Rattle.hcl_scan.specs.declared.fault.ScanFault.TheVariants.{Memory};
+ghost use Rattle.hcl_scan.specs.Tokenization.{IsTokenization};
+ghost use Rattle.hcl_scan.specs.ScanResult.{IsScanResult};
 
 use crate::fault::ScanFault;
 use crate::tokenize::tokenize;
-use hcl_token::{Item, Kind, Lines, Place, Places, Token, TokenList, Tokens};
+use hcl_token::{Item, Kind, Lines, Place, Places, Span, TokenList, Tokens};
 use std::alloc::Global;
 use std::marker::Model;
 
-/// A text with its cut: its tokens, each with the gap before it, and the gap behind the last.
+/// A text with its tokens, each with the gap before it, and the gap after the last.
 ///
-/// Tokens are numbered from 0. No call takes memory.
+/// Tokens are numbered from 0. No call allocates.
 #[derive(Drop)]
 pub struct Scanned<'t> {
     tokens: Tokens<'t>,
@@ -31,45 +30,36 @@ impl<'t> Model for Scanned<'t> {
     ghost invariant = { λ s. IsTokenization s.tokens.text s.tokens.pairs s.tokens.last };
 }
 
-/// The cut of a text, or its fault.
+/// Returns the tokens of a text.
 ///
-/// A text has at most 16,777,216 bytes and is UTF-8; one that is not is refused before any memory
-/// is taken.
+/// # Errors
+///
+/// The text's own error, or `Memory`. A text of more than `MAX_TEXT` bytes, or that is not UTF-8,
+/// is refused before anything is allocated.
 ///
 /// HCL native syntax specification, Lexical Elements and Templates.
 pub fn scan<'t>(alloc: Global, text: &'t [u8]) -> Result<Scanned<'t>, ScanFault>
-    ensures text { IfOk result (λ s. s.text ≡ text.now) }
-    ensures tokenization { IfOk result (λ s. IsTokenization text.now s.pairs s.last) }
-    ensures fault { IfErr result
-        (λ e. ((e ≡ Memory) × (length text.now ≤ MAX_TEXT) × IsUtf8 text.now)
-        ⊎ IsFault text.now e) }
-    // Nothing is allocated for the empty text.
-    ensures empty { text.now ≡ [] → IsOk result }
+    ensures { IsScanResult text.now result }
 {
     scan_in(alloc, Vec::new(alloc), text)
 }
 
-/// The same, with the tokens in a list that has room, as `Scanned::into_buffer` gives it back. What
-/// stands in the list is given up.
+/// `scan`, with the tokens in a buffer, as `Scanned::into_buffer` returns it. The elements of the
+/// buffer are dropped.
 pub fn scan_in<'t>(
     alloc: Global,
-    buffer: Vec<Token>,
+    buffer: Vec<Span>,
     text: &'t [u8],
 ) -> Result<Scanned<'t>, ScanFault>
-    ensures text { IfOk result (λ s. s.text ≡ text.now) }
-    ensures tokenization { IfOk result (λ s. IsTokenization text.now s.pairs s.last) }
-    ensures fault { IfErr result
-        (λ e. ((e ≡ Memory) × (length text.now ≤ MAX_TEXT) × IsUtf8 text.now)
-        ⊎ IsFault text.now e) }
-    ensures empty { text.now ≡ [] → IsOk result }
+    ensures { IsScanResult text.now result }
 {
-    let (items, last_gap_at) = tokenize(alloc, buffer, text)?;
-    Ok(Scanned::of_tokens(text, items, last_gap_at))
+    let (tokens, last_gap_at) = tokenize(alloc, buffer, text)?;
+    Ok(Scanned::of_tokens(text, tokens, last_gap_at))
 }
 
 impl<'t> Scanned<'t> {
-    /// A text with tokens that are its cut, and where its last gap begins.
-    pub fn of_tokens(text: &'t [u8], tokens: Vec<Token>, last_gap_at: usize) -> Scanned<'t>
+    /// Returns a text with its tokens; the gap after the last begins at byte `last_gap_at`.
+    pub fn of_tokens(text: &'t [u8], tokens: Vec<Span>, last_gap_at: usize) -> Scanned<'t>
         requires tokenization { IsTokenization text.now (pairs_of text.now tokens.items) (drop last_gap_at text.now) }
         requires order { InOrder 0 tokens.items last_gap_at }
         requires within { last_gap_at ≤ length text.now }
@@ -81,21 +71,21 @@ impl<'t> Scanned<'t> {
         }
     }
 
-    /// The memory of the tokens, which are given up: an empty list with room for as many.
-    pub fn into_buffer(self) -> Vec<Token>
+    /// Returns the buffer of the tokens, emptied.
+    pub fn into_buffer(self) -> Vec<Span>
         ensures { result.items ≡ [] }
     {
         self.tokens.into_buffer()
     }
 
-    /// The tokens alone: the text may move, and `attach` puts them together again.
+    /// Returns the tokens without the text, which may then be moved; `attach` joins them again.
     pub fn detach(self) -> TokenList
         ensures { IsTokenListOf self.entry result }
     {
         self.tokens.detach()
     }
 
-    /// The text with its cut, of which the tokens were kept.
+    /// Returns the text with its tokens, which were detached.
     pub fn attach(text: &'t [u8], list: TokenList) -> Scanned<'t>
         requires { (cut : TokenizedText) × (cut.text ≡ text.now) × IsTokenListOf cut list
             × IsTokenization cut.text cut.pairs cut.last }
@@ -106,7 +96,7 @@ impl<'t> Scanned<'t> {
         }
     }
 
-    /// The text: the gaps and the tokens, one behind the other.
+    /// Returns the text: the gaps and the tokens, in order.
     pub fn text(&self) -> &'t [u8]
         ensures text { result.now ≡ self.now.text }
         ensures tokenization { IsTokenization self.now.text self.now.pairs self.now.last }
@@ -115,7 +105,7 @@ impl<'t> Scanned<'t> {
         self.tokens.text()
     }
 
-    /// The number of tokens.
+    /// Returns the number of tokens.
     pub fn len(&self) -> usize
         ensures value { result ≡ length self.now.pairs }
         ensures tokenization { IsTokenization self.now.text self.now.pairs self.now.last }
@@ -130,7 +120,7 @@ impl<'t> Scanned<'t> {
         self.tokens.is_empty()
     }
 
-    /// Where token `i` and the gap before it stand, in bytes from 0, and the kind of the token.
+    /// Returns the kind of token `i`, its place and that of the gap before it, in bytes from 0.
     pub fn item(&self, i: usize) -> Item
         requires { i < length self.now.pairs }
         ensures { Some result ≡ item_of self.now.pairs i }
@@ -138,7 +128,7 @@ impl<'t> Scanned<'t> {
         self.tokens.item(i)
     }
 
-    /// The kind of token `i`.
+    /// Returns the kind of token `i`.
     pub fn kind(&self, i: usize) -> Kind
         requires { i < length self.now.pairs }
         ensures { Some result ≡ kind_of self.now.pairs i }
@@ -146,7 +136,7 @@ impl<'t> Scanned<'t> {
         self.tokens.kind(i)
     }
 
-    /// The text of token `i`.
+    /// Returns the spelling of token `i`.
     pub fn spelling(&self, i: usize) -> &'t [u8]
         requires { i < length self.now.pairs }
         ensures value { Some result.now ≡ spelling_of self.now.pairs i }
@@ -155,7 +145,7 @@ impl<'t> Scanned<'t> {
         self.tokens.spelling(i)
     }
 
-    /// The gap before token `i`.
+    /// Returns the gap before token `i`.
     pub fn gap(&self, i: usize) -> &'t [u8]
         requires { i < length self.now.pairs }
         ensures value { Some result.now ≡ gap_of self.now.pairs i }
@@ -164,15 +154,15 @@ impl<'t> Scanned<'t> {
         self.tokens.gap(i)
     }
 
-    /// The gap behind the last token.
+    /// Returns the gap after the last token.
     pub fn last_gap(&self) -> &'t [u8]
         ensures { result.now ≡ self.now.last }
     {
         self.tokens.last_gap()
     }
 
-    /// Whether token `i` joins with token `j`, if that stands right behind it with an empty gap:
-    /// the two, and what follows, could then be cut otherwise.
+    /// Whether token `i` joins with token `j`, if `j` follows it after an empty gap: the two, and
+    /// what follows, could then be read as other tokens.
     pub fn joins(&self, i: usize, j: usize) -> bool
         requires first { i < length self.now.pairs }
         requires second { j < length self.now.pairs }
@@ -181,7 +171,7 @@ impl<'t> Scanned<'t> {
         self.tokens.joins(i, j)
     }
 
-    /// How many extended grapheme clusters token `i` has.
+    /// Returns how many extended grapheme clusters token `i` has.
     pub fn clusters(&self, i: usize) -> usize
         requires { i < length self.now.pairs }
         ensures { Some result ≡ clusters_of self.now.pairs i }
@@ -189,9 +179,9 @@ impl<'t> Scanned<'t> {
         self.tokens.clusters(i)
     }
 
-    /// Whether `count` tokens from number `from` on stand in another text from number `to` on: of
-    /// the same kinds, spelled alike, and with the same gaps between them. The gaps before the
-    /// first are not compared.
+    /// Whether `count` tokens from number `from` on are those of another text from number `to` on:
+    /// kinds, spellings and the gaps between them are the same. The gaps before the first are not
+    /// compared.
     pub fn has_same_tokens(&self, from: usize, other: &Scanned<'_>, to: usize, count: usize) -> bool
         requires self_range { from + count ≤ length self.now.pairs }
         requires other_range { to + count ≤ length other.now.pairs }
@@ -201,7 +191,7 @@ impl<'t> Scanned<'t> {
         self.tokens.has_same_tokens(from, &other.tokens, to, count)
     }
 
-    /// The line and the column of token `i`, from 1, found from the front of the text.
+    /// Returns the line and the column of token `i`, from 1, counted from the start of the text.
     pub fn place_of(&self, i: usize) -> Place
         requires { i < length self.now.pairs }
         ensures { result ≡ place_of self.now.pairs i }
@@ -209,14 +199,14 @@ impl<'t> Scanned<'t> {
         self.tokens.place_of(i)
     }
 
-    /// The places of tokens that are asked for one after another, by line and column.
+    /// Returns a cursor over the lines and columns of tokens, from 1.
     pub fn places(&self) -> Places<'_>
         ensures { result ≡ self.now.pairs }
     {
         self.tokens.places()
     }
 
-    /// The lines of tokens that are asked for one after another, from 1.
+    /// Returns a cursor over the lines of tokens, from 1.
     pub fn lines(&self) -> Lines<'_>
         ensures { result ≡ self.now.pairs }
     {

@@ -16,7 +16,7 @@ use crate::operator::{equal, operator};
 use crate::runs::{CommentUnit, InlineUnit, QuoteUnit, run_end};
 use hcl_token::Kind;
 
-/// The comment whose `/*` stands before the place.
+/// Returns the comment whose `/*` is before the place.
 fn inline_comment(text: &[u8], body: usize) -> Option<(Kind, usize)>
     requires { body ≤ length text.now }
     ensures { result ≡ inline_comment (drop body text.now) }
@@ -29,8 +29,8 @@ fn inline_comment(text: &[u8], body: usize) -> Option<(Kind, usize)>
     }
 }
 
-/// The token that begins with neither a letter nor a digit. A `}` closes a template sequence where
-/// `closes` says so.
+/// Returns the token that begins with neither a letter nor a digit. A `}` closes a template
+/// sequence if `can_close`.
 fn punctuation(text: &[u8], at: usize, can_close: bool) -> Option<(Kind, usize)>
     requires { at < length text.now }
     ensures { result ≡ punctuation can_close (drop at text.now) }
@@ -71,7 +71,7 @@ fn punctuation(text: &[u8], at: usize, can_close: bool) -> Option<(Kind, usize)>
     }
 }
 
-/// The token that begins with a `.`.
+/// Returns the token that begins with a `.`.
 fn dot_token(text: &[u8], at: usize) -> Option<(Kind, usize)>
     requires { at < length text.now }
     ensures { result ≡ dot_token (drop at text.now) }
@@ -87,10 +87,10 @@ fn dot_token(text: &[u8], at: usize) -> Option<(Kind, usize)>
     }
 }
 
-/// The token outside of literal text, of which the first byte is told, 0 past the end. A `}` closes
-/// a template sequence where `closes` says so.
+/// Returns the token outside of literal text. `first` is its first byte, 0 at the end. A `}` closes
+/// a template sequence if `can_close`.
 ///
-/// The tokens that most texts are made of are told by their first byte.
+/// The tokens that most texts are made of need no more than their first byte.
 fn expression_token(text: &str, at: usize, first: u8, can_close: bool) -> Option<(Kind, usize)>
     requires within { at ≤ length text.now }
     requires utf8 { IsUtf8 (drop at text.now) }
@@ -118,7 +118,7 @@ fn expression_token(text: &str, at: usize, first: u8, can_close: bool) -> Option
     }
 }
 
-/// The token that begins with a `}`.
+/// Returns the token that begins with a `}`.
 fn close_brace_token(can_close: bool) -> Option<(Kind, usize)>
     ensures { result ≡ (if can_close then Some (SeqClose, 1) else Some (CloseBrace, 1)) }
 {
@@ -129,7 +129,7 @@ fn close_brace_token(can_close: bool) -> Option<(Kind, usize)>
     }
 }
 
-/// The token outside of literal text, whatever it begins with; none at the end.
+/// `expression_token` for any first byte; none at the end.
 fn slow_expression_token(text: &str, at: usize, can_close: bool) -> Option<(Kind, usize)>
     requires within { at ≤ length text.now }
     requires utf8 { IsUtf8 (drop at text.now) }
@@ -142,7 +142,7 @@ fn slow_expression_token(text: &str, at: usize, can_close: bool) -> Option<(Kind
     }
 }
 
-/// The same where a byte stands.
+/// `slow_expression_token` where the text does not end.
 fn any_expression_token(text: &str, at: usize, can_close: bool) -> Option<(Kind, usize)>
     requires within { at < length text.now }
     requires utf8 { IsUtf8 (drop at text.now) }
@@ -161,7 +161,7 @@ fn any_expression_token(text: &str, at: usize, can_close: bool) -> Option<(Kind,
     }
 }
 
-/// Where `<<` opens no heredoc, its first byte is an operator.
+/// Returns the opening of a heredoc, or the operator `<` where `<<` opens none.
 fn heredoc_or_less(found: Option<(Kind, usize)>) -> Option<(Kind, usize)>
     ensures { result ≡ heredoc_or_less found }
 {
@@ -171,7 +171,7 @@ fn heredoc_or_less(found: Option<(Kind, usize)>) -> Option<(Kind, usize)>
     }
 }
 
-/// The token in quoted text.
+/// Returns the token in quoted text.
 fn quoted_token(text: &[u8], at: usize) -> Option<(Kind, usize)>
     requires { at ≤ length text.now }
     ensures { result ≡ quoted_token (drop at text.now) }
@@ -190,14 +190,14 @@ fn quoted_token(text: &[u8], at: usize) -> Option<(Kind, usize)>
     }
 }
 
-/// A `}` here closes a template sequence.
+/// Whether a `}` here closes a template sequence.
 fn can_close_sequence(mode: Mode<'_>) -> bool
     ensures { result ≡ can_close_sequence (mode_view mode.entry) }
 {
     matches!(mode, Mode::Sequence)
 }
 
-/// What stands behind a place: a gap, and a token or none.
+/// What follows a place: a gap, and a token or none.
 #[derive(Clone, Copy)]
 pub struct NextToken {
     /// Where the gap ends.
@@ -206,7 +206,7 @@ pub struct NextToken {
     pub token: Option<(Kind, usize)>,
 }
 
-/// The gap from a place on and the token behind it; no token where none can be cut, and at the end.
+/// Returns the gap from a place on and the token after it; no token if none begins there.
 pub fn next_token(text: &str, at: usize, mode: Mode<'_>) -> NextToken
     requires within { at ≤ length text.now }
     requires utf8 { IsUtf8 (drop at text.now) }

@@ -1,11 +1,12 @@
-//! Where the tokens of a whole text stand.
+//! The tokens of a whole text.
 
-ghost use Rattle.std.specs.Prelude.{◌≡◌, ◌+◌, ◌<◌, ◌≤◌, ◌++◌, ◌∷◌, length, drop, IsUtf8, IfOk, IfErr, IsOk, OnOk, IsTrue, ◌↔◌, [], ◌⊎◌};
+ghost use Rattle.std.specs.Prelude.{◌≡◌, ◌+◌, ◌<◌, ◌≤◌, ◌++◌, ◌∷◌, length, drop, IfOk, IfErr, IsOk, OnOk, IsTrue, ◌↔◌, [], ◌⊎◌};
 ghost use Rattle.hcl_token.specs.Pairs.{pairs_of, InOrder};
 ghost use Rattle.hcl_scan.specs.Characters.{is_prefix_of};
 ghost use Rattle.hcl_scan.specs.Tokenization.{IsTokenization, MAX_TEXT, byte_order_mark};
 ghost use Rattle.hcl_scan.specs.declared.fault.ScanFault.TheVariants.{Memory};
-ghost use Rattle.hcl_scan.specs.Fault.{EndsInFault, IsFault, token_fault, fault_at};
+ghost use Rattle.hcl_scan.specs.Fault.{EndsInFault, token_fault, fault_at};
+ghost use Rattle.hcl_scan.specs.ScanResult.{IsScanFault};
 ghost use Rattle.hcl_scan.specs.Inner.Openings.{mode_view};
 ghost use Rattle.hcl_scan.specs.Inner.MarkToken.{mark_tokens, mark_length, token_at};
 
@@ -15,10 +16,10 @@ use crate::mode::{
     Mode, Opening, can_change_openings, innermost_template_start, mode_of, update_openings,
 };
 use crate::token::next_token;
-use hcl_token::{Kind, MAX_TEXT, Token};
+use hcl_token::{Kind, MAX_TEXT, Span};
 use std::alloc::{AllocError, Global};
 
-/// The fault outside of literal text, at a place where no token can be cut.
+/// Returns the error outside of literal text, at a place where no token begins.
 fn token_fault(text: &[u8], at: usize) -> ScanFault
     requires { at ≤ length text.now }
     ensures { result ≡ token_fault at (drop at text.now) }
@@ -30,7 +31,7 @@ fn token_fault(text: &[u8], at: usize) -> ScanFault
     }
 }
 
-/// The fault at a place where no token can be cut, in a template that begins at `opened`.
+/// Returns the error at a place where no token begins, in a template that begins at `opened`.
 fn fault_at(text: &[u8], mode: Mode<'_>, opened: usize, at: usize) -> ScanFault
     requires { at ≤ length text.now }
     ensures { result ≡ fault_at (mode_view mode.entry) opened at (drop at text.now) }
@@ -58,55 +59,55 @@ fn fault_at(text: &[u8], mode: Mode<'_>, opened: usize, at: usize) -> ScanFault
     }
 }
 
-/// Whether the text is cut to its end.
+/// Whether the tokens are those of the whole text.
 fn is_done(openings: &[Opening<'_>], start: usize, len: usize) -> bool
     ensures { IsTrue result ↔ ((start ≡ len) × (openings.now ≡ [])) }
 {
     start == len && openings.is_empty()
 }
 
-/// Whether a byte order mark stands at the front.
+/// Whether the text begins with a byte order mark.
 fn starts_with_mark(text: &[u8]) -> bool
     ensures { result ≡ is_prefix_of byte_order_mark text.now }
 {
     byte_at(text, 0) == 0xef && byte_at(text, 1) == 0xbb && byte_at(text, 2) == 0xbf
 }
 
-/// The byte order mark at the front of a text, if one stands there, becomes the first item; the
-/// answer is its length.
-fn push_mark(items: &mut Vec<Token>, text: &[u8]) -> Result<usize, AllocError>
-    ensures items { OnOk result (items.new.items ≡ items.old.items ++ mark_tokens text.now) }
+/// Adds the byte order mark, if the text begins with one, as the first token, and returns its
+/// length, else 0.
+fn push_mark(tokens: &mut Vec<Span>, text: &[u8]) -> Result<usize, AllocError>
+    ensures tokens { OnOk result (tokens.new.items ≡ tokens.old.items ++ mark_tokens text.now) }
     ensures length { IfOk result (λ at. at ≡ mark_length text.now) }
 {
     if !starts_with_mark(text) {
         return Ok(0);
     }
-    items.push(Token::new(0, 3, Kind::Mark))?;
+    tokens.push(Span::new(0, 3, Kind::Mark))?;
     Ok(3)
 }
 
-/// One token more.
+/// Adds a token.
 fn push_token(
-    items: &mut Vec<Token>,
+    tokens: &mut Vec<Span>,
     start: usize,
     stop: usize,
     kind: Kind,
 ) -> Result<(), AllocError>
     requires start { start < MAX_TEXT }
     requires stop { stop ≤ MAX_TEXT }
-    ensures { OnOk result (items.new.items ≡ items.old.items ++ token_at start stop kind ∷ []) }
+    ensures { OnOk result (tokens.new.items ≡ tokens.old.items ++ token_at start stop kind ∷ []) }
 {
-    items.reserve(1)?;
-    items.push_reserved(Token::new(start as u32, stop as u32, kind));
+    tokens.reserve(1)?;
+    tokens.push_reserved(Span::new(start as u32, stop as u32, kind));
     Ok(())
 }
 
-/// The items of a text, in a list that has room, and where its last gap begins.
+/// Returns the tokens of a text, in a buffer, and where its last gap begins.
 fn tokenize_str(
     alloc: Global,
-    buffer: Vec<Token>,
+    buffer: Vec<Span>,
     text: &str,
-) -> Result<(Vec<Token>, usize), ScanFault>
+) -> Result<(Vec<Span>, usize), ScanFault>
     requires { length text.now ≤ MAX_TEXT }
     ensures tokenization { IfOk result
         (λ r. IsTokenization text.now (pairs_of text.now r.0.items) (drop r.1 text.now)) }
@@ -114,26 +115,26 @@ fn tokenize_str(
     ensures fault { IfErr result (λ e. (e ≡ Memory) ⊎ EndsInFault text.now e) }
 {
     let bytes = text.as_bytes();
-    let mut items = buffer;
-    items.clear();
-    items.reserve(text.len() / 8)?;
+    let mut tokens = buffer;
+    tokens.clear();
+    tokens.reserve(text.len() / 8)?;
     let mut openings: Vec<Opening<'_>> = Vec::new(alloc);
-    let mut at = push_mark(&mut items, bytes)?;
+    let mut at = push_mark(&mut tokens, bytes)?;
     let mut mode = Mode::Expression;
-    'tokens: loop {
+    'scan: loop {
         let next = next_token(text, at, mode);
         let start = next.start;
         match next.token {
             None => {
                 if is_done(&openings, start, bytes.len()) {
-                    return Ok((items, at));
+                    return Ok((tokens, at));
                 }
                 let opened = innermost_template_start(&openings);
                 return Err(fault_at(bytes, mode, opened, start));
             }
             Some((kind, len)) => {
                 let stop = start + len;
-                push_token(&mut items, start, stop, kind)?;
+                push_token(&mut tokens, start, stop, kind)?;
                 if can_change_openings(kind) {
                     update_openings(&mut openings, kind, slice(bytes, start, stop), start)?;
                     mode = mode_of(&openings);
@@ -145,27 +146,25 @@ fn tokenize_str(
 }
 
 /// Returns a list without its elements.
-fn cleared(buffer: Vec<Token>) -> Vec<Token>
+fn cleared(buffer: Vec<Span>) -> Vec<Span>
     ensures { result.items ≡ [] }
 {
-    let mut items = buffer;
-    items.clear();
-    items
+    let mut tokens = buffer;
+    tokens.clear();
+    tokens
 }
 
 /// Returns the tokens of a text, in the memory of a list, and where its last gap begins; or its
 /// error. Nothing is allocated for a text that is empty, too long or not UTF-8.
 pub fn tokenize(
     alloc: Global,
-    buffer: Vec<Token>,
+    buffer: Vec<Span>,
     text: &[u8],
-) -> Result<(Vec<Token>, usize), ScanFault>
+) -> Result<(Vec<Span>, usize), ScanFault>
     ensures tokenization { IfOk result
         (λ r. IsTokenization text.now (pairs_of text.now r.0.items) (drop r.1 text.now)) }
     ensures order { IfOk result (λ r. InOrder 0 r.0.items r.1 × (r.1 ≤ length text.now)) }
-    ensures fault { IfErr result
-        (λ e. ((e ≡ Memory) × (length text.now ≤ MAX_TEXT) × IsUtf8 text.now)
-        ⊎ IsFault text.now e) }
+    ensures fault { IfErr result (λ e. IsScanFault text.now e) }
     ensures empty { text.now ≡ [] → IsOk result }
 {
     if text.is_empty() {

@@ -2,7 +2,7 @@
 use Rattle.std.proofs.Common.{◌≡◌, ℕ, ◌+◌, ◌-◌, ◌≤◌, true, false, List, [], ◌∷◌, ◌++◌, take, drop, slice_get, slice_range, Some, count_by, refl, ap, subst, ◌∙◌, arith}
 use Rattle.std.proofs.lemmas.List.Elements.{All-drop, All-head, All-tail, All-take}
 use Rattle.hcl_token.specs.declared.place.Place.{Place}
-use Rattle.hcl_token.specs.declared.token.Token.{Token}
+use Rattle.hcl_token.specs.declared.span.Span.{Span}
 use Rattle.hcl_token.specs.Tokens.{Pair, whole_text}
 use Rattle.hcl_token.specs.Pairs.{pair_at, pairs_from, pairs_of}
 use Rattle.hcl_token.specs.Place.{MarksHaveNoLf, is_lf, is_mark, line_of}
@@ -25,7 +25,7 @@ counted_pair at p counts =
       | false ↦ λ e. rw e refl
     ] refl
 
-counted_over : (text : List ℕ) (tokens : List Token) (from : ℕ) (at : Place) → MarksHaveNoLf (pairs_from text from tokens)
+counted_over : (text : List ℕ) (tokens : List Span) (from : ℕ) (at : Place) → MarksHaveNoLf (pairs_from text from tokens)
     → (place_after_pairs at (pairs_from text from tokens)).line ≡ at.line + count_by is_lf (whole_text (pairs_from text from tokens) [])
 counted_over text [] from at marks = omega arith
 counted_over text (x ∷ tokens) from at marks =
@@ -42,24 +42,24 @@ counted_over text (x ∷ tokens) from at marks =
       count-append spelling rest,
     )
 
-marks-slice : (text : List ℕ) (tokens : List Token) (from to : ℕ) → MarksHaveNoLf (pairs_of text tokens)
+marks-slice : (text : List ℕ) (tokens : List Span) (from to : ℕ) → MarksHaveNoLf (pairs_of text tokens)
     → MarksHaveNoLf (pairs_from text (gap_at tokens from) (slice_range tokens from to))
 marks-slice text tokens from to marks =
     let at : ℕ = gap_at tokens from in
     let after_from = subst MarksHaveNoLf (pairs-drop text tokens 0 from) (All-drop LfsCount from (pairs_of text tokens) marks) in
     subst MarksHaveNoLf (pairs-take text (drop from tokens) at (to - from)) (All-take LfsCount (to - from) (pairs_from text at (drop from tokens)) after_from)
 
-pub line_over : (text : List ℕ) (tokens : List Token) (last from to line : ℕ) → IsOnLine text tokens last from line → from ≤ to
+pub line_over : (text : List ℕ) (tokens : List Span) (last from to line : ℕ) → IsOnLine text tokens last from line → from ≤ to
     → line + count_by is_lf (slice_range text (gap_at tokens from) (gap_at tokens to)) ≡ (place_after_pairs first_place (take to (pairs_of text tokens))).line
 line_over text tokens last from to line o le =
     let at : Place = place_after_pairs first_place (take from (pairs_of text tokens)) in
-    let within : List Token = slice_range tokens from to in
+    let within : List Span = slice_range tokens from to in
     let end : from + (to - from) ≡ to = omega arith in
     let bytes = ap (count_by is_lf) (text_is-slice text within (gap_at tokens from) (gap_at tokens to) (order-slice tokens 0 last from to o.ordered.order le)) in
     let whole = ap (λ (p : Place). p.line) (place_after_pairs-slice text tokens 0 first_place from (to - from) ∙ ap (λ n. place_after_pairs first_place (take n (pairs_of text tokens))) end) in
     omega (arith, o.is, counted_over text within (gap_at tokens from) at (marks-slice text tokens from to o.marks), bytes, whole)
 
-pub line_found : (text : List ℕ) (tokens : List Token) (last i line : ℕ) (token : Token) → IsOnLine text tokens last i line
+pub line_found : (text : List ℕ) (tokens : List Span) (last i line : ℕ) (token : Span) → IsOnLine text tokens last i line
     → slice_get (pairs_of text tokens) i ≡ Some (pair_at text (gap_at tokens i) token)
     → line + count_by is_lf (slice_range text (gap_at tokens i) token.start) ≡ line_of (pairs_of text tokens) i
 line_found text tokens last i line token o pair =
@@ -67,5 +67,5 @@ line_found text tokens last i line token o pair =
     omega (arith, o.is, found)
 
 -- a line is no further than the bytes before it
-pub line_reached : (text : List ℕ) (tokens : List Token) (last i line : ℕ) → IsOnLine text tokens last i line → line ≤ 1 + gap_at tokens i
+pub line_reached : (text : List ℕ) (tokens : List Span) (last i line : ℕ) → IsOnLine text tokens last i line → line ≤ 1 + gap_at tokens i
 line_reached text tokens last i line o = omega (arith, o.is, (start_bounded text tokens last i o.ordered).line)

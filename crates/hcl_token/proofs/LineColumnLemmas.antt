@@ -3,7 +3,7 @@ use Rattle.std.proofs.Common.{◌≡◌, ℕ, ◌+◌, ◌-◌, ◌<◌, ◌≤�
 use Rattle.std.specs.List.{list_any}
 use Rattle.std.proofs.lemmas.List.Sums.{count_by-le-length}
 use Rattle.hcl_token.specs.declared.place.Place.{Place}
-use Rattle.hcl_token.specs.declared.token.Token.{Token}
+use Rattle.hcl_token.specs.declared.span.Span.{Span}
 use Rattle.hcl_token.specs.Tokens.{Pair, whole_text}
 use Rattle.hcl_token.specs.Pairs.{pair_at, pairs_from, pairs_of}
 use Rattle.hcl_token.specs.Place.{clusters, is_lf, is_mark, last_line}
@@ -33,7 +33,7 @@ piece_reached at piece from to u r h = record {
   column = omega (arith, r.column, piece_column at piece u);
 }
 
-pair_reached : (text : List ℕ) (x : Token) (tokens : List Token) (from to : ℕ) (at : Place) → IsTokenRange text (x ∷ tokens) from to at → IsPlaceBounded (place_after_pair at (pair_at text from x)) x.stop
+pair_reached : (text : List ℕ) (x : Span) (tokens : List Span) (from to : ℕ) (at : Place) → IsTokenRange text (x ∷ tokens) from to at → IsPlaceBounded (place_after_pair at (pair_at text from x)) x.stop
 pair_reached text x tokens from to at s =
     let gap : List ℕ = slice_range text from x.start in
     let spelling : List ℕ = slice_range text x.start x.stop in
@@ -46,13 +46,13 @@ pair_reached text x tokens from to at s =
       | false ↦ λ e. rw e (piece_reached (place_after_piece at gap) spelling x.start x.stop s.utf8.1 at_start (omega (arith, spelling_len, s.order.1)))
     ] refl
 
-pub range_bounded : (text : List ℕ) (tokens : List Token) (from to : ℕ) (at : Place) → IsTokenRange text tokens from to at → IsPlaceBounded (place_after_pairs at (pairs_from text from tokens)) to
+pub range_bounded : (text : List ℕ) (tokens : List Span) (from to : ℕ) (at : Place) → IsTokenRange text tokens from to at → IsPlaceBounded (place_after_pairs at (pairs_from text from tokens)) to
 range_bounded text [] from to at s = subst (λ n. IsPlaceBounded at n) s.order s.bounded
 range_bounded text (x ∷ tokens) from to at s =
     range_bounded text tokens x.stop to (place_after_pair at (pair_at text from x)) (range_others text x tokens from to at (place_after_pair at (pair_at text from x)) s (pair_reached text x tokens from to at s))
 
 -- a stretch of a text, by the numbers of its tokens
-pub pairs_in_range : (text : List ℕ) (tokens : List Token) (last from to : ℕ) (at : Place) → IsWellFormed text tokens last → from ≤ to → IsPlaceBounded at (gap_at tokens from)
+pub pairs_in_range : (text : List ℕ) (tokens : List Span) (last from to : ℕ) (at : Place) → IsWellFormed text tokens last → from ≤ to → IsPlaceBounded at (gap_at tokens from)
     → IsTokenRange text (slice_range tokens from to) (gap_at tokens from) (gap_at tokens to) at
 pairs_in_range text tokens last from to at o le reached = record {
   order = order-slice tokens 0 last from to o.order le;
@@ -62,7 +62,7 @@ pairs_in_range text tokens last from to at o le reached = record {
   bounded = reached;
 }
 
-pub start_bounded : (text : List ℕ) (tokens : List Token) (last n : ℕ) → IsWellFormed text tokens last → IsPlaceBounded (place_after_pairs first_place (take n (pairs_of text tokens))) (gap_at tokens n)
+pub start_bounded : (text : List ℕ) (tokens : List Span) (last n : ℕ) → IsWellFormed text tokens last → IsPlaceBounded (place_after_pairs first_place (take n (pairs_of text tokens))) (gap_at tokens n)
 start_bounded text tokens last n o =
     let begin : IsPlaceBounded first_place (gap_at tokens 0) = record { line = omega arith; column = omega arith } in
     let s = pairs_in_range text tokens last 0 n first_place o (omega arith) begin in
@@ -72,13 +72,13 @@ start_bounded text tokens last n o =
     subst (λ (ps : List Pair). IsPlaceBounded (place_after_pairs first_place ps) (gap_at tokens n)) same
     (range_bounded text (slice_range tokens 0 n) (gap_at tokens 0) (gap_at tokens n) first_place s)
 
-pub range_length : (text : List ℕ) (tokens : List Token) (from to : ℕ) (at : Place) → IsTokenRange text tokens from to at → from + length (slice_range text from to) ≡ to
+pub range_length : (text : List ℕ) (tokens : List Span) (from to : ℕ) (at : Place) → IsTokenRange text tokens from to at → from + length (slice_range text from to) ≡ to
 range_length text tokens from to at s =
     let le : from ≤ to = order-le tokens from to s.order in
     omega (arith, length-range text from to le s.within)
 
 -- where the bytes of a stretch are plain, they are one piece
-pub ascii_part : (text : List ℕ) (tokens : List Token) (from to : ℕ) (at : Place) (bytes : List ℕ) → IsTokenRange text tokens from to at → bytes ≡ slice_range text from to
+pub ascii_part : (text : List ℕ) (tokens : List Span) (from to : ℕ) (at : Place) (bytes : List ℕ) → IsTokenRange text tokens from to at → bytes ≡ slice_range text from to
     → is_ascii_without_cr bytes ≡ true → has_mark tokens ≡ false → place_after_piece at bytes ≡ place_after_pairs at (pairs_from text from tokens)
 ascii_part text tokens from to at bytes s is plain none =
     let text_is : bytes ≡ whole_text (pairs_from text from tokens) [] = is ∙ sym (text_is-slice text tokens from to s.order) in

@@ -2,7 +2,7 @@
 use Rattle.std.proofs.Common.{◌≡◌, ℕ, zero, suc, ◌+◌, ◌-◌, ◌%◌, ◌^◌, ◌<◌, ◌≤◌, List, [], ◌∷◌, length, take, drop, get_or, slice_range, refl, sym, ap, subst, ◌∙◌, arith, length-drop}
 use Rattle.std.proofs.lemmas.List.{get_or_default, take-take, drop-take, drop-drop, length-take-le}
 use Rattle.hcl_token.specs.declared.kind.Kind.{Kind}
-use Rattle.hcl_token.specs.declared.token.Token.{Token}
+use Rattle.hcl_token.specs.declared.span.Span.{Span}
 use Rattle.hcl_token.specs.Tokens.{Pair, whole_text}
 use Rattle.hcl_token.specs.Pairs.{pair_at, pairs_from, InOrder}
 use Rattle.hcl_token.specs.TokenizedText.{TokenizedText, pairs_in_range, without_first_gap}
@@ -46,7 +46,7 @@ pair_is : (g h : List ℕ) (k m : Kind) (s t : List ℕ) → g ≡ h → k ≡ m
 pair_is g h k m s t e f r = ap (λ (v : List ℕ). pair v k s) e ∙ ap (λ (v : Kind). pair h v s) f ∙ ap (λ (v : List ℕ). pair h m v) r
 
 -- the same bytes, and tokens that lie alike: the same pairs
-runs_same : (a b : List ℕ) (apart i j p q g h : ℕ) (xs ys : List Token) → (apart + j) % 2 ^ 32 ≡ i → p < 2 ^ 32 → q < 2 ^ 32 → i ≤ g → j ≤ h → g + j ≡ h + i
+runs_same : (a b : List ℕ) (apart i j p q g h : ℕ) (xs ys : List Span) → (apart + j) % 2 ^ 32 ≡ i → p < 2 ^ 32 → q < 2 ^ 32 → i ≤ g → j ≤ h → g + j ≡ h + i
     → InOrder g xs p → InOrder h ys q → length xs ≡ length ys → AreShiftedBy apart xs ys → slice_range a g p ≡ slice_range b h q
     → pairs_from a g xs ≡ pairs_from b h ys
 runs_same a b apart i j p q g h [] [] base pm qm ig jh even o u number lie same = refl
@@ -70,7 +70,7 @@ runs_same a b apart i j p q g h (x ∷ xs) (y ∷ ys) base pm qm ig jh even o u 
     ∙ ap (λ (z : Pair). z ∷ pairs_from b y.stop ys) (pair_is _ _ _ _ _ _ gap.0 first.kind spelling.0)
 
 -- and back: the same pairs lie alike
-first_lies : (a b : List ℕ) (apart i j g h : ℕ) (x y : Token) → (apart + j) % 2 ^ 32 ≡ i → x.stop ≤ length a → y.stop ≤ length b → x.stop < 2 ^ 32 → i ≤ g → j ≤ h → g + j ≡ h + i
+first_lies : (a b : List ℕ) (apart i j g h : ℕ) (x y : Span) → (apart + j) % 2 ^ 32 ≡ i → x.stop ≤ length a → y.stop ≤ length b → x.stop < 2 ^ 32 → i ≤ g → j ≤ h → g + j ≡ h + i
     → g ≤ x.start → x.start ≤ x.stop → h ≤ y.start → y.start ≤ y.stop → pair_at a g x ≡ pair_at b h y → (x.stop + j ≡ y.stop + i) × IsShiftedBy apart x y
 first_lies a b apart i j g h x y base xa yb short ig jh even gx xx hy yy e =
     let gap : x.start - g ≡ y.start - h =
@@ -87,7 +87,7 @@ first_lies a b apart i j g h x y base xa yb short ig jh even gx xx hy yy e =
       },
     )
 
-lie_of : (a b : List ℕ) (apart i j p q g h : ℕ) (xs ys : List Token) → (apart + j) % 2 ^ 32 ≡ i → p ≤ length a → q ≤ length b → p < 2 ^ 32 → i ≤ g → j ≤ h → g + j ≡ h + i
+lie_of : (a b : List ℕ) (apart i j p q g h : ℕ) (xs ys : List Span) → (apart + j) % 2 ^ 32 ≡ i → p ≤ length a → q ≤ length b → p < 2 ^ 32 → i ≤ g → j ≤ h → g + j ≡ h + i
     → InOrder g xs p → InOrder h ys q → pairs_from a g xs ≡ pairs_from b h ys → (k : ℕ) → k < length xs → IsShiftedBy apart (get_or xs k none) (get_or ys k none)
 lie_of a b apart i j p q g h [] ys base pa qb short ig jh even o u e k inside = absurd (omega arith)
 lie_of a b apart i j p q g h (x ∷ xs) [] base pa qb short ig jh even o u e k inside = absurd (cc)
@@ -104,61 +104,61 @@ lie_of a b apart i j p q g h (x ∷ xs) (y ∷ ys) base pa qb short ig jh even o
 
 -- ---- runs
 
-abbrev pub begin_of : List Token → ℕ
+abbrev pub begin_of : List Span → ℕ
 begin_of tokens = (get_or tokens 0 none).start
 
-abbrev pub end_of : List Token → ℕ
+abbrev pub end_of : List Span → ℕ
 end_of tokens = (get_or tokens (length tokens - 1) none).stop
 
 -- the token that a look-up finds
-pub found_at : (tokens : List Token) (i : ℕ) (token : Token) → token ≡ get_or tokens i token → i < length tokens → token ≡ get_or tokens i none
+pub found_at : (tokens : List Span) (i : ℕ) (token : Span) → token ≡ get_or tokens i token → i < length tokens → token ≡ get_or tokens i none
 found_at tokens i token is within = is ∙ get_or_default tokens i token none within
 
-pub begins_at : (tokens : List Token) (start : ℕ) (token : Token) → start ≡ token.start → token ≡ get_or tokens 0 token → 0 < length tokens → start ≡ begin_of tokens
-begins_at tokens start token e is some = e ∙ ap (λ (t : Token). t.start) (found_at tokens 0 token is some)
+pub begins_at : (tokens : List Span) (start : ℕ) (token : Span) → start ≡ token.start → token ≡ get_or tokens 0 token → 0 < length tokens → start ≡ begin_of tokens
+begins_at tokens start token e is some = e ∙ ap (λ (t : Span). t.start) (found_at tokens 0 token is some)
 
-pub ends_at : (tokens : List Token) (stop : ℕ) (token : Token) → stop ≡ token.stop → token ≡ get_or tokens (length tokens - 1) token → 0 < length tokens → stop ≡ end_of tokens
-ends_at tokens stop token e is some = e ∙ ap (λ (t : Token). t.stop) (found_at tokens (length tokens - 1) token is (omega arith))
+pub ends_at : (tokens : List Span) (stop : ℕ) (token : Span) → stop ≡ token.stop → token ≡ get_or tokens (length tokens - 1) token → 0 < length tokens → stop ≡ end_of tokens
+ends_at tokens stop token e is some = e ∙ ap (λ (t : Span). t.stop) (found_at tokens (length tokens - 1) token is (omega arith))
 
-run_is : (text : List ℕ) (tokens : List Token) → 0 < length tokens → token_run text tokens ≡ pairs_from text (begin_of tokens) tokens
+run_is : (text : List ℕ) (tokens : List Span) → 0 < length tokens → token_run text tokens ≡ pairs_from text (begin_of tokens) tokens
 run_is text [] h = absurd (omega arith)
 run_is text (x ∷ tokens) h = refl
 
-order-here : (tokens : List Token) (at last : ℕ) → InOrder at tokens last → 0 < length tokens → InOrder (begin_of tokens) tokens last
+order-here : (tokens : List Span) (at last : ℕ) → InOrder at tokens last → 0 < length tokens → InOrder (begin_of tokens) tokens last
 order-here [] at last o h = absurd (omega arith)
 order-here (x ∷ tokens) at last o h = (omega arith, o.1, o.2)
 
-order-last : (tokens : List Token) (at last n : ℕ) → InOrder at tokens last → suc n ≡ length tokens → (get_or tokens n none).stop ≡ last
+order-last : (tokens : List Span) (at last n : ℕ) → InOrder at tokens last → suc n ≡ length tokens → (get_or tokens n none).stop ≡ last
 order-last [] at last n o e = absurd (omega arith)
 order-last (x ∷ []) at last zero o e = o.2
 order-last (x ∷ []) at last (suc n) o e = absurd (omega arith)
 order-last (x ∷ y ∷ tokens) at last zero o e = absurd (omega arith)
 order-last (x ∷ y ∷ tokens) at last (suc n) o e = order-last (y ∷ tokens) x.stop last n o.2 (omega arith)
 
-end_is : (text : List ℕ) (tokens : List Token) (r : IsTokenRun text tokens) → end_of tokens ≡ r.order.1
+end_is : (text : List ℕ) (tokens : List Span) (r : IsTokenRun text tokens) → end_of tokens ≡ r.order.1
 end_is text tokens r = order-last tokens r.order.0 r.order.1 (length tokens - 1) r.order.2 (omega (arith, r.some))
 
 -- where the first token starts and the last one stops
-pub run_within : (text : List ℕ) (tokens : List Token) → IsTokenRun text tokens → (begin_of tokens ≤ end_of tokens) × (end_of tokens ≤ length text)
+pub run_within : (text : List ℕ) (tokens : List Span) → IsTokenRun text tokens → (begin_of tokens ≤ end_of tokens) × (end_of tokens ≤ length text)
 run_within text tokens r =
     let last : end_of tokens ≡ r.order.1 = end_is text tokens r in
     let le : begin_of tokens ≤ r.order.1 = order-le tokens (begin_of tokens) r.order.1 (order-here tokens r.order.0 r.order.1 r.order.2 r.some) in
     (omega arith, omega (arith, r.order.3))
 
-pub run_text : (text : List ℕ) (tokens : List Token) → IsTokenRun text tokens → whole_text (token_run text tokens) [] ≡ slice_range text (begin_of tokens) (end_of tokens)
+pub run_text : (text : List ℕ) (tokens : List Span) → IsTokenRun text tokens → whole_text (token_run text tokens) [] ≡ slice_range text (begin_of tokens) (end_of tokens)
 run_text text tokens r =
     ap (λ (ps : List Pair). whole_text ps []) (run_is text tokens r.some)
     ∙ text_is-slice text tokens (begin_of tokens) r.order.1 (order-here tokens r.order.0 r.order.1 r.order.2 r.some)
     ∙ ap (slice_range text (begin_of tokens)) (sym (end_is text tokens r))
 
-pub same_places : (a b : List ℕ) (xs ys : List Token) (apart : ℕ) → IsTokenRun a xs → IsTokenRun b ys → (apart + begin_of ys) % 2 ^ 32 ≡ begin_of xs → token_run a xs ≡ token_run b ys → AreShiftedBy apart xs ys
+pub same_places : (a b : List ℕ) (xs ys : List Span) (apart : ℕ) → IsTokenRun a xs → IsTokenRun b ys → (apart + begin_of ys) % 2 ^ 32 ≡ begin_of xs → token_run a xs ≡ token_run b ys → AreShiftedBy apart xs ys
 same_places a b xs ys apart r s base e =
     let o = order-here xs r.order.0 r.order.1 r.order.2 r.some in
     let u = order-here ys s.order.0 s.order.1 s.order.2 s.some in
     lie_of a b apart (begin_of xs) (begin_of ys) r.order.1 s.order.1 (begin_of xs) (begin_of ys) xs ys base r.order.3 s.order.3 (omega (arith, r.order.3, r.short)) (omega arith) (omega arith) (omega arith) o u
     (sym (run_is a xs r.some) ∙ e ∙ run_is b ys s.some)
 
-pub same_pairs : (a b : List ℕ) (xs ys : List Token) (apart : ℕ) → IsTokenRun a xs → IsTokenRun b ys → length xs ≡ length ys → (apart + begin_of ys) % 2 ^ 32 ≡ begin_of xs
+pub same_pairs : (a b : List ℕ) (xs ys : List Span) (apart : ℕ) → IsTokenRun a xs → IsTokenRun b ys → length xs ≡ length ys → (apart + begin_of ys) % 2 ^ 32 ≡ begin_of xs
     → whole_text (token_run a xs) [] ≡ whole_text (token_run b ys) [] → AreShiftedBy apart xs ys → token_run a xs ≡ token_run b ys
 same_pairs a b xs ys apart r s number base same lie =
     let o = order-here xs r.order.0 r.order.1 r.order.2 r.some in
@@ -169,7 +169,7 @@ same_pairs a b xs ys apart r s number base same lie =
     ∙ runs_same a b apart (begin_of xs) (begin_of ys) r.order.1 s.order.1 (begin_of xs) (begin_of ys) xs ys base (omega (arith, r.order.3, r.short)) (omega (arith, s.order.3, s.short)) (omega arith) (omega arith) (omega arith) o u number lie bytes
     ∙ sym (run_is b ys s.some)
 
-without_is : (text : List ℕ) (tokens : List Token) (from : ℕ) → without_first_gap (pairs_from text from tokens) ≡ token_run text tokens
+without_is : (text : List ℕ) (tokens : List Span) (from : ℕ) → without_first_gap (pairs_from text from tokens) ≡ token_run text tokens
 without_is text [] from = refl
 without_is text (x ∷ tokens) from =
     let nothing : x.start - x.start ≡ 0 = omega arith in
@@ -178,24 +178,24 @@ without_is text (x ∷ tokens) from =
 
 -- ---- tokens of a text from a number on
 
-pub run_length : (tokens run : List Token) (from count : ℕ) → run ≡ slice_range tokens from (from + count) → from + count ≤ length tokens → length run ≡ count
+pub run_length : (tokens run : List Span) (from count : ℕ) → run ≡ slice_range tokens from (from + count) → from + count ≤ length tokens → length run ≡ count
 run_length tokens run from count e within =
     ap length e ∙ length-take-le (from + count - from) (drop from tokens) (omega (arith, length-drop from tokens)) ∙ omega arith
 
-pub is_run : (text : List ℕ) (tokens run : List Token) (last_gap_at from count : ℕ) → IsWellFormed text tokens last_gap_at → run ≡ slice_range tokens from (from + count) → from + count ≤ length tokens → 0 < count
+pub is_run : (text : List ℕ) (tokens run : List Span) (last_gap_at from count : ℕ) → IsWellFormed text tokens last_gap_at → run ≡ slice_range tokens from (from + count) → from + count ≤ length tokens → 0 < count
     → IsTokenRun text run
 is_run text tokens run last_gap_at from count o e within some = record {
   some = omega (arith, run_length tokens run from count e within);
   order = (
     gap_at tokens from,
     gap_at tokens (from + count),
-    subst (λ (l : List Token). InOrder (gap_at tokens from) l (gap_at tokens (from + count))) (sym e) (order-slice tokens 0 last_gap_at from (from + count) o.order (omega arith)),
+    subst (λ (l : List Span). InOrder (gap_at tokens from) l (gap_at tokens (from + count))) (sym e) (order-slice tokens 0 last_gap_at from (from + count) o.order (omega arith)),
     omega (arith, gap-le tokens 0 last_gap_at (from + count) o.order, o.within),
   );
   short = o.short;
 }
 
-pub range_run : (text : List ℕ) (tokens run : List Token) (last_gap_at from count : ℕ) (value : TokenizedText) → IsViewOf text tokens last_gap_at value → run ≡ slice_range tokens from (from + count)
+pub range_run : (text : List ℕ) (tokens run : List Span) (last_gap_at from count : ℕ) (value : TokenizedText) → IsViewOf text tokens last_gap_at value → run ≡ slice_range tokens from (from + count)
     → pairs_in_range value.pairs from count ≡ token_run text run
 range_run text tokens run last_gap_at from count value v e =
     let number : count ≡ from + count - from = omega arith in

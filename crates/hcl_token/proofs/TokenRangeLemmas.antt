@@ -3,7 +3,7 @@ use Rattle.std.proofs.Common.{◌≡◌, ℕ, zero, suc, ◌+◌, ◌<◌, ◌�
 use Rattle.std.proofs.lemmas.Bool.{and_parts, or_parts}
 use Rattle.std.proofs.lemmas.List.{drop_more, drop_all}
 use Rattle.hcl_token.specs.declared.place.Place.{Place}
-use Rattle.hcl_token.specs.declared.token.Token.{Token}
+use Rattle.hcl_token.specs.declared.span.Span.{Span}
 use Rattle.hcl_token.specs.Tokens.{whole_text}
 use Rattle.hcl_token.specs.Pairs.{pair_at, pairs_from}
 use Rattle.hcl_token.specs.Place.{is_mark}
@@ -14,7 +14,7 @@ use Rattle.hcl_token.proofs.OrderLemmas.{order-le, pairs-take}
 use Rattle.hcl_token.proofs.PlaceLemmas.{place_after_piece-nil, place_after_piece-append}
 
 -- the first token of a stretch, and the others
-pub range_first : (text : List ℕ) (x : Token) (tokens : List Token) (from to : ℕ) (at : Place) → IsTokenRange text (x ∷ tokens) from to at → IsTokenRange text (x ∷ []) from x.stop at
+pub range_first : (text : List ℕ) (x : Span) (tokens : List Span) (from to : ℕ) (at : Place) → IsTokenRange text (x ∷ tokens) from to at → IsTokenRange text (x ∷ []) from x.stop at
 range_first text x tokens from to at s = record {
   order = (s.order.0, s.order.1, refl);
   within = omega (arith, order-le tokens x.stop to s.order.2, s.within);
@@ -23,7 +23,7 @@ range_first text x tokens from to at s = record {
   bounded = s.bounded;
 }
 
-pub range_others : (text : List ℕ) (x : Token) (tokens : List Token) (from to : ℕ) (at behind : Place) → IsTokenRange text (x ∷ tokens) from to at → IsPlaceBounded behind x.stop → IsTokenRange text tokens x.stop to behind
+pub range_others : (text : List ℕ) (x : Span) (tokens : List Span) (from to : ℕ) (at behind : Place) → IsTokenRange text (x ∷ tokens) from to at → IsPlaceBounded behind x.stop → IsTokenRange text tokens x.stop to behind
 range_others text x tokens from to at behind s reached = record {
   order = s.order.2;
   within = s.within;
@@ -33,40 +33,40 @@ range_others text x tokens from to at behind s reached = record {
 }
 
 -- the tokens from number i on are still to go over: the gap before them begins at `from`, which is this place
-pub record IsAlong (text : List ℕ) (tokens : List Token) (begin : ℕ) (start : Place) (i from : ℕ) (at : Place) : Type 0 where
+pub record IsAlong (text : List ℕ) (tokens : List Span) (begin : ℕ) (start : Place) (i from : ℕ) (at : Place) : Type 0 where
   pub rest : (to : ℕ) × IsTokenRange text (drop i tokens) from to at
   pub value : place_after_pairs at (pairs_from text from (drop i tokens)) ≡ place_after_pairs start (pairs_from text begin tokens)
 
 -- token i, and those behind it
-split_at : (tokens : List Token) (i : ℕ) (token : Token) → i < length tokens → token ≡ get_or tokens i token → drop i tokens ≡ token ∷ drop (i + 1) tokens
-split_at tokens i token h is = drop_more tokens i token h ∙ ap (λ (x : Token). x ∷ drop (i + 1) tokens) (sym is)
+split_at : (tokens : List Span) (i : ℕ) (token : Span) → i < length tokens → token ≡ get_or tokens i token → drop i tokens ≡ token ∷ drop (i + 1) tokens
+split_at tokens i token h is = drop_more tokens i token h ∙ ap (λ (x : Span). x ∷ drop (i + 1) tokens) (sym is)
 
-pub along_first : (text : List ℕ) (tokens : List Token) (begin : ℕ) (start : Place) (i from : ℕ) (at : Place) (token : Token) → i < length tokens → token ≡ get_or tokens i token
+pub along_first : (text : List ℕ) (tokens : List Span) (begin : ℕ) (start : Place) (i from : ℕ) (at : Place) (token : Span) → i < length tokens → token ≡ get_or tokens i token
     → IsAlong text tokens begin start i from at → IsTokenRange text (token ∷ []) from token.stop at
 along_first text tokens begin start i from at token h is a =
     let (to, s) = a.rest in
-    range_first text token (drop (i + 1) tokens) from to at (subst (λ (l : List Token). IsTokenRange text l from to at) (split_at tokens i token h is) s)
+    range_first text token (drop (i + 1) tokens) from to at (subst (λ (l : List Span). IsTokenRange text l from to at) (split_at tokens i token h is) s)
 
-pub along_step : (text : List ℕ) (tokens : List Token) (begin : ℕ) (start : Place) (i from : ℕ) (at : Place) (token : Token) (behind : Place) → i < length tokens → token ≡ get_or tokens i token
+pub along_step : (text : List ℕ) (tokens : List Span) (begin : ℕ) (start : Place) (i from : ℕ) (at : Place) (token : Span) (behind : Place) → i < length tokens → token ≡ get_or tokens i token
     → IsAlong text tokens begin start i from at → behind ≡ place_after_pair at (pair_at text from token) → IsPlaceBounded behind token.stop
     → IsAlong text tokens begin start (i + 1) token.stop behind
 along_step text tokens begin start i from at token behind h is a e reached =
     let (to, s) = a.rest in
     let split : drop i tokens ≡ token ∷ drop (i + 1) tokens = split_at tokens i token h is in
     record {
-      rest = (to, range_others text token (drop (i + 1) tokens) from to at behind (subst (λ (l : List Token). IsTokenRange text l from to at) split s) reached);
+      rest = (to, range_others text token (drop (i + 1) tokens) from to at behind (subst (λ (l : List Span). IsTokenRange text l from to at) split s) reached);
       value = ap (λ (p : Place). place_after_pairs p (pairs_from text token.stop (drop (i + 1) tokens))) e
-          ∙ ap (λ (l : List Token). place_after_pairs at (pairs_from text from l)) (sym split)
+          ∙ ap (λ (l : List Span). place_after_pairs at (pairs_from text from l)) (sym split)
           ∙ a.value;
     }
 
-pub along_end : (text : List ℕ) (tokens : List Token) (begin : ℕ) (start : Place) (i from : ℕ) (at : Place) → length tokens ≤ i → IsAlong text tokens begin start i from at
+pub along_end : (text : List ℕ) (tokens : List Span) (begin : ℕ) (start : Place) (i from : ℕ) (at : Place) → length tokens ≤ i → IsAlong text tokens begin start i from at
     → at ≡ place_after_pairs start (pairs_from text begin tokens)
 along_end text tokens begin start i from at h a =
-    sym (ap (λ (l : List Token). place_after_pairs at (pairs_from text from l)) (drop_all i tokens h)) ∙ a.value
+    sym (ap (λ (l : List Span). place_after_pairs at (pairs_from text from l)) (drop_all i tokens h)) ∙ a.value
 
 -- plain text without a byte order mark is as one piece
-pub ascii_range : (text : List ℕ) (tokens : List Token) (from : ℕ) (at : Place) → is_ascii_without_cr (whole_text (pairs_from text from tokens) []) ≡ true → has_mark tokens ≡ false
+pub ascii_range : (text : List ℕ) (tokens : List Span) (from : ℕ) (at : Place) → is_ascii_without_cr (whole_text (pairs_from text from tokens) []) ≡ true → has_mark tokens ≡ false
     → place_after_pairs at (pairs_from text from tokens) ≡ place_after_piece at (whole_text (pairs_from text from tokens) [])
 ascii_range text [] from at plain none = sym (place_after_piece-nil at)
 ascii_range text (x ∷ tokens) from at plain none =
@@ -82,12 +82,12 @@ ascii_range text (x ∷ tokens) from at plain none =
     ∙ place_after_piece-append (place_after_piece at gap) spelling rest second.0 second.1
     ∙ place_after_piece-append at gap (spelling ++ rest) first.0 first.1
 
-take-nil : (n : ℕ) → take {A = Token} n [] ≡ []
+take-nil : (n : ℕ) → take {A = Span} n [] ≡ []
 take-nil zero = refl
 take-nil (suc n) = refl
 
 -- one stretch behind another
-pub place_after_pairs-slice : (text : List ℕ) (tokens : List Token) (begin : ℕ) (at : Place) (from n : ℕ)
+pub place_after_pairs-slice : (text : List ℕ) (tokens : List Span) (begin : ℕ) (at : Place) (from n : ℕ)
     → place_after_pairs (place_after_pairs at (take from (pairs_from text begin tokens))) (pairs_from text (gap_from begin tokens from) (take n (drop from tokens)))
     ≡ place_after_pairs at (take (from + n) (pairs_from text begin tokens))
 place_after_pairs-slice text [] begin at zero n =
@@ -98,7 +98,7 @@ place_after_pairs-slice text (x ∷ tokens) begin at zero n =
     ∙ ap (λ k. place_after_pairs at (take k (pairs_from text begin (x ∷ tokens)))) (omega arith)
 place_after_pairs-slice text [] begin at (suc from) n =
     let more : suc (from + n) ≡ suc from + n = omega arith in
-    ap (λ (l : List Token). place_after_pairs at (pairs_from text begin l)) (take-nil n) ∙ ap (λ k. place_after_pairs at (take k (pairs_from text begin []))) more
+    ap (λ (l : List Span). place_after_pairs at (pairs_from text begin l)) (take-nil n) ∙ ap (λ k. place_after_pairs at (take k (pairs_from text begin []))) more
 place_after_pairs-slice text (x ∷ tokens) begin at (suc from) n =
     let more : suc (from + n) ≡ suc from + n = omega arith in
     place_after_pairs-slice text tokens x.stop (place_after_pair at (pair_at text begin x)) from n ∙ ap (λ k. place_after_pairs at (take k (pairs_from text begin (x ∷ tokens)))) more

@@ -1,5 +1,5 @@
--- Which tokens join: with an empty gap between them, the two and what follows could be cut
--- otherwise (as `1`, `e`, `+`, `5`).
+-- Which tokens join: with an empty gap between them, the two and what follows could be
+-- read as other tokens (as `1`, `e`, `+`, `5`).
 -- The table is this project's own; the tokens are those of the HCL native syntax specification,
 -- Lexical Elements.
 use Rattle.std.specs.Prelude.{ℕ, nat_le, ◌==◌, Bool, true, false, not, ◌&&◌, ◌||◌, List, [], ◌∷◌}
@@ -20,14 +20,14 @@ ends_with byte (b ∷ spelling) = ends_with byte spelling
 abbrev pub is_digits : List ℕ → Bool
 is_digits spelling = list_all (λ b. nat_le 48 b && nat_le b 57) spelling
 
--- behind an Identifier: Identifier, Number, `-`
+-- after an Identifier: Identifier, Number, `-`
 abbrev pub joins_after_identifier : Kind → Bool
 joins_after_identifier Identifier = true
 joins_after_identifier Number = true
 joins_after_identifier Minus = true
 joins_after_identifier _ = false
 
--- behind a Number: Number; an Identifier that begins with `e` or `E`; behind digits alone a
+-- after a Number: Number; an Identifier that begins with `e` or `E`; after digits alone a
 -- DotIndex
 abbrev pub joins_after_number : List ℕ → Kind → List ℕ → Bool
 joins_after_number number Number next = true
@@ -35,17 +35,17 @@ joins_after_number number Identifier next = starts_with 101 next || starts_with 
 joins_after_number number DotIndex next = is_digits number
 joins_after_number number _ next = false
 
--- behind a DotIndex: Number
+-- after a DotIndex: Number
 abbrev pub joins_after_dot_index : Kind → Bool
 joins_after_dot_index Number = true
 joins_after_dot_index _ = false
 
--- behind `<`: `<`, or a token that begins with `=`
+-- after `<`: `<`, or a token that begins with `=`
 abbrev pub joins_after_less : Kind → List ℕ → Bool
 joins_after_less Less next = true
 joins_after_less _ next = starts_with 61 next
 
--- behind `.`: Number, `.`, `...`, DotIndex
+-- after `.`: Number, `.`, `...`, DotIndex
 abbrev pub joins_after_dot : Kind → Bool
 joins_after_dot Number = true
 joins_after_dot Dot = true
@@ -53,12 +53,12 @@ joins_after_dot Ellipsis = true
 joins_after_dot DotIndex = true
 joins_after_dot _ = false
 
--- behind `/`: `*`, or a token that begins with `/`
+-- after `/`: `*`, or a token that begins with `/`
 abbrev pub joins_after_slash : Kind → List ℕ → Bool
 joins_after_slash Star next = true
 joins_after_slash _ next = starts_with 47 next
 
--- behind `${` or `%{` without `~`: `~}`
+-- after `${` or `%{` without `~`: `~}`
 abbrev pub joins_after_opening : List ℕ → Kind → List ℕ → Bool
 joins_after_opening opening SeqClose next = not (ends_with 126 opening) && starts_with 126 next
 joins_after_opening opening _ next = false

@@ -1,12 +1,12 @@
 -- Which gaps and tokens are meant by a text and by where its tokens start and stop.
 use Rattle.std.specs.Prelude.{◌≡◌, ℕ, ◌≤◌, List, [], ◌∷◌, length, drop, slice_range}
-use Rattle.hcl_token.specs.declared.token.Token.{Token}
+use Rattle.hcl_token.specs.declared.span.Span.{Span}
 use Rattle.hcl_token.specs.declared.tokens.TheConstants.{MAX_TEXT}
 use Rattle.hcl_token.specs.TokenizedText.{TokenizedText, AreUtf8}
 use Rattle.hcl_token.specs.Tokens.{Pair}
 
 -- the bytes from a place to where the token starts, and those from there to where it stops
-abbrev pub pair_at : List ℕ → ℕ → Token → Pair
+abbrev pub pair_at : List ℕ → ℕ → Span → Pair
 pair_at text at token =
     record {
       gap = slice_range text at token.start;
@@ -16,27 +16,27 @@ pair_at text at token =
 
 -- the gap before the first of the tokens begins at a place, each other one where the token before
 -- it stops
-abbrev pub pairs_from : List ℕ → ℕ → List Token → List Pair
+abbrev pub pairs_from : List ℕ → ℕ → List Span → List Pair
 pairs_from text at [] = []
 pairs_from text at (token ∷ tokens) = pair_at text at token ∷ pairs_from text token.stop tokens
 
-abbrev pub pairs_of : List ℕ → List Token → List Pair
+abbrev pub pairs_of : List ℕ → List Span → List Pair
 pairs_of text tokens = pairs_from text 0 tokens
 
--- the text with its tokens, and with what is behind the last of them
-abbrev pub tokenized_text : List ℕ → List Token → ℕ → TokenizedText
+-- the text with its tokens, and with what follows the last of them
+abbrev pub tokenized_text : List ℕ → List Span → ℕ → TokenizedText
 tokenized_text text tokens last_gap_at =
     record { text = text; pairs = pairs_of text tokens; last = drop last_gap_at text }
 
--- the gaps and the tokens stand one behind the other, from this place to that
-abbrev pub InOrder : ℕ → List Token → ℕ → Type 0
+-- the gaps and the tokens are consecutive, from this place to that
+abbrev pub InOrder : ℕ → List Span → ℕ → Type 0
 InOrder at [] last = at ≡ last
 InOrder at (token ∷ tokens) last =
     (at ≤ token.start) × (token.start ≤ token.stop) × InOrder token.stop tokens last
 
 -- a text of at most MAX_TEXT bytes with tokens in order, and where the gap after the last of them
 -- begins; each gap and each spelling is UTF-8
-pub record IsWellFormed (text : List ℕ) (tokens : List Token) (last_gap_at : ℕ) : Type 0 where
+pub record IsWellFormed (text : List ℕ) (tokens : List Span) (last_gap_at : ℕ) : Type 0 where
   pub order : InOrder 0 tokens last_gap_at
   pub within : last_gap_at ≤ length text
   pub short : length text ≤ MAX_TEXT

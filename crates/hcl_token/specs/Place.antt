@@ -34,12 +34,12 @@ pieces_before [] i = []
 pieces_before (p ∷ ps) zero = p.gap ∷ []
 pieces_before (p ∷ ps) (suc i) = p.gap ∷ counted_bytes p ∷ pieces_before ps i
 
--- what stands behind the last LF of a text, or all of it where there is none
+-- what follows the last LF of a text, or all of it if there is none
 abbrev pub last_line : List ℕ → List ℕ
 last_line [] = []
 last_line (b ∷ text) = if list_any is_lf (b ∷ text) then last_line text else b ∷ text
 
--- the pieces, or parts of them, that stand behind the last LF in all of them
+-- the pieces, or parts of them, that follow the last LF in all of them
 abbrev pub last_line_pieces : List (List ℕ) → List (List ℕ)
 last_line_pieces [] = []
 last_line_pieces (piece ∷ pieces) =

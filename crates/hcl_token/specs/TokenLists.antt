@@ -4,7 +4,7 @@ use Rattle.hcl_token.specs.TokenizedText.{TokenizedText}
 use Rattle.hcl_token.specs.Pairs.{IsWellFormed, tokenized_text}
 use Rattle.hcl_token.specs.declared.token_list.TokenList.{TokenList}
 
--- these are the tokens of the text, each where it stands in it
+-- these are the tokens of the text, each at its place in it
 pub record IsTokenListOf (tokenized : TokenizedText) (list : TokenList) : Type 0 where
   pub are : tokenized_text tokenized.text list.tokens.items list.last_gap_at ≡ tokenized
   pub order : IsWellFormed tokenized.text list.tokens.items list.last_gap_at

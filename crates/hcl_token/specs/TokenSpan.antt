@@ -1,4 +1,4 @@
--- A token, as callers see it.
+-- The place and the kind of a token, as callers see `Span`.
 use Rattle.std.specs.Prelude.{ℕ}
 use Rattle.hcl_token.specs.declared.kind.Kind.{Kind}
 

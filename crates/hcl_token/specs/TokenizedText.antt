@@ -7,7 +7,7 @@ use Rattle.hcl_token.specs.Tokens.{Pair, whole_text}
 use Rattle.hcl_token.specs.Joins.{joins_with}
 use Rattle.hcl_token.specs.Place.{clusters}
 
--- a text, its tokens with the gaps before them, and the gap behind the last token
+-- a text, its tokens with the gaps before them, and the gap after the last token
 pub record TokenizedText : Type 0 where
   pub text : List ℕ
   pub pairs : List Pair
@@ -30,7 +30,7 @@ gap_of pairs i = option_map (λ (p : Pair). p.gap) (slice_get pairs i)
 abbrev pub clusters_of : List Pair → ℕ → Option ℕ
 clusters_of pairs i = option_map (λ (p : Pair). clusters p.spelling) (slice_get pairs i)
 
--- where a pair stands behind others: each place is the length of what stands before it
+-- the places of a pair that follows others: each is the length of what precedes it
 abbrev pub item_after : List Pair → Pair → Item
 item_after before p = record {
   gap_at = length (whole_text before []);
@@ -42,7 +42,7 @@ item_after before p = record {
 abbrev pub item_of : List Pair → ℕ → Option Item
 item_of pairs i = option_map (λ (p : Pair). item_after (take i pairs) p) (slice_get pairs i)
 
--- token i, with token j right behind it, joins
+-- token i, directly followed by token j, joins
 abbrev pub joins_of : List Pair → ℕ → ℕ → Option Bool
 joins_of pairs i j =
     option_and_then (λ (p : Pair). option_map
@@ -55,6 +55,6 @@ abbrev pub without_first_gap : List Pair → List Pair
 without_first_gap [] = []
 without_first_gap (p ∷ ps) = record { gap = []; kind = p.kind; spelling = p.spelling } ∷ ps
 
--- so many tokens from number `from` on, with the gaps between them
+-- `count` tokens from number `from` on, with the gaps between them
 abbrev pub pairs_in_range : List Pair → ℕ → ℕ → List Pair
 pairs_in_range pairs from count = without_first_gap (take count (drop from pairs))

@@ -1,8 +1,8 @@
-//! Where a token stands.
+//! A token with its place.
 
 use crate::kind::Kind;
 
-/// A gap and the token behind it. All offsets count bytes from 0: the gap is the bytes from
+/// A token and the gap before it. All offsets are in bytes, from 0: the gap is the bytes from
 /// `gap_at` to `start`, the spelling of the token those from `start` to `stop`.
 #[derive(Clone, Copy, Debug, PartialEq, Eq)]
 pub struct Item {

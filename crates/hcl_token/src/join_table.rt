@@ -49,10 +49,11 @@ fn joins_after_opening(opening: &[u8], kind: Kind, next: &[u8]) -> bool
     }
 }
 
-/// Whether a token joins with one right behind it: with an empty gap between them, the two and what
-/// follows could be cut into other tokens.
+/// Whether two adjacent tokens join: with an empty gap between them, the two and what follows could
+/// be read as other tokens.
 ///
-/// HCL native syntax specification, Lexical Elements.
+/// The table is this project's own; the tokens are those of the HCL native syntax specification,
+/// Lexical Elements.
 pub fn joins(first: Kind, first_spelling: &[u8], second: Kind, second_spelling: &[u8]) -> bool
     ensures { result ≡ joins_with first first_spelling.now second second_spelling.now }
 {

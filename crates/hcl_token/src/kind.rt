@@ -2,25 +2,25 @@
 
 /// What a token is. Each operator has a kind of its own.
 ///
-/// The kinds from `OpenBrace` on can open or close something: as they stand together, one comparison
-/// tells them from the others.
+/// The kinds from `OpenBrace` on can open or close something. They are the last ones, so that one
+/// comparison tells them apart from the others.
 ///
 /// HCL native syntax specification, Lexical Elements and Templates.
 #[derive(Clone, Copy, Debug, PartialEq, Eq)]
 pub enum Kind {
-    /// The byte order mark, U+FEFF, at the very front of a text.
+    /// The byte order mark, U+FEFF, at the start of a text.
     Mark,
     /// LF, or CR LF.
     LineEnd,
     /// `#` or `//` and all up to the end of the line.
     LineComment,
-    /// `/*` and all up to the first `*/` behind it.
+    /// `/*` and all up to the first `*/` after it.
     InlineComment,
     /// A name.
     Identifier,
     /// A number without a sign.
     Number,
-    /// `.` with digits behind it: the legacy index.
+    /// `.` followed by digits: the legacy index.
     DotIndex,
     /// `+`
     Plus,
@@ -86,7 +86,7 @@ pub enum Kind {
     HereOpen,
     /// `}` or `~}` that closes a template sequence.
     SeqClose,
-    /// `"` behind quoted text.
+    /// `"` after quoted text.
     QuoteClose,
     /// `${` or `${~`: an interpolation begins.
     InterpOpen,

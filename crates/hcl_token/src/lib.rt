@@ -1,5 +1,4 @@
-//! Tokens of the HCL native syntax: their kinds, where they stand in a text, and what gap stands
-//! before each.
+//! Tokens of the HCL native syntax: their kinds, their places in a text, and the gaps between them.
 #![tactic(auto)]
 
 mod graphemes;
@@ -11,7 +10,7 @@ mod lines;
 mod place;
 mod places;
 mod same_tokens;
-mod token;
+mod span;
 mod token_list;
 mod tokens;
 
@@ -22,6 +21,6 @@ pub use kind::Kind;
 pub use lines::Lines;
 pub use place::Place;
 pub use places::Places;
-pub use token::Token;
+pub use span::Span;
 pub use token_list::TokenList;
 pub use tokens::{MAX_TEXT, Tokens};

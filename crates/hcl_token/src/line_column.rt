@@ -1,4 +1,4 @@
-//! Lines and columns, told by going forward over the tokens.
+//! Lines and columns, counted forward over the tokens.
 
 ghost use Rattle.std.specs.Prelude.{◌≡◌, ℕ, true, ◌+◌, ◌^◌, ◌<◌, ◌≤◌, [], ◌∷◌, length, slice_range, take, count_by, IsUtf8};
 ghost use Rattle.hcl_token.specs.Pairs.{pair_at, pairs_from, pairs_of};
@@ -9,20 +9,20 @@ ghost use Rattle.hcl_token.specs.Place.{is_lf, is_mark, last_line, line_of, plac
 use crate::graphemes::{clusters, is_ascii_without_cr};
 use crate::kind::Kind;
 use crate::place::Place;
-use crate::token::Token;
+use crate::span::Span;
 use memchr::memrchr;
 
 /// The greatest number of bytes whose line ends are counted in 8 bits.
 const MAX_U8_COUNT: usize = 255;
 
-/// So many bytes at a time are counted of a longer piece: a multiple of 32, so that none of them is
-/// done alone.
+/// How many bytes of a longer piece are counted at a time: a multiple of 32, so that the processor
+/// counts none of them by itself.
 const CHUNK: usize = 224;
 
 /// The place at the beginning of a text.
 pub(crate) const FIRST_PLACE: Place = Place { line: 1, column: 1 };
 
-/// The bytes of a text from one place to another.
+/// Returns the bytes of a text from one place up to another.
 pub(crate) fn slice(text: &[u8], from: u32, to: u32) -> &[u8]
     requires ordered { from ≤ to }
     requires within { to ≤ length text.now }
@@ -31,16 +31,16 @@ pub(crate) fn slice(text: &[u8], from: u32, to: u32) -> &[u8]
     &text[from as usize..to as usize]
 }
 
-/// Where the gap before a token begins, or the gap behind the last token.
-pub(crate) fn gap_at(tokens: &[Token], i: usize) -> u32
+/// Returns where the gap before token `i` begins, or the gap after the last token.
+pub(crate) fn gap_at(tokens: &[Span], i: usize) -> u32
     requires { i ≤ length tokens.now }
     ensures { result ≡ gap_at tokens.now i }
 {
     if i == 0 { 0 } else { tokens[i - 1].stop() }
 }
 
-/// The tokens from one number to another.
-pub(crate) fn token_range(tokens: &[Token], from: usize, to: usize) -> &[Token]
+/// Returns the tokens from one number up to another.
+pub(crate) fn token_range(tokens: &[Span], from: usize, to: usize) -> &[Span]
     requires ordered { from ≤ to }
     requires within { to ≤ length tokens.now }
     ensures { result.now ≡ slice_range tokens.now from to }
@@ -55,7 +55,7 @@ fn is_mark(kind: Kind) -> bool
 }
 
 /// No early end: the processor does many tokens at once.
-fn has_mark(tokens: &[Token]) -> bool
+fn has_mark(tokens: &[Span]) -> bool
     ensures { result ≡ has_mark tokens.now }
 {
     let mut marked = false;
@@ -99,7 +99,7 @@ fn last_line(piece: &[u8]) -> &[u8]
     }
 }
 
-/// The place behind a piece of text.
+/// Returns the place after a piece of text that begins at `at`.
 fn place_after_piece(at: Place, piece: &[u8]) -> Place
     requires utf8 { IsUtf8 piece.now }
     requires line { at.line + length piece.now < 2 ^ 32 }
@@ -120,8 +120,8 @@ fn place_after_piece(at: Place, piece: &[u8]) -> Place
     }
 }
 
-/// The place behind a token and the gap before it, which begins at `from`.
-fn place_after_token(text: &[u8], token: Token, from: u32, at: Place) -> Place
+/// Returns the place after a token and the gap before it, which begins at byte `from`.
+fn place_after_token(text: &[u8], token: Span, from: u32, at: Place) -> Place
     requires { IsTokenRange text.now (token ∷ []) from token.stop at }
     ensures value { result ≡ place_after_pair at (pair_at text.now from token) }
     ensures bounded { IsPlaceBounded result token.stop }
@@ -134,8 +134,8 @@ fn place_after_token(text: &[u8], token: Token, from: u32, at: Place) -> Place
     }
 }
 
-/// The place behind tokens, one after the other; the gap before the first begins at `from`.
-fn place_after_each(text: &[u8], tokens: &[Token], from: u32, at: Place) -> Place
+/// Returns the place after tokens, one by one; the gap before the first begins at byte `from`.
+fn place_after_each(text: &[u8], tokens: &[Span], from: u32, at: Place) -> Place
     requires { (to : ℕ) × IsTokenRange text.now tokens.now from to at }
     ensures { result ≡ place_after_pairs at (pairs_from text.now from tokens.now) }
 {
@@ -148,7 +148,7 @@ fn place_after_each(text: &[u8], tokens: &[Token], from: u32, at: Place) -> Plac
     place
 }
 
-/// The place behind a piece of text in which each byte ends a line or is a column.
+/// Returns the place after a piece of text in which each byte ends a line or is a column.
 fn place_after_ascii(at: Place, piece: &[u8]) -> Place
     requires ascii { is_ascii_without_cr piece.now ≡ true }
     requires line { at.line + length piece.now < 2 ^ 32 }
@@ -167,9 +167,9 @@ fn place_after_ascii(at: Place, piece: &[u8]) -> Place
     }
 }
 
-/// The place behind tokens that take the bytes between two offsets. Where all of these are ASCII
-/// without CR, they are one piece.
-fn place_after_tokens(text: &[u8], tokens: &[Token], from: u32, to: u32, at: Place) -> Place
+/// Returns the place after tokens that take the bytes between two offsets. If all of these are
+/// ASCII without CR, they are counted as one piece.
+fn place_after_tokens(text: &[u8], tokens: &[Span], from: u32, to: u32, at: Place) -> Place
     requires { IsTokenRange text.now tokens.now from to at }
     ensures value { result ≡ place_after_pairs at (pairs_from text.now from tokens.now) }
     ensures bounded { IsPlaceBounded result to }
@@ -183,7 +183,7 @@ fn place_after_tokens(text: &[u8], tokens: &[Token], from: u32, to: u32, at: Pla
 }
 
 /// The place of the gap before token `to`, where that of the gap before token `from` is `at`.
-pub(crate) fn gap_place(text: &[u8], tokens: &[Token], from: usize, at: Place, to: usize) -> Place
+pub(crate) fn gap_place(text: &[u8], tokens: &[Span], from: usize, at: Place, to: usize) -> Place
     requires at { (last : ℕ) × IsGapPlace text.now tokens.now last from at }
     requires order { from ≤ to }
     requires within { to ≤ length tokens.now }
@@ -200,7 +200,7 @@ pub(crate) fn gap_place(text: &[u8], tokens: &[Token], from: usize, at: Place, t
 }
 
 /// The place of token `i`, where that of the gap before it is `at`.
-pub(crate) fn token_place(text: &[u8], tokens: &[Token], i: usize, at: Place) -> Place
+pub(crate) fn token_place(text: &[u8], tokens: &[Span], i: usize, at: Place) -> Place
     requires at { (last : ℕ) × IsGapPlace text.now tokens.now last i at }
     requires within { i < length tokens.now }
     ensures { result ≡ place_of (pairs_of text.now tokens.now) i }
@@ -212,7 +212,7 @@ pub(crate) fn token_place(text: &[u8], tokens: &[Token], i: usize, at: Place) ->
 
 /// The line of the gap before token `to`, where that of the gap before token `from` is `line`. No
 /// byte order mark has a line feed, so no look at the kinds of the tokens is needed.
-pub(crate) fn gap_line(text: &[u8], tokens: &[Token], from: usize, line: usize, to: usize) -> usize
+pub(crate) fn gap_line(text: &[u8], tokens: &[Span], from: usize, line: usize, to: usize) -> usize
     requires at { (last : ℕ) × IsOnLine text.now tokens.now last from line }
     requires order { from ≤ to }
     requires within { to ≤ length tokens.now }
@@ -222,7 +222,7 @@ pub(crate) fn gap_line(text: &[u8], tokens: &[Token], from: usize, line: usize, 
 }
 
 /// The line of token `i`, where that of the gap before it is `line`.
-pub(crate) fn token_line(text: &[u8], tokens: &[Token], i: usize, line: usize) -> usize
+pub(crate) fn token_line(text: &[u8], tokens: &[Span], i: usize, line: usize) -> usize
     requires at { (last : ℕ) × IsOnLine text.now tokens.now last i line }
     requires within { i < length tokens.now }
     ensures { result ≡ line_of (pairs_of text.now tokens.now) i }

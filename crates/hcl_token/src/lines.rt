@@ -7,16 +7,16 @@ ghost use Rattle.hcl_token.specs.Inner.LineColumn.{IsOnLine};
 ghost use Rattle.hcl_token.specs.Place.{MarksHaveNoLf, line_of};
 
 use crate::line_column::{gap_line, token_line};
-use crate::token::Token;
+use crate::span::Span;
 use std::marker::Model;
 
-/// The lines on which the tokens of a text begin. The text is read forward, from the token of the
-/// last call; from the beginning, for a token before that one. Line feeds are counted and no
-/// columns. No call takes memory.
+/// A cursor over the lines of the tokens of a text. The text is read forward, from the token of the
+/// last call; from the start, for a token before that one. Line feeds are counted and no columns.
+/// No call allocates.
 #[derive(Drop)]
 pub struct Lines<'s> {
     text: &'s [u8],
-    tokens: &'s [Token],
+    tokens: &'s [Span],
     /// The number of a token, and the line on which the gap before it begins.
     from: usize,
     line: usize,
@@ -31,7 +31,7 @@ impl<'s> Model for Lines<'s> {
 }
 
 impl<'s> Lines<'s> {
-    pub(crate) fn new(text: &'s [u8], tokens: &'s [Token]) -> Lines<'s>
+    pub(crate) fn new(text: &'s [u8], tokens: &'s [Span]) -> Lines<'s>
         requires order { (last : ℕ) × IsWellFormed text.now tokens.now last }
         requires marks { MarksHaveNoLf (pairs_of text.now tokens.now) }
         ensures { result ≡ pairs_of text.now tokens.now }

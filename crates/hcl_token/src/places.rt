@@ -8,15 +8,15 @@ ghost use Rattle.hcl_token.specs.Place.{place_of};
 
 use crate::line_column::{FIRST_PLACE, gap_place, token_place};
 use crate::place::Place;
-use crate::token::Token;
+use crate::span::Span;
 use std::marker::Model;
 
-/// Where the tokens of a text stand, by line and column. The text is read forward, from the token
-/// that was asked for last; from the front, for one before that. No call takes memory.
+/// A cursor over the lines and columns of the tokens of a text. The text is read forward, from the
+/// token of the last call; from the start, for a token before that one. No call allocates.
 #[derive(Drop)]
 pub struct Places<'s> {
     text: &'s [u8],
-    tokens: &'s [Token],
+    tokens: &'s [Span],
     /// The number of a token, and the place of the gap before it.
     from: usize,
     at: Place,
@@ -31,7 +31,7 @@ impl<'s> Model for Places<'s> {
 }
 
 impl<'s> Places<'s> {
-    pub(crate) fn new(text: &'s [u8], tokens: &'s [Token]) -> Places<'s>
+    pub(crate) fn new(text: &'s [u8], tokens: &'s [Span]) -> Places<'s>
         requires { (last : ℕ) × IsWellFormed text.now tokens.now last }
         ensures { result ≡ pairs_of text.now tokens.now }
     {

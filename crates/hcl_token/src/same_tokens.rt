@@ -1,21 +1,22 @@
-//! Whether tokens of two texts are the same, told by where they lie.
+//! Whether tokens of two texts are the same, by their bytes and their places.
 
 ghost use Rattle.std.specs.Prelude.{◌≡◌, ◌+◌, ◌%◌, ◌^◌, ◌↔◌, [], IsTrue, length};
 ghost use Rattle.hcl_token.specs.Inner.SameTokens.{IsTokenRun, AreShiftedBy, IsShiftedBy, token_run};
 ghost use Rattle.hcl_token.specs.Tokens.{whole_text};
 
 use crate::line_column::slice;
-use crate::token::Token;
+use crate::span::Span;
 
-/// How far a place is behind another, modulo 2^32.
+/// Returns the distance from `other` to `one`, modulo 2^32.
 fn distance(one: u32, other: u32) -> u32
     ensures { (result + other) % 2 ^ 32 ≡ one }
 {
     one.wrapping_sub(other)
 }
 
-/// Whether a token is of the kind of another, and lies so many bytes behind it, modulo 2^32.
-fn is_shifted_by(one: Token, other: Token, distance: u32) -> bool
+/// Whether a token is of the kind of another, and begins and ends `distance` bytes after it, modulo
+/// 2^32.
+fn is_shifted_by(one: Span, other: Span, distance: u32) -> bool
     ensures { IsTrue result ↔ IsShiftedBy distance one other }
 {
     one.kind() == other.kind()
@@ -23,7 +24,7 @@ fn is_shifted_by(one: Token, other: Token, distance: u32) -> bool
         && one.stop().wrapping_sub(other.stop()) == distance
 }
 
-fn are_shifted_by(tokens: &[Token], others: &[Token], distance: u32) -> bool
+fn are_shifted_by(tokens: &[Span], others: &[Span], distance: u32) -> bool
     requires { length tokens.now ≡ length others.now }
     ensures { IsTrue result ↔ AreShiftedBy distance tokens.now others.now }
 {
@@ -36,7 +37,7 @@ fn are_shifted_by(tokens: &[Token], others: &[Token], distance: u32) -> bool
 }
 
 /// The bytes of tokens and of the gaps between them.
-fn token_bytes<'t>(text: &'t [u8], tokens: &[Token]) -> &'t [u8]
+fn token_bytes<'t>(text: &'t [u8], tokens: &[Span]) -> &'t [u8]
     requires { IsTokenRun text.now tokens.now }
     ensures { result.now ≡ whole_text (token_run text.now tokens.now) [] }
 {
@@ -51,7 +52,7 @@ fn same_bytes(bytes: &[u8], others: &[u8]) -> bool
 
 /// Whether tokens are the same, with the same gaps between them. All their bytes are compared at
 /// once: then kinds and places are left.
-pub(crate) fn are_same_tokens(text: &[u8], tokens: &[Token], other: &[u8], others: &[Token]) -> bool
+pub(crate) fn are_same_tokens(text: &[u8], tokens: &[Span], other: &[u8], others: &[Span]) -> bool
     requires self_run { IsTokenRun text.now tokens.now }
     requires other_run { IsTokenRun other.now others.now }
     requires number { length tokens.now ≡ length others.now }

@@ -1,11 +1,10 @@
 //! The tokens of a text, without it.
 
-use crate::token::Token;
+use crate::span::Span;
 
-/// The tokens of a text, without it: they say where it is cut, so that the text may move while
-/// nothing reads it.
+/// The tokens of a text, without the text, which may be moved while nothing reads it.
 #[derive(Drop)]
 pub struct TokenList {
-    pub(crate) tokens: Vec<Token>,
+    pub(crate) tokens: Vec<Span>,
     pub(crate) last_gap_at: u32,
 }

@@ -17,20 +17,20 @@ use crate::lines::Lines;
 use crate::place::Place;
 use crate::places::Places;
 use crate::same_tokens::are_same_tokens;
-use crate::token::Token;
+use crate::span::Span;
 use crate::token_list::TokenList;
 use std::marker::Model;
 
 /// The greatest number of bytes of a text.
 pub const MAX_TEXT: usize = 16_777_216;
 
-/// A text with its tokens, each with the gap before it, and the gap behind the last.
+/// A text with its tokens, each with the gap before it, and the gap after the last.
 ///
-/// Tokens are numbered from 0. No call takes memory.
+/// Tokens are numbered from 0. No call allocates.
 #[derive(Drop)]
 pub struct Tokens<'t> {
     text: &'t [u8],
-    tokens: Vec<Token>,
+    tokens: Vec<Span>,
     last_gap_at: u32,
 }
 
@@ -43,9 +43,9 @@ impl<'t> Model for Tokens<'t> {
 }
 
 impl<'t> Tokens<'t> {
-    /// The tokens of a text, which stand one behind the other from its front, and the offset in
-    /// bytes of the gap behind the last of them.
-    pub fn new(text: &'t [u8], tokens: Vec<Token>, last_gap_at: usize) -> Tokens<'t>
+    /// Returns a text with its tokens, which are consecutive from its start on; the gap after the
+    /// last of them begins at byte `last_gap_at`.
+    pub fn new(text: &'t [u8], tokens: Vec<Span>, last_gap_at: usize) -> Tokens<'t>
         requires order { InOrder 0 tokens.items last_gap_at }
         requires within { last_gap_at ≤ length text.now }
         requires short { length text.now ≤ MAX_TEXT }
@@ -61,8 +61,8 @@ impl<'t> Tokens<'t> {
         }
     }
 
-    /// The memory of the tokens, which are given up: an empty list with room for as many.
-    pub fn into_buffer(self) -> Vec<Token>
+    /// Returns the buffer of the tokens, emptied.
+    pub fn into_buffer(self) -> Vec<Span>
         ensures { result.items ≡ [] }
     {
         let mut buffer = self.tokens;
@@ -70,7 +70,7 @@ impl<'t> Tokens<'t> {
         buffer
     }
 
-    /// The tokens alone.
+    /// Returns the tokens without the text.
     pub fn detach(self) -> TokenList
         ensures { IsTokenListOf self.entry result }
     {
@@ -80,7 +80,7 @@ impl<'t> Tokens<'t> {
         }
     }
 
-    /// The text with these of its tokens again.
+    /// Returns the text with its tokens, which were detached.
     pub fn attach(text: &'t [u8], list: TokenList) -> Tokens<'t>
         requires { (tokenized : TokenizedText) × (tokenized.text ≡ text.now) × IsTokenListOf tokenized list }
         ensures { (tokenized : TokenizedText) → tokenized.text ≡ text.now → IsTokenListOf tokenized list → result ≡ tokenized }
@@ -92,7 +92,7 @@ impl<'t> Tokens<'t> {
         }
     }
 
-    /// The text: the gaps and the tokens, one behind the other.
+    /// Returns the text: the gaps and the tokens, in order.
     pub fn text(&self) -> &'t [u8]
         ensures text { result.now ≡ self.now.text }
         ensures whole { self.now.text ≡ whole_text self.now.pairs self.now.last }
@@ -102,7 +102,7 @@ impl<'t> Tokens<'t> {
         self.text
     }
 
-    /// The number of tokens.
+    /// Returns the number of tokens.
     pub fn len(&self) -> usize
         ensures { result ≡ length self.now.pairs }
     {
@@ -116,7 +116,7 @@ impl<'t> Tokens<'t> {
         self.tokens.is_empty()
     }
 
-    /// Where token `i` and the gap before it stand, in bytes from 0, and the kind of the token.
+    /// Returns the kind of token `i`, its place and that of the gap before it, in bytes from 0.
     pub fn item(&self, i: usize) -> Item
         requires { i < length self.now.pairs }
         ensures { Some result ≡ item_of self.now.pairs i }
@@ -130,7 +130,7 @@ impl<'t> Tokens<'t> {
         }
     }
 
-    /// The kind of token `i`.
+    /// Returns the kind of token `i`.
     pub fn kind(&self, i: usize) -> Kind
         requires { i < length self.now.pairs }
         ensures { Some result ≡ kind_of self.now.pairs i }
@@ -139,7 +139,7 @@ impl<'t> Tokens<'t> {
         token.kind()
     }
 
-    /// The text of token `i`.
+    /// Returns the spelling of token `i`.
     pub fn spelling(&self, i: usize) -> &'t [u8]
         requires { i < length self.now.pairs }
         ensures value { Some result.now ≡ spelling_of self.now.pairs i }
@@ -149,7 +149,7 @@ impl<'t> Tokens<'t> {
         slice(self.text, token.start(), token.stop())
     }
 
-    /// The gap before token `i`.
+    /// Returns the gap before token `i`.
     pub fn gap(&self, i: usize) -> &'t [u8]
         requires { i < length self.now.pairs }
         ensures value { Some result.now ≡ gap_of self.now.pairs i }
@@ -159,15 +159,14 @@ impl<'t> Tokens<'t> {
         slice(self.text, gap_at(&self.tokens, i), token.start())
     }
 
-    /// The gap behind the last token.
+    /// Returns the gap after the last token.
     pub fn last_gap(&self) -> &'t [u8]
         ensures { result.now ≡ self.now.last }
     {
         &self.text[self.last_gap_at as usize..]
     }
 
-    /// Whether token `i` joins with token `j`, if that stands right behind it with an empty gap
-    /// (`joins`).
+    /// Whether token `i` joins with token `j`, if `j` follows it after an empty gap (`joins`).
     pub fn joins(&self, i: usize, j: usize) -> bool
         requires first { i < length self.now.pairs }
         requires second { j < length self.now.pairs }
@@ -181,7 +180,7 @@ impl<'t> Tokens<'t> {
         )
     }
 
-    /// How many extended grapheme clusters token `i` has.
+    /// Returns how many extended grapheme clusters token `i` has.
     pub fn clusters(&self, i: usize) -> usize
         requires { i < length self.now.pairs }
         ensures { Some result ≡ clusters_of self.now.pairs i }
@@ -189,9 +188,9 @@ impl<'t> Tokens<'t> {
         clusters(self.spelling(i))
     }
 
-    /// Whether `count` tokens from number `from` on stand in another text from number `to` on: of
-    /// the same kinds, spelled alike, and with the same gaps between them. The gaps before the
-    /// first are not compared.
+    /// Whether `count` tokens from number `from` on are those of another text from number `to` on:
+    /// kinds, spellings and the gaps between them are the same. The gaps before the first are not
+    /// compared.
     pub fn has_same_tokens(&self, from: usize, other: &Tokens<'_>, to: usize, count: usize) -> bool
         requires self_range { from + count ≤ length self.now.pairs }
         requires other_range { to + count ≤ length other.now.pairs }
@@ -206,7 +205,7 @@ impl<'t> Tokens<'t> {
         are_same_tokens(self.text, tokens, other.text, others)
     }
 
-    /// The line and the column of token `i`, from 1, found from the front of the text.
+    /// Returns the line and the column of token `i`, from 1, counted from the start of the text.
     pub fn place_of(&self, i: usize) -> Place
         requires { i < length self.now.pairs }
         ensures { result ≡ place_of self.now.pairs i }
@@ -214,7 +213,7 @@ impl<'t> Tokens<'t> {
         self.places().of(i)
     }
 
-    /// The places of tokens that are asked for one after another, by line and column.
+    /// Returns a cursor over the lines and columns of tokens, from 1.
     pub fn places(&self) -> Places<'_>
         ensures { result ≡ self.now.pairs }
     {

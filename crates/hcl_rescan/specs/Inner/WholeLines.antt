@@ -1,6 +1,6 @@
--- Whole lines of a text that is cut, and a text of which the front is made of such.
+-- Whole lines of tokens, and a text that begins with whole lines.
 use Rattle.std.specs.Prelude.{◌≡◌, ℕ, ◌+◌, ◌-◌, ◌≤◌, min, List, [], ◌∷◌, length, take, drop, slice_range, ⊤}
-use Rattle.hcl_token.specs.declared.token.Token.{Token}
+use Rattle.hcl_token.specs.declared.span.Span.{Span}
 use Rattle.hcl_token.specs.declared.kind.Kind.{Kind}
 use Rattle.hcl_token.specs.declared.kind.Kind.TheVariants.{LineEnd, OpenBrace, CloseBrace, QuoteOpen, QuoteClose, HereOpen, HereClose, InterpOpen, DirectiveOpen, SeqClose}
 use Rattle.hcl_token.specs.TokenizedText.{TokenizedText}
@@ -9,8 +9,8 @@ use Rattle.hcl_token.specs.Tokens.{Pair, whole_text}
 use Rattle.hcl_scan.specs.Tokenization.{IsTokenization}
 use Rattle.hcl_scan.specs.Follows.{FollowsFrom, AreApart}
 
--- how many openings are open behind a token of the kind, of so many before it: a `{` is one only
--- behind another
+-- how many openings are open after a token of the kind, if `depth` are before it: a `{` is one only
+-- inside another
 abbrev pub depth_after : Kind → ℕ → ℕ
 depth_after QuoteOpen depth = depth + 1
 depth_after HereOpen depth = depth + 1
@@ -29,7 +29,7 @@ EndsWithLineEnd [] = ⊤
 EndsWithLineEnd (p ∷ []) = p.kind ≡ LineEnd
 EndsWithLineEnd (p ∷ q ∷ ps) = EndsWithLineEnd (q ∷ ps)
 
--- tokens up to a line end, with no opening open before them and behind them
+-- tokens up to a line end, with no opening open before and after them
 pub record AreWholeLines (pairs : List Pair) : Type 0 where
   pub follow : FollowsFrom [] pairs [] []
   pub ended : EndsWithLineEnd pairs
@@ -40,26 +40,26 @@ pub record AreSelfContained (pairs : List Pair) (last : List ℕ) : Type 0 where
   pub follow : FollowsFrom [] pairs last []
   pub apart : AreApart pairs
 
--- a line of the text begins with the token of this number, and so many bytes stand before it
-pub record IsLineStart (cut : TokenizedText) (index at : ℕ) : Type 0 where
-  pub within : index ≤ length cut.pairs
-  pub place : at ≡ length (whole_text (take index cut.pairs) [])
-  pub rest : AreSelfContained (drop index cut.pairs) cut.last
+-- a line of the text begins with token `index`, and `at` bytes are before it
+pub record IsLineStart (scanned : TokenizedText) (index at : ℕ) : Type 0 where
+  pub within : index ≤ length scanned.pairs
+  pub place : at ≡ length (whole_text (take index scanned.pairs) [])
+  pub rest : AreSelfContained (drop index scanned.pairs) scanned.last
 
 -- the tokens from one number on, up to another, are whole lines
 pub record IsLineRange (pairs : List Pair) (from to : ℕ) : Type 0 where
   pub ordered : from ≤ to
   pub lines : AreWholeLines (slice_range pairs from to)
 
--- the text up to a place is whole lines, of which these are the items
-pub record IsRescannedTo (text : List ℕ) (items : List Token) (at : ℕ) : Type 0 where
+-- the text up to a place is whole lines, of which these are the tokens
+pub record IsRescannedTo (text : List ℕ) (tokens : List Span) (at : ℕ) : Type 0 where
   pub within : at ≤ length text
-  pub lines : AreWholeLines (pairs_of text items)
-  pub text_is : text ≡ whole_text (pairs_of text items) (drop at text)
-  pub order : InOrder 0 items at
+  pub lines : AreWholeLines (pairs_of text tokens)
+  pub text_is : text ≡ whole_text (pairs_of text tokens) (drop at text)
+  pub order : InOrder 0 tokens at
 
--- the items of pairs that stand in a text from this place on
-abbrev pub tokens_at : ℕ → List Pair → List Token
+-- the tokens of pairs that are in a text from this place on
+abbrev pub tokens_at : ℕ → List Pair → List Span
 tokens_at at [] = []
 tokens_at at (p ∷ ps) =
     record {
@@ -69,8 +69,8 @@ tokens_at at (p ∷ ps) =
     }
     ∷ tokens_at (at + length p.gap + length p.spelling) ps
 
--- the text is cut into these items, and the last gap begins at this place
-pub record IsRescanned (text : List ℕ) (items : List Token) (last_gap_at : ℕ) : Type 0 where
-  pub tokenization : IsTokenization text (pairs_of text items) (drop last_gap_at text)
-  pub order : InOrder 0 items last_gap_at
+-- the text has these tokens, and its last gap begins at this place
+pub record IsRescanned (text : List ℕ) (tokens : List Span) (last_gap_at : ℕ) : Type 0 where
+  pub tokenization : IsTokenization text (pairs_of text tokens) (drop last_gap_at text)
+  pub order : InOrder 0 tokens last_gap_at
   pub within : last_gap_at ≤ length text

@@ -1,4 +1,4 @@
--- What is found at the front of a text where a heredoc opens, and in the text of a heredoc.
+-- The token with which a text begins where a heredoc opens, and in the text of a heredoc.
 use Rattle.std.specs.Prelude.{ℕ, ◌+◌, Bool, ◌&&◌, if◌then◌else◌, ◌==◌, List, length, drop, slice_index, Some, None}
 use Rattle.std.specs.List.{prefix_len}
 use Rattle.hcl_token.specs.declared.kind.Kind.TheVariants.{HereOpen, HereClose, HereLit}
@@ -9,7 +9,7 @@ use Rattle.hcl_scan.specs.Inner.LexemeStarts.{LexedToken, identifier, is_at_open
 
 -- ---- the opening
 
--- of LF or CR LF, 0 where neither stands
+-- of LF or CR LF, 0 where neither is
 abbrev pub line_end_length : List ℕ → ℕ
 line_end_length t =
     if slice_index t 0 == 10 then 1
@@ -19,16 +19,16 @@ line_end_length t =
 abbrev pub heredoc_start_length : List ℕ → ℕ
 heredoc_start_length t = if slice_index t 2 == 45 then 3 else 2
 
--- behind so many bytes, with this many bytes of a line end behind the marker
+-- after `before` bytes, with a line end of `end` bytes after the marker
 abbrev pub here_open_of_length : ℕ → ℕ → LexedToken
 here_open_of_length before end = if end == 0 then None else Some (HereOpen, before + end)
 
--- behind so many bytes, with this marker
+-- after `before` bytes, with this marker
 abbrev pub open_with_marker : ℕ → List ℕ → LexedToken → LexedToken
 open_with_marker before t None = None
 open_with_marker before t (Some name) = here_open_of_length (before + name.1) (line_end_length (drop name.1 t))
 
--- `<<` stands at the front
+-- the text begins with `<<`
 abbrev pub is_at_heredoc_start : List ℕ → Bool
 is_at_heredoc_start t = slice_index t 0 == 60 && slice_index t 1 == 60
 

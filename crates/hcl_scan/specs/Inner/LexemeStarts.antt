@@ -1,4 +1,4 @@
--- What is found at the front of a text, as a kind and a number of bytes; identifiers, and the
+-- The token with which a text begins, as a kind and a number of bytes; identifiers, and the
 -- openings of template sequences.
 use Rattle.std.specs.Prelude.{ℕ, ◌+◌, Bool, ◌&&◌, ◌||◌, if◌then◌else◌, ◌==◌, nat_le, List, [], ◌∷◌, slice_index, Option, Some, None}
 use Rattle.std.specs.Char.{is_ascii_alphabetic, is_ascii_alphanumeric, len_utf8}
@@ -36,7 +36,7 @@ is_ascii_id_continue b = is_ascii_alphanumeric b || b == 95 || b == 45
 abbrev pub is_word_start : ℕ → Bool
 is_word_start b = is_ascii_alphabetic b || b == 95 || nat_le 128 b
 
--- `${` or `%{` stands at the front
+-- the text begins with `${` or `%{`
 abbrev pub is_at_opening : List ℕ → Bool
 is_at_opening t = is_sigil (slice_index t 0) && slice_index t 1 == 123
 

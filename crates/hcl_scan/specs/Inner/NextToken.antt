@@ -1,4 +1,4 @@
--- What one step of the scanner finds at the front of a text, the kind and the length of the longest
+-- What one step of the scanner finds at the start of a text, the kind and the length of the longest
 -- lexeme of the mode. `Longest` of proofs/ shows that it is the longest lexeme, and that where it
 -- finds none there is none.
 use Rattle.std.specs.Prelude.{ℕ, ◌+◌, Bool, false, ◌&&◌, ◌||◌, if◌then◌else◌, ◌==◌, nat_lt, List, length, drop, slice_index, Some, None}
@@ -56,7 +56,7 @@ operator a b c = if is_compound a then compound a b c else single a
 abbrev pub decimal_length : List ℕ → ℕ
 decimal_length t = prefix_len is_ascii_digit t
 
--- of `.` and digits, 0 where none stand
+-- of `.` and digits, 0 where there are none
 abbrev pub fraction_length : List ℕ → ℕ
 fraction_length t =
     if slice_index t 0 == 46 && is_ascii_digit (slice_index t 1) then 1 + decimal_length (drop 1 t)
@@ -68,7 +68,7 @@ is_sign b = b == 43 || b == 45
 abbrev pub is_exponent_letter : ℕ → Bool
 is_exponent_letter b = b == 101 || b == 69
 
--- of `e` or `E`, perhaps a sign, and digits, 0 where none stand
+-- of `e` or `E`, perhaps a sign, and digits, 0 where there are none
 abbrev pub exponent_length : List ℕ → ℕ
 exponent_length t =
     if is_exponent_letter (slice_index t 0)
@@ -91,7 +91,7 @@ inline_comment body =
     if nat_lt (run_length inline_unit false body) (length body)
     then Some (InlineComment, run_length inline_unit false body + 4) else None
 
--- behind a `.` that is the first byte
+-- after a `.` that is the first byte
 abbrev pub dot_token : List ℕ → LexedToken
 dot_token t =
     if is_ascii_digit (slice_index t 1) then Some (DotIndex, 1 + decimal_length (drop 1 t))
@@ -137,7 +137,7 @@ quoted_token t =
 
 -- ---- in each mode
 
--- blanks, and in literal text none
+-- whitespace, and in literal text none
 abbrev pub gap_length : Mode → List ℕ → ℕ
 gap_length mode t = if is_literal mode then 0 else prefix_len is_whitespace t
 

@@ -1,5 +1,5 @@
--- The number of bytes of the longest run at the front of a text. `RunLemmas` of proofs/ shows that
--- it is that.
+-- The number of bytes of the longest run with which a text begins. `RunLemmas` of proofs/ shows
+-- that it is that.
 use Rattle.std.specs.Prelude.{ℕ, zero, suc, ◌-◌, ◌==◌, Bool, not, ◌||◌, List, [], ◌∷◌, if◌then◌else◌}
 use Rattle.hcl_scan.specs.Runs.{UnitLength}
 
@@ -13,6 +13,6 @@ run_from unit at_line_start zero (b ∷ t) =
 abbrev pub run_length : UnitLength → Bool → List ℕ → ℕ
 run_length unit at_line_start t = run_from unit at_line_start 0 t
 
--- a byte that is a unit of quoted text whatever stands behind it
+-- a byte that is a unit of quoted text whatever follows it
 abbrev pub is_ordinary_quoted : ℕ → Bool
 is_ordinary_quoted b = not (b == 34 || b == 36 || b == 37 || b == 92 || b == 10 || b == 13)

@@ -2,7 +2,7 @@
 use Rattle.std.specs.Prelude.{◌≡◌, ℕ, zero, suc, ◌+◌, ◌≤◌, ◌==◌, Bool, List, [], ◌∷◌, length, take, count_by, if◌then◌else◌}
 use Rattle.std.specs.List.{list_any}
 use Rattle.hcl_token.specs.declared.place.Place.{Place}
-use Rattle.hcl_token.specs.declared.token.Token.{Token}
+use Rattle.hcl_token.specs.declared.span.Span.{Span}
 use Rattle.hcl_token.specs.declared.tokens.TheConstants.{MAX_TEXT}
 use Rattle.hcl_token.specs.Tokens.{Pair}
 use Rattle.hcl_token.specs.Pairs.{pairs_from, pairs_of, InOrder}
@@ -10,11 +10,11 @@ pub use Rattle.hcl_token.specs.Pairs.{IsWellFormed}
 use Rattle.hcl_token.specs.TokenizedText.{AreUtf8}
 use Rattle.hcl_token.specs.Place.{MarksHaveNoLf, clusters, is_lf, is_mark, last_line}
 
--- the place at the front of a text
+-- the place at the start of a text
 abbrev pub first_place : Place
 first_place = record { line = 1; column = 1 }
 
--- the place behind a piece of text
+-- the place after a piece of text
 abbrev pub place_after_piece : Place → List ℕ → Place
 place_after_piece at piece = record {
   line = at.line + count_by is_lf piece;
@@ -30,39 +30,39 @@ abbrev pub place_after_pairs : Place → List Pair → Place
 place_after_pairs at [] = at
 place_after_pairs at (p ∷ ps) = place_after_pairs (place_after_pair at p) ps
 
-abbrev pub has_mark : List Token → Bool
-has_mark tokens = list_any (λ (token : Token). is_mark token.kind) tokens
+abbrev pub has_mark : List Span → Bool
+has_mark tokens = list_any (λ (token : Span). is_mark token.kind) tokens
 
--- a place that can be reached behind so many bytes
+-- a place that can be reached after this number of bytes
 pub record IsPlaceBounded (at : Place) (bytes : ℕ) : Type 0 where
   pub line : at.line ≤ 1 + bytes
   pub column : at.column ≤ 1 + bytes
 
--- tokens that stand in a text between two places in bytes, and line and column of the first place
-pub record IsTokenRange (text : List ℕ) (tokens : List Token) (from to : ℕ) (at : Place) : Type 0 where
+-- the tokens of a text between two places in bytes, and line and column of the first place
+pub record IsTokenRange (text : List ℕ) (tokens : List Span) (from to : ℕ) (at : Place) : Type 0 where
   pub order : InOrder from tokens to
   pub within : to ≤ length text
   pub short : length text ≤ MAX_TEXT
   pub utf8 : AreUtf8 (pairs_from text from tokens)
   pub bounded : IsPlaceBounded at from
 
--- where the gap before token i begins, or the gap behind the last token, if the first gap begins at
+-- where the gap before token i begins, or the gap after the last token, if the first gap begins at
 -- a place
-abbrev pub gap_from : ℕ → List Token → ℕ → ℕ
+abbrev pub gap_from : ℕ → List Span → ℕ → ℕ
 gap_from at [] i = at
 gap_from at (token ∷ tokens) zero = at
 gap_from at (token ∷ tokens) (suc i) = gap_from token.stop tokens i
 
-abbrev pub gap_at : List Token → ℕ → ℕ
+abbrev pub gap_at : List Span → ℕ → ℕ
 gap_at tokens i = gap_from 0 tokens i
 
--- the place of the gap before a token, found from the front on
-pub record IsGapPlace (text : List ℕ) (tokens : List Token) (last_gap_at from : ℕ) (at : Place) : Type 0 where
+-- the place of the gap before a token, counted from the start of the text
+pub record IsGapPlace (text : List ℕ) (tokens : List Span) (last_gap_at from : ℕ) (at : Place) : Type 0 where
   pub ordered : IsWellFormed text tokens last_gap_at
   pub is : at ≡ place_after_pairs first_place (take from (pairs_of text tokens))
 
--- the line of the gap before a token, found from the front on
-pub record IsOnLine (text : List ℕ) (tokens : List Token) (last_gap_at from line : ℕ) : Type 0 where
+-- the line of the gap before a token, counted from the start of the text
+pub record IsOnLine (text : List ℕ) (tokens : List Span) (last_gap_at from line : ℕ) : Type 0 where
   pub ordered : IsWellFormed text tokens last_gap_at
   pub marks : MarksHaveNoLf (pairs_of text tokens)
   pub is : line ≡ (place_after_pairs first_place (take from (pairs_of text tokens))).line

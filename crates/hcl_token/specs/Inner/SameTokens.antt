@@ -1,33 +1,33 @@
 -- Tokens that lie alike in two texts.
 use Rattle.std.specs.Prelude.{◌≡◌, ℕ, ◌+◌, ◌%◌, ◌^◌, ◌<◌, ◌≤◌, List, [], ◌∷◌, length, slice_index_or}
 use Rattle.hcl_token.specs.declared.kind.Kind.TheVariants.{Mark}
-use Rattle.hcl_token.specs.declared.token.Token.{Token}
+use Rattle.hcl_token.specs.declared.span.Span.{Span}
 use Rattle.hcl_token.specs.declared.tokens.TheConstants.{MAX_TEXT}
 use Rattle.hcl_token.specs.Tokens.{Pair}
 use Rattle.hcl_token.specs.Pairs.{pairs_from, InOrder}
 
 -- what a look-up names where there is no token
-abbrev pub none : Token
+abbrev pub none : Span
 none = record { start = 0; stop = 0; kind = Mark }
 
--- a token is of the kind of another, and lies so many bytes behind it, modulo 2 ^ 32
-pub record IsShiftedBy (distance : ℕ) (x y : Token) : Type 0 where
+-- a token is of the kind of another, and begins and ends this many bytes after it, modulo 2 ^ 32
+pub record IsShiftedBy (distance : ℕ) (x y : Span) : Type 0 where
   pub kind : x.kind ≡ y.kind
   pub start : (distance + y.start) % 2 ^ 32 ≡ x.start
   pub stop : (distance + y.stop) % 2 ^ 32 ≡ x.stop
 
 -- each token lies so as the one of the same number
-abbrev pub AreShiftedBy : ℕ → List Token → List Token → Type 0
+abbrev pub AreShiftedBy : ℕ → List Span → List Span → Type 0
 AreShiftedBy distance xs ys =
     (k : ℕ) → k < length xs → IsShiftedBy distance (slice_index_or xs k none) (slice_index_or ys k none)
 
--- tokens that stand in a text
-pub record IsTokenRun (text : List ℕ) (tokens : List Token) : Type 0 where
+-- consecutive tokens of a text, at least one
+pub record IsTokenRun (text : List ℕ) (tokens : List Span) : Type 0 where
   pub some : 0 < length tokens
   pub order : (at : ℕ) × (last : ℕ) × InOrder at tokens last × (last ≤ length text)
   pub short : length text ≤ MAX_TEXT
 
 -- the tokens with the gaps between them
-abbrev pub token_run : List ℕ → List Token → List Pair
+abbrev pub token_run : List ℕ → List Span → List Pair
 token_run text [] = []
 token_run text (x ∷ tokens) = pairs_from text x.start (x ∷ tokens)

@@ -1,5 +1,5 @@
 use Rattle.std.proofs.Common.{◌++◌, List, ap, ◌∙◌, sym, append_assoc, arith, ◌≤◌, ◌<◌, length, [], ◌∷◌}
-use Rattle.hcl_token.specs.declared.token.Token.{Token}
+use Rattle.hcl_token.specs.declared.span.Span.{Span}
 use Rattle.hcl_rescan.specs.Inner.WholeLines.{tokens_at}
 use Rattle.std.specs.List.{slice_range}
 use Rattle.hcl_rescan.proofs.LineLemmas.{IsWithin, within_text, moved_fits, moved_more}
@@ -30,12 +30,12 @@ loop-i-preserved c =
     let old = c.args.old.now in
     let from = c.args.from.index in
     let i = c.loop-i.i in
-    let first = c.args.items.now.items in
+    let first = c.args.tokens.now.items in
     let so_far = tokens_at c.args.at (slice_range old.pairs from i) in
     let ordered : from ≤ i = omega arith in
     let within : i < length old.pairs = omega arith in
     let more = moved_more old from c.args.from.at i c.args.at c.item.result c.relocate.result c.requires.line_start ordered within c.item.ensures c.relocate.ensures.start c.relocate.ensures.stop c.relocate.ensures.kind in
     c.in_ok-push.ensures.items
-    ∙ ap (λ (x : List Token). x ++ c.relocate.result ∷ []) c.loop-i.invariant
+    ∙ ap (λ (x : List Span). x ++ c.relocate.result ∷ []) c.loop-i.invariant
     ∙ append_assoc first so_far (c.relocate.result ∷ [])
-    ∙ ap (λ (x : List Token). first ++ x) (sym more)
+    ∙ ap (λ (x : List Span). first ++ x) (sym more)

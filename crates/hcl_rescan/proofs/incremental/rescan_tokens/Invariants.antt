@@ -5,7 +5,7 @@ use Rattle.hcl_rescan.proofs.incremental.rescan_tokens.Given as goal
 abbrev pub invariant-loop-first : goal.invariant-loop-first
 invariant-loop-first l = record {
   line_start : IsLineStart l.old l.progress.line_start.index l.progress.line_start.at;
-  begun : IsRescannedTo l.text l.items.items l.progress.at;
+  begun : IsRescannedTo l.text l.tokens.items l.progress.at;
 }
 
 abbrev pub decreases-loop-first : goal.decreases-loop-first

@@ -9,8 +9,8 @@ returns c =
     let text = c.args.text.now in
     let at = c.args.at in
     let lines = c.in_ok-lines.lines in
-    let items = c.args.items.now.items in
+    let tokens = c.args.tokens.now.items in
     let within : at + c.args.len ≤ length text = omega arith in
-    let pushed = c.in_ok-push_relocated.ensures ∙ ap (λ n. items ++ tokens_at at (slice_range lines.pairs 0 n)) c.len.ensures.value in
-    lines_scanned text c.slice.result.now items c.push_relocated.new.items.items at c.args.len lines c.requires.rescanned within c.slice.ensures c.in_ok-lines.ensures.tokenization
+    let pushed = c.in_ok-push_relocated.ensures ∙ ap (λ n. tokens ++ tokens_at at (slice_range lines.pairs 0 n)) c.len.ensures.value in
+    lines_scanned text c.slice.result.now tokens c.push_relocated.new.tokens.items at c.args.len lines c.requires.rescanned within c.slice.ensures c.in_ok-lines.ensures.tokenization
     (c.can_follow_lines.ensures c.if-not-can_follow_lines.false) (c.ends_with_line_end.ensures.ended c.if-not-ends_with_line_end.false) (c.ends_with_line_end.ensures.none c.if-not-ends_with_line_end.false) pushed

@@ -15,7 +15,7 @@ returns c =
     let text = c.args.text.now in
     let at = c.args.at in
     let rest = c.in_ok-rest.rest in
-    let items = c.args.items.now.items in
-    let pushed = c.in_ok-push_relocated.ensures ∙ ap (λ n. items ++ tokens_at at (slice_range rest.pairs 0 n)) c.len.ensures.value in
-    let whole = rest_scanned text c.slice.result.now items c.push_relocated.new.items.items at rest c.requires.short c.requires.rescanned c.slice.ensures c.in_ok-rest.ensures.tokenization (c.can_follow_lines.ensures c.if-not-can_follow_lines.false) pushed in
-    subst (λ (x : List ℕ). IsRescanned text c.push_relocated.new.items.items (length text - length x)) (sym c.last_gap.ensures) whole
+    let tokens = c.args.tokens.now.items in
+    let pushed = c.in_ok-push_relocated.ensures ∙ ap (λ n. tokens ++ tokens_at at (slice_range rest.pairs 0 n)) c.len.ensures.value in
+    let whole = rest_scanned text c.slice.result.now tokens c.push_relocated.new.tokens.items at rest c.requires.short c.requires.rescanned c.slice.ensures c.in_ok-rest.ensures.tokenization (c.can_follow_lines.ensures c.if-not-can_follow_lines.false) pushed in
+    subst (λ (x : List ℕ). IsRescanned text c.push_relocated.new.tokens.items (length text - length x)) (sym c.last_gap.ensures) whole

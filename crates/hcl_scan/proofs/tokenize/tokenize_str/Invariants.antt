@@ -5,11 +5,11 @@ use Rattle.hcl_scan.proofs.TokenizedTo.{IsTokenizedTo}
 use Rattle.hcl_scan.proofs.tokenize.tokenize_str.Given as goal
 
 -- the text up to the place is cut, and the mode is that of the innermost opening
-abbrev pub invariant-tokens : goal.invariant-tokens
-invariant-tokens l = record {
-  tokenization : IsTokenizedTo l.bytes l.items.items l.at (modes_of l.openings.items) (places_of l.openings.items);
+abbrev pub invariant-scan : goal.invariant-scan
+invariant-scan l = record {
+  tokenization : IsTokenizedTo l.bytes l.tokens.items l.at (modes_of l.openings.items) (places_of l.openings.items);
   mode : mode_view l.mode ≡ mode_of (modes_of l.openings.items);
 }
 
-abbrev pub decreases-tokens : goal.decreases-tokens
-decreases-tokens l = length l.bytes - l.at
+abbrev pub decreases-scan : goal.decreases-scan
+decreases-scan l = length l.bytes - l.at

@@ -1,5 +1,5 @@
 use Rattle.std.proofs.Common.{◌≡◌, ◌-◌, suc, sym, ap, ◌∙◌, arith}
-use Rattle.hcl_token.specs.declared.token.Token.{Token}
+use Rattle.hcl_token.specs.declared.span.Span.{Span}
 use Rattle.hcl_token.specs.Inner.LineColumn.{gap_at}
 use Rattle.hcl_token.proofs.OrderLemmas.{gap-first, gap-after}
 use Rattle.hcl_token.proofs.line_column.gap_at.Goals as goal
@@ -11,6 +11,6 @@ pub returns-else-i-eq0 : goal.returns-else-i-eq0
 returns-else-i-eq0 c =
     let before : suc (c.args.i - 1) ≡ c.args.i = omega arith in
     c.stop.ensures
-    ∙ ap (λ (t : Token). t.stop) c.index-tokens-i.is
+    ∙ ap (λ (t : Span). t.stop) c.index-tokens-i.is
     ∙ sym (gap-after c.args.tokens.now 0 (c.args.i - 1) _ (omega arith))
     ∙ ap (gap_at c.args.tokens.now) before

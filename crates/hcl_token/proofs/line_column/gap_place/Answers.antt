@@ -1,6 +1,6 @@
 use Rattle.std.proofs.Common.{◌≡◌, ◌+◌, ◌-◌, List, sym, ap, subst, ◌∙◌, arith, slice_range, take}
 use Rattle.hcl_token.specs.declared.place.Place.{Place}
-use Rattle.hcl_token.specs.declared.token.Token.{Token}
+use Rattle.hcl_token.specs.declared.span.Span.{Span}
 use Rattle.hcl_token.specs.Pairs.{pairs_from, pairs_of}
 use Rattle.hcl_token.specs.Inner.LineColumn.{IsPlaceBounded, place_after_pairs, first_place, gap_at}
 use Rattle.hcl_token.proofs.TokenRangeLemmas.{place_after_pairs-slice}
@@ -22,7 +22,7 @@ returns c =
     let end : c.args.from + (c.args.to - c.args.from) ≡ c.args.to = omega (arith, c.requires.order) in
     c.place_after_tokens.ensures.value
     ∙ ap (λ n. place_after_pairs c.args.at (pairs_from text n c.token_range-token_range.result.now)) c.gap_at.ensures
-    ∙ ap (λ (l : List Token). place_after_pairs c.args.at (pairs_from text (gap_at tokens c.args.from) l)) c.token_range-token_range.ensures
+    ∙ ap (λ (l : List Span). place_after_pairs c.args.at (pairs_from text (gap_at tokens c.args.from) l)) c.token_range-token_range.ensures
     ∙ ap (λ (p : Place). place_after_pairs p (pairs_from text (gap_at tokens c.args.from) (slice_range tokens c.args.from c.args.to))) c.requires.at.1.is
     ∙ place_after_pairs-slice text tokens 0 first_place c.args.from (c.args.to - c.args.from)
     ∙ ap (λ n. place_after_pairs first_place (take n (pairs_of text tokens))) end

@@ -1,6 +1,6 @@
 use Rattle.std.proofs.Common.{ap, ◌∙◌, arith, slice_range, count_by, length}
 use Rattle.std.proofs.Common.{ap₂}
-use Rattle.hcl_token.specs.declared.token.Token.{Token}
+use Rattle.hcl_token.specs.declared.span.Span.{Span}
 use Rattle.hcl_token.specs.Place.{is_lf}
 use Rattle.hcl_token.proofs.CountLemmas.{line_found, line_reached}
 use Rattle.hcl_token.proofs.OrderLemmas.{token_at, length-range}
@@ -38,7 +38,7 @@ pub returns : goal.returns
 returns c =
     let text = c.args.text.now in
     let tokens = c.args.tokens.now in
-    let token : Token = c.index-tokens-i.result in
+    let token : Span = c.index-tokens-i.result in
     let known = token_at text tokens c.requires.at.0 c.args.i token token c.requires.at.1.ordered c.requires.within c.index-tokens-i.is in
     let bytes = c.slice.ensures ∙ ap₂ (slice_range text) c.gap_at-begins.ensures c.start.ensures in
     omega (

@@ -1,6 +1,6 @@
 use Rattle.std.proofs.Common.{length, sym, ap, ap₂, subst, ◌∙◌, arith, slice_range, IsUtf8}
 use Rattle.hcl_token.specs.declared.place.Place.{Place}
-use Rattle.hcl_token.specs.declared.token.Token.{Token}
+use Rattle.hcl_token.specs.declared.span.Span.{Span}
 use Rattle.hcl_token.specs.Pairs.{pair_at, pairs_of}
 use Rattle.hcl_token.specs.Inner.LineColumn.{IsPlaceBounded, place_after_piece, gap_at}
 use Rattle.hcl_token.proofs.OrderLemmas.{token_at, length-range}
@@ -41,7 +41,7 @@ pub returns : goal.returns
 returns c =
     let text = c.args.text.now in
     let tokens = c.args.tokens.now in
-    let token : Token = c.index-tokens-i.result in
+    let token : Span = c.index-tokens-i.result in
     let known = token_at text tokens c.requires.at.0 c.args.i token token c.requires.at.1.ordered c.requires.within c.index-tokens-i.is in
     c.place_after_piece.ensures.value
     ∙ ap (place_after_piece c.args.at) c.slice.ensures

@@ -1,11 +1,11 @@
 use Rattle.std.proofs.Common.{ℕ, ◌+◌, List, length, slice_range, sym, ap, ◌∙◌, arith}
-use Rattle.hcl_token.specs.declared.token.Token.{Token}
+use Rattle.hcl_token.specs.declared.span.Span.{Span}
 use Rattle.hcl_token.proofs.TokensLemmas.{number_is}
 use Rattle.hcl_token.proofs.SameTokensLemmas.{is_run, run_length, range_run}
 use Rattle.hcl_token.proofs.tokens.Tokens.has_same_tokens.Goals as goal
 
 -- the tokens of a stretch, of a list that is another's
-abbrev part_of : ℕ → ℕ → List Token → List Token
+abbrev part_of : ℕ → ℕ → List Span → List Span
 part_of from count l = slice_range l from (from + count)
 
 pub overflow_add-from : goal.overflow_add-from

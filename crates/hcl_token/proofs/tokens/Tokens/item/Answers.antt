@@ -1,5 +1,5 @@
 use Rattle.std.proofs.Common.{List, ap, ◌∙◌, arith}
-use Rattle.hcl_token.specs.declared.token.Token.{Token}
+use Rattle.hcl_token.specs.declared.span.Span.{Span}
 use Rattle.hcl_token.specs.Inner.LineColumn.{gap_at}
 use Rattle.hcl_token.proofs.TokensLemmas.{known_token, known_place, number_is}
 use Rattle.hcl_token.proofs.tokens.Tokens.item.Goals as goal
@@ -14,4 +14,4 @@ pub returns : goal.returns
 returns c =
     let known = known_token _ _ _ _ _ _ (record { view = c.self.view_is; ordered = c.self.invariant }) c.requires c.index-token.ensures in
     rw (c.start.ensures, c.stop.ensures, c.kind.ensures)
-    (known_place _ _ _ _ _ _ _ (record { view = c.self.view_is; ordered = c.self.invariant }) (c.gap_at.ensures ∙ ap (λ (l : List Token). gap_at l c.args.i) c.deref.ensures.value) known)
+    (known_place _ _ _ _ _ _ _ (record { view = c.self.view_is; ordered = c.self.invariant }) (c.gap_at.ensures ∙ ap (λ (l : List Span). gap_at l c.args.i) c.deref.ensures.value) known)

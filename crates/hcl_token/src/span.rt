@@ -1,4 +1,4 @@
-//! Where a token starts and stops.
+//! The place of a token in bytes, and its kind.
 
 ghost use Rattle.std.specs.Prelude.{◌≡◌, ◌<◌};
 ghost use Rattle.hcl_token.specs.declared.tokens.TheConstants.{MAX_TEXT};
@@ -6,20 +6,20 @@ ghost use Rattle.hcl_token.specs.declared.tokens.TheConstants.{MAX_TEXT};
 use crate::kind::Kind;
 use std::marker::Model;
 
-/// A token of a text, whose spelling is the bytes from `start` to `stop`, counted from 0. The gap
-/// before it begins where the token before it stops, and at the front before the first.
+/// The place and the kind of a token: its spelling is the bytes of its text from `start` to `stop`,
+/// counted from 0. The gap before it begins where the token before it stops, or at 0.
 ///
 /// It takes 8 bytes: a token begins before the end of its text, so 24 bits hold its start, which
 /// is `low` + 65,536 * `high`.
 #[derive(Clone, Copy)]
-pub struct Token {
+pub struct Span {
     low: u16,
     high: u8,
     kind: Kind,
     stop: u32,
 }
 
-impl Model for Token {
+impl Model for Span {
     ghost use Rattle.std.specs.Prelude.{◌≡◌, ◌+◌, ◌*◌, ◌/◌, ◌%◌, ◌<◌};
     ghost use Rattle.std.proofs.Common.{arith};
     ghost use Rattle.hcl_token.specs.TokenSpan.{TokenSpan};
@@ -43,14 +43,14 @@ impl Model for Token {
         record { low = low i; high = high i; kind = t.kind; stop = t.stop } };
 }
 
-impl Token {
-    /// The token of a kind between two offsets in bytes.
+impl Span {
+    /// Returns the span of a token between two offsets in bytes.
     #[inline]
-    pub fn new(start: u32, stop: u32, kind: Kind) -> Token
+    pub fn new(start: u32, stop: u32, kind: Kind) -> Span
         requires { start < MAX_TEXT }
         ensures { result ≡ record { start = start; stop = stop; kind = kind } }
     {
-        Token {
+        Span {
             low: (start % 65_536) as u16,
             high: (start / 65_536) as u8,
             kind,
@@ -58,7 +58,7 @@ impl Token {
         }
     }
 
-    /// Where it starts, in bytes from 0.
+    /// Returns where the token starts, in bytes from 0.
     #[inline]
     pub fn start(self) -> u32
         ensures { result ≡ self.start }
@@ -66,7 +66,7 @@ impl Token {
         u32::from(self.low) + 65_536 * u32::from(self.high)
     }
 
-    /// Where it stops, in bytes from 0.
+    /// Returns where the token stops, in bytes from 0.
     #[inline]
     pub fn stop(self) -> u32
         ensures { result ≡ self.stop }
@@ -74,7 +74,7 @@ impl Token {
         self.stop
     }
 
-    /// What it is.
+    /// Returns the kind of the token.
     #[inline]
     pub fn kind(self) -> Kind
         ensures { result ≡ self.kind }
