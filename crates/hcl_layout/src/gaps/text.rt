@@ -1,13 +1,15 @@
 //! The text of a layout, written from its gaps.
 
-ghost use Rattle.std.specs.Prelude.{◌≡◌, ◌≤◌, ◌<◌, ◌*◌, ◌++◌, [], length, sum_by, slice_range, OnOk, IfOk, IfSome, IfNone};
+ghost use Rattle.std.specs.Prelude.{◌≡◌, ◌≤◌, ◌<◌, ◌*◌, ◌++◌, [], length, sum_by, slice_range, OnOk, IfOk, IfErr};
 ghost use Rattle.hcl_scan.specs.Tokenization.{MAX_TEXT};
 ghost use Rattle.hcl_token.specs.Tokens.{whole_text};
 ghost use Rattle.hcl_layout.specs.Gaps.Space.{spaces};
+ghost use Rattle.hcl_layout.specs.declared.gaps.fault.LayoutFault.TheVariants.{TooLong};
 ghost use Rattle.hcl_layout.specs.Gaps.Inner.Stages.{resolved_gap, resolved_len, space_count, with_gaps, AreUnchanged};
 
 use crate::gaps::base_gaps::KEEP_GAP;
 use crate::gaps::edits::is_unchanged;
+use crate::gaps::fault::LayoutFault;
 use hcl_scan::{MAX_TEXT, Scanned};
 use hcl_token::Item;
 use std::alloc::{AllocError, Global};
@@ -25,23 +27,27 @@ fn token_len(item: Item, new: u32) -> usize
     new as usize + (item.stop - item.start) as usize
 }
 
-/// The number of bytes of the text with its new gaps, unless it is more than 16,777,216.
-fn len_within_limit(scanned: &Scanned<'_>, gaps: &[u32]) -> Option<usize>
+/// Returns the number of bytes of the text with its new gaps.
+///
+/// # Errors
+///
+/// `TooLong` if and only if they are more than `MAX_TEXT`. It takes no memory, so there is no other.
+fn len_within_limit(scanned: &Scanned<'_>, gaps: &[u32]) -> Result<usize, LayoutFault>
     requires { length gaps.now ≡ length scanned.now.pairs }
-    ensures len { IfSome result (λ len.
+    ensures len { IfOk result (λ len.
         len ≡ length (whole_text (with_gaps gaps.now scanned.now.pairs) [])) }
-    ensures short { IfSome result (λ len. len ≤ MAX_TEXT) }
-    ensures long { IfNone result
-        (MAX_TEXT < length (whole_text (with_gaps gaps.now scanned.now.pairs) [])) }
+    ensures short { IfOk result (λ len. len ≤ MAX_TEXT) }
+    ensures err { IfErr result (λ e. (e ≡ TooLong)
+        × (MAX_TEXT < length (whole_text (with_gaps gaps.now scanned.now.pairs) []))) }
 {
     let mut total = 0;
     for i in 0..scanned.len() {
         total += token_len(scanned.item(i), gaps[i]);
     }
     if total > MAX_TEXT {
-        return None;
+        return Err(LayoutFault::TooLong);
     }
-    Some(total)
+    Ok(total)
 }
 
 /// How many spaces a number stands for; none where the gap stays.
@@ -64,19 +70,27 @@ fn total_space_count(gaps: &[u32]) -> usize
     total
 }
 
-/// Room for the text with its new gaps, unless that has more than 16,777,216 bytes. The old gaps
-/// are counted too where there is room for all, so that no token is looked at.
-pub(crate) fn capacity_within_limit(scanned: &Scanned<'_>, gaps: &[u32]) -> Option<usize>
+/// Returns a capacity for the text with its new gaps. It counts the old gaps too if `MAX_TEXT`
+/// allows it, since then it needn't read the tokens.
+///
+/// # Errors
+///
+/// `TooLong` if and only if the text has more than `MAX_TEXT` bytes. It takes no memory, so there
+/// is no other.
+pub(crate) fn capacity_within_limit(
+    scanned: &Scanned<'_>,
+    gaps: &[u32],
+) -> Result<usize, LayoutFault>
     requires { length gaps.now ≡ length scanned.now.pairs }
-    ensures short { IfSome result (λ capacity.
+    ensures short { IfOk result (λ capacity.
         length (whole_text (with_gaps gaps.now scanned.now.pairs) []) ≤ MAX_TEXT) }
-    ensures long { IfNone result
-        (MAX_TEXT < length (whole_text (with_gaps gaps.now scanned.now.pairs) [])) }
+    ensures err { IfErr result (λ e. (e ≡ TooLong)
+        × (MAX_TEXT < length (whole_text (with_gaps gaps.now scanned.now.pairs) []))) }
 {
     let text = scanned.text();
     let most = text.len() + total_space_count(gaps);
     if most <= MAX_TEXT {
-        return Some(most);
+        return Ok(most);
     }
     len_within_limit(scanned, gaps)
 }
