@@ -16,3 +16,4 @@ pub mod Compose
 pub mod EditLemmas
 pub mod BothColumns
 pub mod Copied
+pub mod SplitLaw

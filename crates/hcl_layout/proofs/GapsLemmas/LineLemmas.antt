@@ -12,8 +12,8 @@ use Rattle.hcl_token.specs.declared.kind.Kind.TheVariants.{LineEnd, HereOpen, He
 use Rattle.hcl_token.specs.Tokens.{Pair}
 use Rattle.hcl_token.specs.TokenizedText.{kind_of, spelling_of, gap_of}
 use Rattle.hcl_layout.specs.Gaps.Kinds.{is_here_open}
-use Rattle.hcl_layout.specs.Gaps.Lines.{Line, heredocs_after, ends_line, prepend_to_first, lines_from}
-use Rattle.hcl_layout.specs.Gaps.Inner.Stages.{line_len, open_heredocs_after, open_heredocs_of, SplitsLine, close_brackets}
+use Rattle.hcl_layout.specs.Gaps.Lines.{Line, heredocs_after, ends_line}
+use Rattle.hcl_layout.specs.Gaps.Inner.Stages.{prepend_to_first, lines_from, line_len, open_heredocs_after, open_heredocs_of, SplitsLine, close_brackets}
 use Rattle.hcl_layout.specs.Gaps.Inner.CodeViews.{is_bracket, is_comment, has_no_line_effect, are_some, IsLine, AreLines}
 use Rattle.std.proofs.Common.{take-add, ◌||◌, ◌&&◌, None}
 use Rattle.std.specs.List.{list_any}

@@ -8,12 +8,12 @@ use Rattle.hcl_token.specs.declared.kind.Kind.TheVariants.{Dot, Star}
 use Rattle.hcl_token.specs.Tokens.{Pair}
 use Rattle.hcl_token.specs.TokenizedText.{kind_of}
 use Rattle.hcl_layout.specs.Gaps.Kinds.{is_line_end, is_line_comment, is_identifier, is_open_paren, is_double_colon, is_dot, is_dot_or_index, is_comma, is_comma_or_ellipsis, is_open_bracket, can_be_indexed, ends_operand, is_bang, is_minus, is_open_brace, is_close_brace, is_sequence_open, is_seq_close, opens_tight, closes_tight, is_skipped}
-use Rattle.hcl_layout.specs.Gaps.Lines.{Line, lines_from}
+use Rattle.hcl_layout.specs.Gaps.Lines.{Line}
 use Rattle.hcl_layout.specs.Gaps.Indent.{openings, closings}
 use Rattle.hcl_layout.specs.Gaps.Space.{prev_after, prev_after_all, is_after_identifier, is_splat_star, is_after_operand, is_in_keyword, is_spaced}
 use Rattle.std.proofs.Common.{reverse}
 use Rattle.hcl_layout.specs.Gaps.Inner.SpacingFlags.{IsEndOfNearest}
-use Rattle.hcl_layout.specs.Gaps.Inner.Stages.{SplitsLine, open_heredocs_of, space_len, space_len_at, space_lens, spaces_from, line_gap_lens, base_gap_lens, all_gap_lens, close_earlier, open_after_line}
+use Rattle.hcl_layout.specs.Gaps.Inner.Stages.{lines_from, SplitsLine, open_heredocs_of, space_len, space_len_at, space_lens, spaces_from, line_gap_lens, base_gap_lens, all_gap_lens, close_earlier, open_after_line}
 use Rattle.hcl_layout.proofs.GapsLemmas.LineLemmas.{Turn, turn, kind_is, range_split, none_there}
 
 -- the two nearest are the same

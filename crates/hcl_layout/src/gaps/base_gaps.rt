@@ -3,10 +3,9 @@
 ghost use Rattle.std.specs.Prelude.{◌≡◌, ◌+◌, ◌*◌, ◌<◌, ◌≤◌, ◌++◌, [], false, take, drop, length, replicate, slice_range, if◌then◌else◌, OnOk, IfOk};
 ghost use Rattle.hcl_scan.specs.Tokenization.{MAX_TEXT};
 ghost use Rattle.hcl_layout.specs.Gaps.Kinds.{is_line_end};
-ghost use Rattle.hcl_layout.specs.Gaps.Lines.{lines_from};
 ghost use Rattle.hcl_layout.specs.Gaps.Inner.CodeViews.{AreLines};
 ghost use Rattle.hcl_layout.specs.Gaps.Space.{prev_after_all};
-ghost use Rattle.hcl_layout.specs.Gaps.Inner.Stages.{KEEP_GAP, line_gap_lens, base_gap_lens, all_gap_lens};
+ghost use Rattle.hcl_layout.specs.Gaps.Inner.Stages.{lines_from, KEEP_GAP, line_gap_lens, base_gap_lens, all_gap_lens};
 
 use crate::gaps::indent::{close_earlier, count_brackets, push_opened};
 use crate::gaps::kinds::is_line_end;

@@ -6,7 +6,7 @@ use Rattle.hcl_token.specs.declared.item.Item.{Item}
 use Rattle.hcl_token.specs.Tokens.{Pair}
 use Rattle.hcl_token.specs.TokenizedText.{gap_of}
 use Rattle.hcl_token.specs.Place.{is_mark}
-use Rattle.hcl_layout.specs.Gaps.Lines.{Line, heredocs_after, ends_line, lines_from}
+use Rattle.hcl_layout.specs.Gaps.Lines.{Line, heredocs_after, ends_line}
 use Rattle.hcl_layout.specs.Gaps.Indent.{openings, closings}
 use Rattle.hcl_layout.specs.Gaps.Space.{prev_after, prev_after_all, is_spaced, spaces}
 use Rattle.hcl_layout.specs.Gaps.Kinds.{is_line_end}
@@ -44,6 +44,20 @@ format_lines_by_stack surplus before (line ∷ lines) =
     (prev_after_all line.pairs before) lines
 
 -- ---- lines
+
+-- lines with one token more before those of the first; if it is alone, its line is frozen or not
+abbrev pub prepend_to_first : Bool → Pair → List Line → List Line
+prepend_to_first frozen p [] = record { frozen = frozen; pairs = p ∷ [] } ∷ []
+prepend_to_first frozen p (line ∷ lines) = record { frozen = frozen; pairs = p ∷ line.pairs } ∷ lines
+
+-- the lines from here on, token by token: each adds to the line after it
+abbrev pub lines_from : ℕ → List Pair → List Line
+lines_from open_heredocs [] = []
+lines_from open_heredocs (p ∷ ps) =
+    if ends_line open_heredocs p.kind
+    then record { frozen = nat_lt 0 open_heredocs; pairs = p ∷ [] }
+    ∷ lines_from (heredocs_after open_heredocs p.kind) ps
+    else prepend_to_first (nat_lt 0 open_heredocs) p (lines_from (heredocs_after open_heredocs p.kind) ps)
 
 -- how many tokens the first line has
 abbrev pub line_len : ℕ → List Pair → ℕ
