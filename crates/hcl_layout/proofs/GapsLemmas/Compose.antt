@@ -8,9 +8,9 @@ use Rattle.hcl_token.specs.Place.{is_mark}
 use Rattle.hcl_layout.specs.Gaps.Lines.{Line, pairs_in}
 use Rattle.hcl_layout.specs.Gaps.Indent.{openings, closings}
 use Rattle.hcl_layout.specs.Gaps.Space.{prev_after_all}
-use Rattle.hcl_layout.specs.Gaps.Cells.{aligned, assignment, closing_comment, widths}
+use Rattle.hcl_layout.specs.Gaps.Cells.{aligned, assignment, closing_comment}
 use Rattle.hcl_layout.specs.Gaps.Layout.{format_lines, layout_lines, layout_body, layout_pairs}
-use Rattle.hcl_layout.specs.Gaps.Inner.Stages.{lines_from, mark_count, KEEP_GAP, with_gaps, all_gap_lens, base_gap_lens, close_earlier, open_after_line, AreAtMost}
+use Rattle.hcl_layout.specs.Gaps.Inner.Stages.{widths, lines_from, mark_count, KEEP_GAP, with_gaps, all_gap_lens, base_gap_lens, close_earlier, open_after_line, AreAtMost}
 use Rattle.hcl_layout.proofs.GapsLemmas.GapLaw.{gaps_append, gaps_kept, length_replicate, length_set, set_stage, pairs_of_lines}
 use Rattle.hcl_layout.proofs.GapsLemmas.SplitLaw.{lines_are}
 use Rattle.hcl_layout.proofs.GapsLemmas.TokensKept.{set_alike_lines, equals_alike, split_again}

@@ -8,8 +8,8 @@ ghost use Rattle.hcl_token.specs.Tokens.{Pair};
 ghost use Rattle.hcl_token.specs.TokenizedText.{AreUtf8};
 ghost use Rattle.hcl_layout.specs.Gaps.Kinds.{is_inline_comment};
 ghost use Rattle.hcl_layout.specs.Gaps.Lines.{pairs_in};
-ghost use Rattle.hcl_layout.specs.Gaps.Cells.{index_after_first, is_balanced, width, width_before, widths, greatest, aligned};
-ghost use Rattle.hcl_layout.specs.Gaps.Inner.Stages.{lines_from, with_gaps, AreAtMost, cell_tokens, set_cell_gaps, cell_gaps_from_width};
+ghost use Rattle.hcl_layout.specs.Gaps.Cells.{index_after_first, is_balanced, width, width_before, aligned};
+ghost use Rattle.hcl_layout.specs.Gaps.Inner.Stages.{widths, greatest, lines_from, with_gaps, AreAtMost, cell_tokens, set_cell_gaps, cell_gaps_from_width};
 ghost use Rattle.hcl_layout.specs.Gaps.Inner.CodeViews.{starts_cell, cell_of, is_valid_cell, widths_of, tokens_in, width_in, token_in, can_have_cell, is_bracket, is_comment, are_some, HasFlags, AreInside, AreLines};
 
 use crate::gaps::base_gaps::KEEP_GAP;

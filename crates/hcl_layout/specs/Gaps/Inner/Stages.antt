@@ -1,5 +1,5 @@
 -- The layout as the code works it out, stage by stage. For proofs: nothing here has to be believed.
-use Rattle.std.specs.Prelude.{◌≡◌, ◌<◌, ◌≤◌, drop, slice_range, ℕ, suc, ◌+◌, ◌-◌, ◌*◌, ◌==◌, Bool, true, ◌&&◌, nat_lt, List, [], ◌∷◌, length, get_or, replicate, slice_get, slice_set, ◌||◌, ◌++◌, Option, Some, None, option_map, option_and_then, if◌then◌else◌, ⊤}
+use Rattle.std.specs.Prelude.{◌≡◌, ◌<◌, ◌≤◌, drop, slice_range, ℕ, suc, ◌+◌, ◌-◌, ◌*◌, ◌==◌, Bool, true, ◌&&◌, nat_lt, max, List, [], ◌∷◌, length, get_or, replicate, slice_get, slice_set, ◌||◌, ◌++◌, Option, Some, None, option_map, option_and_then, if◌then◌else◌, ⊤}
 use Rattle.std.specs.Str.{bytes_eq}
 use Rattle.hcl_token.specs.declared.kind.Kind.{Kind}
 use Rattle.hcl_token.specs.declared.item.Item.{Item}
@@ -12,7 +12,7 @@ use Rattle.hcl_layout.specs.Gaps.Space.{prev_after, prev_after_all, is_spaced, s
 use Rattle.hcl_layout.specs.Gaps.Kinds.{is_line_end}
 use Rattle.hcl_scan.specs.Follows.{has_no_gap_before}
 use Rattle.hcl_token.specs.Joins.{joins_with}
-use Rattle.hcl_layout.specs.Gaps.Cells.{greatest}
+use Rattle.hcl_layout.specs.Gaps.Cells.{width_before, with_cell_gap}
 use Rattle.hcl_layout.specs.Gaps.Layout.{format_line}
 
 -- ---- brackets that are open
@@ -85,6 +85,23 @@ pub record SplitsLine (pairs : List Pair) (at : ℕ) (frozen : Bool) (past : ℕ
       ∷ lines_from (open_heredocs_of next) (drop past pairs)
 
 -- ---- cells
+
+-- the widths of what is before the cells, line by line; none where a line has no such cell
+abbrev pub widths : (Line → Option ℕ) → List Line → List (Option ℕ)
+widths cell [] = []
+widths cell (line ∷ lines) = width_before cell line ∷ widths cell lines
+
+-- the greatest of the widths up to the first line that has no cell
+abbrev pub greatest : List (Option ℕ) → ℕ
+greatest [] = 0
+greatest (None ∷ ws) = 0
+greatest (Some w ∷ ws) = max w (greatest ws)
+
+-- each line with its number of spaces before its cell
+abbrev pub with_cell_gaps : (Line → Option ℕ) → List (Option ℕ) → List Line → List Line
+with_cell_gaps cell (count ∷ counts) (line ∷ lines) =
+    with_cell_gap (cell line) count line ∷ with_cell_gaps cell counts lines
+with_cell_gaps cell counts lines = lines
 
 -- how many spaces stand before each cell, where top is the greatest width of the run that the first
 -- is in
