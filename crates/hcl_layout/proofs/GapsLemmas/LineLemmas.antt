@@ -11,10 +11,9 @@ use Rattle.hcl_token.specs.declared.kind.Kind.{Kind}
 use Rattle.hcl_token.specs.declared.kind.Kind.TheVariants.{LineEnd, HereOpen, HereClose}
 use Rattle.hcl_token.specs.Tokens.{Pair}
 use Rattle.hcl_token.specs.TokenizedText.{kind_of, spelling_of, gap_of}
-use Rattle.hcl_layout.specs.Gaps.Kinds.{is_here_open}
 use Rattle.hcl_layout.specs.Gaps.Lines.{Line, heredocs_after, ends_line}
 use Rattle.hcl_layout.specs.Gaps.Inner.Stages.{prepend_to_first, lines_from, line_len, open_heredocs_after, open_heredocs_of, SplitsLine, close_brackets}
-use Rattle.hcl_layout.specs.Gaps.Inner.CodeViews.{is_bracket, is_comment, has_no_line_effect, are_some, IsLine, AreLines}
+use Rattle.hcl_layout.specs.Gaps.Inner.CodeViews.{is_here_open, is_bracket, is_comment, has_no_line_effect, are_some, IsLine, AreLines}
 use Rattle.std.proofs.Common.{take-add, ◌||◌, ◌&&◌, None}
 use Rattle.std.specs.List.{list_any}
 use Rattle.hcl_token.specs.Place.{is_lf}

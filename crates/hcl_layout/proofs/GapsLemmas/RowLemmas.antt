@@ -5,29 +5,29 @@ use Rattle.std.specs.Str.{bytes_eq}
 use Rattle.std.specs.Option.{option_map, option_and_then}
 use Rattle.std.proofs.lemmas.Bool.Decides.{nat_tests}
 use Rattle.hcl_token.specs.declared.kind.Kind.{Kind}
-use Rattle.hcl_token.specs.declared.kind.Kind.TheVariants.{Mark, Star, Dot}
+use Rattle.hcl_token.specs.declared.kind.Kind.TheVariants.{Mark, Star, Dot, Identifier, Number, DotIndex, Minus, Bang, DoubleColon, OpenBrace, CloseBrace, OpenBracket, CloseBracket, OpenParen, CloseParen, Comma, Ellipsis, SeqClose, QuoteClose, InterpOpen, DirectiveOpen}
 use Rattle.hcl_token.specs.Tokens.{Pair}
 use Rattle.hcl_token.specs.TokenizedText.{kind_of, spelling_of}
 use Rattle.hcl_token.specs.Joins.{joins_with}
 use Rattle.hcl_scan.specs.Follows.{has_no_gap_before}
-use Rattle.hcl_layout.specs.Gaps.Kinds.{is_line_end, is_line_comment, is_identifier, is_open_paren, is_double_colon, is_dot, is_dot_or_index, is_comma, is_comma_or_ellipsis, is_open_bracket, can_be_indexed, is_bang, is_minus, is_star, is_open_brace, is_close_brace, is_sequence_open, is_seq_close, opens_tight, closes_tight}
+use Rattle.hcl_layout.specs.Gaps.Kinds.{among, is_line_end, is_line_comment, is_identifier}
 use Rattle.hcl_layout.specs.Gaps.Space.{is_after_identifier, is_after_operand, is_splat_star, is_in_keyword, is_spaced}
 use Rattle.hcl_layout.specs.Gaps.Inner.Stages.{token, space_len, space_len_at}
-use Rattle.hcl_layout.specs.Gaps.Inner.SpacingFlags.{flags_after, flags_before, needs_context, spaced_at}
+use Rattle.hcl_layout.specs.Gaps.Inner.SpacingFlags.{is_star, flags_after, flags_before, needs_context, spaced_at}
 use Rattle.hcl_layout.proofs.GapsLemmas.LineLemmas.{turn, kind_is, spelling_is}
 use Rattle.hcl_layout.proofs.GapsLemmas.NearLemmas.{space_same, kept_near}
 
 -- ---- what is asked of the tokens before
 
 record NotAsked (a : Pair) : Type 0 where
-  minus : is_minus a.kind ≡ false
+  minus : among (Minus ∷ []) a.kind ≡ false
   star : is_star a.kind ≡ false
   is_in : is_in_keyword a ≡ false
 
 not_asked : (a : Pair) → needs_context a ≡ false → NotAsked a
-not_asked a h = three (is_minus a.kind) (is_star a.kind) (is_in_keyword a) refl refl refl h
+not_asked a h = three (among (Minus ∷ []) a.kind) (is_star a.kind) (is_in_keyword a) refl refl refl h
   where
-    three : (x y z : Bool) → is_minus a.kind ≡ x → is_star a.kind ≡ y → is_in_keyword a ≡ z → (x || (y || z)) ≡ false → NotAsked a
+    three : (x y z : Bool) → among (Minus ∷ []) a.kind ≡ x → is_star a.kind ≡ y → is_in_keyword a ≡ z → (x || (y || z)) ≡ false → NotAsked a
     three true y z e f g i = absurd (cc)
     three false true z e f g i = absurd (cc)
     three false false true e f g i = absurd (cc)
@@ -50,19 +50,19 @@ abbrev by_rest : Bool → Bool → Bool → Kind → Kind → Bool
 by_rest in_for splat operand a b =
     if is_line_end b then false
     else (if is_line_comment b then true
-    else (if is_identifier a && is_open_paren b then false
-    else (if is_double_colon a || is_double_colon b then false
-    else (if is_dot a || is_dot_or_index b then false
-    else (if is_comma_or_ellipsis b then false
-    else (if is_comma a then true
+    else (if is_identifier a && among (OpenParen ∷ []) b then false
+    else (if among (DoubleColon ∷ []) a || among (DoubleColon ∷ []) b then false
+    else (if among (Dot ∷ []) a || among (Dot ∷ DotIndex ∷ []) b then false
+    else (if among (Comma ∷ Ellipsis ∷ []) b then false
+    else (if among (Comma ∷ []) a then true
     else (if in_for then true
-    else (if is_open_bracket b && (can_be_indexed a || splat) then false
-    else (if is_bang a then false
-    else (if is_minus a && not operand then false
-    else (if is_open_brace a && is_close_brace b then false
-    else (if is_open_brace a || is_close_brace b then true
-    else (if (is_sequence_open a && is_open_brace b) || (is_close_brace a && is_seq_close b) then true
-    else (if opens_tight a || closes_tight b then false else true))))))))))))))
+    else (if among (OpenBracket ∷ []) b && (among (Identifier ∷ Number ∷ DotIndex ∷ QuoteClose ∷ CloseParen ∷ CloseBracket ∷ CloseBrace ∷ []) a || splat) then false
+    else (if among (Bang ∷ []) a then false
+    else (if among (Minus ∷ []) a && not operand then false
+    else (if among (OpenBrace ∷ []) a && among (CloseBrace ∷ []) b then false
+    else (if among (OpenBrace ∷ []) a || among (CloseBrace ∷ []) b then true
+    else (if (among (InterpOpen ∷ DirectiveOpen ∷ []) a && among (OpenBrace ∷ []) b) || (among (CloseBrace ∷ []) a && among (SeqClose ∷ []) b) then true
+    else (if among (OpenParen ∷ OpenBracket ∷ InterpOpen ∷ DirectiveOpen ∷ []) a || among (CloseParen ∷ CloseBracket ∷ SeqClose ∷ []) b then false else true))))))))))))))
 
 abbrev flags_decide : Kind → Kind → ℕ
 flags_decide a b = bit_and (flags_after a) (flags_before b)

@@ -68,6 +68,10 @@ is_comment LineComment = true
 is_comment InlineComment = true
 is_comment kind = false
 
+abbrev pub is_here_open : Kind → Bool
+is_here_open HereOpen = true
+is_here_open kind = false
+
 -- a token of this kind neither ends a line nor raises a flag of it, and is none of a heredoc's
 abbrev pub has_no_line_effect : Kind → Bool
 has_no_line_effect LineEnd = false
