@@ -108,7 +108,7 @@ is_over ps first past k some within is h = passed_last ps first past k some with
 pub nearest_there : (ps : List Pair) (first to past : ℕ) (k : Kind) → first < past → past ≤ to → to ≤ length ps → Some k ≡ kind_of ps (past - 1) → is_skipped k ≡ false
     → prev_after_all (slice_range ps first past) [] ≡ prev_after_all (slice_range ps first to) [] → IsEndOfNearest ps first to past
 nearest_there ps first to past k some less within is h same = record {
-  behind = omega arith;
+  ordered = omega arith;
   before = less;
   none = λ e. absurd (omega arith);
   some = λ g j j_is.

@@ -1,4 +1,4 @@
-//! The gaps inside a line.
+//! The gaps inside a line: the table of spaces.
 
 ghost use Rattle.std.specs.Prelude.{◌≡◌, None, Bool, ◌<◌, ◌≤◌, ◌-◌, [], take, length, slice_range, Some};
 ghost use Rattle.hcl_token.specs.TokenizedText.{kind_of};
@@ -24,7 +24,7 @@ pub(crate) struct PrevKinds {
     pub second: Option<Kind>,
 }
 
-/// Nothing stands before.
+/// There are none.
 const NO_PREV: PrevKinds = PrevKinds {
     nearest: None,
     second: None,
@@ -40,7 +40,7 @@ impl PrevKinds {
         }
     }
 
-    /// Whether a `*` that follows is a splat's.
+    /// Returns whether a `*` that follows is a splat's.
     fn is_splat_star(self, kind: Kind) -> bool
         ensures { result ≡ is_splat_star (prev_kinds self) kind }
     {
@@ -90,7 +90,8 @@ fn is_in_keyword(kind: Kind, spelling: &[u8]) -> bool
     is_identifier(kind) && (spelling == b"in".as_slice())
 }
 
-/// Whether a space stands between two neighbours on a line: the first row of the table that fits.
+/// Returns whether there is a space between two neighbors on a line, by the first row of the table
+/// that fits.
 fn is_spaced(before: PrevKinds, a: Kind, a_spelling: &[u8], b: Kind) -> bool
     ensures { result ≡ is_spaced (prev_kinds before) (token a a_spelling.now) (token b []) }
 {
@@ -142,38 +143,38 @@ fn is_spaced(before: PrevKinds, a: Kind, a_spelling: &[u8], b: Kind) -> bool
     true
 }
 
-/// A flag that a token shares with the one behind it: a space stands between the two.
+/// A flag that a token shares with the one after it: there is a space between the two.
 const SPACE: u16 = 1;
 
-/// A space stands behind an opening brace.
+/// There is a space after an opening brace.
 const IN_BRACES: u16 = 2;
 
-/// A space stands before `(` and `[` that call and index nothing.
+/// There is a space before `(` and `[` that call and index nothing.
 const OPENS: u16 = 4;
 
-/// None stands before literal text.
+/// There is none before literal text.
 const LITERAL: u16 = 8;
 
-/// None stands before a line end, `,` and the like.
+/// There is none before a line end, `,` and the like.
 const CLOSE: u16 = 16;
 
-/// None stands behind an opening that stands close to what it holds.
+/// There is none after an opening that has none inside.
 const INSIDE: u16 = 32;
 
-/// None stands in `.name`.
+/// There is none in `.name`.
 const NAME: u16 = 64;
 
-/// None stands in `name(`.
+/// There is none in `name(`.
 const CALL: u16 = 128;
 
-/// None stands before a closing, or an index.
+/// There is none before a closing, or an index.
 const END: u16 = 256;
 
-/// The flags by which a space stands; by the others none does.
+/// The flags by which there is a space; by the others there is none.
 const SPACED: u16 = SPACE | IN_BRACES | OPENS;
 
-/// What a token's kind says of the gap behind it. It shares a flag with `flags_before` of the token
-/// behind where the two kinds alone tell the gap.
+/// Returns what a token's kind says of the gap after it. It shares a flag with `flags_before` of
+/// the next token if the two kinds alone say what the gap is.
 fn flags_after(kind: Kind) -> u16
     ensures { result ≡ flags_after kind }
 {
@@ -196,7 +197,7 @@ fn flags_after(kind: Kind) -> u16
     }
 }
 
-/// What a token's kind says of the gap before it.
+/// Returns what a token's kind says of the gap before it.
 fn flags_before(kind: Kind) -> u16
     ensures { result ≡ flags_before kind }
 {
@@ -222,15 +223,15 @@ fn flags_before(kind: Kind) -> u16
     }
 }
 
-/// Whether what stands before a token is asked for at all.
+/// Returns whether a row of the table depends on the tokens before this one.
 fn needs_context(kind: Kind, spelling: &[u8]) -> bool
     ensures { result ≡ needs_context (token kind spelling.now) }
 {
     is_minus(kind) || is_star(kind) || is_in_keyword(kind, spelling)
 }
 
-/// The number past the nearest token before token `to`, from token `first` on, that is not passed
-/// over, or `first`.
+/// Returns the number after that of the nearest token among `first..to` that is not skipped, or
+/// `first`.
 fn end_of_nearest(scanned: &Scanned<'_>, first: usize, to: usize) -> usize
     requires ordered { first ≤ to }
     requires within { to ≤ length scanned.now.pairs }
@@ -246,8 +247,8 @@ fn end_of_nearest(scanned: &Scanned<'_>, first: usize, to: usize) -> usize
     past
 }
 
-/// The two nearest tokens before token `to`, from token `first` on. Few tokens ask for them, so
-/// that they are looked for where one does.
+/// Returns the two nearest tokens before token `to`, from token `first` on. Few tokens depend on
+/// them, so they are searched for each of these.
 fn prev_kinds_at(scanned: &Scanned<'_>, first: usize, to: usize) -> PrevKinds
     requires ordered { first ≤ to }
     requires within { to ≤ length scanned.now.pairs }
@@ -271,7 +272,8 @@ fn prev_kinds_at(scanned: &Scanned<'_>, first: usize, to: usize) -> PrevKinds
     }
 }
 
-/// Whether a space stands between token `i`, which is not the first, and the one before it.
+/// Returns whether there is a space between token `i`, which is not the first, and the one before
+/// it.
 fn is_spaced_at(scanned: &Scanned<'_>, first: usize, a: Kind, b: Kind, i: usize) -> bool
     requires after_first { first < i }
     requires within { i < length scanned.now.pairs }
@@ -286,14 +288,14 @@ fn is_spaced_at(scanned: &Scanned<'_>, first: usize, a: Kind, b: Kind, i: usize)
     is_spaced(NO_PREV, a, spelling, b)
 }
 
-/// Whether a token of kind `b` closes or indexes a name, which is not `in`.
+/// Returns whether a token of kind `b` closes or indexes a name, which is not `in`.
 fn closes_or_indexes_name(a: Kind, spelling: &[u8], b: Kind) -> bool
     ensures { result ≡ closes_or_indexes_name (token a spelling.now) b }
 {
     is_identifier(a) && (closes_tight(b) | is_open_bracket(b)) && !is_in_keyword(a, spelling)
 }
 
-/// How long the gap is where the two kinds alone don't tell it.
+/// Returns the number of spaces of a gap that depends on more than the two kinds.
 #[inline(never)]
 fn gap_len_by_context(scanned: &Scanned<'_>, first: usize, a: Kind, b: Kind, i: usize) -> u32
     requires after_first { first < i }
@@ -316,8 +318,8 @@ fn gap_len_by_context(scanned: &Scanned<'_>, first: usize, a: Kind, b: Kind, i: 
     u32::from(scanned.joins(i - 1, i))
 }
 
-/// How long the gap is between token `i`, of kind `b`, and the one before it, of kind `a`, on a
-/// line, in a text whose lines begin at token `first`.
+/// Returns the number of spaces between token `i`, of kind `b`, and the one before it, of kind `a`,
+/// on a line, in a text whose lines begin at token `first`.
 pub(crate) fn gap_len(scanned: &Scanned<'_>, first: usize, a: Kind, b: Kind, i: usize) -> u32
     requires after_first { first < i }
     requires within { i < length scanned.now.pairs }

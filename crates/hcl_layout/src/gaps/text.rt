@@ -1,4 +1,4 @@
-//! The text of a layout, written from its gaps.
+//! The formatted text, written from its gaps.
 
 ghost use Rattle.std.specs.Prelude.{◌≡◌, ◌≤◌, ◌<◌, ◌*◌, ◌++◌, [], length, sum_by, slice_range, OnOk, IfOk, IfErr};
 ghost use Rattle.hcl_scan.specs.Tokenization.{MAX_TEXT};
@@ -14,7 +14,7 @@ use hcl_scan::{MAX_TEXT, Scanned};
 use hcl_token::Item;
 use std::alloc::{AllocError, Global};
 
-/// How long a token is with the gap before it that a number stands for.
+/// Returns the number of bytes of a token with the gap before it that a number means.
 fn token_len(item: Item, new: u32) -> usize
     requires gap { item.gap_at ≤ item.start }
     requires token { item.start ≤ item.stop }
@@ -50,14 +50,14 @@ fn len_within_limit(scanned: &Scanned<'_>, gaps: &[u32]) -> Result<usize, Layout
     Ok(total)
 }
 
-/// How many spaces a number stands for; none where the gap stays.
+/// Returns how many spaces a number means; none if the gap stays.
 fn space_count(new: u32) -> u32
     ensures { result ≡ space_count new }
 {
     if new == KEEP_GAP { 0 } else { new }
 }
 
-/// How many spaces numbers stand for, those of gaps that stay aside.
+/// Returns how many spaces numbers mean, without those of gaps that stay.
 fn total_space_count(gaps: &[u32]) -> usize
     requires { length gaps.now ≤ MAX_TEXT }
     ensures value { result ≡ sum_by space_count gaps.now }
@@ -104,7 +104,7 @@ fn push_spaces(out: &mut Vec<u8>, len: u32) -> Result<(), AllocError>
     Ok(())
 }
 
-/// The gap that a number stands for, where this one stands now.
+/// Pushes the gap that a number means, where `gap` is the old one.
 fn push_gap(out: &mut Vec<u8>, gap: &[u8], new: u32) -> Result<(), AllocError>
     ensures { OnOk result (out.new.items ≡ out.old.items ++ resolved_gap new gap.now) }
 {
@@ -115,7 +115,7 @@ fn push_gap(out: &mut Vec<u8>, gap: &[u8], new: u32) -> Result<(), AllocError>
     }
 }
 
-/// The bytes of a text from one place to another.
+/// Returns the bytes `from..to` of a text.
 fn slice(text: &[u8], from: usize, to: usize) -> &[u8]
     requires ordered { from ≤ to }
     requires within { to ≤ length text.now }
@@ -124,7 +124,7 @@ fn slice(text: &[u8], from: usize, to: usize) -> &[u8]
     &text[from..to]
 }
 
-/// The first token from number `from` on whose gap changes, or the number past the last token.
+/// Returns the first token from number `from` on whose gap changes, or the number of tokens.
 #[inline(never)]
 fn next_change(scanned: &Scanned<'_>, gaps: &[u32], from: usize) -> usize
     requires same { length gaps.now ≡ length scanned.now.pairs }
@@ -141,8 +141,8 @@ fn next_change(scanned: &Scanned<'_>, gaps: &[u32], from: usize) -> usize
     scanned.len()
 }
 
-/// The text with its new gaps, for which there is to be so much room. What stands between two gaps
-/// that change is copied at once.
+/// Returns the text with its new gaps, with this capacity. What is between two gaps that change is
+/// copied in one call.
 pub(crate) fn text_with_gaps(
     alloc: Global,
     scanned: &Scanned<'_>,

@@ -9,7 +9,7 @@ use Rattle.hcl_layout.specs.Gaps.Kinds.{among, is_identifier}
 use Rattle.hcl_layout.specs.Gaps.Space.{prev_after_all, is_in_keyword, is_spaced}
 use Rattle.hcl_layout.specs.Gaps.Inner.Stages.{token}
 
--- what a token's kind says of the gap behind it, as flags
+-- what a token's kind says of the gap after it, as flags
 abbrev pub flags_after : Kind → ℕ
 flags_after Identifier = 153
 flags_after Number = 281
@@ -75,15 +75,15 @@ needs_context a = among (Minus ∷ []) a.kind || (is_star a.kind || is_in_keywor
 abbrev pub closes_or_indexes_name : Pair → Kind → Bool
 closes_or_indexes_name a b = is_identifier a.kind && ((among (CloseParen ∷ CloseBracket ∷ SeqClose ∷ []) b || among (OpenBracket ∷ []) b) && not (is_in_keyword a))
 
--- whether a space stands between token i, of kind b, and the one before it
+-- whether there is a space between token i, of kind b, and the one before it
 abbrev pub spaced_at : List Kind → List Pair → ℕ → Kind → Option Bool
 spaced_at before pairs i b =
     option_map (λ (a : Pair). is_spaced before (token a.kind a.spelling) (token b []))
     (slice_get pairs (i - 1))
 
--- the tokens from number past on are passed over, and the one before it is not, if it is not first
+-- the tokens from number `past` on are skipped, and the one before it is not, if it is not first
 pub record IsEndOfNearest (pairs : List Pair) (first to past : ℕ) : Type 0 where
-  pub behind : first ≤ past
+  pub ordered : first ≤ past
   pub before : past ≤ to
   pub none : past ≡ first → prev_after_all (slice_range pairs first to) [] ≡ []
   pub some : first < past → (k : Kind) → Some k ≡ kind_of pairs (past - 1)

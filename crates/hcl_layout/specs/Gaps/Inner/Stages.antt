@@ -18,18 +18,18 @@ use Rattle.hcl_layout.specs.Gaps.Layout.{format_line}
 -- ---- brackets that are open
 
 -- Of each line that is open, the last first, how many openings it has beyond those of the open line
--- before it. As many are taken off as close.
+-- before it. Each that closes removes one.
 abbrev pub close_brackets : ℕ → List ℕ → List ℕ
 close_brackets left [] = []
 close_brackets left (top ∷ surplus) =
     if nat_lt left top then (top - left) ∷ surplus else close_brackets (left - top) surplus
 
--- the lines that are still open at a line that opens and closes so many brackets
+-- the lines that are still open at a line that opens and closes these numbers of brackets
 abbrev pub close_earlier : ℕ → ℕ → List ℕ → List ℕ
 close_earlier opened closed surplus =
     if nat_lt opened closed then close_brackets (closed - opened) surplus else surplus
 
--- those that are open behind it
+-- those that are open after it
 abbrev pub open_after_line : ℕ → ℕ → List ℕ → List ℕ
 open_after_line opened closed surplus =
     if nat_lt closed opened then (opened - closed) ∷ close_earlier opened closed surplus
@@ -65,7 +65,7 @@ line_len open_heredocs [] = 0
 line_len open_heredocs (p ∷ ps) =
     if ends_line open_heredocs p.kind then 1 else suc (line_len (heredocs_after open_heredocs p.kind) ps)
 
--- how many heredocs are open behind it
+-- how many heredocs are open after it
 abbrev pub open_heredocs_after : ℕ → List Pair → ℕ
 open_heredocs_after open_heredocs [] = open_heredocs
 open_heredocs_after open_heredocs (p ∷ ps) =
@@ -103,7 +103,7 @@ with_cell_gaps cell (count ∷ counts) (line ∷ lines) =
     with_cell_gap (cell line) count line ∷ with_cell_gaps cell counts lines
 with_cell_gaps cell counts lines = lines
 
--- how many spaces stand before each cell, where top is the greatest width of the run that the first
+-- how many spaces are before each cell, where top is the greatest width of the run that the first
 -- is in
 abbrev pub cell_gaps_from_width : ℕ → List (Option ℕ) → List (Option ℕ)
 cell_gaps_from_width top [] = []
@@ -164,7 +164,7 @@ abbrev pub space_lens : List Kind → Pair → List Pair → List ℕ
 space_lens before a [] = []
 space_lens before a (b ∷ ps) = space_len before a b ∷ space_lens (prev_after a before) b ps
 
--- behind the first of these tokens
+-- after the first of these tokens
 abbrev pub spaces_from : List Kind → List Pair → List ℕ
 spaces_from before [] = []
 spaces_from before (a ∷ ps) = space_lens before a ps
@@ -187,7 +187,7 @@ all_gap_lens surplus before (line ∷ lines) =
     ++ all_gap_lens (open_after_line (openings line.pairs) (closings line.pairs) surplus)
     (prev_after_all line.pairs before) lines
 
--- the gap that a number stands for: that many spaces, or the one that stands there
+-- the gap that a number means: that many spaces, or the old one
 abbrev pub resolved_gap : ℕ → List ℕ → List ℕ
 resolved_gap n old = if n == KEEP_GAP then old else spaces n
 
