@@ -14,8 +14,11 @@ mod gaps;
 mod indent;
 mod kinds;
 pub mod laws;
+mod limit;
+mod line_flags;
 mod lines;
 mod space;
+mod spacing_flags;
 mod text;
 
 pub use fault::LayoutFault;

@@ -10,7 +10,7 @@ ghost use Rattle.hcl_layout.specs.Gaps.Inner.Stages.{lines_from, KEEP_GAP, line_
 use crate::gaps::indent::{close_earlier, count_brackets, push_opened};
 use crate::gaps::kinds::is_line_end;
 use crate::gaps::lines::LineSpan;
-use crate::gaps::space::gap_len;
+use crate::gaps::spacing_flags::gap_len;
 use hcl_scan::Scanned;
 use hcl_token::Kind;
 use std::alloc::{AllocError, Global};

@@ -3,9 +3,10 @@
 ghost use Rattle.std.specs.Prelude.{◌≡◌, ◌+◌, ◌<◌, ◌≤◌, false, length, IfOk};
 ghost use Rattle.hcl_scan.specs.Tokenization.{MAX_TEXT};
 ghost use Rattle.hcl_layout.specs.Gaps.Lines.{heredocs_after, ends_line};
-ghost use Rattle.hcl_layout.specs.Gaps.Inner.CodeViews.{is_bracket, is_comment, has_no_line_effect, IsLine, AreLines};
+ghost use Rattle.hcl_layout.specs.Gaps.Inner.CodeViews.{IsLine, AreLines};
 
 use crate::gaps::kinds::{is_equal, is_here_open};
+use crate::gaps::line_flags::{has_no_line_effect, is_bracket, is_comment};
 use hcl_scan::Scanned;
 use hcl_token::Kind;
 use std::alloc::{AllocError, Global};
@@ -23,55 +24,6 @@ pub(crate) struct LineSpan {
     pub has_comment: bool,
     /// Whether it has a `=`.
     pub has_equals: bool,
-}
-
-fn is_bracket(kind: Kind) -> bool
-    ensures { result ≡ is_bracket kind }
-{
-    matches!(
-        kind,
-        Kind::OpenBrace
-            | Kind::CloseBrace
-            | Kind::OpenBracket
-            | Kind::CloseBracket
-            | Kind::OpenParen
-            | Kind::CloseParen
-            | Kind::SeqClose
-            | Kind::InterpOpen
-            | Kind::DirectiveOpen
-    )
-}
-
-fn is_comment(kind: Kind) -> bool
-    ensures { result ≡ is_comment kind }
-{
-    matches!(kind, Kind::LineComment | Kind::InlineComment)
-}
-
-/// Returns whether a token of this kind neither ends a line nor sets a flag of it, and is none of a
-/// heredoc's.
-fn has_no_line_effect(kind: Kind) -> bool
-    ensures { result ≡ has_no_line_effect kind }
-{
-    match kind {
-        Kind::LineEnd
-        | Kind::HereOpen
-        | Kind::HereClose
-        | Kind::HereLit
-        | Kind::LineComment
-        | Kind::InlineComment
-        | Kind::Equal
-        | Kind::OpenBrace
-        | Kind::CloseBrace
-        | Kind::OpenBracket
-        | Kind::CloseBracket
-        | Kind::OpenParen
-        | Kind::CloseParen
-        | Kind::SeqClose
-        | Kind::InterpOpen
-        | Kind::DirectiveOpen => false,
-        _ => true,
-    }
 }
 
 fn heredocs_after(open_heredocs: usize, kind: Kind) -> usize
