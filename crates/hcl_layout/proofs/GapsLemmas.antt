@@ -17,3 +17,5 @@ pub mod EditLemmas
 pub mod BothColumns
 pub mod Copied
 pub mod SplitLaw
+pub mod LineFlagLemmas
+pub mod FlagLemmas
