@@ -194,13 +194,7 @@ fn prev_kinds_at(scanned: &Scanned<'_>, first: usize, to: usize) -> PrevKinds
 
 /// Returns whether there is a space between token `i`, which is not the first, and the one before
 /// it.
-pub(crate) fn is_spaced_at(
-    scanned: &Scanned<'_>,
-    first: usize,
-    a: Kind,
-    b: Kind,
-    i: usize,
-) -> bool
+pub(crate) fn is_spaced_at(scanned: &Scanned<'_>, first: usize, a: Kind, b: Kind, i: usize) -> bool
     requires after_first { first < i }
     requires within { i < length scanned.now.pairs }
     requires a { Some a ≡ kind_of scanned.now.pairs (i - 1) }
