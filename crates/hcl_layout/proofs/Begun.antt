@@ -1,10 +1,12 @@
 -- Lines that are not frozen begin behind a line end.
-use Rattle.std.proofs.Common.{◌≡◌, ℕ, zero, suc, Bool, true, false, nat_lt, List, [], ◌∷◌, if◌then◌else◌, refl}
+use Rattle.std.proofs.Common.{◌≡◌, ℕ, zero, suc, Bool, true, false, nat_lt, List, [], ◌∷◌, if◌then◌else◌, refl, sym, subst}
 use Rattle.std.proofs.lemmas.Bool.{false≢true}
 use Rattle.hcl_token.specs.declared.kind.Kind.{Kind}
 use Rattle.hcl_token.specs.declared.kind.Kind.TheVariants.{LineEnd, HereOpen}
 use Rattle.hcl_token.specs.Tokens.{Pair}
-use Rattle.hcl_layout.specs.Gaps.Lines.{Line, heredocs_after, ends_line, prepend_to_first, lines_from, lines_of}
+use Rattle.hcl_layout.specs.Gaps.Lines.{Line, heredocs_after, ends_line, lines_of}
+use Rattle.hcl_layout.specs.Gaps.Inner.Stages.{prepend_to_first, lines_from}
+use Rattle.hcl_layout.proofs.GapsLemmas.SplitLaw.{lines_are}
 
 -- the kind of the last of the tokens; this one, if there is none
 abbrev pub last_of : Kind → List Pair → Kind
@@ -55,4 +57,4 @@ later_begun k held (p ∷ ps) =
     ] refl
 
 pub lines_begun : (ps : List Pair) → AreBegun LineEnd (lines_of ps)
-lines_begun ps = begun_all LineEnd 0 ps (λ _. refl) (later_begun LineEnd 0 ps)
+lines_begun ps = subst (AreBegun LineEnd) (sym (lines_are ps)) (begun_all LineEnd 0 ps (λ _. refl) (later_begun LineEnd 0 ps))

@@ -16,3 +16,6 @@ pub mod Compose
 pub mod EditLemmas
 pub mod BothColumns
 pub mod Copied
+pub mod SplitLaw
+pub mod LineFlagLemmas
+pub mod FlagLemmas

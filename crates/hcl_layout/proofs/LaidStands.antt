@@ -13,11 +13,13 @@ use Rattle.hcl_layout.specs.Gaps.Kinds.{is_line_end, is_line_comment, is_equal}
 use Rattle.hcl_layout.specs.Gaps.Lines.{Line, lines_of, pairs_in}
 use Rattle.hcl_layout.specs.Gaps.Indent.{level}
 use Rattle.hcl_layout.specs.Gaps.Space.{prev_after, prev_after_all, is_spaced, spaces, gap_between}
-use Rattle.hcl_layout.specs.Gaps.Cells.{index_of_first, index_after_first, has_cells, is_balanced, assignment, closing_comment, widths, cell_gaps, with_gap, with_cell_gap, with_cell_gaps, aligned}
+use Rattle.hcl_layout.specs.Gaps.Cells.{index_of_first, index_after_first, has_cells, is_balanced, assignment, closing_comment, with_gap, with_cell_gap, aligned}
+use Rattle.hcl_layout.specs.Gaps.Inner.Stages.{greatest, cell_gaps_from_width, widths, with_cell_gaps}
 use Rattle.hcl_layout.specs.Gaps.Layout.{with_spacing, with_indent, format_line, format_lines, layout_body}
 use Rattle.hcl_layout.proofs.Lower.{LinesHaveAll}
 use Rattle.hcl_layout.proofs.Stands.{Stands, AllStand}
 use Rattle.hcl_layout.proofs.Begun.{last_of, AreBegun, lines_begun}
+use Rattle.hcl_layout.proofs.GapsLemmas.CellLaw.{aligned_is}
 
 spaces_whitespace : (n : ℕ) → list_all is_whitespace (spaces n) ≡ true
 spaces_whitespace zero = refl
@@ -122,10 +124,10 @@ AreSpaces [] = Unit {0}
 AreSpaces (None ∷ rs) = AreSpaces rs
 AreSpaces (Some r ∷ rs) = (0 < r) × AreSpaces rs
 
-gaps_some : (before ws : List (Option ℕ)) → AreSpaces (cell_gaps before ws)
-gaps_some before [] = tt
-gaps_some before (None ∷ ws) = gaps_some (None ∷ before) ws
-gaps_some before (Some w ∷ ws) = (omega arith, gaps_some (Some w ∷ before) ws)
+gaps_some : (top : ℕ) (ws : List (Option ℕ)) → AreSpaces (cell_gaps_from_width top ws)
+gaps_some top [] = tt
+gaps_some top (None ∷ ws) = gaps_some (greatest ws) ws
+gaps_some top (Some w ∷ ws) = (omega arith, gaps_some top ws)
 
 some_space : (r : ℕ) → 0 < r → spaces r ≡ [] → ⊥
 some_space zero h e = absurd (omega arith)
@@ -210,7 +212,10 @@ comments_free : CellsFree closing_comment
 comments_free line = if_free (has_cells line) (index_after_first (λ (p : Pair). is_line_comment p.kind) line.pairs) line.pairs (later_free is_line_comment line.pairs comment_free)
 
 aligned_stand : (k : Kind) (s : List ℕ) (cell : Line → Option ℕ) (lines : List Line) → CellsFree cell → AllStand k s (pairs_in lines) → AllStand k s (pairs_in (aligned cell lines))
-aligned_stand k s cell lines free h = moved_stand k s cell (cell_gaps [] (widths cell lines)) lines free (gaps_some [] (widths cell lines)) h
+aligned_stand k s cell lines free h =
+    let ws : List (Option ℕ) = widths cell lines in
+    subst (λ (ls : List Line). AllStand k s (pairs_in ls)) (sym (aligned_is cell lines))
+    (moved_stand k s cell (cell_gaps_from_width (greatest ws) ws) lines free (gaps_some (greatest ws) ws) h)
 
 -- ---- all stages
 

@@ -8,7 +8,7 @@ use Rattle.hcl_scan.specs.Tokenization.{MAX_TEXT, IsTokenization}
 use Rattle.hcl_scan.specs.Follows.{tokens_of}
 use Rattle.hcl_layout.specs.Gaps.Layout.{layout_pairs, layout_text, IsLaidOut}
 use Rattle.hcl_layout.specs.declared.gaps.fault.LayoutFault.{LayoutFault}
-use Rattle.hcl_layout.specs.declared.gaps.fault.LayoutFault.TheVariants.{TooLong, Memory}
+use Rattle.hcl_layout.specs.Gaps.Errors.{IsMemoryOrTooLong}
 use Rattle.hcl_grammar.specs.declared.tree.Tree.{Tree}
 use Rattle.hcl_grammar.specs.Bodies.{IsFile}
 use Rattle.hcl_grammar.specs.declared.bounds.TheConstants.{MAX_NESTING}
@@ -98,8 +98,8 @@ not_too_long one A cut (Ok x) c short = λ long.
     let over : MAX_TEXT < length (layout_text cut) = subst (λ (u : List ℕ). MAX_TEXT < length u) same long.long in
     omega (arith, short, over)
 
-pub refused : (A : Type 0) (cut : TokenizedText) (r : Result A LayoutFault) → IsTokenization cut.text cut.pairs cut.last → IfErr r (λ e. (e ≡ Memory) ⊎ ((e ≡ TooLong) × (MAX_TEXT < length (layout_text cut))))
-    → IfErr r (λ e. (e ≡ Memory) ⊎ ((e ≡ TooLong) × IsTooLong cut.text))
+pub refused : (A : Type 0) (cut : TokenizedText) (r : Result A LayoutFault) → IsTokenization cut.text cut.pairs cut.last → IfErr r (λ e. IsMemoryOrTooLong (MAX_TEXT < length (layout_text cut)) e)
+    → IfErr r (λ e. IsMemoryOrTooLong (IsTooLong cut.text) e)
 refused A cut (Ok x) c h = tt
 refused A cut (Err e) c (inl m) = inl m
 refused A cut (Err e) c (inr l) = inr (l.0, too_long cut c l.1)
@@ -121,19 +121,19 @@ lays_out parses keeps again cut t (Ok edits) c w turns short =
 
 -- ---- the text of the layout
 
-pub text_is_layout : (cut : TokenizedText) (text : List ℕ) → IsTokenization cut.text cut.pairs cut.last → text ≡ layout_text cut → IsLayout cut.text text
-text_is_layout cut text c is = subst (λ (x : List ℕ). IsLayout cut.text x) (sym is) (layout_of cut c)
+pub text_is_layout : (A : Type 0) (cut : TokenizedText) (r : Result A LayoutFault) (items : A → List ℕ) → IsTokenization cut.text cut.pairs cut.last → IfOk r (λ x. items x ≡ layout_text cut)
+    → IfOk r (λ x. IsLayout cut.text (items x))
+text_is_layout A cut (Err e) items c is = tt
+text_is_layout A cut (Ok x) items c is = subst (λ (u : List ℕ). IsLayout cut.text u) (sym is) (layout_of cut c)
 
-pub text_parses : LayoutParses → (cut : TokenizedText) (text : List ℕ) (t : Tree) → IsTokenization cut.text cut.pairs cut.last → IsFile (tokens_of cut.pairs) MAX_NESTING t
-    → text ≡ layout_text cut → length (layout_text cut) ≤ MAX_TEXT → Parses text t
-text_parses parses cut text t c w is short =
+pub text_parses : LayoutParses → (A : Type 0) (cut : TokenizedText) (r : Result A LayoutFault) (items : A → List ℕ) (t : Tree) → IsTokenization cut.text cut.pairs cut.last → IsFile (tokens_of cut.pairs) MAX_NESTING t
+    → IfOk r (λ x. items x ≡ layout_text cut) → IfOk r (λ x. length (layout_text cut) ≤ MAX_TEXT) → IfOk r (λ x. Parses (items x) t)
+text_parses parses A cut (Err e) items t c w is short = tt
+text_parses parses A cut (Ok x) items t c w is short =
     let p : Parses cut.text t = record { pairs = cut.pairs; last = cut.last; tokenization = c; derived = w } in
-    subst (λ (x : List ℕ). Parses x t) (sym is) (parses cut.text (layout_text cut) t p (layout_of cut c) short)
+    subst (λ (u : List ℕ). Parses u t) (sym is) (parses cut.text (layout_text cut) t p (layout_of cut c) short)
 
-pub text_is_short : (cut : TokenizedText) (text : List ℕ) → text ≡ layout_text cut → length (layout_text cut) ≤ MAX_TEXT → length text ≤ MAX_TEXT
-text_is_short cut text is short = subst (λ (x : List ℕ). length x ≤ MAX_TEXT) (sym is) short
-
-pub text_refused : (cut : TokenizedText) (e : LayoutFault) → IsTokenization cut.text cut.pairs cut.last → (e ≡ Memory) ⊎ ((e ≡ TooLong) × (MAX_TEXT < length (layout_text cut)))
-    → (e ≡ Memory) ⊎ ((e ≡ TooLong) × IsTooLong cut.text)
-text_refused cut e c (inl m) = inl m
-text_refused cut e c (inr l) = inr (l.0, too_long cut c l.1)
+pub text_is_short : (A : Type 0) (cut : TokenizedText) (r : Result A LayoutFault) (items : A → List ℕ) → IfOk r (λ x. items x ≡ layout_text cut) → IfOk r (λ x. length (layout_text cut) ≤ MAX_TEXT)
+    → IfOk r (λ x. length (items x) ≤ MAX_TEXT)
+text_is_short A cut (Err e) items is short = tt
+text_is_short A cut (Ok x) items is short = subst (λ (u : List ℕ). length u ≤ MAX_TEXT) (sym is) short

@@ -1,5 +1,6 @@
 pub mod Cells
 pub mod Columns
+pub mod Errors
 pub mod Indent
 pub mod Inner
 pub mod Kinds

@@ -11,25 +11,25 @@ use Rattle.hcl_layout.specs.Layouts.{IsLayout, HaveSameTokens}
 
 -- ---- on tokens and gaps
 
--- Where no empty gap stands between two tokens that join, the gaps of the layout can stand between
--- the tokens, and none is empty between two that join.
+-- If no gap is empty between two tokens that join, the gaps of the layout are allowed between the
+-- tokens, and none is empty between two that join.
 abbrev pub LayoutFits : Type 0
 LayoutFits =
     (text : List ℕ) (pairs : List Pair) (last : List ℕ) → IsTokenization text pairs last → AreApart pairs
     → AreAllowedGaps false (layout_pairs pairs) [] × AreApart (layout_pairs pairs)
 
--- There the layout, if it is within the limit, is cut into the same tokens, with the gaps of the
--- layout.
+-- Then the layout, if it is within the limit, is tokenized into the same tokens, with the gaps of
+-- the layout.
 abbrev pub LayoutTokenizes : Type 0
 LayoutTokenizes =
     (text : List ℕ) (pairs : List Pair) (last : List ℕ) → IsTokenization text pairs last → AreApart pairs
     → length (whole_text (layout_pairs pairs) []) ≤ MAX_TEXT
     → IsTokenization (whole_text (layout_pairs pairs) []) (layout_pairs pairs) []
 
--- There the gaps are those of the layout exactly where the layout is the text.
+-- Then the gaps are those of the layout if and only if the layout is the text.
 abbrev pub LaidOutIsText : Type 0
-LaidOutIsText = (cut : TokenizedText) → IsTokenization cut.text cut.pairs cut.last → AreApart cut.pairs
-    → IsLaidOut cut ↔ (layout_text cut ≡ cut.text)
+LaidOutIsText = (t : TokenizedText) → IsTokenization t.text t.pairs t.last → AreApart t.pairs
+    → IsLaidOut t ↔ (layout_text t ≡ t.text)
 
 -- ---- on texts
 
@@ -52,7 +52,7 @@ abbrev pub LayoutIsLaidOut : Type 0
 LayoutIsLaidOut = (text new : List ℕ) (t : Tree) → Parses text t → IsLayout text new
     → length new ≤ MAX_TEXT → IsLayout new new
 
--- and to lay it out again changes nothing
+-- and to format it again changes nothing
 abbrev pub LayoutOfLayout : Type 0
 LayoutOfLayout = (text new other : List ℕ) (t : Tree) → Parses text t → IsLayout text new
     → IsLayout new other → other ≡ new

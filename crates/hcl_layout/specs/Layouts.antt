@@ -8,7 +8,7 @@ use Rattle.hcl_layout.specs.Gaps.Layout.{layout_pairs}
 use Rattle.hcl_grammar.specs.declared.tree.Tree.{Tree}
 use Rattle.hcl_text_laws.specs.Parses.{Parses}
 
--- the second text is the layout of the first, which has a cut
+-- the second text is the layout of the first, which has a tokenization
 pub record IsLayout (text new : List ℕ) : Type 0 where
   pub pairs : List Pair
   pub last : List ℕ
@@ -31,8 +31,8 @@ pub record HaveSameTokens (text new : List ℕ) : Type 0 where
   pub new_tokenization : IsTokenization new others other
   pub same : tokens_of others ≡ tokens_of pairs
 
--- Edits lay out a text, over which this tree stands: they turn it into its layout, which has the
--- same tokens, parses to the same tree, and is its own layout.
+-- Edits format a text that parses to this tree: they turn it into its layout, which has the same
+-- tokens, parses to the same tree, and is its own layout.
 pub record IsLayoutEdits (edits : EditList) (text : List ℕ) (t : Tree) : Type 0 where
   pub new : List ℕ
   pub layout : IsLayout text new

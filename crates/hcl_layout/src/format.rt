@@ -1,8 +1,8 @@
 //! The layout of a text that parses.
 //!
-//! No tree is looked at: that there is one is what the laws ask for.
+//! No function reads the tree: that there is one is a premise of the laws.
 
-ghost use Rattle.std.specs.Prelude.{◌≡◌, ◌≤◌, ◌⊎◌, ◌↔◌, length, IsTrue, IfOk, IfErr, OnOk};
+ghost use Rattle.std.specs.Prelude.{◌≡◌, ◌≤◌, ◌↔◌, length, IsTrue, IfOk, IfErr, OnOk};
 ghost use Rattle.edit_record.specs.Lists.Pieces.{Transforms};
 ghost use Rattle.hcl_scan.specs.Tokenization.{MAX_TEXT};
 ghost use Rattle.hcl_text_laws.specs.Parses.{Parses};
@@ -11,7 +11,7 @@ ghost use Rattle.hcl_grammar.specs.Bodies.{IsFile};
 ghost use Rattle.hcl_grammar.specs.declared.tree.Tree as tree;
 ghost use Rattle.hcl_grammar.specs.declared.bounds.TheConstants.{MAX_NESTING};
 ghost use Rattle.hcl_layout.specs.Gaps.Layout.{layout_edits};
-ghost use Rattle.hcl_layout.specs.declared.gaps.fault.LayoutFault.TheVariants.{TooLong, Memory};
+ghost use Rattle.hcl_layout.specs.Gaps.Errors.{IsMemoryOrTooLong};
 ghost use Rattle.hcl_layout.specs.Layouts.{IsLayout, IsTooLong, IsLayoutEdits};
 
 use crate::gaps::LayoutFault;
@@ -21,11 +21,13 @@ use hcl_grammar::tree::Tree;
 use hcl_scan::Scanned;
 use std::alloc::Global;
 
-/// The edits that lay out a text, over whose tokens a tree stands: exactly the gaps that differ,
-/// each from the whole old one to the whole new one. What they make has the same tokens, comments
-/// and line ends among them, parses to the same tree, and is its own layout.
+/// Returns the edits that format a text that parses: the gaps that differ, each from the whole old
+/// one to the whole new one. The new text has the same tokens, comments and line ends among them,
+/// parses to the same tree, and is its own layout.
 ///
-/// It is refused where the layout has more than 16,777,216 bytes, and else only for want of memory.
+/// # Errors
+///
+/// `TooLong` if the layout has more than `MAX_TEXT` bytes; `Memory` if an allocation fails.
 ///
 /// Terraform style conventions.
 pub fn layout_of_parsed(alloc: Global, scanned: &Scanned<'_>) -> Result<Edits, LayoutFault>
@@ -33,7 +35,7 @@ pub fn layout_of_parsed(alloc: Global, scanned: &Scanned<'_>) -> Result<Edits, L
     ensures edits { (t : tree.Tree) → IsFile (tokens_of scanned.now.pairs) MAX_NESTING t
         → IfOk result (λ edits. IsLayoutEdits edits scanned.now.text t) }
     ensures exact { IfOk result (λ edits. edits ≡ layout_edits scanned.now) }
-    ensures err { IfErr result (λ e. (e ≡ Memory) ⊎ ((e ≡ TooLong) × IsTooLong scanned.now.text)) }
+    ensures err { IfErr result (IsMemoryOrTooLong (IsTooLong scanned.now.text)) }
 {
     laws::layout_parses();
     laws::layout_keeps_tokens();
@@ -42,20 +44,26 @@ pub fn layout_of_parsed(alloc: Global, scanned: &Scanned<'_>) -> Result<Edits, L
     crate::gaps::layout(alloc, scanned)
 }
 
-/// The same of a text with its tree.
+/// Returns what [`layout_of_parsed`] does, for a text with its tree.
+///
+/// # Errors
+///
+/// As for [`layout_of_parsed`].
 pub fn layout(alloc: Global, scanned: &Scanned<'_>, tree: &Tree) -> Result<Edits, LayoutFault>
     requires { IsFile (tokens_of scanned.now.pairs) MAX_NESTING tree.now }
     ensures edits { IfOk result (λ edits. IsLayoutEdits edits scanned.now.text tree.now) }
     ensures exact { IfOk result (λ edits. edits ≡ layout_edits scanned.now) }
-    ensures err { IfErr result (λ e. (e ≡ Memory) ⊎ ((e ≡ TooLong) × IsTooLong scanned.now.text)) }
+    ensures err { IfErr result (IsMemoryOrTooLong (IsTooLong scanned.now.text)) }
 {
     layout_of_parsed(alloc, scanned)
 }
 
-/// The layout of a text, over whose tokens a tree stands, written with no edits made: what
-/// `layout_of_parsed` makes of it.
+/// Returns the formatted text of a text that parses, which the edits of [`layout_of_parsed`] make,
+/// without making edits.
 ///
-/// It is refused where `layout_of_parsed` is.
+/// # Errors
+///
+/// As for [`layout_of_parsed`].
 pub fn formatted_text(alloc: Global, scanned: &Scanned<'_>) -> Result<Vec<u8>, LayoutFault>
     requires { (t : tree.Tree) × IsFile (tokens_of scanned.now.pairs) MAX_NESTING t }
     ensures layout { IfOk result (λ text. IsLayout scanned.now.text text.items) }
@@ -64,26 +72,23 @@ pub fn formatted_text(alloc: Global, scanned: &Scanned<'_>) -> Result<Vec<u8>, L
     ensures parses { (t : tree.Tree) → IsFile (tokens_of scanned.now.pairs) MAX_NESTING t
         → IfOk result (λ text. Parses text.items t) }
     ensures short { IfOk result (λ text. length text.items ≤ MAX_TEXT) }
-    ensures err { IfErr result (λ e. (e ≡ Memory)
-        ⊎ ((e ≡ TooLong) × IsTooLong scanned.now.text)) }
+    ensures err { IfErr result (IsMemoryOrTooLong (IsTooLong scanned.now.text)) }
 {
     laws::layout_parses();
     let _text = scanned.text();
-    match crate::gaps::formatted_text(alloc, scanned) {
-        Ok(text) => Ok(text),
-        Err(fault) => Err(fault),
-    }
+    crate::gaps::formatted_text(alloc, scanned)
 }
 
-/// Whether a text, over whose tokens a tree stands, is its own layout.
+/// Returns whether a text that parses is its own layout.
 ///
-/// It is refused where `layout` is: there is no answer where the layout has more than 16,777,216
-/// bytes.
+/// # Errors
+///
+/// As for [`layout_of_parsed`]: there is no answer if the layout has more than `MAX_TEXT` bytes.
 pub fn is_parsed_laid_out(alloc: Global, scanned: &Scanned<'_>) -> Result<bool, LayoutFault>
     requires { (t : tree.Tree) × IsFile (tokens_of scanned.now.pairs) MAX_NESTING t }
     ensures answer { IfOk result (λ yes. IsTrue yes ↔ IsLayout scanned.now.text scanned.now.text) }
     ensures short { OnOk result (¬ (IsTooLong scanned.now.text)) }
-    ensures err { IfErr result (λ e. (e ≡ Memory) ⊎ ((e ≡ TooLong) × IsTooLong scanned.now.text)) }
+    ensures err { IfErr result (IsMemoryOrTooLong (IsTooLong scanned.now.text)) }
 {
     laws::laid_out_is_text();
     laws::one_layout();
@@ -92,12 +97,16 @@ pub fn is_parsed_laid_out(alloc: Global, scanned: &Scanned<'_>) -> Result<bool, 
     crate::gaps::is_laid_out(alloc, scanned)
 }
 
-/// The same of a text with its tree.
+/// Returns what [`is_parsed_laid_out`] does, for a text with its tree.
+///
+/// # Errors
+///
+/// As for [`layout_of_parsed`].
 pub fn is_laid_out(alloc: Global, scanned: &Scanned<'_>, tree: &Tree) -> Result<bool, LayoutFault>
     requires { IsFile (tokens_of scanned.now.pairs) MAX_NESTING tree.now }
     ensures answer { IfOk result (λ yes. IsTrue yes ↔ IsLayout scanned.now.text scanned.now.text) }
     ensures short { OnOk result (¬ (IsTooLong scanned.now.text)) }
-    ensures err { IfErr result (λ e. (e ≡ Memory) ⊎ ((e ≡ TooLong) × IsTooLong scanned.now.text)) }
+    ensures err { IfErr result (IsMemoryOrTooLong (IsTooLong scanned.now.text)) }
 {
     is_parsed_laid_out(alloc, scanned)
 }

@@ -1,8 +1,9 @@
 //! The layout of Terraform texts: gaps between tokens, and nothing else, by the Terraform style
 //! conventions.
 //!
-//! `layout` answers the edits that lay out a text, `formatted_text` the text so made, `is_laid_out`
-//! whether there are none. They read its tokens alone. `laws` says what holds of every layout.
+//! `layout` returns the edits that format a text, `formatted_text` the formatted text, and
+//! `is_laid_out` whether there are no edits. They read its tokens alone. `laws` states what holds
+//! of every layout.
 
 mod base_gaps;
 mod cells;
@@ -13,8 +14,11 @@ mod gaps;
 mod indent;
 mod kinds;
 pub mod laws;
+mod limit;
+mod line_flags;
 mod lines;
 mod space;
+mod spacing_flags;
 mod text;
 
 pub use fault::LayoutFault;

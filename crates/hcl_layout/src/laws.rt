@@ -1,8 +1,9 @@
-//! What holds of the layouts of texts. Each law is the contract of a function that does nothing.
+//! Laws of layouts of texts. Each law is the contract of a function that does nothing.
 
 ghost use Rattle.hcl_layout.specs.LayoutLaws.{LayoutFits, LayoutTokenizes, LaidOutIsText, OneLayout, LayoutParses, LayoutKeepsTokens, LayoutIsLaidOut, LayoutOfLayout};
 
-/// The gaps of a layout can stand between the tokens, and none is empty between two that join.
+/// States that the gaps of a layout are allowed between the tokens, and none is empty between two
+/// that join.
 pub fn layout_fits()
     ensures { LayoutFits }
 {
@@ -11,7 +12,8 @@ pub fn layout_fits()
     crate::gaps::laws::lines_have_all_tokens();
 }
 
-/// A layout within the limit is cut into the same tokens, with the gaps of the layout.
+/// States that a layout within the limit is tokenized into the same tokens, with the gaps of the
+/// layout.
 pub fn layout_tokenizes()
     ensures { LayoutTokenizes }
 {
@@ -22,7 +24,7 @@ pub fn layout_tokenizes()
     crate::gaps::laws::keeps_tokens();
 }
 
-/// The gaps are those of the layout exactly where the layout is the text.
+/// States that the gaps are those of the layout if and only if the layout is the text.
 pub fn laid_out_is_text()
     ensures { LaidOutIsText }
 {
@@ -30,14 +32,15 @@ pub fn laid_out_is_text()
     hcl_scan::laws::one_tokenization();
 }
 
-/// A text has one layout at most.
+/// States that a text has one layout at most.
 pub fn one_layout()
     ensures { OneLayout }
 {
     hcl_scan::laws::one_tokenization();
 }
 
-/// The layout of a text that parses, if it is within the limit, parses to the same tree.
+/// States that the layout of a text that parses, if it is within the limit, parses to the same
+/// tree.
 pub fn layout_parses()
     ensures { LayoutParses }
 {
@@ -47,7 +50,7 @@ pub fn layout_parses()
     hcl_text_laws::laws::parsed_tokens_are_apart();
 }
 
-/// It has the same tokens.
+/// States that it has the same tokens.
 pub fn layout_keeps_tokens()
     ensures { LayoutKeepsTokens }
 {
@@ -57,7 +60,7 @@ pub fn layout_keeps_tokens()
     hcl_text_laws::laws::parsed_tokens_are_apart();
 }
 
-/// It is its own layout.
+/// States that it is its own layout.
 pub fn layout_is_laid_out()
     ensures { LayoutIsLaidOut }
 {
@@ -67,7 +70,7 @@ pub fn layout_is_laid_out()
     hcl_text_laws::laws::parsed_tokens_are_apart();
 }
 
-/// To lay it out again changes nothing.
+/// States that to format it again changes nothing.
 pub fn layout_of_layout()
     ensures { LayoutOfLayout }
 {

@@ -1,7 +1,7 @@
 //! The layout of Terraform texts by the Terraform style conventions: gaps between tokens change,
 //! and nothing else.
 //!
-//! `gaps` lays out any list of tokens; the calls at the root lay out a text that parses, which
+//! `gaps` formats any list of tokens; the functions at the root format a text that parses, which
 //! keeps its tokens and its tree. `laws` states what holds of every layout.
 #![tactic(auto)]
 

@@ -9,9 +9,10 @@ use Rattle.hcl_token.specs.Place.{clusters}
 use Rattle.hcl_scan.specs.Modes.{Mode, modes_after}
 use Rattle.hcl_scan.specs.Follows.{LineEndsHere, AllowsNext, FollowsFrom, Follows}
 use Rattle.hcl_layout.specs.Gaps.Kinds.{is_equal, is_line_comment}
-use Rattle.hcl_layout.specs.Gaps.Lines.{Line, heredocs_after, ends_line, prepend_to_first, lines_from, lines_of}
+use Rattle.hcl_layout.specs.Gaps.Lines.{Line, heredocs_after, ends_line, lines_of}
+use Rattle.hcl_layout.specs.Gaps.Inner.Stages.{greatest, cell_gaps_from_width, widths, with_cell_gaps, prepend_to_first, lines_from}
 use Rattle.hcl_layout.specs.Gaps.Space.{spaces}
-use Rattle.hcl_layout.specs.Gaps.Cells.{assignment, closing_comment, index_of_first, index_after_first, widths, cell_gaps, with_gap, with_cell_gap, with_cell_gaps, aligned}
+use Rattle.hcl_layout.specs.Gaps.Cells.{assignment, closing_comment, index_of_first, index_after_first, with_gap, with_cell_gap, aligned}
 use Rattle.hcl_layout.specs.Gaps.Columns.{column_at, column, SameColumn, AreAligned, IsAtLineEnd, CommentsEndLines}
 use Rattle.hcl_layout.specs.Gaps.Layout.{format_lines, layout_lines}
 use Rattle.hcl_layout.specs.Gaps.Inner.CodeViews.{is_valid_cell}
@@ -21,6 +22,8 @@ use Rattle.hcl_layout.proofs.GapsLemmas.TokensKept.{SameTokens, Alike, gap_same,
 use Rattle.hcl_layout.proofs.GapsLemmas.CellGaps.{assignment_same}
 use Rattle.hcl_layout.proofs.GapsLemmas.CellCode.{broken, if_counts, blocked, free}
 use Rattle.hcl_layout.proofs.GapsLemmas.ColumnLaw.{cells_aligned}
+use Rattle.hcl_layout.proofs.GapsLemmas.SplitLaw.{lines_are}
+use Rattle.hcl_layout.proofs.GapsLemmas.CellLaw.{aligned_is}
 
 -- ---- no `=` stands behind a line comment
 
@@ -280,9 +283,12 @@ assignment_columns pairs h =
     let lines : List Line = lines_of pairs in
     let first : List Line = format_lines [] [] lines in
     let second : List Line = aligned assignment first in
-    comments_moved (cell_gaps [] (widths closing_comment second)) second
-    (alike_ordered second lines (equals_alike lines) (lines_ordered 0 pairs h))
-    (cells_aligned Assignment first)
+    let ws : List (Option ℕ) = widths closing_comment second in
+    subst (AreAligned assignment) (sym (aligned_is closing_comment second))
+    (comments_moved (cell_gaps_from_width (greatest ws) ws) second
+    (alike_ordered second lines (equals_alike lines)
+    (subst AllOrdered (sym (lines_are pairs)) (lines_ordered 0 pairs h)))
+    (cells_aligned Assignment first))
 
 pub comment_columns : (pairs : List Pair)
     → AreAligned closing_comment (layout_lines (lines_of pairs))

@@ -4,7 +4,7 @@ use Rattle.std.specs.Prelude.{slice_get, slice_set}
 use Rattle.std.proofs.lemmas.Option.{slice_get_cases}
 use Rattle.std.specs.Option.{option_map}
 use Rattle.std.specs.List.{list_any}
-use Rattle.hcl_layout.proofs.GapsLemmas.CellLaw.{cell_gaps_all}
+use Rattle.hcl_layout.proofs.GapsLemmas.CellLaw.{aligned_is}
 use Rattle.hcl_layout.proofs.GapsLemmas.GapLaw.{pairs_of_lines}
 use Rattle.std.proofs.Common.{take_at, drop_at, inl, inr, length-take, map, ◌++◌, append_assoc}
 use Rattle.std.specs.Option.{IfSome}
@@ -15,14 +15,14 @@ use Rattle.hcl_token.specs.Tokens.{Pair}
 use Rattle.hcl_token.specs.Place.{is_lf}
 use Rattle.hcl_token.specs.TokenizedText.{kind_of, spelling_of}
 use Rattle.hcl_layout.specs.Gaps.Kinds.{is_inline_comment, is_equal, is_line_comment}
-use Rattle.hcl_layout.specs.Gaps.Lines.{Line, lines_from, pairs_in}
+use Rattle.hcl_layout.specs.Gaps.Lines.{Line, pairs_in}
 use Rattle.hcl_layout.specs.Gaps.Cells.{index_of_first, index_after_first, has_cells, is_balanced}
 use Rattle.hcl_layout.specs.Gaps.Inner.CodeViews.{starts_cell, cell_of, is_valid_cell, width_in, token_in, widths_of, tokens_in, AreInside}
 use Rattle.hcl_layout.specs.declared.gaps.cells.CellStart.{CellStart}
 use Rattle.hcl_layout.specs.declared.gaps.cells.Cell.{Cell}
 use Rattle.hcl_layout.specs.declared.gaps.cells.Cell.TheVariants.{Assignment, ClosingComment}
-use Rattle.hcl_layout.specs.Gaps.Cells.{width, width_before, widths, greatest, with_cell_gaps, aligned}
-use Rattle.hcl_layout.specs.Gaps.Inner.Stages.{set_cell_gaps, cell_gaps_from_width, with_gaps, AreAtMost, SplitsLine, open_heredocs_of, cell_tokens}
+use Rattle.hcl_layout.specs.Gaps.Cells.{width, width_before, aligned}
+use Rattle.hcl_layout.specs.Gaps.Inner.Stages.{widths, greatest, lines_from, set_cell_gaps, cell_gaps_from_width, with_gaps, AreAtMost, SplitsLine, open_heredocs_of, cell_tokens}
 use Rattle.hcl_layout.proofs.GapsLemmas.TokensKept.{SameTokens}
 use Rattle.hcl_layout.proofs.GapsLemmas.CellGaps.{AreInLines, AreSmall, moved_gaps, greatest_within, within_drop, gaps_same, gaps_length, splits_same, same_range, assignment_same, comment_same}
 use Rattle.hcl_layout.proofs.GapsLemmas.LineLemmas.{turn, kind_is, spelling_is}
@@ -434,7 +434,7 @@ aligned_gaps cell ps first ns new sizes numbers size fits sizes_is numbers_is na
     new_is ∙ ap₂ (λ (n : List (Option ℕ)) (s : List (Option ℕ)). set_cell_gaps ns n (cell_gaps_from_width (greatest s) s)) numbers_is sizes_is in
     ap (λ gs. with_gaps gs ps) named
     ∙ moved_gaps ps (cell_of cell) (cell_gaps_from_width (greatest ws) ws) lines (take first G) first ns size at whole (cells_inside cell lines) (cell_gaps_small (greatest ws) ws (greatest_within 1073741824 ws narrow) narrow)
-    ∙ ap (λ (rs : List (Option ℕ)). take first G ++ pairs_in (with_cell_gaps (cell_of cell) rs lines)) (sym (cell_gaps_all ws))
+    ∙ ap (λ (ls : List Line). take first G ++ pairs_in ls) (sym (aligned_is (cell_of cell) lines))
 
 pub first_after : (ps : List Pair) (first : ℕ) (front rest whole : List Pair) → length front ≡ first → whole ≡ front ++ rest → (take first whole ≡ front) × (drop first whole ≡ rest)
 first_after ps first front rest whole size is = (

@@ -4,15 +4,15 @@ use Rattle.std.specs.Option.{option_map}
 use Rattle.hcl_token.specs.Tokens.{Pair}
 use Rattle.hcl_layout.specs.Gaps.Lines.{Line}
 use Rattle.hcl_layout.specs.Gaps.Space.{spaces}
-use Rattle.hcl_layout.specs.Gaps.Cells.{width, widths, greatest, with_gap, with_cell_gap, with_cell_gaps, aligned}
+use Rattle.hcl_layout.specs.Gaps.Cells.{width, with_gap, with_cell_gap, aligned}
 use Rattle.hcl_layout.specs.Gaps.Columns.{column_at, column, SameColumn, AreAligned}
 use Rattle.hcl_layout.specs.Gaps.Inner.CodeViews.{cell_of}
-use Rattle.hcl_layout.specs.Gaps.Inner.Stages.{cell_gaps_from_width}
+use Rattle.hcl_layout.specs.Gaps.Inner.Stages.{widths, greatest, with_cell_gaps, cell_gaps_from_width}
 use Rattle.hcl_layout.specs.declared.gaps.cells.Cell.{Cell}
 use Rattle.hcl_layout.specs.declared.gaps.cells.Cell.TheVariants.{Assignment, ClosingComment}
 use Rattle.hcl_layout.proofs.GapsLemmas.GapLaw.{length_replicate}
 use Rattle.hcl_layout.proofs.GapsLemmas.TokensKept.{SameTokens, gap_same}
-use Rattle.hcl_layout.proofs.GapsLemmas.CellLaw.{cell_gaps_all}
+use Rattle.hcl_layout.proofs.GapsLemmas.CellLaw.{aligned_is}
 use Rattle.hcl_layout.proofs.GapsLemmas.CellGaps.{assignment_same, comment_same}
 use Rattle.hcl_layout.proofs.GapsLemmas.CellCode.{cell_inside}
 use Rattle.hcl_layout.proofs.GapsLemmas.Narrow.{width_cons}
@@ -91,4 +91,4 @@ pub cells_aligned : (cell : Cell) (lines : List Line) → AreAligned (cell_of ce
 cells_aligned cell lines =
     let ws : List (Option ℕ) = widths (cell_of cell) lines in
     let run = all_lines cell lines (greatest ws) (omega arith) in
-    subst (λ gs. AreAligned (cell_of cell) (with_cell_gaps (cell_of cell) gs lines)) (sym (cell_gaps_all ws)) run.aligned
+    subst (AreAligned (cell_of cell)) (sym (aligned_is (cell_of cell) lines)) run.aligned

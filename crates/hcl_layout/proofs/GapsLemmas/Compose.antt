@@ -5,13 +5,14 @@ use Rattle.hcl_token.specs.declared.kind.Kind.{Kind}
 use Rattle.hcl_token.specs.Tokens.{Pair}
 use Rattle.hcl_token.specs.TokenizedText.{AreUtf8}
 use Rattle.hcl_token.specs.Place.{is_mark}
-use Rattle.hcl_layout.specs.Gaps.Lines.{Line, lines_from, lines_of, pairs_in}
+use Rattle.hcl_layout.specs.Gaps.Lines.{Line, pairs_in}
 use Rattle.hcl_layout.specs.Gaps.Indent.{openings, closings}
 use Rattle.hcl_layout.specs.Gaps.Space.{prev_after_all}
-use Rattle.hcl_layout.specs.Gaps.Cells.{aligned, assignment, closing_comment, widths}
-use Rattle.hcl_layout.specs.Gaps.Layout.{format_lines, layout_body, layout_pairs}
-use Rattle.hcl_layout.specs.Gaps.Inner.Stages.{mark_count, KEEP_GAP, with_gaps, all_gap_lens, base_gap_lens, close_earlier, open_after_line, AreAtMost}
+use Rattle.hcl_layout.specs.Gaps.Cells.{aligned, assignment, closing_comment}
+use Rattle.hcl_layout.specs.Gaps.Layout.{format_lines, layout_lines, layout_body, layout_pairs}
+use Rattle.hcl_layout.specs.Gaps.Inner.Stages.{widths, lines_from, mark_count, KEEP_GAP, with_gaps, all_gap_lens, base_gap_lens, close_earlier, open_after_line, AreAtMost}
 use Rattle.hcl_layout.proofs.GapsLemmas.GapLaw.{gaps_append, gaps_kept, length_replicate, length_set, set_stage, pairs_of_lines}
+use Rattle.hcl_layout.proofs.GapsLemmas.SplitLaw.{lines_are}
 use Rattle.hcl_layout.proofs.GapsLemmas.TokensKept.{set_alike_lines, equals_alike, split_again}
 use Rattle.hcl_scan.specs.Tokenization.{IsTokenization}
 use Rattle.hcl_layout.proofs.GapsLemmas.Few.{few_tokens}
@@ -53,7 +54,7 @@ first_size ps first gaps fits is =
     )
 
 pub first_stage : (ps : List Pair) (first : ℕ) (gaps : List ℕ) → first ≤ length ps → length ps ≤ 16777216 → gaps ≡ replicate first KEEP_GAP ++ all_gap_lens [] [] (lines_from 0 (drop first ps))
-    → with_gaps gaps ps ≡ take first ps ++ pairs_in (format_lines [] [] (lines_of (drop first ps)))
+    → with_gaps gaps ps ≡ take first ps ++ pairs_in (format_lines [] [] (lines_from 0 (drop first ps)))
 first_stage ps first gaps fits few is =
     let front : length (take first ps) ≡ first = length-take-le first ps fits in
     let kept : with_gaps (replicate first KEEP_GAP) (take first ps) ≡ take first ps = ap (λ n. with_gaps (replicate n KEEP_GAP) (take first ps)) (sym front) ∙ gaps_kept (take first ps) in
@@ -65,49 +66,50 @@ first_stage ps first gaps fits few is =
 
 -- gaps after each stage
 pub record AreStages (ps : List Pair) (first : ℕ) (g0 g1 g2 : List ℕ) : Type 0 where
-  pub zero_is : with_gaps g0 ps ≡ take first ps ++ pairs_in (format_lines [] [] (lines_of (drop first ps)))
+  pub zero_is : with_gaps g0 ps ≡ take first ps ++ pairs_in (format_lines [] [] (lines_from 0 (drop first ps)))
   pub one_is : drop first (with_gaps g1 ps) ≡ pairs_in (aligned assignment (lines_from 0 (drop first (with_gaps g0 ps))))
   pub one_front : take first (with_gaps g1 ps) ≡ take first (with_gaps g0 ps)
   pub two_is : drop first (with_gaps g2 ps) ≡ pairs_in (aligned closing_comment (lines_from 0 (drop first (with_gaps g1 ps))))
   pub two_front : take first (with_gaps g2 ps) ≡ take first (with_gaps g1 ps)
 
-pub zero_lines : (ps : List Pair) (first : ℕ) (g0 : List ℕ) → first ≤ length ps → with_gaps g0 ps ≡ take first ps ++ pairs_in (format_lines [] [] (lines_of (drop first ps)))
-    → lines_from 0 (drop first (with_gaps g0 ps)) ≡ format_lines [] [] (lines_of (drop first ps))
+pub zero_lines : (ps : List Pair) (first : ℕ) (g0 : List ℕ) → first ≤ length ps → with_gaps g0 ps ≡ take first ps ++ pairs_in (format_lines [] [] (lines_from 0 (drop first ps)))
+    → lines_from 0 (drop first (with_gaps g0 ps)) ≡ format_lines [] [] (lines_from 0 (drop first ps))
 zero_lines ps first g0 fits is =
     let body : List Pair = drop first ps in
     ap (λ qs. lines_from 0 (drop first qs)) is
-    ∙ ap (lines_from 0) (drop_at (take first ps) (pairs_in (format_lines [] [] (lines_of body))) first (length-take-le first ps fits))
-    ∙ split_again 0 body (format_lines [] [] (lines_of body)) (set_alike_lines (lines_of body))
+    ∙ ap (lines_from 0) (drop_at (take first ps) (pairs_in (format_lines [] [] (lines_from 0 body))) first (length-take-le first ps fits))
+    ∙ split_again 0 body (format_lines [] [] (lines_from 0 body)) (set_alike_lines (lines_from 0 body))
 
-pub one_lines : (ps : List Pair) (first : ℕ) (g0 g1 : List ℕ) → lines_from 0 (drop first (with_gaps g0 ps)) ≡ format_lines [] [] (lines_of (drop first ps))
+pub one_lines : (ps : List Pair) (first : ℕ) (g0 g1 : List ℕ) → lines_from 0 (drop first (with_gaps g0 ps)) ≡ format_lines [] [] (lines_from 0 (drop first ps))
     → drop first (with_gaps g1 ps) ≡ pairs_in (aligned assignment (lines_from 0 (drop first (with_gaps g0 ps))))
-    → lines_from 0 (drop first (with_gaps g1 ps)) ≡ aligned assignment (format_lines [] [] (lines_of (drop first ps)))
+    → lines_from 0 (drop first (with_gaps g1 ps)) ≡ aligned assignment (format_lines [] [] (lines_from 0 (drop first ps)))
 one_lines ps first g0 g1 lines is =
     let body : List Pair = drop first ps in
     ap (lines_from 0) (is ∙ ap (λ ls. pairs_in (aligned assignment ls)) lines)
-    ∙ split_again 0 body (aligned assignment (format_lines [] [] (lines_of body))) (equals_alike (lines_of body))
+    ∙ split_again 0 body (aligned assignment (format_lines [] [] (lines_from 0 body))) (equals_alike (lines_from 0 body))
 
 pub stages_make : (ps : List Pair) (g0 g1 g2 : List ℕ) → mark_count ps ≤ length ps → AreStages ps (mark_count ps) g0 g1 g2 → with_gaps g2 ps ≡ layout_pairs ps
 stages_make ps g0 g1 g2 fits s =
     let first : ℕ = mark_count ps in
     let zeroth = zero_lines ps first g0 fits s.zero_is in
     let oneth = one_lines ps first g0 g1 zeroth s.one_is in
-    let body : drop first (with_gaps g2 ps) ≡ layout_body (drop first ps) = s.two_is ∙ ap (λ ls. pairs_in (aligned closing_comment ls)) oneth in
+    let body : drop first (with_gaps g2 ps) ≡ layout_body (drop first ps) =
+    s.two_is ∙ ap (λ ls. pairs_in (aligned closing_comment ls)) oneth ∙ ap (λ (ls : List Line). pairs_in (layout_lines ls)) (sym (lines_are (drop first ps))) in
     let front : take first (with_gaps g2 ps) ≡ take first ps =
-    s.two_front ∙ s.one_front ∙ ap (take first) s.zero_is ∙ take_at (take first ps) (pairs_in (format_lines [] [] (lines_of (drop first ps)))) first (length-take-le first ps fits) in
+    s.two_front ∙ s.one_front ∙ ap (take first) s.zero_is ∙ take_at (take first ps) (pairs_in (format_lines [] [] (lines_from 0 (drop first ps)))) first (length-take-le first ps fits) in
     sym (take-append-drop first (with_gaps g2 ps)) ∙ ap₂ (λ (x y : List Pair). x ++ y) front body ∙ sym (layout_first ps)
 
-pub zero_narrow : (ps : List Pair) (first : ℕ) (g0 : List ℕ) → AreUtf8 ps → length ps ≤ 16777216 → bytes ps ≤ 16777216 → lines_from 0 (drop first (with_gaps g0 ps)) ≡ format_lines [] [] (lines_of (drop first ps))
+pub zero_narrow : (ps : List Pair) (first : ℕ) (g0 : List ℕ) → AreUtf8 ps → length ps ≤ 16777216 → bytes ps ≤ 16777216 → lines_from 0 (drop first (with_gaps g0 ps)) ≡ format_lines [] [] (lines_from 0 (drop first ps))
     → AreAtMost 1073741824 (widths assignment (lines_from 0 (drop first (with_gaps g0 ps))))
 zero_narrow ps first g0 u few short lines =
     let narrow = base_lines_bounded (drop first ps) (utf8_drop first ps u) (omega (arith, length-drop first ps, few)) (omega (arith, bytes_drop first ps, short)) in
     subst (λ ls. AreAtMost 1073741824 (widths assignment ls)) (sym lines)
-    (within_more 536870911 1073741824 (widths assignment (format_lines [] [] (lines_of (drop first ps)))) (omega arith) (widths_within 536870911 assignment (format_lines [] [] (lines_of (drop first ps))) narrow))
+    (within_more 536870911 1073741824 (widths assignment (format_lines [] [] (lines_from 0 (drop first ps)))) (omega arith) (widths_within 536870911 assignment (format_lines [] [] (lines_from 0 (drop first ps))) narrow))
 
-pub one_narrow : (ps : List Pair) (first : ℕ) (g1 : List ℕ) → AreUtf8 ps → length ps ≤ 16777216 → bytes ps ≤ 16777216 → lines_from 0 (drop first (with_gaps g1 ps)) ≡ aligned assignment (format_lines [] [] (lines_of (drop first ps)))
+pub one_narrow : (ps : List Pair) (first : ℕ) (g1 : List ℕ) → AreUtf8 ps → length ps ≤ 16777216 → bytes ps ≤ 16777216 → lines_from 0 (drop first (with_gaps g1 ps)) ≡ aligned assignment (format_lines [] [] (lines_from 0 (drop first ps)))
     → AreAtMost 1073741824 (widths closing_comment (lines_from 0 (drop first (with_gaps g1 ps))))
 one_narrow ps first g1 u few short lines =
-    let set : List Line = format_lines [] [] (lines_of (drop first ps)) in
+    let set : List Line = format_lines [] [] (lines_from 0 (drop first ps)) in
     let narrow = base_lines_bounded (drop first ps) (utf8_drop first ps u) (omega (arith, length-drop first ps, few)) (omega (arith, bytes_drop first ps, short)) in
     let moved = aligned_narrow 536870911 assignment set narrow in
     subst (λ ls. AreAtMost 1073741824 (widths closing_comment ls)) (sym lines)

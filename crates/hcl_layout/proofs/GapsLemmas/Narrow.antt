@@ -11,14 +11,14 @@ use Rattle.unicode_segmentation.specs.Grapheme.{is_grapheme_break}
 use Rattle.unicode_segmentation.proofs.SegmentsLemmas.{length-segments}
 use Rattle.hcl_scan.specs.Follows.{has_no_gap_before}
 use Rattle.hcl_layout.specs.Gaps.Kinds.{is_line_end}
-use Rattle.hcl_layout.specs.Gaps.Lines.{Line, lines_of, pairs_in}
+use Rattle.hcl_layout.specs.Gaps.Lines.{Line, pairs_in}
 use Rattle.hcl_layout.specs.Gaps.Indent.{openings, closings}
 use Rattle.hcl_layout.specs.Gaps.Space.{prev_after, prev_after_all, is_spaced, spaces, gap_between}
-use Rattle.hcl_layout.specs.Gaps.Cells.{width, widths, greatest, with_gap, with_cell_gap, with_cell_gaps, cell_gaps, aligned}
+use Rattle.hcl_layout.specs.Gaps.Cells.{width, with_gap, with_cell_gap, aligned}
 use Rattle.hcl_layout.specs.Gaps.Layout.{with_spacing, with_indent, format_line, format_lines}
-use Rattle.hcl_layout.specs.Gaps.Inner.Stages.{AreAtMost, close_earlier, open_after_line, format_lines_by_stack, cell_gaps_from_width}
+use Rattle.hcl_layout.specs.Gaps.Inner.Stages.{widths, greatest, with_cell_gaps, lines_from, AreAtMost, close_earlier, open_after_line, format_lines_by_stack, cell_gaps_from_width}
 use Rattle.hcl_layout.proofs.GapsLemmas.IndentLaw.{set_by_stack}
-use Rattle.hcl_layout.proofs.GapsLemmas.CellLaw.{cell_gaps_all}
+use Rattle.hcl_layout.proofs.GapsLemmas.CellLaw.{aligned_is}
 use Rattle.hcl_layout.proofs.GapsLemmas.CellGaps.{greatest_within}
 use Rattle.hcl_layout.proofs.GapsLemmas.GapLaw.{at_shorter, after_shorter, length_replicate, fewer_lines, pairs_of_lines}
 
@@ -131,12 +131,13 @@ pub aligned_narrow : (most : ℕ) (cell : Line → Option ℕ) (lines : List Lin
 aligned_narrow most cell lines h =
     let ws : List (Option ℕ) = widths cell lines in
     let within = widths_within most cell lines h in
-    moved_narrow most (1 + most) cell (cell_gaps [] ws) lines h (subst (λ rs. AreAtMost (1 + most) rs) (sym (cell_gaps_all ws)) (cell_gaps_within most (greatest ws) ws (greatest_within most ws within) within))
+    subst (AreNarrow (most + (1 + most))) (sym (aligned_is cell lines))
+    (moved_narrow most (1 + most) cell (cell_gaps_from_width (greatest ws) ws) lines h (cell_gaps_within most (greatest ws) ws (greatest_within most ws within) within))
 
 -- the lines of a text, indented and spaced
-pub base_lines_bounded : (ps : List Pair) → AreUtf8 ps → length ps ≤ 16777216 → bytes ps ≤ 16777216 → AreNarrow 536870911 (format_lines [] [] (lines_of ps))
+pub base_lines_bounded : (ps : List Pair) → AreUtf8 ps → length ps ≤ 16777216 → bytes ps ≤ 16777216 → AreNarrow 536870911 (format_lines [] [] (lines_from 0 ps))
 base_lines_bounded ps u few short =
-    let lines : List Line = lines_of ps in
+    let lines : List Line = lines_from 0 ps in
     let all = pairs_of_lines 0 ps in
     let count = fewer_lines 0 ps in
     subst (λ ls. AreNarrow 536870911 ls) (sym (set_by_stack [] lines))

@@ -4,16 +4,16 @@ use Rattle.std.specs.Prelude.{slice_get, cond}
 use Rattle.std.proofs.lemmas.List.{append-nil}
 use Rattle.std.specs.Option.{option_map, option_and_then}
 use Rattle.hcl_token.specs.declared.kind.Kind.{Kind}
-use Rattle.hcl_token.specs.declared.kind.Kind.TheVariants.{Dot, Star}
+use Rattle.hcl_token.specs.declared.kind.Kind.TheVariants.{Dot, Star, Identifier, Number, DotIndex, Minus, Bang, DoubleColon, OpenBrace, CloseBrace, OpenBracket, CloseBracket, OpenParen, CloseParen, Comma, Ellipsis, SeqClose, QuoteClose, InterpOpen, DirectiveOpen}
 use Rattle.hcl_token.specs.Tokens.{Pair}
 use Rattle.hcl_token.specs.TokenizedText.{kind_of}
-use Rattle.hcl_layout.specs.Gaps.Kinds.{is_line_end, is_line_comment, is_identifier, is_open_paren, is_double_colon, is_dot, is_dot_or_index, is_comma, is_comma_or_ellipsis, is_open_bracket, can_be_indexed, ends_operand, is_bang, is_minus, is_open_brace, is_close_brace, is_sequence_open, is_seq_close, opens_tight, closes_tight, is_skipped}
-use Rattle.hcl_layout.specs.Gaps.Lines.{Line, lines_from}
+use Rattle.hcl_layout.specs.Gaps.Kinds.{among, is_line_end, is_line_comment, is_identifier, ends_operand, is_skipped}
+use Rattle.hcl_layout.specs.Gaps.Lines.{Line}
 use Rattle.hcl_layout.specs.Gaps.Indent.{openings, closings}
 use Rattle.hcl_layout.specs.Gaps.Space.{prev_after, prev_after_all, is_after_identifier, is_splat_star, is_after_operand, is_in_keyword, is_spaced}
 use Rattle.std.proofs.Common.{reverse}
 use Rattle.hcl_layout.specs.Gaps.Inner.SpacingFlags.{IsEndOfNearest}
-use Rattle.hcl_layout.specs.Gaps.Inner.Stages.{SplitsLine, open_heredocs_of, space_len, space_len_at, space_lens, spaces_from, line_gap_lens, base_gap_lens, all_gap_lens, close_earlier, open_after_line}
+use Rattle.hcl_layout.specs.Gaps.Inner.Stages.{lines_from, SplitsLine, open_heredocs_of, space_len, space_len_at, space_lens, spaces_from, line_gap_lens, base_gap_lens, all_gap_lens, close_earlier, open_after_line}
 use Rattle.hcl_layout.proofs.GapsLemmas.LineLemmas.{Turn, turn, kind_is, range_split, none_there}
 
 -- the two nearest are the same
@@ -44,19 +44,19 @@ abbrev by_answers : Bool → Bool → Bool → Pair → Pair → Bool
 by_answers identifier splat operand a b =
     if is_line_end b.kind then false
     else (if is_line_comment b.kind then true
-    else (if is_identifier a.kind && is_open_paren b.kind then false
-    else (if is_double_colon a.kind || is_double_colon b.kind then false
-    else (if is_dot a.kind || is_dot_or_index b.kind then false
-    else (if is_comma_or_ellipsis b.kind then false
-    else (if is_comma a.kind then true
+    else (if is_identifier a.kind && among (OpenParen ∷ []) b.kind then false
+    else (if among (DoubleColon ∷ []) a.kind || among (DoubleColon ∷ []) b.kind then false
+    else (if among (Dot ∷ []) a.kind || among (Dot ∷ DotIndex ∷ []) b.kind then false
+    else (if among (Comma ∷ Ellipsis ∷ []) b.kind then false
+    else (if among (Comma ∷ []) a.kind then true
     else (if is_in_keyword a && identifier then true
-    else (if is_open_bracket b.kind && (can_be_indexed a.kind || splat) then false
-    else (if is_bang a.kind then false
-    else (if is_minus a.kind && not operand then false
-    else (if is_open_brace a.kind && is_close_brace b.kind then false
-    else (if is_open_brace a.kind || is_close_brace b.kind then true
-    else (if (is_sequence_open a.kind && is_open_brace b.kind) || (is_close_brace a.kind && is_seq_close b.kind) then true
-    else (if opens_tight a.kind || closes_tight b.kind then false else true))))))))))))))
+    else (if among (OpenBracket ∷ []) b.kind && (among (Identifier ∷ Number ∷ DotIndex ∷ QuoteClose ∷ CloseParen ∷ CloseBracket ∷ CloseBrace ∷ []) a.kind || splat) then false
+    else (if among (Bang ∷ []) a.kind then false
+    else (if among (Minus ∷ []) a.kind && not operand then false
+    else (if among (OpenBrace ∷ []) a.kind && among (CloseBrace ∷ []) b.kind then false
+    else (if among (OpenBrace ∷ []) a.kind || among (CloseBrace ∷ []) b.kind then true
+    else (if (among (InterpOpen ∷ DirectiveOpen ∷ []) a.kind && among (OpenBrace ∷ []) b.kind) || (among (CloseBrace ∷ []) a.kind && among (SeqClose ∷ []) b.kind) then true
+    else (if among (OpenParen ∷ OpenBracket ∷ InterpOpen ∷ DirectiveOpen ∷ []) a.kind || among (CloseParen ∷ CloseBracket ∷ SeqClose ∷ []) b.kind then false else true))))))))))))))
 
 same_answers : (u v : Bool) (u' v' : Bool) (w w' : Bool) (a b : Pair) → u ≡ u' → v ≡ v' → w ≡ w' → by_answers u v w a b ≡ by_answers u' v' w' a b
 same_answers u v u' v' w w' a b e f g = ap (λ x. by_answers x v w a b) e ∙ ap (λ x. by_answers u' x w a b) f ∙ ap (λ x. by_answers u' v' x a b) g
@@ -108,7 +108,7 @@ is_over ps first past k some within is h = passed_last ps first past k some with
 pub nearest_there : (ps : List Pair) (first to past : ℕ) (k : Kind) → first < past → past ≤ to → to ≤ length ps → Some k ≡ kind_of ps (past - 1) → is_skipped k ≡ false
     → prev_after_all (slice_range ps first past) [] ≡ prev_after_all (slice_range ps first to) [] → IsEndOfNearest ps first to past
 nearest_there ps first to past k some less within is h same = record {
-  behind = omega arith;
+  ordered = omega arith;
   before = less;
   none = λ e. absurd (omega arith);
   some = λ g j j_is.

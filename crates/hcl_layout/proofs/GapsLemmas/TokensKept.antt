@@ -6,14 +6,15 @@ use Rattle.hcl_token.specs.declared.kind.Kind.{Kind}
 use Rattle.hcl_token.specs.Tokens.{Pair}
 use Rattle.hcl_scan.specs.Follows.{tokens_of}
 use Rattle.hcl_layout.specs.Gaps.Kinds.{is_line_end, is_skipped}
-use Rattle.hcl_layout.specs.Gaps.Lines.{Line, heredocs_after, ends_line, prepend_to_first, lines_from, lines_of, pairs_in}
+use Rattle.hcl_layout.specs.Gaps.Lines.{Line, heredocs_after, ends_line, lines_of, pairs_in}
 use Rattle.hcl_layout.specs.Gaps.Indent.{is_opening, is_closing, openings, closings}
 use Rattle.hcl_layout.specs.Gaps.Space.{prev_after, prev_after_all, spaces, gap_between}
-use Rattle.hcl_layout.specs.Gaps.Cells.{has_cells, assignment, closing_comment, widths, cell_gaps, with_gap, with_cell_gap, with_cell_gaps, aligned}
+use Rattle.hcl_layout.specs.Gaps.Cells.{has_cells, assignment, closing_comment, with_gap, with_cell_gap, aligned}
 use Rattle.hcl_layout.specs.Gaps.Layout.{with_spacing, with_indent, format_line, format_lines, layout_lines, layout_body}
-use Rattle.hcl_layout.specs.Gaps.Inner.Stages.{token, close_earlier, open_after_line, format_lines_by_stack}
+use Rattle.hcl_layout.specs.Gaps.Inner.Stages.{greatest, cell_gaps_from_width, widths, with_cell_gaps, prepend_to_first, lines_from, token, close_earlier, open_after_line, format_lines_by_stack}
 use Rattle.hcl_layout.proofs.GapsLemmas.IndentLaw.{set_by_stack}
-use Rattle.hcl_layout.proofs.GapsLemmas.GapLaw.{pairs_of_lines}
+use Rattle.hcl_layout.proofs.GapsLemmas.SplitLaw.{lines_are, pairs_of_text}
+use Rattle.hcl_layout.proofs.GapsLemmas.CellLaw.{aligned_is}
 
 -- ---- the same tokens
 
@@ -130,6 +131,11 @@ moved_alike cell (r ∷ rs) (line ∷ lines) h =
     let rest = moved_alike cell rs lines h in
     ((k.frozen, k.tokens, rest.0), (k.same, rest.1))
 
+aligned_alike : (cell : Line → Option ℕ) (lines : List Line) → IsOfFree cell → Alike (aligned cell lines) lines × SameFrozen (aligned cell lines) lines
+aligned_alike cell lines free =
+    let ws : List (Option ℕ) = widths cell lines in
+    subst (λ (ls : List Line). Alike ls lines × SameFrozen ls lines) (sym (aligned_is cell lines)) (moved_alike cell (cell_gaps_from_width (greatest ws) ws) lines free)
+
 no_cells : (line : Line) → line.frozen ≡ true → has_cells line ≡ false
 no_cells line h = rw h refl
 
@@ -145,8 +151,8 @@ layout_alike lines =
     let first : List Line = format_lines [] [] lines in
     let second : List Line = aligned assignment first in
     let set : Alike first lines × SameFrozen first lines = rw (set_by_stack [] lines) (open_alike [] [] lines) in
-    let equals : Alike second first × SameFrozen second first = moved_alike assignment (cell_gaps [] (widths assignment first)) first assignment_free in
-    let comments : Alike (layout_lines lines) second × SameFrozen (layout_lines lines) second = moved_alike closing_comment (cell_gaps [] (widths closing_comment second)) second comment_free in
+    let equals : Alike second first × SameFrozen second first = aligned_alike assignment first assignment_free in
+    let comments : Alike (layout_lines lines) second × SameFrozen (layout_lines lines) second = aligned_alike closing_comment second comment_free in
     let two = alike_trans second first lines equals.0 set.0 in (
       alike_trans (layout_lines lines) second lines comments.0 two,
       frozen_trans (layout_lines lines) second lines comments.0 two comments.1 (frozen_trans second first lines equals.0 set.0 equals.1 set.1),
@@ -158,7 +164,7 @@ set_alike_lines lines = rw (set_by_stack [] lines) ((open_alike [] [] lines).0)
 pub equals_alike : (lines : List Line) → Alike (aligned assignment (format_lines [] [] lines)) lines
 equals_alike lines =
     let first : List Line = format_lines [] [] lines in
-    alike_trans (aligned assignment first) first lines (moved_alike assignment (cell_gaps [] (widths assignment first)) first assignment_free).0 (set_alike_lines lines)
+    alike_trans (aligned assignment first) first lines (aligned_alike assignment first assignment_free).0 (set_alike_lines lines)
 
 -- ---- lines of what was laid out
 
@@ -275,7 +281,7 @@ set_alike s b (x ∷ xs) (y ∷ ys) h f =
 pub body_tokens : (ps : List Pair) → SameTokens (layout_body ps) ps
 body_tokens ps =
     let same = alike_tokens (layout_lines (lines_of ps)) (lines_of ps) (layout_alike (lines_of ps)).0 in
-    subst (λ (qs : List Pair). SameTokens (layout_body ps) qs) (pairs_of_lines 0 ps) same
+    subst (λ (qs : List Pair). SameTokens (layout_body ps) qs) (pairs_of_text ps) same
 
 -- what is laid out is its own layout
 pub body_again : (ps : List Pair) → layout_body (layout_body ps) ≡ layout_body ps
@@ -283,6 +289,6 @@ body_again ps =
     let lines : List Line = lines_of ps in
     let new : List Line = layout_lines lines in
     let like = layout_alike lines in
-    let split : lines_of (pairs_in new) ≡ new = split_again 0 ps new like.0 in
+    let split : lines_of (pairs_in new) ≡ new = lines_are (pairs_in new) ∙ split_again 0 ps new (subst (λ (ls : List Line). Alike new ls) (lines_are ps) like.0) in
     let set : format_lines [] [] new ≡ format_lines [] [] lines = set_by_stack [] new ∙ set_alike [] [] new lines like.0 like.1 ∙ sym (set_by_stack [] lines) in
     ap (λ ls. pairs_in (layout_lines ls)) split ∙ ap (λ (ls : List Line). pairs_in (aligned closing_comment (aligned assignment ls))) set

@@ -14,8 +14,8 @@ use Rattle.hcl_layout.specs.Gaps.Indent.{level}
 use Rattle.hcl_layout.specs.Gaps.Space.{prev_after, prev_after_all, spaces, gap_between}
 use Rattle.hcl_layout.specs.Gaps.Cells.{aligned, assignment, closing_comment}
 
--- the tokens behind a on its line, each with the gap between it and the one before it; these kinds
--- stand before a
+-- the tokens after a on its line, each with the gap between it and the one before it, with these
+-- kinds before a
 abbrev pub with_spacing : List Kind → Pair → List Pair → List Pair
 with_spacing before a [] = []
 with_spacing before a (b ∷ ps) = record b { gap = gap_between before a b } ∷ with_spacing (prev_after a before) b ps
@@ -32,15 +32,15 @@ abbrev pub format_line : ℕ → List Kind → Line → Line
 format_line level before line =
     if line.frozen then line else record line { pairs = with_indent level before line.pairs }
 
--- lines behind earlier ones, with these kinds before them, each indented by its level and spaced
+-- lines after earlier ones, with these kinds before them, each indented by its level and spaced
 abbrev pub format_lines : List Line → List Kind → List Line → List Line
 format_lines earlier before [] = []
 format_lines earlier before (line ∷ lines) =
     format_line (level earlier line) before line
     ∷ format_lines (earlier ++ line ∷ []) (prev_after_all line.pairs before) lines
 
--- lines as they are laid out: indented and spaced, then their assignments in columns, then their
--- closing comments, with the widths so reached
+-- formatted lines: indented and spaced, then their assignments in columns, then their closing
+-- comments, by the widths that the assignments then give
 abbrev pub layout_lines : List Line → List Line
 layout_lines lines = aligned closing_comment (aligned assignment (format_lines [] [] lines))
 
@@ -53,8 +53,7 @@ abbrev pub layout_pairs : List Pair → List Pair
 layout_pairs [] = []
 layout_pairs (p ∷ ps) = if is_mark p.kind then p ∷ layout_body ps else layout_body (p ∷ ps)
 
--- the layout of a text: these gaps and tokens, one behind the other. No gap stands behind the last
--- token
+-- the layout of a text: these gaps and tokens, in order. There is no gap after the last token
 abbrev pub layout_text : TokenizedText → List ℕ
 layout_text cut = whole_text (layout_pairs cut.pairs) []
 
@@ -70,13 +69,13 @@ abbrev pub pieces : List Pair → List Pair → List ℕ → List Piece
 pieces (p ∷ ps) (q ∷ qs) last = gap_piece p.gap q.gap ∷ Kept p.spelling ∷ pieces ps qs last
 pieces ps qs last = gap_piece last [] ∷ []
 
--- the edits that lay out a text: exactly the gaps that differ, whole old gap to whole new gap
+-- the edits that format a text: the gaps that differ, whole old gap to whole new gap
 abbrev pub layout_edits : TokenizedText → EditList
 layout_edits cut = record {
   old_len = length cut.text;
   entries = changed_entries 0 (pieces cut.pairs (layout_pairs cut.pairs) cut.last);
 }
 
--- a text is laid out: each gap is that of the layout, and none stands at the end
+-- a text is formatted: each gap is that of the layout, and there is none at the end
 abbrev pub IsLaidOut : TokenizedText → Type 0
 IsLaidOut cut = (layout_pairs cut.pairs ≡ cut.pairs) × (cut.last ≡ [])

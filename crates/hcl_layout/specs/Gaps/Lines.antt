@@ -1,4 +1,4 @@
--- The lines of a text, for its layout: its tokens, split behind line ends and heredoc openings.
+-- The lines of a text, for its layout: its tokens, split after line ends and heredoc openings.
 -- HCL native syntax specification, Structural Elements and Template Expressions (heredocs); what a
 -- frozen line is, is this project's own.
 use Rattle.std.specs.Prelude.{ℕ, zero, ◌+◌, ◌-◌, Bool, true, false, nat_lt, List, [], ◌∷◌, ◌++◌, if◌then◌else◌}
@@ -6,46 +6,55 @@ use Rattle.hcl_token.specs.declared.kind.Kind.{Kind}
 use Rattle.hcl_token.specs.declared.kind.Kind.TheVariants.{LineEnd, HereOpen, HereClose}
 use Rattle.hcl_token.specs.Tokens.{Pair}
 
--- a line: tokens with their gaps. A frozen line holds the text of a heredoc, and keeps its gaps
+-- a line: tokens with their gaps. A frozen line has the text of a heredoc, and keeps its gaps
 pub record Line : Type 0 where
   pub frozen : Bool
   pub pairs : List Pair
 
--- how many heredocs are open behind a token, where so many are open before it
+-- how many heredocs are open after a token, where this many are open before it
 abbrev pub heredocs_after : ℕ → Kind → ℕ
 heredocs_after open_heredocs HereOpen = open_heredocs + 1
 heredocs_after open_heredocs HereClose = open_heredocs - 1
 heredocs_after open_heredocs kind = open_heredocs
 
--- outside of heredocs a line ends behind a line end, and behind the opening of a heredoc, which
--- holds its line end
+-- how many are open after several tokens
+abbrev pub heredocs_after_all : ℕ → List Pair → ℕ
+heredocs_after_all open_heredocs [] = open_heredocs
+heredocs_after_all open_heredocs (p ∷ ps) = heredocs_after_all (heredocs_after open_heredocs p.kind) ps
+
+-- outside of heredocs a line ends with a line end, and with the opening of a heredoc, which
+-- contains its line end
 abbrev pub ends_line : ℕ → Kind → Bool
 ends_line zero LineEnd = true
 ends_line zero HereOpen = true
 ends_line open_heredocs kind = false
 
--- lines with one token more in front of the first; a line that begins with this token is frozen, or
--- not
-abbrev pub prepend_to_first : Bool → Pair → List Line → List Line
-prepend_to_first frozen p [] = record { frozen = frozen; pairs = p ∷ [] } ∷ []
-prepend_to_first frozen p (line ∷ lines) = record { frozen = frozen; pairs = p ∷ line.pairs } ∷ lines
+-- lists, with this element as the first of the first list, or alone
+abbrev pub prepend : {A : Type 0} → A → List (List A) → List (List A)
+prepend x [] = (x ∷ []) ∷ []
+prepend x (xs ∷ others) = (x ∷ xs) ∷ others
 
--- The lines from here on, where so many heredocs are open. A line is frozen where its first token
--- stands in a heredoc: so what stands behind a heredoc's opening, up to the closing marker that
--- belongs to it and the line end behind that, is one frozen line.
-abbrev pub lines_from : ℕ → List Pair → List Line
-lines_from open_heredocs [] = []
-lines_from open_heredocs (p ∷ ps) =
-    if ends_line open_heredocs p.kind
-    then record { frozen = nat_lt 0 open_heredocs; pairs = p ∷ [] }
-    ∷ lines_from (heredocs_after open_heredocs p.kind) ps
-    else prepend_to_first (nat_lt 0 open_heredocs) p (lines_from (heredocs_after open_heredocs p.kind) ps)
+-- tokens, split after each that ends a line, where this many heredocs are open before them
+abbrev pub split_lines : ℕ → List Pair → List (List Pair)
+split_lines open_heredocs [] = []
+split_lines open_heredocs (p ∷ ps) =
+    if ends_line open_heredocs p.kind then (p ∷ []) ∷ split_lines (heredocs_after open_heredocs p.kind) ps
+    else prepend p (split_lines (heredocs_after open_heredocs p.kind) ps)
+
+-- A line is frozen if a heredoc is open before its first token. So what follows a heredoc's
+-- opening, up to the closing marker that belongs to it and the line end after that, is one frozen
+-- line.
+abbrev pub with_frozen : ℕ → List (List Pair) → List Line
+with_frozen open_heredocs [] = []
+with_frozen open_heredocs (line ∷ lines) =
+    record { frozen = nat_lt 0 open_heredocs; pairs = line }
+    ∷ with_frozen (heredocs_after_all open_heredocs line) lines
 
 -- the lines of a text, from these tokens on
 abbrev pub lines_of : List Pair → List Line
-lines_of pairs = lines_from 0 pairs
+lines_of pairs = with_frozen 0 (split_lines 0 pairs)
 
--- the tokens of lines, one line behind the other
+-- the tokens of lines, in order
 abbrev pub pairs_in : List Line → List Pair
 pairs_in [] = []
 pairs_in (line ∷ lines) = line.pairs ++ pairs_in lines

@@ -1,22 +1,22 @@
--- The gaps inside a line: no space or one, by a table. Of two neighbours on a line the first row
--- that fits says which.
+-- The gaps inside a line: no space or one, by a table. The first row that fits two neighbors on a
+-- line says which.
 -- Terraform style conventions and their examples; the rows and their order are this project's own
 -- profile.
 use Rattle.std.specs.Prelude.{ℕ, Bool, true, false, not, ◌&&◌, ◌||◌, List, [], ◌∷◌, replicate, codes, if◌then◌else◌}
 use Rattle.std.specs.Str.{bytes_eq}
 use Rattle.hcl_token.specs.declared.kind.Kind.{Kind}
-use Rattle.hcl_token.specs.declared.kind.Kind.TheVariants.{Dot, Star}
+use Rattle.hcl_token.specs.declared.kind.Kind.TheVariants.{Identifier, Number, DotIndex, Minus, Star, Bang, DoubleColon, OpenBrace, CloseBrace, OpenBracket, CloseBracket, OpenParen, CloseParen, Comma, Dot, Ellipsis, SeqClose, QuoteClose, InterpOpen, DirectiveOpen}
 use Rattle.hcl_token.specs.Tokens.{Pair}
 use Rattle.hcl_token.specs.Joins.{joins_with}
 use Rattle.hcl_scan.specs.Follows.{has_no_gap_before}
-use Rattle.hcl_layout.specs.Gaps.Kinds.{is_line_end, is_line_comment, is_identifier, is_open_paren, is_double_colon, is_dot, is_dot_or_index, is_comma, is_comma_or_ellipsis, is_open_bracket, can_be_indexed, ends_operand, is_bang, is_minus, is_open_brace, is_close_brace, is_sequence_open, is_seq_close, opens_tight, closes_tight, is_skipped}
+use Rattle.hcl_layout.specs.Gaps.Kinds.{among, is_line_end, is_line_comment, is_identifier, ends_operand, is_skipped}
 
 -- The kinds of the tokens before a place, the nearest first, without comments, line ends and the
--- byte order mark: behind one more token,
+-- byte order mark: after one more token,
 abbrev pub prev_after : Pair → List Kind → List Kind
 prev_after p before = if is_skipped p.kind then before else p.kind ∷ before
 
--- and behind some more
+-- and after several
 abbrev pub prev_after_all : List Pair → List Kind → List Kind
 prev_after_all [] before = before
 prev_after_all (p ∷ ps) before = prev_after_all ps (prev_after p before)
@@ -42,7 +42,7 @@ is_in_keyword a = is_identifier a.kind && bytes_eq a.spelling (codes "in")
 
 -- ---- the table
 
--- a row: whether it fits two neighbours, and whether a space stands between two that it fits
+-- a row: whether it fits two neighbors, and whether there is a space between two that it fits
 pub record Row : Type 0 where
   pub fits : Bool
   pub spaced : Bool
@@ -53,7 +53,7 @@ no_space fits = record { fits = fits; spaced = false }
 abbrev pub one_space : Bool → Row
 one_space fits = record { fits = fits; spaced = true }
 
--- the rows of the table for a and b, where these kinds stand before a
+-- the rows of the table for a and b, with these kinds before a
 abbrev pub rows : List Kind → Pair → Pair → List Row
 rows before a b =
     -- at the end of a line
@@ -61,51 +61,54 @@ rows before a b =
     -- before a line comment
     ∷ one_space (is_line_comment b.kind)
     -- `f(`
-    ∷ no_space (is_identifier a.kind && is_open_paren b.kind)
+    ∷ no_space (is_identifier a.kind && among (OpenParen ∷ []) b.kind)
     -- round `::`
-    ∷ no_space (is_double_colon a.kind || is_double_colon b.kind)
+    ∷ no_space (among (DoubleColon ∷ []) a.kind || among (DoubleColon ∷ []) b.kind)
     -- `a.b`, `a.0`
-    ∷ no_space (is_dot a.kind || is_dot_or_index b.kind)
+    ∷ no_space (among (Dot ∷ []) a.kind || among (Dot ∷ DotIndex ∷ []) b.kind)
     -- before `,` and `...`
-    ∷ no_space (is_comma_or_ellipsis b.kind)
-    -- behind `,`
-    ∷ one_space (is_comma a.kind)
-    -- behind the `in` of a `for`
+    ∷ no_space (among (Comma ∷ Ellipsis ∷ []) b.kind)
+    -- after `,`
+    ∷ one_space (among (Comma ∷ []) a.kind)
+    -- after the `in` of a `for`
     ∷ one_space (is_in_keyword a && is_after_identifier before)
     -- `a[`
-    ∷ no_space (is_open_bracket b.kind && (can_be_indexed a.kind || is_splat_star before a.kind))
+    ∷ no_space (among (OpenBracket ∷ []) b.kind
+    && (among (Identifier ∷ Number ∷ DotIndex ∷ QuoteClose ∷ CloseParen ∷ CloseBracket ∷ CloseBrace ∷ []) a.kind
+    || is_splat_star before a.kind))
     -- `!a`
-    ∷ no_space (is_bang a.kind)
-    -- `-a`, where no operand stands before the `-`
-    ∷ no_space (is_minus a.kind && not (is_after_operand before))
+    ∷ no_space (among (Bang ∷ []) a.kind)
+    -- `-a`, with no operand before the `-`
+    ∷ no_space (among (Minus ∷ []) a.kind && not (is_after_operand before))
     -- `{}`
-    ∷ no_space (is_open_brace a.kind && is_close_brace b.kind)
+    ∷ no_space (among (OpenBrace ∷ []) a.kind && among (CloseBrace ∷ []) b.kind)
     -- inside other braces
-    ∷ one_space (is_open_brace a.kind || is_close_brace b.kind)
+    ∷ one_space (among (OpenBrace ∷ []) a.kind || among (CloseBrace ∷ []) b.kind)
     -- `${ {` and `} }`
-    ∷ one_space ((is_sequence_open a.kind && is_open_brace b.kind)
-    || (is_close_brace a.kind && is_seq_close b.kind))
+    ∷ one_space ((among (InterpOpen ∷ DirectiveOpen ∷ []) a.kind && among (OpenBrace ∷ []) b.kind)
+    || (among (CloseBrace ∷ []) a.kind && among (SeqClose ∷ []) b.kind))
     -- inside parentheses, brackets and template sequences
-    ∷ no_space (opens_tight a.kind || closes_tight b.kind)
+    ∷ no_space (among (OpenParen ∷ OpenBracket ∷ InterpOpen ∷ DirectiveOpen ∷ []) a.kind
+    || among (CloseParen ∷ CloseBracket ∷ SeqClose ∷ []) b.kind)
     ∷ []
 
--- what the first row that fits says; where none fits, a space stands
+-- what the first row that fits says; if none fits, there is a space
 abbrev pub apply_rows : List Row → Bool
 apply_rows [] = true
 apply_rows (row ∷ others) = if row.fits then row.spaced else apply_rows others
 
--- whether a space stands between a and b, where these kinds stand before a
+-- whether there is a space between a and b, with these kinds before a
 abbrev pub is_spaced : List Kind → Pair → Pair → Bool
 is_spaced before a b = apply_rows (rows before a b)
 
 -- ---- gaps
 
--- a gap of so many spaces
+-- a gap of n spaces
 abbrev pub spaces : ℕ → List ℕ
 spaces n = replicate n 32
 
--- The gap between neighbours: none in literal text; else one space where the table says so, and
--- where the two, with none between them, could be read as other tokens (`1 .0` is no number).
+-- The gap between neighbors: none in literal text; else one space if the table says so, or if the
+-- two, with none between them, could be read as other tokens (`1 .0` is no number).
 abbrev pub gap_between : List Kind → Pair → Pair → List ℕ
 gap_between before a b =
     if has_no_gap_before b.kind then []

@@ -1,25 +1,24 @@
-//! Indents and spaces: the gaps of the lines before cells are moved.
+//! Indents and spaces: the gaps of the lines before alignment.
 
 ghost use Rattle.std.specs.Prelude.{◌≡◌, ◌+◌, ◌*◌, ◌<◌, ◌≤◌, ◌++◌, [], false, take, drop, length, replicate, slice_range, if◌then◌else◌, OnOk, IfOk};
 ghost use Rattle.hcl_scan.specs.Tokenization.{MAX_TEXT};
 ghost use Rattle.hcl_layout.specs.Gaps.Kinds.{is_line_end};
-ghost use Rattle.hcl_layout.specs.Gaps.Lines.{lines_from};
 ghost use Rattle.hcl_layout.specs.Gaps.Inner.CodeViews.{AreLines};
 ghost use Rattle.hcl_layout.specs.Gaps.Space.{prev_after_all};
-ghost use Rattle.hcl_layout.specs.Gaps.Inner.Stages.{KEEP_GAP, line_gap_lens, base_gap_lens, all_gap_lens};
+ghost use Rattle.hcl_layout.specs.Gaps.Inner.Stages.{lines_from, KEEP_GAP, line_gap_lens, base_gap_lens, all_gap_lens};
 
 use crate::gaps::indent::{close_earlier, count_brackets, push_opened};
 use crate::gaps::kinds::is_line_end;
 use crate::gaps::lines::LineSpan;
-use crate::gaps::space::gap_len;
+use crate::gaps::spacing_flags::gap_len;
 use hcl_scan::Scanned;
 use hcl_token::Kind;
 use std::alloc::{AllocError, Global};
 
-/// The gap stays as it is; any other number is that of the spaces in a gap.
+/// The number of a gap that stays as it is; any other is the number of spaces of a gap.
 pub(crate) const KEEP_GAP: u32 = u32::MAX;
 
-/// The gaps of a frozen line.
+/// Pushes the gaps of a frozen line.
 fn push_kept_gaps(gaps: &mut Vec<u32>, count: usize) -> Result<(), AllocError>
     ensures { OnOk result (gaps.new.items ≡ gaps.old.items ++ replicate count KEEP_GAP) }
 {
@@ -36,7 +35,7 @@ fn indent_len(kind: Kind, level: u32) -> u32
     if is_line_end(kind) { 0 } else { 2 * level }
 }
 
-/// The gaps of a line that is not frozen, from token `at` to token `past`.
+/// Pushes the gaps of a line that is not frozen, of the tokens `at..past`.
 fn push_spaced_gaps(
     scanned: &Scanned<'_>,
     gaps: &mut Vec<u32>,
@@ -64,7 +63,7 @@ fn push_spaced_gaps(
     Ok(())
 }
 
-/// The gaps of a line from token `at` to token `past`, in a text whose lines begin at token
+/// Pushes the gaps of a line, of the tokens `at..past`, in a text whose lines begin at token
 /// `first`.
 fn push_line_gaps(
     scanned: &Scanned<'_>,
@@ -91,7 +90,7 @@ fn push_line_gaps(
     }
 }
 
-/// The gaps of these lines, the first of which begins at token `first`.
+/// Pushes the gaps of these lines, the first of which begins at token `first`.
 fn push_base_gaps(
     alloc: Global,
     scanned: &Scanned<'_>,
@@ -122,7 +121,7 @@ fn push_base_gaps(
     Ok(())
 }
 
-/// The gaps of a text, indented and spaced.
+/// Returns the gaps of a text, indented and spaced.
 pub(crate) fn base_gaps(
     alloc: Global,
     scanned: &Scanned<'_>,

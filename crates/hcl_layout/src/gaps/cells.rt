@@ -1,4 +1,4 @@
-//! Cells that stand in columns.
+//! Alignment: the cells of a run of lines in one column.
 
 ghost use Rattle.std.specs.Prelude.{take, false, [], ◌∷◌, Some, slice_get, ◌≡◌, ◌==◌, ◌&&◌, ◌+◌, ◌-◌, ◌*◌, ◌<◌, ◌≤◌, ◌^◌, length, drop, slice_range, option_map, OnOk, IfOk, IfSome};
 ghost use Rattle.hcl_scan.specs.Tokenization.{MAX_TEXT};
@@ -7,9 +7,9 @@ ghost use Rattle.hcl_token.specs.Place.{is_lf};
 ghost use Rattle.hcl_token.specs.Tokens.{Pair};
 ghost use Rattle.hcl_token.specs.TokenizedText.{AreUtf8};
 ghost use Rattle.hcl_layout.specs.Gaps.Kinds.{is_inline_comment};
-ghost use Rattle.hcl_layout.specs.Gaps.Lines.{lines_from, pairs_in};
-ghost use Rattle.hcl_layout.specs.Gaps.Cells.{index_after_first, is_balanced, width, width_before, widths, greatest, aligned};
-ghost use Rattle.hcl_layout.specs.Gaps.Inner.Stages.{with_gaps, AreAtMost, cell_tokens, set_cell_gaps, cell_gaps_from_width};
+ghost use Rattle.hcl_layout.specs.Gaps.Lines.{pairs_in};
+ghost use Rattle.hcl_layout.specs.Gaps.Cells.{index_after_first, is_balanced, width, width_before, aligned};
+ghost use Rattle.hcl_layout.specs.Gaps.Inner.Stages.{widths, greatest, lines_from, with_gaps, AreAtMost, cell_tokens, set_cell_gaps, cell_gaps_from_width};
 ghost use Rattle.hcl_layout.specs.Gaps.Inner.CodeViews.{starts_cell, cell_of, is_valid_cell, widths_of, tokens_in, width_in, token_in, can_have_cell, is_bracket, is_comment, are_some, HasFlags, AreInside, AreLines};
 
 use crate::gaps::base_gaps::KEEP_GAP;
@@ -20,7 +20,7 @@ use hcl_scan::Scanned;
 use hcl_token::Kind;
 use std::alloc::{AllocError, Global};
 
-/// Which cells are moved.
+/// Which cells are aligned.
 #[derive(Clone, Copy)]
 pub(crate) enum Cell {
     /// What begins with the first `=` of a line.
@@ -29,7 +29,7 @@ pub(crate) enum Cell {
     ClosingComment,
 }
 
-/// The first token of a line's cell, and the width of what stands before it.
+/// The first token of a line's cell, and the width of what is before it.
 #[derive(Clone, Copy)]
 pub(crate) struct CellStart {
     pub token: u32,
@@ -42,7 +42,8 @@ fn has_lf(bytes: &[u8]) -> bool
     bytes.iter().any(|b| *b == 10)
 }
 
-/// Whether token `i` is an inline comment with a line end. Only such a comment is searched.
+/// Returns whether token `i` is an inline comment with a line end. Only the spelling of an inline
+/// comment is searched.
 fn is_multiline_comment_at(scanned: &Scanned<'_>, i: usize) -> bool
     requires { i < length scanned.now.pairs }
     ensures { Some result ≡ option_map (λ (p : Pair).
@@ -54,8 +55,7 @@ fn is_multiline_comment_at(scanned: &Scanned<'_>, i: usize) -> bool
     false
 }
 
-/// Whether an inline comment with a line end stands in a line; none does where no comment stands in
-/// it.
+/// Returns whether a line has an inline comment with a line end; it has none if it has no comment.
 fn has_multiline_comment(scanned: &Scanned<'_>, at: usize, past: usize, has_comment: bool) -> bool
     requires ordered { at ≤ past }
     requires within { past ≤ length scanned.now.pairs }
@@ -85,7 +85,7 @@ fn starts_cell(cell: Cell, kind: Kind) -> bool
     }
 }
 
-/// Whether a token that begins such a cell may stand in a line.
+/// Returns whether a line can have a token that begins such a cell.
 fn can_have_cell(cell: Cell, line: LineSpan) -> bool
     ensures { result ≡ can_have_cell cell line }
 {
@@ -95,7 +95,7 @@ fn can_have_cell(cell: Cell, line: LineSpan) -> bool
     }
 }
 
-/// The first token behind token `at` that begins such a cell, if one of these may.
+/// Returns the first token after token `at` that begins such a cell, if one of these can.
 fn cell_token_after_first(
     scanned: &Scanned<'_>,
     cell: Cell,
@@ -135,7 +135,7 @@ fn is_balanced(scanned: &Scanned<'_>, at: usize, past: usize, has_bracket: bool)
     opened == closed
 }
 
-/// Whether a cell that begins at token `i` of a line counts.
+/// Returns whether a cell that begins at token `i` of a line counts.
 fn is_valid_cell(
     scanned: &Scanned<'_>,
     cell: Cell,
@@ -156,7 +156,7 @@ fn is_valid_cell(
     }
 }
 
-/// The first token of the line's cell, if it has one.
+/// Returns the first token of the line's cell, if it has one.
 fn cell_of(
     scanned: &Scanned<'_>,
     cell: Cell,
@@ -190,7 +190,7 @@ fn cell_of(
     None
 }
 
-/// How long the gap before token `i` is.
+/// Returns the number of bytes of the gap before token `i`, as it is set up to here.
 fn current_gap_len(scanned: &Scanned<'_>, gaps: &[u32], i: usize) -> usize
     requires same { length gaps.now ≡ length scanned.now.pairs }
     requires within { i < length scanned.now.pairs }
@@ -205,7 +205,7 @@ fn current_gap_len(scanned: &Scanned<'_>, gaps: &[u32], i: usize) -> usize
     len as usize
 }
 
-/// The width of the tokens from one to another.
+/// Returns the width of the tokens `at..to`.
 fn width(scanned: &Scanned<'_>, gaps: &[u32], at: usize, to: usize) -> u32
     requires same { length gaps.now ≡ length scanned.now.pairs }
     requires ordered { at ≤ to }
@@ -220,7 +220,7 @@ fn width(scanned: &Scanned<'_>, gaps: &[u32], at: usize, to: usize) -> u32
     width as u32
 }
 
-/// The cell of a line, if it has one.
+/// Returns the cell of a line, if it has one.
 fn cell_start(
     scanned: &Scanned<'_>,
     cell: Cell,
@@ -263,7 +263,8 @@ fn cell_start(
     }
 }
 
-/// The cells of a text, one for each of these lines, the first of which begins at token `first`.
+/// Returns the cells of a text, one for each of these lines, the first of which begins at token
+/// `first`.
 fn cell_starts(
     alloc: Global,
     scanned: &Scanned<'_>,
@@ -300,7 +301,7 @@ fn cell_starts(
     Ok(starts)
 }
 
-/// The greatest width up to the first line without a cell.
+/// Returns the greatest width up to the first line without a cell.
 fn greatest(starts: &[Option<CellStart>]) -> u32
     ensures { result ≡ greatest (widths_of starts.now) }
 {
@@ -328,7 +329,7 @@ fn starts_from(starts: &[Option<CellStart>], i: usize) -> &[Option<CellStart>]
     &starts[i..]
 }
 
-/// Sets the gap before a cell, if there is one, and answers the greatest width of the run that the
+/// Sets the gap before a cell, if there is one, and returns the greatest width of the run that the
 /// next line is in.
 fn set_cell_gap(gaps: &mut Vec<u32>, starts: &[Option<CellStart>], i: usize, run_width: u32) -> u32
     requires within { i < length starts.now }
@@ -366,7 +367,7 @@ fn set_cell_gaps(gaps: &mut Vec<u32>, starts: &[Option<CellStart>])
     }
 }
 
-/// Moves the cells of a text into columns, from token `first` on.
+/// Aligns the cells of a text, from token `first` on.
 pub(crate) fn align(
     alloc: Global,
     scanned: &Scanned<'_>,

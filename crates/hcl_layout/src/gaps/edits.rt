@@ -15,7 +15,7 @@ use edit_record::lists::Edit;
 use hcl_scan::Scanned;
 use std::alloc::{AllocError, Global};
 
-/// Whether a gap is that many spaces.
+/// Returns whether a gap is that many spaces.
 fn is_spaces(gap: &[u8], len: u32) -> bool
     ensures { result ≡ bytes_eq gap.now (spaces len) }
 {
@@ -30,7 +30,7 @@ fn is_spaces(gap: &[u8], len: u32) -> bool
     true
 }
 
-/// Whether a gap stays.
+/// Returns whether a gap stays.
 pub(crate) fn is_unchanged(gap: &[u8], new: u32) -> bool
     ensures { result ≡ bytes_eq gap.now (resolved_gap new gap.now) }
 {
@@ -50,7 +50,7 @@ fn spaces(alloc: Global, len: u32) -> Result<Vec<u8>, AllocError>
     Ok(gap)
 }
 
-/// A gap that becomes another, as an edit, unless it stays.
+/// Pushes the edit that makes a gap another, unless it stays.
 fn push_gap(
     alloc: Global,
     edits: &mut Vec<Edit>,
@@ -71,7 +71,7 @@ fn push_gap(
     Ok(())
 }
 
-/// The gaps that differ, as edits.
+/// Returns the gaps that differ, as edits.
 pub(crate) fn gap_edits(
     alloc: Global,
     scanned: &Scanned<'_>,
@@ -105,7 +105,7 @@ pub(crate) fn gap_edits(
     Ok(edits)
 }
 
-/// Whether no gap differs.
+/// Returns whether no gap differs.
 pub(crate) fn all_unchanged(scanned: &Scanned<'_>, gaps: &[u32]) -> bool
     requires { length gaps.now ≡ length scanned.now.pairs }
     ensures { result ≡ unchanged scanned.now.pairs

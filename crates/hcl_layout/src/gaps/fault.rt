@@ -1,4 +1,4 @@
-//! Why a text is not laid out.
+//! Why a text is not formatted.
 
 ghost use Rattle.std.specs.Prelude.{◌≡◌};
 ghost use Rattle.hcl_layout.specs.declared.gaps.fault.LayoutFault.TheVariants.{Memory};
@@ -6,13 +6,13 @@ ghost use Rattle.hcl_layout.specs.declared.gaps.fault.LayoutFault.TheVariants.{M
 use std::alloc::{AllocError, AllocFailed};
 use thiserror::Error;
 
-/// Why a text is not laid out.
+/// Why a text is not formatted.
 #[derive(Clone, Copy, Debug, PartialEq, Eq, Error)]
 pub enum LayoutFault {
-    /// The layout has more than 16,777,216 bytes.
+    /// The layout has more than `MAX_TEXT` bytes.
     #[error("the text has more than 16777216 bytes")]
     TooLong,
-    /// The memory ran out.
+    /// An allocation failed.
     #[error("out of memory")]
     Memory,
 }

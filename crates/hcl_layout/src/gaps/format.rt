@@ -1,22 +1,27 @@
-//! The layout of a text, as edits.
+//! The layout of a text: as edits, as a text, and whether the text has it.
 
-ghost use Rattle.std.specs.Prelude.{◌≡◌, ◌<◌, ◌≤◌, ◌⊎◌, ◌↔◌, [], length, nat_lt, IsTrue, IfOk, IfErr, MatchBool};
+ghost use Rattle.std.specs.Prelude.{◌≡◌, ◌<◌, ◌≤◌, ◌↔◌, [], length, nat_lt, IsTrue, IfOk, IfErr, MatchBool};
 ghost use Rattle.edit_record.specs.Lists.Pieces.{Transforms};
 ghost use Rattle.hcl_token.specs.TokenizedText.{AreUtf8};
 ghost use Rattle.hcl_scan.specs.Tokenization.{IsTokenization, MAX_TEXT};
 ghost use Rattle.hcl_layout.specs.Gaps.Layout.{layout_pairs, layout_text, layout_edits, IsLaidOut};
 ghost use Rattle.hcl_layout.specs.Gaps.Inner.Stages.{with_gaps};
-ghost use Rattle.hcl_layout.specs.declared.gaps.fault.LayoutFault.TheVariants.{TooLong, Memory};
+ghost use Rattle.hcl_layout.specs.Gaps.Errors.{IsMemoryOrTooLong};
 
 use crate::gaps::edits::{all_unchanged, gap_edits};
 use crate::gaps::fault::LayoutFault;
 use crate::gaps::gaps::layout_gaps;
-use crate::gaps::text::{capacity_within_limit, text_with_gaps};
+use crate::gaps::limit::capacity_within_limit;
+use crate::gaps::text::text_with_gaps;
 use edit_record::lists::{Edit, Edits};
 use hcl_scan::Scanned;
 use std::alloc::Global;
 
-/// The gaps of the layout, as numbers, unless it has more than 16,777,216 bytes.
+/// Returns the gaps of the layout, as numbers.
+///
+/// # Errors
+///
+/// `TooLong` if the layout has more than `MAX_TEXT` bytes; `Memory` if an allocation fails.
 fn gaps_within_limit(alloc: Global, scanned: &Scanned<'_>) -> Result<Vec<u32>, LayoutFault>
     requires tokenization { IsTokenization scanned.now.text scanned.now.pairs scanned.now.last }
     requires utf8 { AreUtf8 scanned.now.pairs }
@@ -25,32 +30,36 @@ fn gaps_within_limit(alloc: Global, scanned: &Scanned<'_>) -> Result<Vec<u32>, L
     ensures same { IfOk result (λ gaps. length gaps.items ≡ length scanned.now.pairs) }
     ensures short { IfOk result (λ gaps. length (layout_text scanned.now) ≤ MAX_TEXT) }
     ensures err { IfErr result
-        (λ e. (e ≡ Memory) ⊎ ((e ≡ TooLong) × (MAX_TEXT < length (layout_text scanned.now)))) }
+        (IsMemoryOrTooLong (MAX_TEXT < length (layout_text scanned.now))) }
 {
     let gaps = layout_gaps(alloc, scanned)?;
-    match capacity_within_limit(scanned, &gaps) {
-        Some(_) => Ok(gaps),
-        None => Err(LayoutFault::TooLong),
-    }
+    capacity_within_limit(scanned, &gaps)?;
+    Ok(gaps)
 }
 
-/// The gaps that differ, as edits, unless the layout has more than 16,777,216 bytes.
+/// Returns the gaps that differ, as edits.
+///
+/// # Errors
+///
+/// As for [`gaps_within_limit`].
 fn edits_of(alloc: Global, scanned: &Scanned<'_>) -> Result<Vec<Edit>, LayoutFault>
     requires tokenization { IsTokenization scanned.now.text scanned.now.pairs scanned.now.last }
     requires utf8 { AreUtf8 scanned.now.pairs }
     ensures ok { IfOk result (λ edits. edits.items ≡ (layout_edits scanned.now).entries) }
     ensures short { IfOk result (λ edits. length (layout_text scanned.now) ≤ MAX_TEXT) }
     ensures err { IfErr result
-        (λ e. (e ≡ Memory) ⊎ ((e ≡ TooLong) × (MAX_TEXT < length (layout_text scanned.now)))) }
+        (IsMemoryOrTooLong (MAX_TEXT < length (layout_text scanned.now))) }
 {
     let gaps = gaps_within_limit(alloc, scanned)?;
     Ok(gap_edits(alloc, scanned, &gaps)?)
 }
 
-/// The edits that lay out a text: exactly the gaps that differ, each from the whole old one to the
+/// Returns the edits that format a text: the gaps that differ, each from the whole old one to the
 /// whole new one. They change no token, and so no comment and no line end.
 ///
-/// It is refused where the layout has more than 16,777,216 bytes, and else only for want of memory.
+/// # Errors
+///
+/// `TooLong` if the layout has more than `MAX_TEXT` bytes; `Memory` if an allocation fails.
 ///
 /// Terraform style conventions.
 pub fn layout(alloc: Global, scanned: &Scanned<'_>) -> Result<Edits, LayoutFault>
@@ -58,7 +67,7 @@ pub fn layout(alloc: Global, scanned: &Scanned<'_>) -> Result<Edits, LayoutFault
     ensures turns { IfOk result (λ edits. Transforms edits scanned.now.text (layout_text scanned.now)) }
     ensures short { IfOk result (λ edits. length (layout_text scanned.now) ≤ MAX_TEXT) }
     ensures err { IfErr result
-        (λ e. (e ≡ Memory) ⊎ ((e ≡ TooLong) × (MAX_TEXT < length (layout_text scanned.now)))) }
+        (IsMemoryOrTooLong (MAX_TEXT < length (layout_text scanned.now))) }
 {
     let text = scanned.text();
     let edits = edits_of(alloc, scanned)?;
@@ -69,33 +78,35 @@ pub fn layout(alloc: Global, scanned: &Scanned<'_>) -> Result<Edits, LayoutFault
     }
 }
 
-/// The text of a layout, as the edits of `layout` make it, with no edits made.
+/// Returns the formatted text, which the edits of [`layout`] make, without making edits.
 ///
-/// It is refused where `layout` is.
+/// # Errors
+///
+/// As for [`layout`].
 pub fn formatted_text(alloc: Global, scanned: &Scanned<'_>) -> Result<Vec<u8>, LayoutFault>
     ensures text { IfOk result (λ text. text.items ≡ layout_text scanned.now) }
     ensures turns { IfOk result (λ text.
         Transforms (layout_edits scanned.now) scanned.now.text text.items) }
     ensures short { IfOk result (λ text. length (layout_text scanned.now) ≤ MAX_TEXT) }
-    ensures err { IfErr result (λ e. (e ≡ Memory)
-        ⊎ ((e ≡ TooLong) × (MAX_TEXT < length (layout_text scanned.now)))) }
+    ensures err { IfErr result
+        (IsMemoryOrTooLong (MAX_TEXT < length (layout_text scanned.now))) }
 {
     let _text = scanned.text();
     let gaps = layout_gaps(alloc, scanned)?;
-    match capacity_within_limit(scanned, &gaps) {
-        Some(capacity) => Ok(text_with_gaps(alloc, scanned, &gaps, capacity)?),
-        None => Err(LayoutFault::TooLong),
-    }
+    let capacity = capacity_within_limit(scanned, &gaps)?;
+    Ok(text_with_gaps(alloc, scanned, &gaps, capacity)?)
 }
 
-/// Whether a text is laid out: whether each gap is that of its layout.
+/// Returns whether a text is formatted: whether each gap is that of its layout.
 ///
-/// It is refused where `layout` is.
+/// # Errors
+///
+/// As for [`layout`].
 pub fn is_laid_out(alloc: Global, scanned: &Scanned<'_>) -> Result<bool, LayoutFault>
     ensures answer { IfOk result (λ yes. IsTrue yes ↔ IsLaidOut scanned.now) }
     ensures short { IfOk result (λ yes. length (layout_text scanned.now) ≤ MAX_TEXT) }
     ensures err { IfErr result
-        (λ e. (e ≡ Memory) ⊎ ((e ≡ TooLong) × (MAX_TEXT < length (layout_text scanned.now)))) }
+        (IsMemoryOrTooLong (MAX_TEXT < length (layout_text scanned.now))) }
 {
     let _text = scanned.text();
     let gaps = gaps_within_limit(alloc, scanned)?;

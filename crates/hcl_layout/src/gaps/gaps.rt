@@ -13,7 +13,7 @@ use hcl_scan::Scanned;
 use hcl_token::Kind;
 use std::alloc::{AllocError, Global};
 
-/// How many tokens belong to no line: the byte order mark.
+/// Returns how many tokens belong to no line: the byte order mark.
 fn mark_count(scanned: &Scanned<'_>) -> usize
     ensures value { result ≡ mark_count scanned.now.pairs }
     ensures within { result ≤ length scanned.now.pairs }
@@ -27,7 +27,7 @@ fn mark_count(scanned: &Scanned<'_>) -> usize
     }
 }
 
-/// The gaps of the layout of a text.
+/// Returns the gaps of the layout of a text.
 pub(crate) fn layout_gaps(alloc: Global, scanned: &Scanned<'_>) -> Result<Vec<u32>, AllocError>
     requires tokenization { IsTokenization scanned.now.text scanned.now.pairs scanned.now.last }
     requires utf8 { AreUtf8 scanned.now.pairs }

@@ -1,4 +1,4 @@
-//! How far lines are indented.
+//! Indentation: the levels of lines.
 
 ghost use Rattle.std.specs.Prelude.{◌≡◌, false, ◌∷◌, ◌+◌, ◌-◌, nat_lt, if◌then◌else◌, OnOk, ◌<◌, ◌≤◌, length, reverse, slice_range};
 ghost use Rattle.hcl_scan.specs.Tokenization.{MAX_TEXT};
@@ -32,8 +32,8 @@ fn is_closing(kind: Kind) -> bool
     )
 }
 
-/// How many brackets and sequences open among the tokens from one to another, and how many close.
-/// They are not looked at where the line is not busy.
+/// Returns how many brackets and template sequences open among the tokens `from..to`, and how many
+/// close. It does not read the tokens of a line without brackets.
 pub(crate) fn count_brackets(
     scanned: &Scanned<'_>,
     from: usize,
@@ -60,9 +60,8 @@ pub(crate) fn count_brackets(
     (opened, closed)
 }
 
-/// Brackets close: of each line that is still open, `surplus` has how many openings it has beyond
-/// those of the open line before it, the last line's at the end; as many are taken off from the end
-/// as close.
+/// Removes `closed` brackets from `surplus`, from its end on. Of each line that is still open
+/// `surplus` has how many openings it has beyond those of the open line before it, in order.
 pub(crate) fn close_brackets(surplus: &mut Vec<u32>, closed: u32)
     ensures remaining { reverse surplus.new.items ≡ close_brackets closed (reverse surplus.old.items) }
     ensures shorter { length surplus.new.items ≤ length surplus.old.items }
@@ -80,7 +79,7 @@ pub(crate) fn close_brackets(surplus: &mut Vec<u32>, closed: u32)
     }
 }
 
-/// A line opens and closes so many brackets: what it closes of earlier lines is taken off.
+/// Removes what a line with these numbers of brackets closes of earlier lines.
 pub(crate) fn close_earlier(surplus: &mut Vec<u32>, opened: u32, closed: u32)
     ensures open { reverse surplus.new.items ≡ close_earlier opened closed (reverse surplus.old.items) }
     ensures shorter { length surplus.new.items ≤ length surplus.old.items }
@@ -90,7 +89,7 @@ pub(crate) fn close_earlier(surplus: &mut Vec<u32>, opened: u32, closed: u32)
     }
 }
 
-/// What it leaves open is put on.
+/// Pushes what a line with these numbers of brackets leaves open.
 pub(crate) fn push_opened(
     surplus: &mut Vec<u32>,
     opened: u32,

@@ -1,7 +1,10 @@
 //! Kinds of tokens, as the spacing tells them apart.
 
-ghost use Rattle.std.specs.Prelude.{◌≡◌};
-ghost use Rattle.hcl_layout.specs.Gaps.Kinds.{is_line_end, is_line_comment, is_inline_comment, is_identifier, is_open_paren, is_double_colon, is_dot, is_dot_or_index, is_comma, is_comma_or_ellipsis, is_open_bracket, can_be_indexed, ends_operand, is_bang, is_minus, is_star, is_open_brace, is_close_brace, is_sequence_open, is_seq_close, opens_tight, closes_tight, is_equal, is_skipped, is_here_open};
+ghost use Rattle.std.specs.Prelude.{◌≡◌, [], ◌∷◌};
+ghost use Rattle.hcl_token.specs.declared.kind.Kind.TheVariants.{Identifier, Number, DotIndex, Minus, Bang, DoubleColon, OpenBrace, CloseBrace, OpenBracket, CloseBracket, OpenParen, CloseParen, Comma, Dot, Ellipsis, SeqClose, QuoteClose, InterpOpen, DirectiveOpen};
+ghost use Rattle.hcl_layout.specs.Gaps.Kinds.{among, is_line_end, is_line_comment, is_inline_comment, is_identifier, ends_operand, is_equal, is_skipped};
+ghost use Rattle.hcl_layout.specs.Gaps.Inner.CodeViews.{is_here_open};
+ghost use Rattle.hcl_layout.specs.Gaps.Inner.SpacingFlags.{is_star};
 
 use hcl_token::Kind;
 
@@ -30,49 +33,49 @@ pub(crate) fn is_identifier(kind: Kind) -> bool
 }
 
 pub(crate) fn is_open_paren(kind: Kind) -> bool
-    ensures { result ≡ is_open_paren kind }
+    ensures { result ≡ among (OpenParen ∷ []) kind }
 {
     matches!(kind, Kind::OpenParen)
 }
 
 pub(crate) fn is_double_colon(kind: Kind) -> bool
-    ensures { result ≡ is_double_colon kind }
+    ensures { result ≡ among (DoubleColon ∷ []) kind }
 {
     matches!(kind, Kind::DoubleColon)
 }
 
 pub(crate) fn is_dot(kind: Kind) -> bool
-    ensures { result ≡ is_dot kind }
+    ensures { result ≡ among (Dot ∷ []) kind }
 {
     matches!(kind, Kind::Dot)
 }
 
 pub(crate) fn is_dot_or_index(kind: Kind) -> bool
-    ensures { result ≡ is_dot_or_index kind }
+    ensures { result ≡ among (Dot ∷ DotIndex ∷ []) kind }
 {
     matches!(kind, Kind::Dot | Kind::DotIndex)
 }
 
 pub(crate) fn is_comma(kind: Kind) -> bool
-    ensures { result ≡ is_comma kind }
+    ensures { result ≡ among (Comma ∷ []) kind }
 {
     matches!(kind, Kind::Comma)
 }
 
 pub(crate) fn is_comma_or_ellipsis(kind: Kind) -> bool
-    ensures { result ≡ is_comma_or_ellipsis kind }
+    ensures { result ≡ among (Comma ∷ Ellipsis ∷ []) kind }
 {
     matches!(kind, Kind::Comma | Kind::Ellipsis)
 }
 
 pub(crate) fn is_open_bracket(kind: Kind) -> bool
-    ensures { result ≡ is_open_bracket kind }
+    ensures { result ≡ among (OpenBracket ∷ []) kind }
 {
     matches!(kind, Kind::OpenBracket)
 }
 
 pub(crate) fn can_be_indexed(kind: Kind) -> bool
-    ensures { result ≡ can_be_indexed kind }
+    ensures { result ≡ among (Identifier ∷ Number ∷ DotIndex ∷ QuoteClose ∷ CloseParen ∷ CloseBracket ∷ CloseBrace ∷ []) kind }
 {
     matches!(
         kind,
@@ -103,13 +106,13 @@ pub(crate) fn ends_operand(kind: Kind) -> bool
 }
 
 pub(crate) fn is_bang(kind: Kind) -> bool
-    ensures { result ≡ is_bang kind }
+    ensures { result ≡ among (Bang ∷ []) kind }
 {
     matches!(kind, Kind::Bang)
 }
 
 pub(crate) fn is_minus(kind: Kind) -> bool
-    ensures { result ≡ is_minus kind }
+    ensures { result ≡ among (Minus ∷ []) kind }
 {
     matches!(kind, Kind::Minus)
 }
@@ -121,31 +124,31 @@ pub(crate) fn is_star(kind: Kind) -> bool
 }
 
 pub(crate) fn is_open_brace(kind: Kind) -> bool
-    ensures { result ≡ is_open_brace kind }
+    ensures { result ≡ among (OpenBrace ∷ []) kind }
 {
     matches!(kind, Kind::OpenBrace)
 }
 
 pub(crate) fn is_close_brace(kind: Kind) -> bool
-    ensures { result ≡ is_close_brace kind }
+    ensures { result ≡ among (CloseBrace ∷ []) kind }
 {
     matches!(kind, Kind::CloseBrace)
 }
 
 pub(crate) fn is_sequence_open(kind: Kind) -> bool
-    ensures { result ≡ is_sequence_open kind }
+    ensures { result ≡ among (InterpOpen ∷ DirectiveOpen ∷ []) kind }
 {
     matches!(kind, Kind::InterpOpen | Kind::DirectiveOpen)
 }
 
 pub(crate) fn is_seq_close(kind: Kind) -> bool
-    ensures { result ≡ is_seq_close kind }
+    ensures { result ≡ among (SeqClose ∷ []) kind }
 {
     matches!(kind, Kind::SeqClose)
 }
 
 pub(crate) fn opens_tight(kind: Kind) -> bool
-    ensures { result ≡ opens_tight kind }
+    ensures { result ≡ among (OpenParen ∷ OpenBracket ∷ InterpOpen ∷ DirectiveOpen ∷ []) kind }
 {
     matches!(
         kind,
@@ -154,7 +157,7 @@ pub(crate) fn opens_tight(kind: Kind) -> bool
 }
 
 pub(crate) fn closes_tight(kind: Kind) -> bool
-    ensures { result ≡ closes_tight kind }
+    ensures { result ≡ among (CloseParen ∷ CloseBracket ∷ SeqClose ∷ []) kind }
 {
     matches!(kind, Kind::CloseParen | Kind::CloseBracket | Kind::SeqClose)
 }

@@ -1,77 +1,29 @@
-//! Lines.
+//! The lines of a text.
 
 ghost use Rattle.std.specs.Prelude.{◌≡◌, ◌+◌, ◌<◌, ◌≤◌, false, length, IfOk};
 ghost use Rattle.hcl_scan.specs.Tokenization.{MAX_TEXT};
 ghost use Rattle.hcl_layout.specs.Gaps.Lines.{heredocs_after, ends_line};
-ghost use Rattle.hcl_layout.specs.Gaps.Inner.CodeViews.{is_bracket, is_comment, has_no_line_effect, IsLine, AreLines};
+ghost use Rattle.hcl_layout.specs.Gaps.Inner.CodeViews.{IsLine, AreLines};
 
 use crate::gaps::kinds::{is_equal, is_here_open};
+use crate::gaps::line_flags::{has_no_line_effect, is_bracket, is_comment};
 use hcl_scan::Scanned;
 use hcl_token::Kind;
 use std::alloc::{AllocError, Global};
 
-/// A line that stands behind another, or at the front.
+/// A line, which begins where the line before it ends.
 #[derive(Clone, Copy)]
 pub(crate) struct LineSpan {
-    /// The number past its last token.
+    /// The number after that of its last token.
     pub past: u32,
     /// Whether the next line begins in a heredoc.
     pub next_frozen: bool,
-    /// Whether a bracket or a template sequence stands in it.
+    /// Whether it has a bracket or a template sequence.
     pub has_bracket: bool,
-    /// Whether a comment stands in it.
+    /// Whether it has a comment.
     pub has_comment: bool,
-    /// Whether a `=` stands in it.
+    /// Whether it has a `=`.
     pub has_equals: bool,
-}
-
-fn is_bracket(kind: Kind) -> bool
-    ensures { result ≡ is_bracket kind }
-{
-    matches!(
-        kind,
-        Kind::OpenBrace
-            | Kind::CloseBrace
-            | Kind::OpenBracket
-            | Kind::CloseBracket
-            | Kind::OpenParen
-            | Kind::CloseParen
-            | Kind::SeqClose
-            | Kind::InterpOpen
-            | Kind::DirectiveOpen
-    )
-}
-
-fn is_comment(kind: Kind) -> bool
-    ensures { result ≡ is_comment kind }
-{
-    matches!(kind, Kind::LineComment | Kind::InlineComment)
-}
-
-/// Whether a token of this kind neither ends a line nor raises a flag of it, and is none of a
-/// heredoc's.
-fn has_no_line_effect(kind: Kind) -> bool
-    ensures { result ≡ has_no_line_effect kind }
-{
-    match kind {
-        Kind::LineEnd
-        | Kind::HereOpen
-        | Kind::HereClose
-        | Kind::HereLit
-        | Kind::LineComment
-        | Kind::InlineComment
-        | Kind::Equal
-        | Kind::OpenBrace
-        | Kind::CloseBrace
-        | Kind::OpenBracket
-        | Kind::CloseBracket
-        | Kind::OpenParen
-        | Kind::CloseParen
-        | Kind::SeqClose
-        | Kind::InterpOpen
-        | Kind::DirectiveOpen => false,
-        _ => true,
-    }
 }
 
 fn heredocs_after(open_heredocs: usize, kind: Kind) -> usize
@@ -95,7 +47,7 @@ fn ends_line(open_heredocs: usize, kind: Kind) -> bool
     }
 }
 
-/// The line that begins at token `at`, in a heredoc or not.
+/// Returns the line that begins at token `at`, in a heredoc or not.
 fn line_at(scanned: &Scanned<'_>, at: usize, frozen: bool) -> LineSpan
     requires within { at < length scanned.now.pairs }
     requires within_limit { length scanned.now.pairs ≤ MAX_TEXT }
@@ -139,7 +91,7 @@ fn line_at(scanned: &Scanned<'_>, at: usize, frozen: bool) -> LineSpan
     }
 }
 
-/// The lines from token `first` on, one behind the other.
+/// Returns the lines from token `first` on, in order.
 pub(crate) fn line_spans(
     alloc: Global,
     scanned: &Scanned<'_>,

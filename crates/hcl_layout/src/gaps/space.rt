@@ -1,12 +1,12 @@
-//! The gaps inside a line.
+//! The gaps inside a line: the table of spaces.
 
 ghost use Rattle.std.specs.Prelude.{◌≡◌, None, Bool, ◌<◌, ◌≤◌, ◌-◌, [], take, length, slice_range, Some};
 ghost use Rattle.hcl_token.specs.TokenizedText.{kind_of};
 ghost use Rattle.hcl_scan.specs.Follows.{has_no_gap_before};
 ghost use Rattle.hcl_layout.specs.Gaps.Space.{is_splat_star, is_after_identifier, is_after_operand, is_in_keyword, is_spaced, prev_after_all};
-ghost use Rattle.hcl_layout.specs.Gaps.Inner.Stages.{prev_kinds_of, token, space_len_at};
+ghost use Rattle.hcl_layout.specs.Gaps.Inner.Stages.{prev_kinds_of, token};
 ghost use Rattle.hcl_layout.specs.Gaps.Inner.CodeViews.{prev_kinds};
-ghost use Rattle.hcl_layout.specs.Gaps.Inner.SpacingFlags.{flags_after, flags_before, needs_context, closes_or_indexes_name, spaced_at, IsEndOfNearest};
+ghost use Rattle.hcl_layout.specs.Gaps.Inner.SpacingFlags.{needs_context, spaced_at, IsEndOfNearest};
 
 use crate::gaps::kinds::{
     can_be_indexed, closes_tight, ends_operand, is_bang, is_close_brace, is_comma,
@@ -24,7 +24,7 @@ pub(crate) struct PrevKinds {
     pub second: Option<Kind>,
 }
 
-/// Nothing stands before.
+/// There are none.
 const NO_PREV: PrevKinds = PrevKinds {
     nearest: None,
     second: None,
@@ -40,7 +40,7 @@ impl PrevKinds {
         }
     }
 
-    /// Whether a `*` that follows is a splat's.
+    /// Returns whether a `*` that follows is a splat's.
     fn is_splat_star(self, kind: Kind) -> bool
         ensures { result ≡ is_splat_star (prev_kinds self) kind }
     {
@@ -69,7 +69,7 @@ fn is_splat_star_after(second: Option<Kind>, kind: Kind) -> bool
     }
 }
 
-fn has_no_gap_before(kind: Kind) -> bool
+pub(crate) fn has_no_gap_before(kind: Kind) -> bool
     ensures { result ≡ has_no_gap_before kind }
 {
     matches!(
@@ -84,13 +84,14 @@ fn has_no_gap_before(kind: Kind) -> bool
     )
 }
 
-fn is_in_keyword(kind: Kind, spelling: &[u8]) -> bool
+pub(crate) fn is_in_keyword(kind: Kind, spelling: &[u8]) -> bool
     ensures { result ≡ is_in_keyword (token kind spelling.now) }
 {
     is_identifier(kind) && (spelling == b"in".as_slice())
 }
 
-/// Whether a space stands between two neighbours on a line: the first row of the table that fits.
+/// Returns whether there is a space between two neighbors on a line, by the first row of the table
+/// that fits.
 fn is_spaced(before: PrevKinds, a: Kind, a_spelling: &[u8], b: Kind) -> bool
     ensures { result ≡ is_spaced (prev_kinds before) (token a a_spelling.now) (token b []) }
 {
@@ -142,95 +143,15 @@ fn is_spaced(before: PrevKinds, a: Kind, a_spelling: &[u8], b: Kind) -> bool
     true
 }
 
-/// A flag that a token shares with the one behind it: a space stands between the two.
-const SPACE: u16 = 1;
-
-/// A space stands behind an opening brace.
-const IN_BRACES: u16 = 2;
-
-/// A space stands before `(` and `[` that call and index nothing.
-const OPENS: u16 = 4;
-
-/// None stands before literal text.
-const LITERAL: u16 = 8;
-
-/// None stands before a line end, `,` and the like.
-const CLOSE: u16 = 16;
-
-/// None stands behind an opening that stands close to what it holds.
-const INSIDE: u16 = 32;
-
-/// None stands in `.name`.
-const NAME: u16 = 64;
-
-/// None stands in `name(`.
-const CALL: u16 = 128;
-
-/// None stands before a closing, or an index.
-const END: u16 = 256;
-
-/// The flags by which a space stands; by the others none does.
-const SPACED: u16 = SPACE | IN_BRACES | OPENS;
-
-/// What a token's kind says of the gap behind it. It shares a flag with `flags_before` of the token
-/// behind where the two kinds alone tell the gap.
-fn flags_after(kind: Kind) -> u16
-    ensures { result ≡ flags_after kind }
-{
-    match kind {
-        Kind::Identifier => SPACE | LITERAL | CLOSE | CALL,
-        Kind::Number | Kind::DotIndex | Kind::CloseParen | Kind::CloseBracket | Kind::QuoteClose =>
-            SPACE | LITERAL | CLOSE | END,
-        Kind::Dot => LITERAL | NAME,
-        Kind::OpenBrace => IN_BRACES | LITERAL | CLOSE,
-        Kind::OpenParen | Kind::OpenBracket | Kind::InterpOpen | Kind::DirectiveOpen => LITERAL
-            | CLOSE
-            | INSIDE,
-        Kind::Minus | Kind::DoubleColon => LITERAL | CLOSE,
-        Kind::Mark | Kind::Bang | Kind::HereLit => LITERAL,
-        Kind::Less | Kind::Greater | Kind::Equal | Kind::Colon | Kind::Slash => SPACE
-            | OPENS
-            | LITERAL,
-        Kind::Star | Kind::CloseBrace => SPACE | LITERAL | CLOSE,
-        _ => SPACE | OPENS | LITERAL | CLOSE,
-    }
-}
-
-/// What a token's kind says of the gap before it.
-fn flags_before(kind: Kind) -> u16
-    ensures { result ≡ flags_before kind }
-{
-    match kind {
-        Kind::Mark
-        | Kind::QuoteClose
-        | Kind::QuoteLit
-        | Kind::InterpOpen
-        | Kind::DirectiveOpen
-        | Kind::HereClose
-        | Kind::HereLit => LITERAL,
-        Kind::LineEnd | Kind::DoubleColon | Kind::Comma | Kind::Dot | Kind::Ellipsis => CLOSE
-            | INSIDE,
-        Kind::Identifier => SPACE | IN_BRACES | INSIDE | NAME,
-        Kind::OpenParen => OPENS | INSIDE | CALL,
-        Kind::OpenBracket => OPENS | INSIDE | END,
-        Kind::CloseParen | Kind::CloseBracket => INSIDE | END,
-        Kind::SeqClose => END,
-        Kind::CloseBrace => SPACE,
-        Kind::LineComment | Kind::OpenBrace => SPACE | IN_BRACES,
-        Kind::DotIndex => INSIDE,
-        _ => SPACE | IN_BRACES | INSIDE,
-    }
-}
-
-/// Whether what stands before a token is asked for at all.
+/// Returns whether a row of the table depends on the tokens before this one.
 fn needs_context(kind: Kind, spelling: &[u8]) -> bool
     ensures { result ≡ needs_context (token kind spelling.now) }
 {
     is_minus(kind) || is_star(kind) || is_in_keyword(kind, spelling)
 }
 
-/// The number past the nearest token before token `to`, from token `first` on, that is not passed
-/// over, or `first`.
+/// Returns the number after that of the nearest token among `first..to` that is not skipped, or
+/// `first`.
 fn end_of_nearest(scanned: &Scanned<'_>, first: usize, to: usize) -> usize
     requires ordered { first ≤ to }
     requires within { to ≤ length scanned.now.pairs }
@@ -246,8 +167,8 @@ fn end_of_nearest(scanned: &Scanned<'_>, first: usize, to: usize) -> usize
     past
 }
 
-/// The two nearest tokens before token `to`, from token `first` on. Few tokens ask for them, so
-/// that they are looked for where one does.
+/// Returns the two nearest tokens before token `to`, from token `first` on. Few tokens depend on
+/// them, so they are searched for each of these.
 fn prev_kinds_at(scanned: &Scanned<'_>, first: usize, to: usize) -> PrevKinds
     requires ordered { first ≤ to }
     requires within { to ≤ length scanned.now.pairs }
@@ -271,8 +192,9 @@ fn prev_kinds_at(scanned: &Scanned<'_>, first: usize, to: usize) -> PrevKinds
     }
 }
 
-/// Whether a space stands between token `i`, which is not the first, and the one before it.
-fn is_spaced_at(scanned: &Scanned<'_>, first: usize, a: Kind, b: Kind, i: usize) -> bool
+/// Returns whether there is a space between token `i`, which is not the first, and the one before
+/// it.
+pub(crate) fn is_spaced_at(scanned: &Scanned<'_>, first: usize, a: Kind, b: Kind, i: usize) -> bool
     requires after_first { first < i }
     requires within { i < length scanned.now.pairs }
     requires a { Some a ≡ kind_of scanned.now.pairs (i - 1) }
@@ -284,52 +206,4 @@ fn is_spaced_at(scanned: &Scanned<'_>, first: usize, a: Kind, b: Kind, i: usize)
         return is_spaced(prev_kinds_at(scanned, first, i - 1), a, spelling, b);
     }
     is_spaced(NO_PREV, a, spelling, b)
-}
-
-/// Whether a token of kind `b` closes or indexes a name, which is not `in`.
-fn closes_or_indexes_name(a: Kind, spelling: &[u8], b: Kind) -> bool
-    ensures { result ≡ closes_or_indexes_name (token a spelling.now) b }
-{
-    is_identifier(a) && (closes_tight(b) | is_open_bracket(b)) && !is_in_keyword(a, spelling)
-}
-
-/// How long the gap is where the two kinds alone don't tell it.
-#[inline(never)]
-fn gap_len_by_context(scanned: &Scanned<'_>, first: usize, a: Kind, b: Kind, i: usize) -> u32
-    requires after_first { first < i }
-    requires within { i < length scanned.now.pairs }
-    requires a { Some a ≡ kind_of scanned.now.pairs (i - 1) }
-    requires b { Some b ≡ kind_of scanned.now.pairs i }
-    ensures value { Some result ≡ space_len_at
-        (prev_after_all (slice_range scanned.now.pairs first (i - 1)) []) scanned.now.pairs i }
-    ensures bounded { result ≤ 1 }
-{
-    if has_no_gap_before(b) {
-        return 0;
-    }
-    if closes_or_indexes_name(a, scanned.spelling(i - 1), b) {
-        return 0;
-    }
-    if is_spaced_at(scanned, first, a, b, i) {
-        return 1;
-    }
-    u32::from(scanned.joins(i - 1, i))
-}
-
-/// How long the gap is between token `i`, of kind `b`, and the one before it, of kind `a`, on a
-/// line, in a text whose lines begin at token `first`.
-pub(crate) fn gap_len(scanned: &Scanned<'_>, first: usize, a: Kind, b: Kind, i: usize) -> u32
-    requires after_first { first < i }
-    requires within { i < length scanned.now.pairs }
-    requires a { Some a ≡ kind_of scanned.now.pairs (i - 1) }
-    requires b { Some b ≡ kind_of scanned.now.pairs i }
-    ensures value { Some result ≡ space_len_at
-        (prev_after_all (slice_range scanned.now.pairs first (i - 1)) []) scanned.now.pairs i }
-    ensures bounded { result ≤ 1 }
-{
-    let flags = flags_after(a) & flags_before(b);
-    if flags == 0 {
-        return gap_len_by_context(scanned, first, a, b, i);
-    }
-    if flags & SPACED == 0 { 0 } else { 1 }
 }

@@ -1,85 +1,15 @@
-//! The text of a layout, written from its gaps.
+//! The formatted text, copied from the old one range by range. For speed alone: the edits of a
+//! layout make the same text.
 
-ghost use Rattle.std.specs.Prelude.{◌≡◌, ◌≤◌, ◌<◌, ◌*◌, ◌++◌, [], length, sum_by, slice_range, OnOk, IfOk, IfSome, IfNone};
-ghost use Rattle.hcl_scan.specs.Tokenization.{MAX_TEXT};
+ghost use Rattle.std.specs.Prelude.{◌≡◌, ◌≤◌, ◌++◌, [], length, slice_range, OnOk, IfOk};
 ghost use Rattle.hcl_token.specs.Tokens.{whole_text};
 ghost use Rattle.hcl_layout.specs.Gaps.Space.{spaces};
-ghost use Rattle.hcl_layout.specs.Gaps.Inner.Stages.{resolved_gap, resolved_len, space_count, with_gaps, AreUnchanged};
+ghost use Rattle.hcl_layout.specs.Gaps.Inner.Stages.{resolved_gap, with_gaps, AreUnchanged};
 
 use crate::gaps::base_gaps::KEEP_GAP;
 use crate::gaps::edits::is_unchanged;
-use hcl_scan::{MAX_TEXT, Scanned};
-use hcl_token::Item;
+use hcl_scan::Scanned;
 use std::alloc::{AllocError, Global};
-
-/// How long a token is with the gap before it that a number stands for.
-fn token_len(item: Item, new: u32) -> usize
-    requires gap { item.gap_at ≤ item.start }
-    requires token { item.start ≤ item.stop }
-    ensures value { result ≡ resolved_len new item }
-    ensures bounded { result ≤ 8589934592 }
-{
-    if new == KEEP_GAP {
-        return (item.stop - item.gap_at) as usize;
-    }
-    new as usize + (item.stop - item.start) as usize
-}
-
-/// The number of bytes of the text with its new gaps, unless it is more than 16,777,216.
-fn len_within_limit(scanned: &Scanned<'_>, gaps: &[u32]) -> Option<usize>
-    requires { length gaps.now ≡ length scanned.now.pairs }
-    ensures len { IfSome result (λ len.
-        len ≡ length (whole_text (with_gaps gaps.now scanned.now.pairs) [])) }
-    ensures short { IfSome result (λ len. len ≤ MAX_TEXT) }
-    ensures long { IfNone result
-        (MAX_TEXT < length (whole_text (with_gaps gaps.now scanned.now.pairs) [])) }
-{
-    let mut total = 0;
-    for i in 0..scanned.len() {
-        total += token_len(scanned.item(i), gaps[i]);
-    }
-    if total > MAX_TEXT {
-        return None;
-    }
-    Some(total)
-}
-
-/// How many spaces a number stands for; none where the gap stays.
-fn space_count(new: u32) -> u32
-    ensures { result ≡ space_count new }
-{
-    if new == KEEP_GAP { 0 } else { new }
-}
-
-/// How many spaces numbers stand for, those of gaps that stay aside.
-fn total_space_count(gaps: &[u32]) -> usize
-    requires { length gaps.now ≤ MAX_TEXT }
-    ensures value { result ≡ sum_by space_count gaps.now }
-    ensures bounded { result ≤ 4294967295 * MAX_TEXT }
-{
-    let mut total = 0;
-    for new in gaps {
-        total += space_count(*new) as usize;
-    }
-    total
-}
-
-/// Room for the text with its new gaps, unless that has more than 16,777,216 bytes. The old gaps
-/// are counted too where there is room for all, so that no token is looked at.
-pub(crate) fn capacity_within_limit(scanned: &Scanned<'_>, gaps: &[u32]) -> Option<usize>
-    requires { length gaps.now ≡ length scanned.now.pairs }
-    ensures short { IfSome result (λ capacity.
-        length (whole_text (with_gaps gaps.now scanned.now.pairs) []) ≤ MAX_TEXT) }
-    ensures long { IfNone result
-        (MAX_TEXT < length (whole_text (with_gaps gaps.now scanned.now.pairs) [])) }
-{
-    let text = scanned.text();
-    let most = text.len() + total_space_count(gaps);
-    if most <= MAX_TEXT {
-        return Some(most);
-    }
-    len_within_limit(scanned, gaps)
-}
 
 fn push_spaces(out: &mut Vec<u8>, len: u32) -> Result<(), AllocError>
     ensures { OnOk result (out.new.items ≡ out.old.items ++ spaces len) }
@@ -90,7 +20,7 @@ fn push_spaces(out: &mut Vec<u8>, len: u32) -> Result<(), AllocError>
     Ok(())
 }
 
-/// The gap that a number stands for, where this one stands now.
+/// Pushes the gap that a number means, where `gap` is the old one.
 fn push_gap(out: &mut Vec<u8>, gap: &[u8], new: u32) -> Result<(), AllocError>
     ensures { OnOk result (out.new.items ≡ out.old.items ++ resolved_gap new gap.now) }
 {
@@ -101,7 +31,7 @@ fn push_gap(out: &mut Vec<u8>, gap: &[u8], new: u32) -> Result<(), AllocError>
     }
 }
 
-/// The bytes of a text from one place to another.
+/// Returns the bytes `from..to` of a text.
 fn slice(text: &[u8], from: usize, to: usize) -> &[u8]
     requires ordered { from ≤ to }
     requires within { to ≤ length text.now }
@@ -110,7 +40,7 @@ fn slice(text: &[u8], from: usize, to: usize) -> &[u8]
     &text[from..to]
 }
 
-/// The first token from number `from` on whose gap changes, or the number past the last token.
+/// Returns the first token from number `from` on whose gap changes, or the number of tokens.
 #[inline(never)]
 fn next_change(scanned: &Scanned<'_>, gaps: &[u32], from: usize) -> usize
     requires same { length gaps.now ≡ length scanned.now.pairs }
@@ -127,8 +57,8 @@ fn next_change(scanned: &Scanned<'_>, gaps: &[u32], from: usize) -> usize
     scanned.len()
 }
 
-/// The text with its new gaps, for which there is to be so much room. What stands between two gaps
-/// that change is copied at once.
+/// Returns the text with its new gaps, with this capacity. What is between two gaps that change is
+/// copied in one call.
 pub(crate) fn text_with_gaps(
     alloc: Global,
     scanned: &Scanned<'_>,

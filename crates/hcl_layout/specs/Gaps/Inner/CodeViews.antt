@@ -44,7 +44,7 @@ widths_of starts = map width_in starts
 abbrev pub tokens_in : List (Option CellStart) → List (Option ℕ)
 tokens_in starts = map token_in starts
 
--- each cell begins at a token of so many
+-- each cell begins at one of the first `count` tokens
 abbrev pub AreInside : ℕ → List (Option CellStart) → Type 0
 AreInside count [] = ⊤
 AreInside count (None ∷ starts) = AreInside count starts
@@ -67,6 +67,10 @@ abbrev pub is_comment : Kind → Bool
 is_comment LineComment = true
 is_comment InlineComment = true
 is_comment kind = false
+
+abbrev pub is_here_open : Kind → Bool
+is_here_open HereOpen = true
+is_here_open kind = false
 
 -- a token of this kind neither ends a line nor raises a flag of it, and is none of a heredoc's
 abbrev pub has_no_line_effect : Kind → Bool
@@ -92,13 +96,13 @@ has_no_line_effect kind = true
 abbrev pub are_some : (Kind → Bool) → List Pair → Bool
 are_some test pairs = list_any (λ (p : Pair). test p.kind) pairs
 
--- what a line that begins at a token tells of its tokens
+-- what the flags of a line that begins at a token say of its tokens
 pub record HasFlags (pairs : List Pair) (at : ℕ) (line : LineSpan) : Type 0 where
   pub has_bracket : line.has_bracket ≡ are_some is_bracket (slice_range pairs at line.past)
   pub has_comment : line.has_comment ≡ are_some is_comment (slice_range pairs at line.past)
   pub has_equals : line.has_equals ≡ are_some is_equal (slice_range pairs at line.past)
 
--- a token that begins such a cell may stand in a line
+-- a line can have a token that begins such a cell
 abbrev pub can_have_cell : Cell → LineSpan → Bool
 can_have_cell Assignment line = line.has_equals
 can_have_cell ClosingComment line = line.has_comment

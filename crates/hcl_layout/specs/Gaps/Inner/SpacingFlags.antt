@@ -1,15 +1,15 @@
 -- What is known of the gap between two tokens before all rows of the table are gone through. For
 -- proofs: nothing here has to be believed.
-use Rattle.std.specs.Prelude.{◌≡◌, ◌<◌, ◌≤◌, ℕ, ◌-◌, Bool, not, ◌&&◌, ◌||◌, List, [], ◌∷◌, slice_range, slice_get, Option, Some, option_map}
+use Rattle.std.specs.Prelude.{◌≡◌, ◌<◌, ◌≤◌, ℕ, ◌-◌, Bool, true, false, not, ◌&&◌, ◌||◌, List, [], ◌∷◌, slice_range, slice_get, Option, Some, option_map}
 use Rattle.hcl_token.specs.declared.kind.Kind.{Kind}
 use Rattle.hcl_token.specs.declared.kind.Kind.TheVariants.{Mark, LineEnd, LineComment, Identifier, Number, DotIndex, Minus, Star, Slash, Bang, Less, Greater, Colon, DoubleColon, Equal, OpenBrace, CloseBrace, OpenBracket, CloseBracket, OpenParen, CloseParen, Comma, Dot, Ellipsis, SeqClose, QuoteClose, InterpOpen, DirectiveOpen, QuoteLit, HereClose, HereLit}
 use Rattle.hcl_token.specs.Tokens.{Pair}
 use Rattle.hcl_token.specs.TokenizedText.{kind_of}
-use Rattle.hcl_layout.specs.Gaps.Kinds.{is_identifier, is_minus, is_star, is_open_bracket, closes_tight}
+use Rattle.hcl_layout.specs.Gaps.Kinds.{among, is_identifier}
 use Rattle.hcl_layout.specs.Gaps.Space.{prev_after_all, is_in_keyword, is_spaced}
 use Rattle.hcl_layout.specs.Gaps.Inner.Stages.{token}
 
--- what a token's kind says of the gap behind it, as flags
+-- what a token's kind says of the gap after it, as flags
 abbrev pub flags_after : Kind → ℕ
 flags_after Identifier = 153
 flags_after Number = 281
@@ -63,23 +63,27 @@ flags_before OpenBrace = 3
 flags_before DotIndex = 32
 flags_before kind = 35
 
--- a row asks for the tokens before this one
+abbrev pub is_star : Kind → Bool
+is_star Star = true
+is_star kind = false
+
+-- a row depends on the tokens before this one
 abbrev pub needs_context : Pair → Bool
-needs_context a = is_minus a.kind || (is_star a.kind || is_in_keyword a)
+needs_context a = among (Minus ∷ []) a.kind || (is_star a.kind || is_in_keyword a)
 
 -- a token of kind b closes or indexes this name, which is not `in`
 abbrev pub closes_or_indexes_name : Pair → Kind → Bool
-closes_or_indexes_name a b = is_identifier a.kind && ((closes_tight b || is_open_bracket b) && not (is_in_keyword a))
+closes_or_indexes_name a b = is_identifier a.kind && ((among (CloseParen ∷ CloseBracket ∷ SeqClose ∷ []) b || among (OpenBracket ∷ []) b) && not (is_in_keyword a))
 
--- whether a space stands between token i, of kind b, and the one before it
+-- whether there is a space between token i, of kind b, and the one before it
 abbrev pub spaced_at : List Kind → List Pair → ℕ → Kind → Option Bool
 spaced_at before pairs i b =
     option_map (λ (a : Pair). is_spaced before (token a.kind a.spelling) (token b []))
     (slice_get pairs (i - 1))
 
--- the tokens from number past on are passed over, and the one before it is not, if it is not first
+-- the tokens from number `past` on are skipped, and the one before it is not, if it is not first
 pub record IsEndOfNearest (pairs : List Pair) (first to past : ℕ) : Type 0 where
-  pub behind : first ≤ past
+  pub ordered : first ≤ past
   pub before : past ≤ to
   pub none : past ≡ first → prev_after_all (slice_range pairs first to) [] ≡ []
   pub some : first < past → (k : Kind) → Some k ≡ kind_of pairs (past - 1)

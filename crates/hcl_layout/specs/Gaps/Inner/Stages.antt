@@ -1,35 +1,35 @@
 -- The layout as the code works it out, stage by stage. For proofs: nothing here has to be believed.
-use Rattle.std.specs.Prelude.{◌≡◌, ◌<◌, ◌≤◌, drop, slice_range, ℕ, suc, ◌+◌, ◌-◌, ◌*◌, ◌==◌, Bool, true, ◌&&◌, nat_lt, List, [], ◌∷◌, length, get_or, replicate, slice_get, slice_set, ◌||◌, ◌++◌, Option, Some, None, option_map, option_and_then, if◌then◌else◌, ⊤}
+use Rattle.std.specs.Prelude.{◌≡◌, ◌<◌, ◌≤◌, drop, slice_range, ℕ, suc, ◌+◌, ◌-◌, ◌*◌, ◌==◌, Bool, true, ◌&&◌, nat_lt, max, List, [], ◌∷◌, length, get_or, replicate, slice_get, slice_set, ◌||◌, ◌++◌, Option, Some, None, option_map, option_and_then, if◌then◌else◌, ⊤}
 use Rattle.std.specs.Str.{bytes_eq}
 use Rattle.hcl_token.specs.declared.kind.Kind.{Kind}
 use Rattle.hcl_token.specs.declared.item.Item.{Item}
 use Rattle.hcl_token.specs.Tokens.{Pair}
 use Rattle.hcl_token.specs.TokenizedText.{gap_of}
 use Rattle.hcl_token.specs.Place.{is_mark}
-use Rattle.hcl_layout.specs.Gaps.Lines.{Line, heredocs_after, ends_line, lines_from}
+use Rattle.hcl_layout.specs.Gaps.Lines.{Line, heredocs_after, ends_line}
 use Rattle.hcl_layout.specs.Gaps.Indent.{openings, closings}
 use Rattle.hcl_layout.specs.Gaps.Space.{prev_after, prev_after_all, is_spaced, spaces}
 use Rattle.hcl_layout.specs.Gaps.Kinds.{is_line_end}
 use Rattle.hcl_scan.specs.Follows.{has_no_gap_before}
 use Rattle.hcl_token.specs.Joins.{joins_with}
-use Rattle.hcl_layout.specs.Gaps.Cells.{greatest}
+use Rattle.hcl_layout.specs.Gaps.Cells.{width_before, with_cell_gap}
 use Rattle.hcl_layout.specs.Gaps.Layout.{format_line}
 
 -- ---- brackets that are open
 
 -- Of each line that is open, the last first, how many openings it has beyond those of the open line
--- before it. As many are taken off as close.
+-- before it. Each that closes removes one.
 abbrev pub close_brackets : ℕ → List ℕ → List ℕ
 close_brackets left [] = []
 close_brackets left (top ∷ surplus) =
     if nat_lt left top then (top - left) ∷ surplus else close_brackets (left - top) surplus
 
--- the lines that are still open at a line that opens and closes so many brackets
+-- the lines that are still open at a line that opens and closes these numbers of brackets
 abbrev pub close_earlier : ℕ → ℕ → List ℕ → List ℕ
 close_earlier opened closed surplus =
     if nat_lt opened closed then close_brackets (closed - opened) surplus else surplus
 
--- those that are open behind it
+-- those that are open after it
 abbrev pub open_after_line : ℕ → ℕ → List ℕ → List ℕ
 open_after_line opened closed surplus =
     if nat_lt closed opened then (opened - closed) ∷ close_earlier opened closed surplus
@@ -45,13 +45,27 @@ format_lines_by_stack surplus before (line ∷ lines) =
 
 -- ---- lines
 
+-- lines with one token more before those of the first; if it is alone, its line is frozen or not
+abbrev pub prepend_to_first : Bool → Pair → List Line → List Line
+prepend_to_first frozen p [] = record { frozen = frozen; pairs = p ∷ [] } ∷ []
+prepend_to_first frozen p (line ∷ lines) = record { frozen = frozen; pairs = p ∷ line.pairs } ∷ lines
+
+-- the lines from here on, token by token: each adds to the line after it
+abbrev pub lines_from : ℕ → List Pair → List Line
+lines_from open_heredocs [] = []
+lines_from open_heredocs (p ∷ ps) =
+    if ends_line open_heredocs p.kind
+    then record { frozen = nat_lt 0 open_heredocs; pairs = p ∷ [] }
+    ∷ lines_from (heredocs_after open_heredocs p.kind) ps
+    else prepend_to_first (nat_lt 0 open_heredocs) p (lines_from (heredocs_after open_heredocs p.kind) ps)
+
 -- how many tokens the first line has
 abbrev pub line_len : ℕ → List Pair → ℕ
 line_len open_heredocs [] = 0
 line_len open_heredocs (p ∷ ps) =
     if ends_line open_heredocs p.kind then 1 else suc (line_len (heredocs_after open_heredocs p.kind) ps)
 
--- how many heredocs are open behind it
+-- how many heredocs are open after it
 abbrev pub open_heredocs_after : ℕ → List Pair → ℕ
 open_heredocs_after open_heredocs [] = open_heredocs
 open_heredocs_after open_heredocs (p ∷ ps) =
@@ -72,7 +86,24 @@ pub record SplitsLine (pairs : List Pair) (at : ℕ) (frozen : Bool) (past : ℕ
 
 -- ---- cells
 
--- how many spaces stand before each cell, where top is the greatest width of the run that the first
+-- the widths of what is before the cells, line by line; none where a line has no such cell
+abbrev pub widths : (Line → Option ℕ) → List Line → List (Option ℕ)
+widths cell [] = []
+widths cell (line ∷ lines) = width_before cell line ∷ widths cell lines
+
+-- the greatest of the widths up to the first line that has no cell
+abbrev pub greatest : List (Option ℕ) → ℕ
+greatest [] = 0
+greatest (None ∷ ws) = 0
+greatest (Some w ∷ ws) = max w (greatest ws)
+
+-- each line with its number of spaces before its cell
+abbrev pub with_cell_gaps : (Line → Option ℕ) → List (Option ℕ) → List Line → List Line
+with_cell_gaps cell (count ∷ counts) (line ∷ lines) =
+    with_cell_gap (cell line) count line ∷ with_cell_gaps cell counts lines
+with_cell_gaps cell counts lines = lines
+
+-- how many spaces are before each cell, where top is the greatest width of the run that the first
 -- is in
 abbrev pub cell_gaps_from_width : ℕ → List (Option ℕ) → List (Option ℕ)
 cell_gaps_from_width top [] = []
@@ -133,7 +164,7 @@ abbrev pub space_lens : List Kind → Pair → List Pair → List ℕ
 space_lens before a [] = []
 space_lens before a (b ∷ ps) = space_len before a b ∷ space_lens (prev_after a before) b ps
 
--- behind the first of these tokens
+-- after the first of these tokens
 abbrev pub spaces_from : List Kind → List Pair → List ℕ
 spaces_from before [] = []
 spaces_from before (a ∷ ps) = space_lens before a ps
@@ -156,7 +187,7 @@ all_gap_lens surplus before (line ∷ lines) =
     ++ all_gap_lens (open_after_line (openings line.pairs) (closings line.pairs) surplus)
     (prev_after_all line.pairs before) lines
 
--- the gap that a number stands for: that many spaces, or the one that stands there
+-- the gap that a number means: that many spaces, or the old one
 abbrev pub resolved_gap : ℕ → List ℕ → List ℕ
 resolved_gap n old = if n == KEEP_GAP then old else spaces n
 

@@ -1,8 +1,7 @@
 use Rattle.std.proofs.Common.{◌≡◌, ◌≤◌, ◌++◌, [], length, drop, reverse, slice_range}
-use Rattle.hcl_layout.specs.Gaps.Lines.{lines_from}
 use Rattle.hcl_layout.specs.Gaps.Space.{prev_after_all}
 use Rattle.hcl_layout.specs.Gaps.Inner.CodeViews.{AreLines}
-use Rattle.hcl_layout.specs.Gaps.Inner.Stages.{open_heredocs_of, all_gap_lens}
+use Rattle.hcl_layout.specs.Gaps.Inner.Stages.{lines_from, open_heredocs_of, all_gap_lens}
 use Rattle.hcl_layout.proofs.gaps.base_gaps.push_base_gaps.Given as goal
 
 abbrev pub invariant-loop-line : goal.invariant-loop-line

@@ -1,9 +1,7 @@
 use Rattle.std.proofs.Common.{take, drop, ap, ◌∙◌, arith}
 use Rattle.std.proofs.lemmas.List.{length-take-le}
-use Rattle.hcl_layout.specs.Gaps.Lines.{lines_from}
-use Rattle.hcl_layout.specs.Gaps.Cells.{widths}
 use Rattle.hcl_layout.specs.Gaps.Inner.CodeViews.{widths_of, tokens_in, cell_of}
-use Rattle.hcl_layout.specs.Gaps.Inner.Stages.{with_gaps, cell_tokens}
+use Rattle.hcl_layout.specs.Gaps.Inner.Stages.{widths, lines_from, with_gaps, cell_tokens}
 use Rattle.hcl_layout.proofs.GapsLemmas.CellGaps.{gaps_length}
 use Rattle.hcl_layout.proofs.GapsLemmas.CellCode.{aligned_gaps, first_after}
 use Rattle.hcl_layout.proofs.gaps.cells.align.Goals as goal

@@ -1,6 +1,6 @@
 use Rattle.std.proofs.Common.{arith, rules, ◌≡◌, ◌+◌, ℕ, Bool, true, false, refl, List, slice_range, Some, None, Option, cond, ◌||◌, sym, ap, ap₂, ◌∙◌}
 use Rattle.hcl_layout.proofs.GapsLemmas.CellCode.{broken, counted_cell, no_cell, frozen_none, broken_none}
-use Rattle.hcl_layout.proofs.GapsLemmas.LineLemmas.{quiet_later, quiet_comments}
+use Rattle.hcl_layout.proofs.GapsLemmas.LineFlagLemmas.{quiet_later, quiet_comments}
 use Rattle.hcl_token.specs.Tokens.{Pair}
 use Rattle.hcl_layout.specs.declared.gaps.lines.LineSpan.{LineSpan}
 use Rattle.hcl_layout.specs.declared.gaps.cells.Cell.{Cell}

@@ -1,7 +1,7 @@
 use Rattle.std.proofs.Common.{slice_range, ◌+◌, refl, sym, ◌∙◌}
 use Rattle.hcl_layout.proofs.GapsLemmas.CellCode.{found_goes, found_here, found_none, found_begins}
 use Rattle.hcl_layout.specs.Gaps.Inner.CodeViews.{starts_cell}
-use Rattle.hcl_layout.proofs.GapsLemmas.LineLemmas.{none_later}
+use Rattle.hcl_layout.proofs.GapsLemmas.LineFlagLemmas.{none_later}
 use Rattle.hcl_layout.proofs.gaps.cells.cell_token_after_first.Goals as goal
 
 pub loop-i-preserved : goal.loop-i-preserved

@@ -1,5 +1,5 @@
 use Rattle.std.proofs.Common.{◌≡◌, max, drop}
-use Rattle.hcl_layout.specs.Gaps.Cells.{greatest}
+use Rattle.hcl_layout.specs.Gaps.Inner.Stages.{greatest}
 use Rattle.hcl_layout.specs.Gaps.Inner.CodeViews.{widths_of}
 use Rattle.hcl_layout.proofs.gaps.cells.greatest.Given as goal
 

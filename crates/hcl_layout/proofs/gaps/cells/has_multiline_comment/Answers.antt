@@ -1,6 +1,6 @@
 use Rattle.std.proofs.Common.{slice_range, sym, ◌∙◌}
 use Rattle.hcl_layout.proofs.GapsLemmas.CellCode.{breaks_goes, breaks_found, breaks_none, breaks_is}
-use Rattle.hcl_layout.proofs.GapsLemmas.LineLemmas.{quiet_breaks}
+use Rattle.hcl_layout.proofs.GapsLemmas.LineFlagLemmas.{quiet_breaks}
 use Rattle.hcl_layout.proofs.gaps.cells.has_multiline_comment.Goals as goal
 
 pub returns-then-is_multiline_comment_at : goal.returns-then-is_multiline_comment_at

@@ -1,7 +1,6 @@
 use Rattle.std.proofs.Common.{◌+◌, arith, sym, ap, ◌∙◌}
-use Rattle.hcl_layout.specs.Gaps.Cells.{greatest}
 use Rattle.hcl_layout.specs.Gaps.Inner.CodeViews.{widths_of, tokens_in}
-use Rattle.hcl_layout.specs.Gaps.Inner.Stages.{set_cell_gaps, cell_gaps_from_width}
+use Rattle.hcl_layout.specs.Gaps.Inner.Stages.{greatest, set_cell_gaps, cell_gaps_from_width}
 use Rattle.std.specs.Prelude.{slice_set, drop}
 use Rattle.hcl_layout.proofs.GapsLemmas.CellCode.{cell_gap_some, cell_gap_none, inside_at, top_within}
 use Rattle.hcl_layout.proofs.gaps.cells.set_cell_gap.Goals as goal

@@ -1,7 +1,6 @@
 use Rattle.std.proofs.Common.{◌≡◌, ◌≤◌, length, drop}
-use Rattle.hcl_layout.specs.Gaps.Cells.{greatest}
 use Rattle.hcl_layout.specs.Gaps.Inner.CodeViews.{widths_of, tokens_in}
-use Rattle.hcl_layout.specs.Gaps.Inner.Stages.{set_cell_gaps, cell_gaps_from_width}
+use Rattle.hcl_layout.specs.Gaps.Inner.Stages.{greatest, set_cell_gaps, cell_gaps_from_width}
 use Rattle.hcl_layout.proofs.gaps.cells.set_cell_gaps.Given as goal
 
 abbrev pub invariant-loop-i : goal.invariant-loop-i

@@ -1,7 +1,8 @@
 use Rattle.std.proofs.Common.{slice_range, ◌≡◌, ◌≤◌, ℕ, Bool, true, false, cond, refl, ap, ◌∙◌, arith}
 use mir.Val.{bool_byte}
 use Rattle.hcl_layout.specs.Gaps.Indent.{is_opening, is_closing}
-use Rattle.hcl_layout.proofs.GapsLemmas.LineLemmas.{counted, quiet_openings, quiet_closings}
+use Rattle.hcl_layout.proofs.GapsLemmas.LineLemmas.{counted}
+use Rattle.hcl_layout.proofs.GapsLemmas.LineFlagLemmas.{quiet_openings, quiet_closings}
 use Rattle.hcl_layout.proofs.gaps.indent.count_brackets.Goals as goal
 
 one_if : (b : Bool) → bool_byte b ≡ cond b 1 0

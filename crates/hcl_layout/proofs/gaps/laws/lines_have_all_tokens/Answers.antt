@@ -1,5 +1,5 @@
-use Rattle.hcl_layout.proofs.GapsLemmas.GapLaw.{pairs_of_lines}
+use Rattle.hcl_layout.proofs.GapsLemmas.SplitLaw.{pairs_of_text}
 use Rattle.hcl_layout.proofs.gaps.laws.lines_have_all_tokens.Goals as goal
 
 pub returns : goal.returns
-returns c = pairs_of_lines 0
+returns c = pairs_of_text

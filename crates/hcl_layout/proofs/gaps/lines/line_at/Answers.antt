@@ -3,7 +3,8 @@ use mir.Val.{bool_byte}
 use Rattle.hcl_layout.specs.Gaps.Kinds.{is_equal}
 use Rattle.hcl_layout.specs.Gaps.Inner.CodeViews.{is_bracket, is_comment, are_some}
 use Rattle.hcl_layout.specs.Gaps.Inner.Stages.{open_heredocs_of, SplitsLine}
-use Rattle.hcl_layout.proofs.GapsLemmas.LineLemmas.{flag_on, flag_stays, flag_raised, plain_raises, plain_ends, plain_holds, busy_holds, busy_alone, equal_holds, equal_alone, ends_alone, none_there, IsInLine, in_line_begins, in_line_goes, line_ends, text_ends}
+use Rattle.hcl_layout.proofs.GapsLemmas.LineLemmas.{none_there, IsInLine, in_line_begins, in_line_goes, line_ends, text_ends}
+use Rattle.hcl_layout.proofs.GapsLemmas.LineFlagLemmas.{flag_on, flag_stays, flag_raised, plain_raises, plain_ends, plain_holds, busy_holds, busy_alone, equal_holds, equal_alone, ends_alone}
 use Rattle.hcl_layout.proofs.gaps.lines.line_at.Goals as goal
 
 begins_as : (frozen : Bool) → open_heredocs_of frozen ≡ bool_byte frozen

@@ -1,7 +1,7 @@
 use Rattle.std.proofs.Common.{◌<◌, ◌-◌, [], slice_range, bit_and, ap₂, subst, arith}
 use Rattle.hcl_layout.specs.Gaps.Space.{prev_after_all}
-use Rattle.hcl_layout.proofs.GapsLemmas.RowLemmas.{flags_decide_space}
-use Rattle.hcl_layout.proofs.gaps.space.gap_len.Goals as goal
+use Rattle.hcl_layout.proofs.GapsLemmas.FlagLemmas.{flags_decide_space}
+use Rattle.hcl_layout.proofs.gaps.spacing_flags.gap_len.Goals as goal
 
 pub returns-else-flags-eq0-2-clause-value : goal.returns-else-flags-eq0-2-clause-value
 returns-else-flags-eq0-2-clause-value c =

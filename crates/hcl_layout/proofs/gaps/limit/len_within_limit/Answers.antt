@@ -2,7 +2,7 @@ use Rattle.std.proofs.Common.{arith}
 use Rattle.hcl_layout.proofs.GapsLemmas.Copied.{item_order, item_turn}
 use Rattle.hcl_layout.proofs.GapsLemmas.EditLemmas.{length_end}
 use Rattle.hcl_layout.proofs.GapsLemmas.Few.{few_tokens}
-use Rattle.hcl_layout.proofs.gaps.text.len_within_limit.Goals as goal
+use Rattle.hcl_layout.proofs.gaps.limit.len_within_limit.Goals as goal
 
 pub token_len-total-requires-clause-gap : goal.token_len-total-requires-clause-gap
 token_len-total-requires-clause-gap c = (item_order c.args.scanned.now.pairs c.loop-i.i c.item.result (omega (arith, c.loop-i-test.true, c.len-i-end.ensures.value)) c.item.ensures).0

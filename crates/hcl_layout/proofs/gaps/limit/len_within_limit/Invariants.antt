@@ -1,7 +1,7 @@
 use Rattle.std.proofs.Common.{◌≡◌, ◌+◌, ◌*◌, ◌≤◌, length, drop, []}
 use Rattle.hcl_token.specs.Tokens.{whole_text}
 use Rattle.hcl_layout.specs.Gaps.Inner.Stages.{with_gaps}
-use Rattle.hcl_layout.proofs.gaps.text.len_within_limit.Given as goal
+use Rattle.hcl_layout.proofs.gaps.limit.len_within_limit.Given as goal
 
 abbrev pub invariant-loop-i : goal.invariant-loop-i
 invariant-loop-i l = record {
