@@ -17,7 +17,7 @@ pub fn same_kind(a: Kind, b: Kind) -> bool
     a == b
 }
 
-/// Whether a token of this kind is passed over.
+/// Whether a token of this kind is skipped.
 fn is_skipped(skip_newlines: bool, kind: Kind) -> bool
     ensures { result ≡ tokens.is_skipped skip_newlines kind }
 {

@@ -1,6 +1,6 @@
 //! A text, as it is read at one place: its next token, and constructs that open there.
 //!
-//! What a place is stands in `specs/Rules`. The place itself goes beside the reader, as `at`.
+//! `specs/ReaderRules` says what a place is. The place itself is an argument, `at`.
 
 ghost use Rattle.std.specs.Prelude.{◌≡◌, ◌<◌, ◌+◌, ◌^◌, true, false, length, slice_get, OnSome};
 ghost use Rattle.hcl_expr.specs.ReaderRules as spec;
@@ -205,8 +205,8 @@ impl<'s, 't> Reader<'s, 't> {
         lookahead::is_word(self.scanned, number, word)
     }
 
-    /// The number of the first token of what stands between two places; the first place, if nothing
-    /// does.
+    /// Returns the number of the first token between two places; the first place, if they are
+    /// equal.
     #[tactic(auto, unfolding(hcl_grammar::specs::Tokens::first_token_in))]
     pub fn first_token_in(&self, from: usize, to: usize) -> usize
         ensures { result ≡ tokens.first_token_in self.now.tokens self.now.skip_newlines from to }
