@@ -84,7 +84,7 @@ impl<'s, 't> Reader<'s, 't> {
         Ok(false)
     }
 
-    /// Refuses a token that comes next.
+    /// Returns an error if a token comes next.
     pub fn expect_end(&self, at: &mut usize) -> Result<(), TokenFault>
         ensures { ReadsExactly (spec.expect_end self.now at.old) result at.new }
     {
