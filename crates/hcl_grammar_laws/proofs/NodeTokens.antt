@@ -1,13 +1,13 @@
 -- Each node of a tree is derived by its own tokens, and its numbers are those of tokens.
 use Rattle.std.proofs.Common.{◌≡◌, ℕ, zero, suc, ◌<◌, ◌≤◌, Bool, true, false, List, [], ◌∷◌, length, slice_get, Option, Some, refl, sym, ap, ◌∙◌, subst, arith}
 use Rattle.std.specs.List.{AllByRecursion}
-use Rattle.std.specs.Option.{IfSome}
+use Rattle.std.specs.Prelude.{IfSome}
 use Rattle.hcl_token.specs.declared.kind.Kind.{Kind}
 use Rattle.hcl_token.specs.declared.kind.Kind.TheVariants as k
 use Rattle.hcl_grammar.specs.declared.tree.Attribute.{Attribute}
 use Rattle.hcl_grammar.specs.declared.tree.Block.{Block}
 use Rattle.hcl_grammar.specs.declared.tree.Expr.{Expr}
-use Rattle.hcl_grammar.specs.declared.tree.ForDirective.{ForDirective}
+use Rattle.hcl_grammar.specs.declared.tree.ForDirective.{ForDirective, roll-ForDirective}
 use Rattle.hcl_grammar.specs.declared.tree.IfDirective.{IfDirective, roll-IfDirective}
 use Rattle.hcl_grammar.specs.declared.tree.Intro.{Intro}
 use Rattle.hcl_grammar.specs.declared.tree.Label.{Label}
@@ -43,6 +43,12 @@ Bounds ts s = (s.0 ≤ s.1) × (s.1 ≤ length ts)
 abbrev AreTokens : List Token → List ℕ → Type 0
 AreTokens ts is = AllByRecursion (λ i. i < length ts) is
 
+abbrev rolled_if : ℕ → ℕ → Expr → Template → Option Template → IfDirective
+rolled_if first past c t u = roll-IfDirective (record { first = first; past = past; condition = c; then_branch = t; else_branch = u })
+
+abbrev rolled_for : ℕ → ℕ → Intro → Template → ForDirective
+rolled_for first past i t = roll-ForDirective (record { first = first; past = past; intro = i; body = t })
+
 module _ {ts : List Token} where
   -- ---- what a node takes
 
@@ -76,29 +82,35 @@ module _ {ts : List Token} where
 
   -- ---- a part and a member, each by its own tokens
 
-  is_literal : (i : ℕ) {d : ℕ} {m : Bool} → IsPart ts d m (part.Literal i) i (suc i) → IsDerived ts (n.part (part.Literal i))
+  is_literal : {d : ℕ} {m : Bool} (i : ℕ) → IsPart ts d m (part.Literal i) i (suc i) → IsDerived ts (n.part (part.Literal i))
   is_literal i w = record { from = i; to = suc i; derived = is_part w; own = subst (λ (l : PartLayer). IfSome (n.part_span l) (λ s. (s.0 ≡ i) × (s.1 ≡ suc i))) (sym (open_literal i)) (refl, refl) }
 
+  is_if : {d : ℕ} {m : Bool} (a b : ℕ) (c : Expr) (t : Template) (u : Option Template) → IsPart ts d m (node.if_part a b c t u) a b → IsDerived ts (n.part (node.if_part a b c t u))
+  unfolding node.if_part
+  is_if a b c t u w = record {
+    from = a;
+    to = b;
+    derived = is_part w;
+    own = subst (λ (z : PartLayer). IfSome (n.part_span z) (λ s. (s.0 ≡ a) × (s.1 ≡ b))) (sym (open_if (rolled_if a b c t u))) (if_directive_first a b c t u, if_directive_past a b c t u);
+  }
+
+  is_for : {d : ℕ} {m : Bool} (a b : ℕ) (i : Intro) (t : Template) → IsPart ts d m (node.for_part a b i t) a b → IsDerived ts (n.part (node.for_part a b i t))
+  unfolding node.for_part
+  is_for a b i t w = record {
+    from = a;
+    to = b;
+    derived = is_part w;
+    own = subst (λ (z : PartLayer). IfSome (n.part_span z) (λ s. (s.0 ≡ a) × (s.1 ≡ b))) (sym (open_for (rolled_for a b i t))) (refl, refl);
+  }
+
   part_derived : {d : ℕ} {m : Bool} {x : Part} {i j : ℕ} → IsPart ts d m x i j → IsDerived ts (n.part x)
-  unfolding node.if_part node.for_part after_next
-  part_derived (quote_text {m} {i} p) = is_literal (next_index ts m i) (own_part (quote_text p))
-  part_derived (here_text {m} {i} p) = is_literal (next_index ts m i) (own_part (here_text p))
+  unfolding after_next
+  part_derived {d} (quote_text {m} {i} p) = is_literal {d} {m} (next_index ts m i) (own_part (quote_text p))
+  part_derived {d} (here_text {m} {i} p) = is_literal {d} {m} (next_index ts m i) (own_part (here_text p))
   part_derived (interp {e} {i} {j} p x q) =
       record { from = i; to = after_next ts true j; derived = is_part (interp p x q); own = subst (λ (l : PartLayer). IfSome (n.part_span l) (λ s. (s.0 ≡ i) × (s.1 ≡ after_next ts true j))) (sym (open_interp e)) tt }
-  part_derived (if_directive {m} {i} {l} p w c q ps o) =
-      record {
-        from = next_index ts m i;
-        to = l;
-        derived = is_part (own_part (if_directive p w c q ps o));
-        own = subst (λ (z : PartLayer). IfSome (n.part_span z) (λ s. (s.0 ≡ next_index ts m i) × (s.1 ≡ l))) (sym (open_if _)) (if_directive_first _ _ _ _ _, if_directive_past _ _ _ _ _);
-      }
-  part_derived (for_directive {m} {i} {l} p y q ps e) =
-      record {
-        from = next_index ts m i;
-        to = l;
-        derived = is_part (own_part (for_directive p y q ps e));
-        own = subst (λ (z : PartLayer). IfSome (n.part_span z) (λ s. (s.0 ≡ next_index ts m i) × (s.1 ≡ l))) (sym (open_for _)) (refl, refl);
-      }
+  part_derived (if_directive p w c q ps o) = is_if _ _ _ _ _ (own_part (if_directive p w c q ps o))
+  part_derived (for_directive p y q ps e) = is_for _ _ _ _ (own_part (for_directive p y q ps e))
 
   is_attribute : {d : ℕ} (x : Attribute) → IsMembers ts d (member.Attribute x ∷ []) x.first x.past → IsDerived ts (n.member (member.Attribute x))
   is_attribute x w =
@@ -194,23 +206,21 @@ module _ {ts : List Token} where
   literal_within : (i : ℕ) → i < length ts → AreNumbersWithin (length ts) (n.part (part.Literal i))
   literal_within i h = record {
     tokens = subst (λ (l : PartLayer). AreTokens ts (n.part_numbers l)) (sym (open_literal i)) (h, tt);
-    span = subst (λ (l : PartLayer). IfSome (n.part_span l) (Bounds ts)) (sym (open_literal i)) (omega arith, h);
+    span = subst (λ (l : PartLayer). IfSome (n.part_span l) (Bounds ts)) (sym (open_literal i)) (omega arith, omega (arith, h));
   }
 
   if_within : (a b : ℕ) (c : Expr) (t : Template) (u : Option Template) → Takes ts a b → AreNumbersWithin (length ts) (n.part (node.if_part a b c t u))
   unfolding node.if_part
-  if_within a b c t u s =
-      let x : IfDirective = roll-IfDirective (record { first = a; past = b; condition = c; then_branch = t; else_branch = u }) in
-      record {
-        tokens = subst (λ (l : PartLayer). AreTokens ts (n.part_numbers l)) (sym (open_if x)) (rw (if_directive_first a b c t u) (first_fits s, tt));
-        span = subst (λ (l : PartLayer). IfSome (n.part_span l) (Bounds ts)) (sym (open_if x)) (rw (if_directive_first a b c t u, if_directive_past a b c t u) (bounds s));
-      }
+  if_within a b c t u s = record {
+    tokens = subst (λ (l : PartLayer). AreTokens ts (n.part_numbers l)) (sym (open_if (rolled_if a b c t u))) (rw (if_directive_first a b c t u) (first_fits s, tt));
+    span = subst (λ (l : PartLayer). IfSome (n.part_span l) (Bounds ts)) (sym (open_if (rolled_if a b c t u))) (rw (if_directive_first a b c t u, if_directive_past a b c t u) (bounds s));
+  }
 
   for_within : (a b : ℕ) (i : Intro) (t : Template) → Takes ts a b → AreNumbersWithin (length ts) (n.part (node.for_part a b i t))
   unfolding node.for_part
   for_within a b i t s = record {
-    tokens = subst (λ (l : PartLayer). AreTokens ts (n.part_numbers l)) (sym (open_for _)) (first_fits s, tt);
-    span = subst (λ (l : PartLayer). IfSome (n.part_span l) (Bounds ts)) (sym (open_for _)) (bounds s);
+    tokens = subst (λ (l : PartLayer). AreTokens ts (n.part_numbers l)) (sym (open_for (rolled_for a b i t))) (first_fits s, tt);
+    span = subst (λ (l : PartLayer). IfSome (n.part_span l) (Bounds ts)) (sym (open_for (rolled_for a b i t))) (bounds s);
   }
 
   part_within : {d : ℕ} {m : Bool} {x : Part} {i j : ℕ} → IsPart ts d m x i j → AreNumbersWithin (length ts) (n.part x)
