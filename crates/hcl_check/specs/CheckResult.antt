@@ -1,4 +1,5 @@
--- For proofs: what an answer has to be that says whether there is a tree; and which fault is that too much nests.
+-- For proofs: what an answer has to be that says whether there is a tree; and which error is that
+-- too much nests.
 use Rattle.std.specs.Prelude.{◌≡◌, ◌≢◌, ℕ, List, Result, Ok, IfErr, OnOk}
 use Rattle.hcl_grammar.specs.declared.fault.TokenFault.{TokenFault}
 use Rattle.hcl_grammar.specs.declared.fault.TokenFault.TheVariants as token
@@ -14,18 +15,18 @@ IsDeep (token.TooDeep at) = Unit {0}
 IsDeep (token.Syntax at) = ⊥
 IsDeep token.Memory = ⊥
 
--- the same of a fault by its byte
+-- too much nests, of an error by its byte
 abbrev pub IsTooDeep : ParseFault → Type 0
 IsTooDeep (fault.TooDeep at) = Unit {0}
 IsTooDeep (fault.Syntax at) = ⊥
 IsTooDeep fault.Memory = ⊥
 
 pub record IsCheckResult (ts : List Token) (b : ℕ) (answer : Result (Unit {0}) TokenFault) : Type 0 where
-  -- where there is no fault, a tree is derived
+  -- where there is no error, a tree is derived
   pub derived : OnOk answer ((t : Tree) × IsFile ts b t)
-  -- where a tree is derived, there is no fault
+  -- where a tree is derived, there is no error
   pub only : (t : Tree) → IsFile ts b t → answer ≡ Ok tt
-  -- where one is derived with whatever nesting, there is no fault, or it nests too deep
+  -- where one is derived with whatever nesting, there is no error, or it nests too deep
   pub deeper : (d : ℕ) (t : Tree) → IsFile ts d t → IfErr answer IsDeep
   -- no memory is taken, so that it does not run out
   pub no_memory : IfErr answer (λ e. e ≢ token.Memory)

@@ -78,7 +78,7 @@ module _ (t : ReaderState) where
   abbrev pub whole : Step Expr
   whole = p.whole t.tokens t.depth (p.deeper t.tokens t.depth) t.skip_newlines
 
-  -- behind the condition, which begins at token `first`
+  -- after the condition, which begins at token `first`
   abbrev pub conditional : ℕ → Expr → Step Expr
   conditional first c = do
     opening ← r.peek_index t.tokens t.skip_newlines
@@ -106,7 +106,7 @@ module _ (t : ReaderState) where
   climb_levels n first head =
       climb.climb_levels t.tokens t.depth (p.deeper t.tokens t.depth) n t.skip_newlines first head
 
-  -- behind the first operand of an expression, which begins at token `first`
+  -- after the first operand of an expression, which begins at token `first`
   abbrev pub after_operand : ℕ → Expr → Step Expr
   after_operand first head = do
     condition ← climb_levels levels first head
@@ -115,7 +115,7 @@ module _ (t : ReaderState) where
   abbrev pub unary : Step Expr
   unary = p.unary t.tokens t.depth (p.deeper t.tokens t.depth) t.skip_newlines
 
-  -- behind the operator before it, which is token `first`
+  -- after the operator before it, which is token `first`
   abbrev pub unary_with : ℕ → UnaryOperator → Step Expr
   unary_with first op =
       p.unary_by t.tokens t.depth (p.deeper t.tokens t.depth) t.skip_newlines first (Some op)
@@ -136,7 +136,7 @@ module _ (t : ReaderState) where
   abbrev pub bracket_tail : ℕ → Step Tail
   bracket_tail first = p.bracket_tail t.tokens t.depth (p.deeper t.tokens t.depth) first
 
-  -- a term, behind its first token, which is of this kind
+  -- a term, after its first token, which is of this kind
   abbrev pub term_by : ℕ → Kind → Step Term
   term_by first kind =
       p.term_by t.tokens t.depth (p.deeper t.tokens t.depth) t.skip_newlines first kind
@@ -176,7 +176,7 @@ module _ (t : ReaderState) where
   heredoc first =
       p.heredoc t.tokens t.depth (p.deeper t.tokens t.depth) t.skip_newlines first
 
-  -- the arguments of a call in this construct, which stand in its brackets
+  -- the arguments of a call in this construct, in its brackets
   abbrev pub arguments_from : ℕ → List Expr → Step (List Expr × Bool)
   arguments_from fuel found =
       p.arguments_from t.tokens (p.expr t.tokens t.depth) fuel found
@@ -212,7 +212,7 @@ module _ (t : ReaderState) where
   abbrev pub second_name : Step (Option ℕ)
   second_name = p.second_name t.tokens
 
--- what stands in a construct that was opened, each behind its opening
+-- the content of a construct that was opened, each after its opening
 module _ (t : ReaderState) where
   abbrev pub next_is_word : List ℕ → ℕ → Bool
   next_is_word expect_word i = r.next_is_word t.tokens t.skip_newlines expect_word i
@@ -229,7 +229,7 @@ module _ (t : ReaderState) where
   abbrev pub element : Step Elem
   element = p.element t.tokens (p.expr t.tokens t.depth)
 
-  -- what stands behind the key
+  -- what follows the key
   abbrev pub element_value : Step Expr
   element_value = do
     is_equals ← r.eat t.tokens false k.Equal
@@ -270,7 +270,7 @@ module _ (t : ReaderState) where
   template_until close =
       p.template_until t.tokens (suc t.depth) (p.under t.tokens t.depth) t.skip_newlines close
 
-  -- what stands where the condition of an `if` directive does not hold
+  -- the `else` of an `if` directive, if it has one, and its end
   abbrev pub else_and_endif : Step (Option Template)
   else_and_endif = p.else_and_endif t.tokens (suc t.depth) (p.under t.tokens t.depth) t.skip_newlines
 

@@ -1,4 +1,4 @@
-//! Lists and comprehensions: what stands in a construct that was opened.
+//! Lists and comprehensions: the content of a construct that was opened.
 
 ghost use Rattle.hcl_grammar.specs.Pure.Reading.{Reads};
 ghost use Rattle.hcl_expr.specs.ReaderRules as spec;
@@ -11,8 +11,8 @@ use hcl_grammar::{Boxed, Items, nodes};
 use hcl_token::Kind;
 
 impl<'s, 't> Reader<'s, 't> {
-    /// The arguments of a call and the parenthesis behind them; whether `...` stands behind the
-    /// last.
+    /// Takes the arguments of a call and the parenthesis after them. The flag says whether `...`
+    /// follows the last.
     #[cycle(nest)]
     pub fn arguments(&self, at: &mut usize) -> Result<(Items<Expr>, bool), TokenFault>
         ensures { Reads (spec.arguments self.now at.old) result at.new }
@@ -33,7 +33,7 @@ impl<'s, 't> Reader<'s, 't> {
         Err(bracketed.syntax_fault(*at))
     }
 
-    /// Expressions and the closing bracket behind them.
+    /// Takes expressions and the closing bracket after them.
     #[cycle(nest)]
     fn tuple_items(&self, at: &mut usize) -> Result<Items<Expr>, TokenFault>
         ensures { Reads (spec.tuple_items self.now at.old) result at.new }
@@ -53,7 +53,7 @@ impl<'s, 't> Reader<'s, 't> {
         Err(bracketed.syntax_fault(*at))
     }
 
-    /// What stands behind the key of an element.
+    /// Takes what follows the key of an element: `=` or `:`, and the value.
     #[cycle(nest)]
     fn element_value(&self, at: &mut usize) -> Result<Expr, TokenFault>
         ensures { Reads (spec.element_value self.now at.old) result at.new }
@@ -65,7 +65,7 @@ impl<'s, 't> Reader<'s, 't> {
         lines.expr(Goal::Whole, at)
     }
 
-    /// A key of an object and its value.
+    /// Takes a key of an object and its value.
     #[cycle(nest)]
     #[tactic(auto, unfolding(hcl_grammar::specs::Pure::Parser::element))]
     fn element(&self, at: &mut usize) -> Result<Elem, TokenFault>
@@ -76,7 +76,7 @@ impl<'s, 't> Reader<'s, 't> {
         Ok(nodes::elem(key, value))
     }
 
-    /// Keys with their values, and the closing brace behind them.
+    /// Takes keys with their values, and the closing brace after them.
     #[cycle(nest)]
     fn elements(&self, at: &mut usize) -> Result<Items<Elem>, TokenFault>
         ensures { Reads (spec.elements self.now at.old) result at.new }
@@ -95,7 +95,7 @@ impl<'s, 't> Reader<'s, 't> {
         Err(lines.syntax_fault(*at))
     }
 
-    /// What a `for` begins with, up to the colon.
+    /// Takes what a `for` begins with, up to the colon.
     #[cycle(nest)]
     #[tactic(auto, unfolding(hcl_grammar::specs::Pure::Parser::intro))]
     fn intro(&self, at: &mut usize) -> Result<Intro, TokenFault>
@@ -112,7 +112,7 @@ impl<'s, 't> Reader<'s, 't> {
         Ok(nodes::intro(first, *at, name, second, collection))
     }
 
-    /// The same, in memory of its own.
+    /// Takes what a `for` begins with, up to the colon, and puts it in memory of its own.
     #[cycle(nest)]
     pub fn boxed_intro(&self, at: &mut usize) -> Result<Boxed<Intro>, TokenFault>
         ensures { Reads (spec.intro self.now at.old) result at.new }
@@ -121,7 +121,7 @@ impl<'s, 't> Reader<'s, 't> {
         Ok(Boxed::new(self.alloc(), intro)?)
     }
 
-    /// The condition of a `for`, if it has one, and the bracket that closes it.
+    /// Takes the condition of a `for`, if it has one, and the bracket that closes it.
     #[cycle(nest)]
     #[tactic(auto, unfolding(hcl_grammar::specs::Pure::Parser::filter))]
     fn filter(&self, close: Kind, at: &mut usize) -> Result<Option<Boxed<Expr>>, TokenFault>
@@ -137,7 +137,7 @@ impl<'s, 't> Reader<'s, 't> {
         Ok(Some(condition))
     }
 
-    /// A tuple, after its bracket.
+    /// Takes the rest of a tuple, after its bracket.
     #[cycle(nest)]
     #[tactic(auto, unfolding(hcl_grammar::specs::Pure::Parser::tuple))]
     pub fn tuple(&self, first: usize, at: &mut usize) -> Result<Term, TokenFault>
@@ -148,7 +148,7 @@ impl<'s, 't> Reader<'s, 't> {
         nodes::term(first, *at, Primary::Tuple(found))
     }
 
-    /// An object, after its brace.
+    /// Takes the rest of an object, after its brace.
     #[cycle(nest)]
     #[tactic(auto, unfolding(hcl_grammar::specs::Pure::Parser::object))]
     pub fn object(&self, first: usize, at: &mut usize) -> Result<Term, TokenFault>
@@ -160,7 +160,7 @@ impl<'s, 't> Reader<'s, 't> {
         nodes::term(first, *at, Primary::Object(found))
     }
 
-    /// A `for` in brackets, after the bracket.
+    /// Takes the rest of a `for` in brackets, after the bracket.
     #[cycle(nest)]
     #[tactic(auto, unfolding(hcl_grammar::specs::Pure::Parser::for_tuple))]
     pub fn for_tuple(&self, first: usize, at: &mut usize) -> Result<Term, TokenFault>
@@ -175,7 +175,7 @@ impl<'s, 't> Reader<'s, 't> {
         nodes::term(first, *at, shape)
     }
 
-    /// A `for` in braces, after its key.
+    /// Takes the rest of a `for` in braces, after its key.
     #[cycle(nest)]
     #[tactic(auto, unfolding(hcl_grammar::specs::Pure::Parser::for_value))]
     fn for_value(
@@ -197,7 +197,7 @@ impl<'s, 't> Reader<'s, 't> {
         nodes::term(first, *at, shape)
     }
 
-    /// A `for` in braces, after the brace.
+    /// Takes the rest of a `for` in braces, after the brace.
     #[cycle(nest)]
     #[tactic(auto, unfolding(hcl_grammar::specs::Pure::Parser::for_object))]
     pub fn for_object(&self, first: usize, at: &mut usize) -> Result<Term, TokenFault>

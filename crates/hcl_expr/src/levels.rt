@@ -21,7 +21,7 @@ use hcl_token::Kind;
 /// How many levels of operators there are.
 const LEVELS: usize = 6;
 
-/// The level of an operator; past all levels, if it is none.
+/// Returns the level of an operator; `LEVELS`, if it is none.
 fn level_of_kind(kind: Kind) -> usize
     ensures { result ≡ climb.level_of_operator (operators.binary_operator kind) }
 {
@@ -48,7 +48,7 @@ impl<'s, 't> Reader<'s, 't> {
         }
     }
 
-    /// The level of the operator that comes next; past all levels, if none does.
+    /// Returns the level of the operator that comes next; `LEVELS`, if none does.
     #[tactic(auto, unfolding(hcl_grammar::specs::Pure::Climb::next_level))]
     fn next_level(&self, at: usize) -> usize
         ensures { result ≡ spec.next_level self.now at }
@@ -59,7 +59,7 @@ impl<'s, 't> Reader<'s, 't> {
         }
     }
 
-    /// An expression, or an operand.
+    /// Takes an expression, or an operand.
     #[cycle(nest)]
     pub fn expr(&self, goal: Goal, at: &mut usize) -> Result<Expr, TokenFault>
         ensures { Reads (spec.expr self.now goal at.old) result at.new }
@@ -70,7 +70,7 @@ impl<'s, 't> Reader<'s, 't> {
         }
     }
 
-    /// The same, in memory of its own.
+    /// Takes an expression, or an operand, and puts it in memory of its own.
     #[cycle(nest)]
     pub fn boxed_expr(&self, goal: Goal, at: &mut usize) -> Result<Boxed<Expr>, TokenFault>
         ensures { Reads (spec.expr self.now goal at.old) result at.new }
@@ -91,7 +91,7 @@ impl<'s, 't> Reader<'s, 't> {
         }
     }
 
-    /// A whole expression. Most are one operand, which one look behind it tells.
+    /// Takes a whole expression. Most are one operand, as one look after it shows.
     #[cycle(nest)]
     fn whole(&self, at: &mut usize) -> Result<Expr, TokenFault>
         ensures { Reads (spec.whole self.now at.old) result at.new }
@@ -105,7 +105,7 @@ impl<'s, 't> Reader<'s, 't> {
         self.after_operand(self.next_index(from), head, at)
     }
 
-    /// What stands behind the first operand of an expression, which begins at token `first`:
+    /// Takes what follows the first operand of an expression, which begins at token `first`:
     /// operators of all levels, and a conditional.
     #[cycle(nest)]
     #[inline(never)]
@@ -116,7 +116,8 @@ impl<'s, 't> Reader<'s, 't> {
         self.conditional(first, condition, at)
     }
 
-    /// A conditional, behind its condition; where no `?` comes next, the condition alone.
+    /// Takes the rest of a conditional, after its condition; returns the condition alone, if no `?`
+    /// comes next.
     #[cycle(nest)]
     fn conditional(&self, first: usize, condition: Expr, at: &mut usize) -> Result<Expr, TokenFault>
         ensures { Reads (spec.conditional self.now first condition at.old) result at.new }
@@ -137,8 +138,8 @@ impl<'s, 't> Reader<'s, 't> {
         )
     }
 
-    /// An operand, with the operators of the levels below `level` behind it. Where none follows, no
-    /// level is gone into.
+    /// Takes an operand, followed by operators of the levels below `level`. Where none follows, no
+    /// level is looked at.
     #[cycle(nest)]
     fn level(&self, level: usize, at: &mut usize) -> Result<Expr, TokenFault>
         requires { level ≤ 6 }
@@ -154,8 +155,8 @@ impl<'s, 't> Reader<'s, 't> {
         self.climb_levels(from, level, self.next_index(before), head, at)
     }
 
-    /// The operators of the levels below `level`, behind an operand that was read; `from` is the
-    /// level of the next one.
+    /// Takes the operators of the levels below `level`, after an operand that was read; `from` is
+    /// the level of the next one.
     #[cycle(nest)]
     #[tactic(auto, unfolding(hcl_grammar::specs::Pure::Climb::climb_levels))]
     fn climb_levels(
@@ -179,7 +180,7 @@ impl<'s, 't> Reader<'s, 't> {
         nodes::binary(self.alloc(), first, *at, lower, links)
     }
 
-    /// The operators of the level that come next, each with the operand behind it.
+    /// Takes the operators of the level that come next, each with its second operand.
     #[cycle(nest)]
     fn operations(&self, level: usize, at: &mut usize) -> Result<Items<Operation>, TokenFault>
         requires { level ≤ 6 }
@@ -196,7 +197,7 @@ impl<'s, 't> Reader<'s, 't> {
         Ok(found)
     }
 
-    /// An operand behind the operator before it, which is token `first`.
+    /// Takes an operand, after the operator before it, which is token `first`.
     #[cycle(nest)]
     #[inline(never)]
     fn unary_with(
@@ -211,8 +212,8 @@ impl<'s, 't> Reader<'s, 't> {
         nodes::expr(first, *at, ExprKind::Unary(operator, operand))
     }
 
-    /// An operand: a term with its tails, or one with an operator before it. Its first token is
-    /// looked at once. (Inlined, so that its answer is not copied once more.)
+    /// Takes an operand: a term with its tails, or one with an operator before it. Its first token
+    /// is looked at once. (Inlined, so that its answer is not copied once more.)
     #[cycle(nest)]
     #[inline(always)]
     #[tactic(auto, unfolding(hcl_grammar::specs::Pure::Parser::unary, hcl_grammar::specs::Pure::Parser::eat_unary_operator, hcl_grammar::specs::Pure::Parser::post, hcl_grammar::specs::Pure::Parser::term, hcl_grammar::specs::Pure::Reading::bump, hcl_grammar::specs::Tokens::after_next))]

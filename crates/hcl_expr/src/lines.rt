@@ -33,8 +33,8 @@ impl<'s, 't> Reader<'s, 't> {
         is_line
     }
 
-    /// Takes a line end with the comment before it, if one of them comes next. Behind a comment
-    /// there must be a line end.
+    /// Takes a line end with the comment before it, if one of them comes next. A comment must
+    /// be followed by a line end.
     #[tactic(auto, unfolding(hcl_grammar::specs::Pure::Parser::eat_inner_newline))]
     pub fn eat_inner_newline(&self, at: &mut usize) -> Result<bool, TokenFault>
         ensures { ReadsExactly (spec.eat_inner_newline self.now at.old) result at.new }
@@ -84,7 +84,7 @@ impl<'s, 't> Reader<'s, 't> {
         Ok(false)
     }
 
-    /// Refuses a token that comes next.
+    /// Returns an error if a token comes next.
     pub fn expect_end(&self, at: &mut usize) -> Result<(), TokenFault>
         ensures { ReadsExactly (spec.expect_end self.now at.old) result at.new }
     {

@@ -7,7 +7,7 @@ ghost use Rattle.hcl_scan.specs.Follows.{tokens_of};
 use hcl_scan::Scanned;
 use hcl_token::Kind;
 
-/// `==` on kinds, with what each answer means.
+/// Whether two kinds are the same: `==`, with what each answer means.
 #[tactic(auto, unfolding(hcl_grammar::specs::Tokens::same_kind))]
 pub fn same_kind(a: Kind, b: Kind) -> bool
     ensures value { result ≡ tokens.same_kind a b }
@@ -17,7 +17,7 @@ pub fn same_kind(a: Kind, b: Kind) -> bool
     a == b
 }
 
-/// Whether a token of this kind is passed over.
+/// Whether a token of this kind is skipped.
 fn is_skipped(skip_newlines: bool, kind: Kind) -> bool
     ensures { result ≡ tokens.is_skipped skip_newlines kind }
 {
@@ -28,7 +28,7 @@ fn is_skipped(skip_newlines: bool, kind: Kind) -> bool
     }
 }
 
-/// The number of the next token that is not dropped, and its kind; the number of all tokens, if
+/// Returns the number of the next token that is not dropped, and its kind; the number of tokens, if
 /// there is none.
 #[tactic(auto, using(crate::proofs::Places::places), unfolding(hcl_grammar::specs::Tokens::next_kind, hcl_grammar::specs::Tokens::next_token))]
 pub fn next_token(scanned: &Scanned<'_>, skip_newlines: bool, at: usize) -> (usize, Option<Kind>)

@@ -1,6 +1,6 @@
 //! A text, as it is read at one place: its next token, and constructs that open there.
 //!
-//! What a place is stands in `specs/Rules`. The place itself goes beside the reader, as `at`.
+//! `specs/ReaderRules` says what a place is. The place itself is an argument, `at`.
 
 ghost use Rattle.std.specs.Prelude.{◌≡◌, ◌<◌, ◌+◌, ◌^◌, true, false, length, slice_get, OnSome};
 ghost use Rattle.hcl_expr.specs.ReaderRules as spec;
@@ -43,7 +43,7 @@ impl<'s, 't> Model for Reader<'s, 't> {
 }
 
 impl<'s, 't> Reader<'s, 't> {
-    /// The text as it is read outside of all constructs.
+    /// Returns a reader of the text outside of all constructs.
     pub fn new(alloc: Global, scanned: &'s Scanned<'t>) -> Reader<'s, 't>
         ensures { result ≡ record {
           tokens = tokens_of scanned.now.pairs;
@@ -59,19 +59,19 @@ impl<'s, 't> Reader<'s, 't> {
         }
     }
 
-    /// Memory for nodes.
+    /// Returns the allocator of nodes.
     pub fn alloc(&self) -> Global {
         self.alloc
     }
 
-    /// How many tokens the text has.
+    /// Returns the number of tokens.
     pub fn len(&self) -> usize
         ensures { result ≡ length self.now.tokens }
     {
         self.scanned.len()
     }
 
-    /// The number of the next token that is not dropped, and its kind; the number of all tokens, if
+    /// Returns the number of the next token that is not dropped, and its kind; the number of tokens, if
     /// there is none.
     pub fn next_token(&self, at: usize) -> (usize, Option<Kind>)
         ensures number { result.0 ≡ spec.next_index self.now at }
@@ -82,14 +82,14 @@ impl<'s, 't> Reader<'s, 't> {
         lookahead::next_token(self.scanned, self.skip_newlines, at)
     }
 
-    /// The number of the next token.
+    /// Returns the number of the next token.
     pub fn next_index(&self, at: usize) -> usize
         ensures { result ≡ spec.next_index self.now at }
     {
         self.next_token(at).0
     }
 
-    /// The kind of the next token.
+    /// Returns the kind of the next token.
     pub fn next_kind(&self, at: usize) -> Option<Kind>
         ensures { result ≡ spec.next_kind self.now at }
     {
@@ -113,7 +113,7 @@ impl<'s, 't> Reader<'s, 't> {
         true
     }
 
-    /// That the next token fits nothing.
+    /// Returns the error that the next token is not allowed.
     pub fn syntax_fault(&self, at: usize) -> TokenFault
         ensures { result ≡ fault.Syntax (spec.next_index self.now at) }
     {
@@ -132,7 +132,7 @@ impl<'s, 't> Reader<'s, 't> {
         }
     }
 
-    /// The same place in brackets, where line ends are dropped.
+    /// Returns this reader in brackets, where line ends are dropped.
     pub fn in_brackets(&self) -> Reader<'s, 't>
         ensures { result ≡ spec.in_brackets self.now }
     {
@@ -159,7 +159,7 @@ impl<'s, 't> Reader<'s, 't> {
         })
     }
 
-    /// The same place outside of brackets, where line ends count.
+    /// Returns this reader outside of brackets, where line ends count.
     pub fn outside_brackets(&self) -> Reader<'s, 't>
         ensures { result ≡ spec.outside_brackets self.now }
     {
@@ -205,8 +205,8 @@ impl<'s, 't> Reader<'s, 't> {
         lookahead::is_word(self.scanned, number, word)
     }
 
-    /// The number of the first token of what stands between two places; the first place, if nothing
-    /// does.
+    /// Returns the number of the first token between two places; the first place, if they are
+    /// equal.
     #[tactic(auto, unfolding(hcl_grammar::specs::Tokens::first_token_in))]
     pub fn first_token_in(&self, from: usize, to: usize) -> usize
         ensures { result ≡ tokens.first_token_in self.now.tokens self.now.skip_newlines from to }

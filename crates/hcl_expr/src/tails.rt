@@ -1,4 +1,4 @@
-//! Terms with what stands behind them: attributes, indices and splats.
+//! Terms with what follows them: attributes, indices and splats.
 //!
 //! HCL native syntax specification, Expressions.
 
@@ -15,7 +15,7 @@ use hcl_grammar::{Boxed, Items, nodes};
 use hcl_token::Kind;
 
 impl<'s, 't> Reader<'s, 't> {
-    /// What stands behind `.`: a name, or `*`.
+    /// Takes the rest of a tail, after its `.`: a name, or `*`.
     #[tactic(auto, unfolding(hcl_grammar::specs::Pure::Parser::dot_tail, hcl_grammar::specs::Pure::Reading::next_is, hcl_grammar::specs::Pure::Reading::after_if_next, hcl_grammar::specs::Pure::Reading::expect, hcl_grammar::specs::Tokens::after_next))]
     fn dot_tail(&self, at: &mut usize) -> Result<Tail, TokenFault>
         ensures { ReadsExactly (spec.dot_tail self.now at.old) result at.new }
@@ -35,7 +35,7 @@ impl<'s, 't> Reader<'s, 't> {
         Ok(Tail::Name(number))
     }
 
-    /// What stands behind `[`, at token `first`: `*`, or an expression.
+    /// Takes the rest of a tail, after its `[`, which is token `first`: `*`, or an expression.
     #[cycle(nest)]
     #[tactic(auto, unfolding(hcl_grammar::specs::Pure::Parser::bracket_tail))]
     fn bracket_tail(&self, first: usize, at: &mut usize) -> Result<Tail, TokenFault>
@@ -51,7 +51,7 @@ impl<'s, 't> Reader<'s, 't> {
         Ok(Tail::Index(key))
     }
 
-    /// A tail, if one comes next.
+    /// Takes a tail, if one comes next.
     #[cycle(nest)]
     #[tactic(auto, unfolding(hcl_grammar::specs::Pure::Parser::tail_of, hcl_grammar::specs::Tokens::after_next))]
     fn tail(&self, at: &mut usize) -> Result<Option<Tail>, TokenFault>
@@ -86,8 +86,8 @@ impl<'s, 't> Reader<'s, 't> {
         }
     }
 
-    /// How many tails to take memory for, where one comes next: more than one if another tail
-    /// stands behind a `.` and a name.
+    /// Returns how many tails to take memory for, where one comes next: more than one if another
+    /// tail follows a `.` and a name.
     fn tail_capacity(&self, at: usize) -> usize {
         if self.has_tail(at.saturating_add(2)) {
             3
@@ -96,7 +96,7 @@ impl<'s, 't> Reader<'s, 't> {
         }
     }
 
-    /// The tails that come next.
+    /// Takes the tails that come next.
     #[cycle(nest)]
     fn tails(&self, at: &mut usize) -> Result<Items<Tail>, TokenFault>
         ensures { Reads (spec.tails self.now at.old) result at.new }
@@ -111,7 +111,7 @@ impl<'s, 't> Reader<'s, 't> {
         Ok(found)
     }
 
-    /// A term with the tails that come next.
+    /// Takes the tails that come next, and returns the term with them.
     #[cycle(nest)]
     #[inline(never)]
     fn with_tails(
@@ -127,8 +127,8 @@ impl<'s, 't> Reader<'s, 't> {
         nodes::postfix(first, *at, head, tails)
     }
 
-    /// A term with its tails, behind its first token, which is `first`. Most have none, which one
-    /// look behind it tells.
+    /// Takes a term with its tails, after its first token, which is `first`. Most have none, as one
+    /// look after it shows.
     #[cycle(nest)]
     pub fn post(&self, first: usize, kind: Kind, at: &mut usize) -> Result<Expr, TokenFault>
         ensures { Reads (spec.post_by self.now first kind at.old) result at.new }

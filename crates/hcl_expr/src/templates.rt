@@ -24,7 +24,7 @@ impl<'s, 't> Reader<'s, 't> {
         braces.expect(Kind::SeqClose, at)
     }
 
-    /// Takes the next token, if this word stands behind it.
+    /// Takes the next token, if this word follows it.
     #[tactic(auto, unfolding(hcl_grammar::specs::Tokens::after_next))]
     fn eat_directive_open(&self, word: &[u8], at: &mut usize) -> bool
         ensures found { result
@@ -45,7 +45,7 @@ impl<'s, 't> Reader<'s, 't> {
         }
     }
 
-    /// The parts of a template up to this token, which it takes too.
+    /// Takes the parts of a template, and this token after them.
     #[cycle(nest)]
     #[tactic(auto, unfolding(hcl_grammar::specs::Pure::Parser::template_until))]
     pub fn template_until(&self, close: Kind, at: &mut usize) -> Result<Template, TokenFault>
@@ -59,7 +59,7 @@ impl<'s, 't> Reader<'s, 't> {
         Ok(nodes::template(first, to, parts)?)
     }
 
-    /// An interpolation, after its opening.
+    /// Takes the rest of an interpolation, after its opening.
     #[cycle(nest)]
     #[tactic(auto, unfolding(hcl_grammar::specs::Pure::Parser::interp))]
     fn interp(&self, first: usize, at: &mut usize) -> Result<Part, TokenFault>
@@ -71,8 +71,8 @@ impl<'s, 't> Reader<'s, 't> {
         Ok(Part::Interp(value))
     }
 
-    /// What stands where the condition of an `if` directive does not hold, if it says so, and the
-    /// directive's end.
+    /// Takes the `else` of an `if` directive with its parts, if it has one, and the directive's
+    /// end.
     #[cycle(nest)]
     #[tactic(auto, unfolding(hcl_grammar::specs::Pure::Parser::else_and_endif))]
     fn else_and_endif(&self, at: &mut usize) -> Result<Option<Template>, TokenFault>
@@ -92,7 +92,7 @@ impl<'s, 't> Reader<'s, 't> {
         Ok(Some(nodes::template(first, to, parts)?))
     }
 
-    /// An `if` directive, after its opening.
+    /// Takes the rest of an `if` directive, after its opening.
     #[cycle(nest)]
     #[tactic(auto, unfolding(hcl_grammar::specs::Pure::Parser::if_directive, hcl_grammar::specs::Pure::Reading::expect_word))]
     fn if_directive(&self, first: usize, at: &mut usize) -> Result<Part, TokenFault>
@@ -117,7 +117,7 @@ impl<'s, 't> Reader<'s, 't> {
         )?)
     }
 
-    /// A `for` directive, after its opening.
+    /// Takes the rest of a `for` directive, after its opening.
     #[cycle(nest)]
     #[tactic(auto, unfolding(hcl_grammar::specs::Pure::Parser::for_directive))]
     fn for_directive(&self, first: usize, at: &mut usize) -> Result<Part, TokenFault>
@@ -133,7 +133,7 @@ impl<'s, 't> Reader<'s, 't> {
         Ok(nodes::for_part(self.alloc(), first, *at, intro.into_inner(), body)?)
     }
 
-    /// The directive that comes next, if it begins one.
+    /// Takes an `if` or `for` directive, if one comes next.
     #[cycle(nest)]
     #[inline(never)]
     #[tactic(auto, unfolding(hcl_grammar::specs::Pure::Parser::directive))]
@@ -149,7 +149,7 @@ impl<'s, 't> Reader<'s, 't> {
         Ok(None)
     }
 
-    /// A part of a template, if one comes next.
+    /// Takes a part of a template, if one comes next.
     #[cycle(nest)]
     #[tactic(auto, unfolding(hcl_grammar::specs::Pure::Parser::part_of, hcl_grammar::specs::Tokens::after_next))]
     fn part(&self, at: &mut usize) -> Result<Option<Part>, TokenFault>
@@ -170,7 +170,7 @@ impl<'s, 't> Reader<'s, 't> {
         }
     }
 
-    /// The parts of a template, up to what ends them, one by one.
+    /// Takes the parts of a template, one by one, up to what ends them.
     #[cycle(nest)]
     fn each_part(&self, at: &mut usize) -> Result<Items<Part>, TokenFault>
         ensures { Reads (spec.parts_from self.now
@@ -186,7 +186,7 @@ impl<'s, 't> Reader<'s, 't> {
         Ok(found)
     }
 
-    /// The parts of a template, up to what ends them.
+    /// Takes the parts of a template, up to what ends them.
     #[cycle(nest)]
     pub fn parts(&self, at: &mut usize) -> Result<Items<Part>, TokenFault>
         ensures { Reads (spec.parts self.now at.old) result at.new }

@@ -1,4 +1,4 @@
-//! Terms, without what stands behind them.
+//! Terms, without what follows them.
 //!
 //! HCL native syntax specification, Expressions.
 
@@ -28,7 +28,7 @@ impl<'s, 't> Reader<'s, 't> {
         }
     }
 
-    /// What stands behind `(` that is no call.
+    /// Takes the rest of an expression in parentheses, after its `(`.
     #[cycle(nest)]
     #[inline(never)]
     #[tactic(auto, unfolding(hcl_grammar::specs::Pure::Parser::parens))]
@@ -41,7 +41,7 @@ impl<'s, 't> Reader<'s, 't> {
         nodes::term(first, *at, Primary::Parens(value))
     }
 
-    /// A call, behind the first name of the function.
+    /// Takes the rest of a call, after the first name of the function.
     #[cycle(nest)]
     #[tactic(auto, unfolding(hcl_grammar::specs::Pure::Parser::call))]
     fn call(&self, first: usize, at: &mut usize) -> Result<Term, TokenFault>
@@ -55,7 +55,7 @@ impl<'s, 't> Reader<'s, 't> {
         nodes::term(first, *at, shape)
     }
 
-    /// An identifier, or a call, behind the identifier.
+    /// Takes the rest of a call, after its identifier, if it is one.
     #[cycle(nest)]
     #[tactic(auto, unfolding(hcl_grammar::specs::Pure::Parser::identifier_or_call))]
     fn identifier_or_call(&self, first: usize, at: &mut usize) -> Result<Term, TokenFault>
@@ -68,7 +68,7 @@ impl<'s, 't> Reader<'s, 't> {
         }
     }
 
-    /// What stands behind `[`: a tuple, or a `for`.
+    /// Takes the rest of a tuple, or of a `for` in brackets, after its `[`.
     #[cycle(nest)]
     #[inline(never)]
     #[tactic(auto, unfolding(hcl_grammar::specs::Pure::Parser::tuple_or_for))]
@@ -83,7 +83,7 @@ impl<'s, 't> Reader<'s, 't> {
         }
     }
 
-    /// What stands behind `{`: an object, or a `for`.
+    /// Takes the rest of an object, or of a `for` in braces, after its `{`.
     #[cycle(nest)]
     #[inline(never)]
     #[tactic(auto, unfolding(hcl_grammar::specs::Pure::Parser::object_or_for))]
@@ -98,7 +98,7 @@ impl<'s, 't> Reader<'s, 't> {
         }
     }
 
-    /// What stands behind an opening quote.
+    /// Takes the rest of a quoted text, after its quote.
     #[cycle(nest)]
     #[tactic(auto, unfolding(hcl_grammar::specs::Pure::Parser::quoted))]
     fn quoted(&self, first: usize, at: &mut usize) -> Result<Term, TokenFault>
@@ -109,7 +109,7 @@ impl<'s, 't> Reader<'s, 't> {
         nodes::term(first, *at, Primary::Quoted(template))
     }
 
-    /// What stands behind the opening of a heredoc.
+    /// Takes the rest of a heredoc, after its opening.
     #[cycle(nest)]
     #[inline(never)]
     #[tactic(auto, unfolding(hcl_grammar::specs::Pure::Parser::heredoc))]
@@ -121,7 +121,7 @@ impl<'s, 't> Reader<'s, 't> {
         nodes::term(first, *at, Primary::Heredoc(template))
     }
 
-    /// A term, behind its first token, which is `first`.
+    /// Takes the rest of a term, after its first token, which is `first`.
     #[cycle(nest)]
     pub fn term(&self, first: usize, kind: Kind, at: &mut usize) -> Result<Term, TokenFault>
         ensures { Reads (spec.term_by self.now first kind at.old) result at.new }

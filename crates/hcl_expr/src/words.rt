@@ -1,4 +1,4 @@
-//! Words that have a meaning where they stand, and names.
+//! Words with a meaning of their own, and names.
 
 ghost use Rattle.std.specs.Prelude.{[], ◌∷◌, ◌≡◌, true, false, IfOk, length, drop};
 ghost use Rattle.std.specs.Result.{result_map_both};
@@ -61,7 +61,7 @@ impl<'s, 't> Reader<'s, 't> {
         }
     }
 
-    /// The second name of a `for`, if it has one.
+    /// Takes the second name of a `for`, if it has one.
     #[tactic(auto, unfolding(hcl_grammar::specs::Pure::Parser::second_name))]
     pub fn second_name(&self, at: &mut usize) -> Result<Option<usize>, TokenFault>
         ensures { ReadsExactly (spec.second_name self.now at.old) result at.new }
@@ -75,7 +75,7 @@ impl<'s, 't> Reader<'s, 't> {
         Ok(Some(name))
     }
 
-    /// The names of a function: the first, which was read, and those behind it.
+    /// Takes the rest of a function's names, after the first, which was read; returns them all.
     pub fn names(&self, first: usize, at: &mut usize) -> Result<Items<usize>, TokenFault>
         ensures first { IfOk result (λ names. names ≡ first ∷ drop 1 names) }
         ensures reads { Reads (spec.names self.now at.old)

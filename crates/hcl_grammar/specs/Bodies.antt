@@ -1,4 +1,4 @@
--- The grammar of bodies and of a whole text: which members stand over which tokens.
+-- The grammar of bodies and of a whole text: which members are derived from which tokens.
 -- HCL native syntax specification, Structural Elements.
 use Rattle.std.specs.Prelude.{◌≡◌, ℕ, suc, false, List, [], ◌∷◌, length, Option, Some, None}
 use Rattle.hcl_token.specs.declared.kind.Kind.TheVariants as k
@@ -78,7 +78,7 @@ pub data IsFileEnd (ts : List Token) : ℕ → Type 0 where
   at_comment : {i : ℕ} → NextIs ts false k.LineComment i → next_kind ts false (after_next ts false i) ≡ None
       → IsFileEnd ts i
 
--- File = Mark? Body (LineComment)? end: this tree stands over all the tokens
+-- File = Mark? Body (LineComment)? end: this tree is derived from all the tokens
 pub data IsFile (ts : List Token) (d : ℕ) : Tree → Type 0 where
   file : {ms : List Member} {i j : ℕ} → IsOptionalMark ts i → IsMembers ts d ms i j → IsFileEnd ts j
       → IsFile ts d (node.tree (length ts) (node.body (first_token_in ts false i j) j ms))

@@ -1,4 +1,4 @@
--- Which faults there are.
+-- Two kinds of a parser's error.
 use Rattle.hcl_grammar.specs.declared.fault.TokenFault.{TokenFault}
 use Rattle.hcl_grammar.specs.declared.fault.TokenFault.TheVariants.{Syntax, TooDeep, Memory}
 

@@ -1,15 +1,15 @@
--- The grammar of expressions and templates: which tree stands over which tokens.
+-- The grammar of expressions and templates: which tree is derived from which tokens.
 -- HCL native syntax specification, Expressions and Templates.
 --
--- In `IsExpr ts d m e i j` the tokens are ts, and the expression e stands over those from place i
--- up to place j. d: no more than d constructs stand in one another; what nests is a construct at
--- `suc d` whose inside is at d. m: whether line ends and line comments are dropped here. `At ts m t
--- i`: past what is dropped, a token of kind t comes next; `start ts m i` is its number, and `after
--- ts m i` the place behind it.
+-- In `IsExpr ts d m e i j` the tokens are ts, and the expression e is derived from those from place
+-- i up to place j. d: no more than d constructs are in one another; what nests is a construct at
+-- `suc d` whose inside is at d. m: whether line ends and line comments are dropped here. `NextIs ts
+-- m t i`: after what is dropped, a token of kind t comes next; `next_index ts m i` is its number,
+-- and `after_next ts m i` the place after it.
 --
 -- What nests, each one construct, so that its inside is at d where it is at suc d: parentheses; the
 -- parentheses of a call; the brackets of a tuple, an object, a `for`, an index and `[*]`; an
--- operand behind `-` or `!`; either branch of a conditional (its condition not); quoted text; a
+-- operand of `-` or `!`; either branch of a conditional (its condition not); quoted text; a
 -- heredoc; an interpolation; the braces of a block. A directive counts twice: itself, and its
 -- braces, so that its expression is at d where it is at suc (suc d), and its parts, those of `else`
 -- too, at suc d.
@@ -69,7 +69,7 @@ mutual
         → IsLevel ts d m n head i j → IsOperations ts d m n links j l
         → IsLevel ts d m (suc n) (node.binary (next_index ts m i) l head links) i l
 
-  -- what stands behind the first operand of a level: its operators, each with the operand behind it
+  -- what follows the first operand of a level: its operators, each with its second operand
   pub data IsOperations (ts : List Token) : ℕ → Bool → ℕ → List Operation → ℕ → ℕ → Type 0 where
     no_operations : {d : ℕ} {m : Bool} {n i : ℕ} → IsOperations ts d m n [] i i
     operation : {d : ℕ} {m : Bool} {n : ℕ} {t : Kind} {op : BinaryOperator} {x : Expr} {links : List Operation}
@@ -131,7 +131,7 @@ mutual
         → NextIsNotWord ts true for_word (after_next ts m i)
         → IsItems ts d es (after_next ts m i) j
         → IsTerm ts (suc d) m (node.term (next_index ts m i) j (shape.Tuple es)) i j
-    -- Object = "{" nl* (Elem (Sep Elem)* Sep?)? "}", and no "for" follows the `{`, past line ends
+    -- Object = "{" nl* (Elem (Sep Elem)* Sep?)? "}", and no "for" follows the `{` and line ends
     -- and comments
     object : {d : ℕ} {m : Bool} {xs : List Elem} {i j l : ℕ} → NextIs ts m k.OpenBrace i
         → NextIsNotWord ts true for_word (after_next ts m i)
@@ -174,7 +174,7 @@ mutual
         → IsTerm ts (suc d) m (node.term (next_index ts m i) (after_next ts true j) (shape.Parens e)) i
         (after_next ts true j)
 
-  -- (Expr ("," Expr)* (","|"...")?)? and `)`; whether `...` stands there
+  -- (Expr ("," Expr)* (","|"...")?)? and `)`; whether `...` is there
   pub data IsArguments (ts : List Token) : ℕ → List Expr → Bool → ℕ → ℕ → Type 0 where
     no_arguments : {d i : ℕ} → NextIs ts true k.CloseParen i
         → IsArguments ts d [] false i (after_next ts true i)

@@ -2,6 +2,8 @@ pub mod Faults
 pub mod Tokens
 pub mod Operators
 pub mod Nodes
+pub mod TreeLayers
+pub mod TreeNodes
 pub mod Lookahead
 pub mod Grammar
 pub mod Bodies

@@ -1,4 +1,4 @@
--- What a derivation stands on: tokens that come next, and what is made of tokens alone.
+-- The premises of a derivation: which tokens come next; and what is made of tokens alone.
 -- HCL native syntax specification, Structural Elements and Expressions.
 use Rattle.std.specs.Prelude.{◌≡◌, ◌≢◌, ℕ, Bool, true, false, List, [], ◌∷◌, Option, Some, None}
 use Rattle.hcl_token.specs.declared.kind.Kind.{Kind}

@@ -1,5 +1,5 @@
 -- The nodes of a tree, each made of what its production has. `first` and `past`: the number of its
--- first token, and the one past its last.
+-- first token, and the one after its last.
 use Rattle.std.specs.Prelude.{ℕ, Bool, List, [], ◌∷◌, Option}
 use Rattle.hcl_grammar.specs.declared.tree.Attribute.{Attribute}
 use Rattle.hcl_grammar.specs.declared.tree.Block.{roll-Block}
@@ -37,7 +37,7 @@ expr first past x = roll-Expr (record { first = first; past = past; kind = x })
 unfoldable pub term : ℕ → ℕ → Primary → Term
 term first past x = roll-Term (record { first = first; past = past; kind = x })
 
--- an operator of a chain, and the operand behind it
+-- an operator of a chain, and its second operand
 unfoldable pub operation : BinaryOperator → Expr → Operation
 operation op x = roll-Operation (record { operator = op; operand = x })
 
@@ -45,7 +45,7 @@ operation op x = roll-Operation (record { operator = op; operand = x })
 unfoldable pub elem : Expr → Expr → Elem
 elem key value = roll-Elem (record { key = key; value = value })
 
--- an operand, with operators of one level behind it, if there are any
+-- an operand, followed by operators of one level, if there are any
 abbrev pub binary : ℕ → ℕ → Expr → List Operation → Expr
 binary first past head [] = head
 binary first past head (x ∷ xs) = expr first past (form.Binary head (x ∷ xs))
@@ -55,7 +55,7 @@ abbrev pub postfix : ℕ → ℕ → Term → List Tail → Expr
 postfix first past head [] = expr first past (form.Term head)
 postfix first past head (x ∷ xs) = expr first past (form.Postfix head (x ∷ xs))
 
--- a call: the numbers of its names, its arguments, and whether `...` stands behind the last
+-- a call: the numbers of its names, its arguments, and whether `...` follows the last
 unfoldable pub call : List ℕ → List Expr → Bool → Primary
 call names arguments expand_final =
     shape.Call (roll-Call (record { names = names; arguments = arguments; expand_final = expand_final }))
@@ -76,7 +76,7 @@ unfoldable pub for_tuple : Intro → Expr → Option Expr → Primary
 for_tuple i value filter =
     shape.ForTuple (roll-ForTuple (record { intro = i; value = value; filter = filter }))
 
--- a `for` in braces; whether `...` stands behind its value; perhaps with a filter
+-- a `for` in braces; whether `...` follows its value; perhaps with a filter
 unfoldable pub for_object : Intro → Expr → Expr → Bool → Option Expr → Primary
 for_object i key value grouped filter =
     shape.ForObject (roll-ForObject

@@ -8,13 +8,13 @@ use Rattle.hcl_grammar.specs.declared.tree.UnaryOperator.TheVariants as prefix
 use Rattle.hcl_grammar.specs.declared.tree.BinaryOperator.{BinaryOperator}
 use Rattle.hcl_grammar.specs.declared.tree.BinaryOperator.TheVariants as operator
 
--- the operator that stands before an operand
+-- the operator before an operand
 abbrev pub unary_operator : Kind → Option UnaryOperator
 unary_operator k.Minus = Some prefix.Minus
 unary_operator k.Bang = Some prefix.Not
 unary_operator _ = None
 
--- the operator that stands between operands, with its level: level 0 binds closest
+-- the operator between two operands, with its level: level 0 binds closest
 abbrev pub binary_operator : Kind → Option (ℕ × BinaryOperator)
 binary_operator k.Star = Some (0, operator.Times)
 binary_operator k.Slash = Some (0, operator.Divide)

@@ -1,5 +1,5 @@
--- What stands where in a list of tokens. Numbers of tokens count from 0; a place is the number of
--- the token that stands there.
+-- Which token is where in a list of tokens. Numbers of tokens count from 0; a place is the number
+-- of the token there.
 -- HCL native syntax specification, Comments and Whitespace, and Structural Elements.
 use Rattle.std.specs.Prelude.{ℕ, suc, ◌+◌, ◌==◌, ◌&&◌, Bool, true, false, if◌then◌else◌, List, drop, slice_get, Option, Some, None, nat_eq, codes}
 use Rattle.std.specs.List.{prefix_len}
@@ -38,7 +38,7 @@ next_kind ts skip_newlines i = option_map (λ (t : Token). t.0) (next_token ts s
 unfoldable pub after_next : List Token → Bool → ℕ → ℕ
 after_next ts skip_newlines i = suc (next_index ts skip_newlines i)
 
--- the number of the first token of what stands from i up to j; i, if nothing stands there
+-- the number of the first token from i up to j; i, if i is j
 unfoldable pub first_token_in : List Token → Bool → ℕ → ℕ → ℕ
 first_token_in ts skip_newlines i j = if i == j then i else next_index ts skip_newlines i
 

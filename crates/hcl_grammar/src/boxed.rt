@@ -20,14 +20,14 @@ impl<T, A: Allocator> Model for Boxed<T, A> {
 }
 
 impl<T, A: Allocator> Boxed<T, A> {
-    /// The value.
+    /// Returns the value.
     pub fn get(&self) -> &T
         ensures { result.now ≡ self.now }
     {
         &self.value
     }
 
-    /// The value, without its owner.
+    /// Returns the value, without its owner.
     pub fn into_inner(self) -> T
         ensures { result ≡ self }
     {
@@ -37,8 +37,7 @@ impl<T, A: Allocator> Boxed<T, A> {
 }
 
 impl<T: Drop, A: Allocator> Boxed<T, A> {
-    /// Puts a value into memory of its own; `AllocError` where there is none, and then the value is
-    /// dropped.
+    /// Puts a value into memory of its own. Where that can't be allocated, the value is dropped.
     pub fn new(alloc: A, value: T) -> Result<Boxed<T, A>, AllocError>
         ensures { IfOk result (λ b. b ≡ value) }
     {

@@ -9,7 +9,7 @@ pub enum TokenFault {
     Syntax(usize),
     /// The token that opens one construct too many in one another.
     TooDeep(usize),
-    /// A growth was refused.
+    /// An allocation failed.
     Memory,
 }
 

@@ -1,10 +1,10 @@
-//! What a parser of expressions is asked for.
+//! What a parser of expressions has to read.
 
 /// What is to be parsed.
 #[derive(Clone, Copy)]
 pub enum Goal {
     /// A whole expression.
     Whole,
-    /// The operand of an operator that stands before it.
+    /// The operand of an operator before it.
     Operand,
 }

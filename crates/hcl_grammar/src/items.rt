@@ -26,7 +26,7 @@ impl<T, A: Allocator> Model for Items<T, A> {
 }
 
 impl<T, A: Allocator> Items<T, A> {
-    /// No element.
+    /// Returns an empty list.
     pub fn new(alloc: A) -> Items<T, A>
         ensures { result ≡ [] }
     {
@@ -35,7 +35,7 @@ impl<T, A: Allocator> Items<T, A> {
         }
     }
 
-    /// No element, and room for so many; `AllocError` where that is not there.
+    /// Returns an empty list with capacity for `count` elements.
     pub fn with_capacity(alloc: A, count: usize) -> Result<Items<T, A>, AllocError>
         ensures { IfOk result (λ it. it ≡ []) }
     {
@@ -44,14 +44,14 @@ impl<T, A: Allocator> Items<T, A> {
         })
     }
 
-    /// The elements.
+    /// Returns the elements.
     pub fn as_slice(&self) -> &[T]
         ensures { result.now ≡ self.now }
     {
         self.vec.as_slice()
     }
 
-    /// How many elements there are.
+    /// Returns the number of elements.
     pub fn len(&self) -> usize
         ensures { result ≡ length self.now }
     {
@@ -67,8 +67,8 @@ impl<T, A: Allocator> Items<T, A> {
 }
 
 impl<T: Drop, A: Allocator + Copy> Items<T, A> {
-    /// Makes room for one element or more in a list that is full.
-    fn grow(&mut self) -> Result<(), AllocError>
+    /// Allocates memory for one element or more in a list that is full.
+    fn reserve_more(&mut self) -> Result<(), AllocError>
         ensures { self.new ≡ self.old }
     {
         let len = self.len();
@@ -79,7 +79,7 @@ impl<T: Drop, A: Allocator + Copy> Items<T, A> {
             // A long list doubles: what its next elements own fills the memory that it leaves.
             return self.vec.reserve_exact(len);
         }
-        // A short list grows by half. It moves to a piece of memory that was let go before, which
+        // A short list grows by half. It moves to a piece of memory that was freed before, which
         // malloc finds sooner than it makes a piece longer.
         let more = if len < 4 { 2 } else { len / 2 + 1 };
         let mut buffer = Vec::with_capacity(*self.vec.allocator(), len + more)?;
@@ -88,14 +88,14 @@ impl<T: Drop, A: Allocator + Copy> Items<T, A> {
         Ok(())
     }
 
-    /// Puts an element at the end; `AllocError` where there is no room for one more, and then the
-    /// element is dropped.
+    /// Adds an element at the end. Where memory for it can't be allocated, the element is dropped
+    /// and the list stays as it was.
     pub fn push(&mut self, item: T) -> Result<(), AllocError>
         ensures ok { OnOk result (self.new ≡ self.old ++ item ∷ []) }
         ensures err { OnErr result (self.new ≡ self.old) }
     {
         if self.len() == self.vec.capacity() {
-            self.grow()?;
+            self.reserve_more()?;
         }
         self.vec.push(item)?;
         Ok(())

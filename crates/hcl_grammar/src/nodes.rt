@@ -1,8 +1,8 @@
 //! The nodes of a tree, each made by one function.
 //!
-//! `first` is the number of a node's first token, `after_if_next` the number past its last. Expressions,
-//! terms, templates and blocks hold them in 32 bits: past these a node is refused as a growth is,
-//! since no list of tokens has room for so many.
+//! `first` is the number of a node's first token, `past` the number after its last. Expressions,
+//! terms, templates and blocks hold them in 32 bits. A greater number is an `AllocError`, since no
+//! list of tokens is that long.
 
 ghost use Rattle.std.specs.Prelude.{◌≡◌, ◌^◌, ◌≤◌, ◌⊎◌, [], Ok, Some, IfOk, IfErr};
 ghost use Rattle.hcl_grammar.specs.declared.tree.Content.TheVariants as content;
@@ -18,7 +18,7 @@ use crate::tree::{
 use crate::{Boxed, Items};
 use std::alloc::{AllocError, Global};
 
-/// The numbers of a node's first token and past its last, in 32 bits; `AllocError` past them.
+/// Returns the numbers of a node's first token and after its last in 32 bits, if they fit.
 #[inline]
 fn to_u32_pair(first: usize, past: usize) -> Result<(u32, u32), AllocError>
     ensures ok { IfOk result (λ n. (n.0 ≡ first) × (n.1 ≡ past)) }
@@ -31,7 +31,7 @@ fn to_u32_pair(first: usize, past: usize) -> Result<(u32, u32), AllocError>
     }
 }
 
-/// An expression.
+/// Returns an expression.
 #[inline(always)]
 #[tactic(auto, unfolding(crate::specs::Nodes::expr))]
 pub fn expr(first: usize, past: usize, form: ExprKind) -> Result<Expr, TokenFault>
@@ -46,7 +46,7 @@ pub fn expr(first: usize, past: usize, form: ExprKind) -> Result<Expr, TokenFaul
     })
 }
 
-/// A term.
+/// Returns a term.
 #[inline(always)]
 #[tactic(auto, unfolding(crate::specs::Nodes::term))]
 pub fn term(first: usize, past: usize, shape: Primary) -> Result<Term, TokenFault>
@@ -61,7 +61,7 @@ pub fn term(first: usize, past: usize, shape: Primary) -> Result<Term, TokenFaul
     })
 }
 
-/// An operator, and the operand behind it.
+/// Returns an operator with its second operand.
 #[tactic(auto, unfolding(crate::specs::Nodes::operation))]
 pub fn operation(operator: BinaryOperator, operand: Expr) -> Operation
     ensures { result ≡ nodes.operation operator operand }
@@ -69,7 +69,7 @@ pub fn operation(operator: BinaryOperator, operand: Expr) -> Operation
     Operation { operator, operand }
 }
 
-/// A key of an object and its value.
+/// Returns a key of an object with its value.
 #[tactic(auto, unfolding(crate::specs::Nodes::elem))]
 pub fn elem(key: Expr, value: Expr) -> Elem
     ensures { result ≡ nodes.elem key value }
@@ -77,7 +77,7 @@ pub fn elem(key: Expr, value: Expr) -> Elem
     Elem { key, value }
 }
 
-/// An operand with the operators behind it; with none, the operand alone.
+/// Returns an operand followed by operators; with none, the operand alone.
 pub fn binary(
     alloc: Global,
     first: usize,
@@ -97,7 +97,7 @@ pub fn binary(
     }
 }
 
-/// A term without tails.
+/// Returns a term without tails, as an expression.
 #[inline]
 pub fn term_expr(first: usize, past: usize, term: Term) -> Result<Expr, TokenFault>
     ensures node { Reads (Ok (nodes.postfix first past term [], past)) result past }
@@ -106,7 +106,7 @@ pub fn term_expr(first: usize, past: usize, term: Term) -> Result<Expr, TokenFau
     expr(first, past, ExprKind::Term(term))
 }
 
-/// A term with the tails behind it; with none, the term alone.
+/// Returns a term followed by tails; with none, the term alone.
 pub fn postfix(
     first: usize,
     past: usize,
@@ -123,7 +123,7 @@ pub fn postfix(
     }
 }
 
-/// A call of a function.
+/// Returns a call of a function.
 #[tactic(auto, unfolding(crate::specs::Nodes::call))]
 pub fn call(
     alloc: Global,
@@ -141,7 +141,7 @@ pub fn call(
     Ok(Primary::Call(Boxed::new(alloc, call)?))
 }
 
-/// What a `for` begins with.
+/// Returns what a `for` begins with.
 #[tactic(auto, unfolding(crate::specs::Nodes::intro))]
 pub fn intro(
     first: usize,
@@ -161,7 +161,7 @@ pub fn intro(
     }
 }
 
-/// A `for` in brackets.
+/// Returns a `for` in brackets.
 #[tactic(auto, unfolding(crate::specs::Nodes::for_tuple))]
 pub fn for_tuple(
     alloc: Global,
@@ -179,7 +179,7 @@ pub fn for_tuple(
     Ok(Primary::ForTuple(Boxed::new(alloc, comprehension)?))
 }
 
-/// A `for` in braces.
+/// Returns a `for` in braces.
 #[tactic(auto, unfolding(crate::specs::Nodes::for_object))]
 pub fn for_object(
     alloc: Global,
@@ -201,7 +201,7 @@ pub fn for_object(
     Ok(Primary::ForObject(Boxed::new(alloc, comprehension)?))
 }
 
-/// The parts of a template.
+/// Returns a template, by its parts.
 #[tactic(auto, unfolding(crate::specs::Nodes::template))]
 pub fn template(first: usize, past: usize, parts: Items<Part>) -> Result<Template, AllocError>
     ensures ok { IfOk result (λ t. t ≡ nodes.template first past parts) }
@@ -211,7 +211,7 @@ pub fn template(first: usize, past: usize, parts: Items<Part>) -> Result<Templat
     Ok(Template { first, past, parts })
 }
 
-/// An `if` directive.
+/// Returns an `if` directive.
 #[tactic(auto, unfolding(crate::specs::Nodes::if_part))]
 pub fn if_part(
     alloc: Global,
@@ -233,7 +233,7 @@ pub fn if_part(
     Ok(Part::If(Boxed::new(alloc, directive)?))
 }
 
-/// A `for` directive.
+/// Returns a `for` directive.
 #[tactic(auto, unfolding(crate::specs::Nodes::for_part))]
 pub fn for_part(
     alloc: Global,
@@ -253,7 +253,7 @@ pub fn for_part(
     Ok(Part::For(Boxed::new(alloc, directive)?))
 }
 
-/// An attribute, whose first token is its name.
+/// Returns an attribute, whose first token is its name.
 #[tactic(auto, unfolding(crate::specs::Nodes::attribute))]
 pub fn attribute(first: usize, past: usize, value: Boxed<Expr>) -> Attribute
     ensures { result ≡ nodes.attribute first past value }
@@ -266,21 +266,21 @@ pub fn attribute(first: usize, past: usize, value: Boxed<Expr>) -> Attribute
     }
 }
 
-/// The attribute of a block on one line.
+/// Returns the content of a block with one attribute, on one line.
 pub fn one_line(alloc: Global, attribute: Attribute) -> Result<Content, AllocError>
     ensures { IfOk result (λ c. c ≡ content.OneLine (Some attribute)) }
 {
     Ok(Content::OneLine(Some(Boxed::new(alloc, attribute)?)))
 }
 
-/// The body of a block on lines of its own.
+/// Returns the content of a block with a body, on lines of its own.
 pub fn block_body(alloc: Global, body: Body) -> Result<Content, AllocError>
     ensures { IfOk result (λ c. c ≡ content.Body body) }
 {
     Ok(Content::Body(Boxed::new(alloc, body)?))
 }
 
-/// A label of a block.
+/// Returns a label of a block.
 #[tactic(auto, unfolding(crate::specs::Nodes::label))]
 pub fn label(first: usize, past: usize, name: Option<usize>) -> Label
     ensures { result ≡ nodes.label first past name }
@@ -288,7 +288,7 @@ pub fn label(first: usize, past: usize, name: Option<usize>) -> Label
     Label { first, past, name }
 }
 
-/// A block, whose first token is its word.
+/// Returns a block, whose first token is its word.
 #[tactic(auto, unfolding(crate::specs::Nodes::block))]
 pub fn block(
     first: usize,
@@ -309,7 +309,7 @@ pub fn block(
     }))
 }
 
-/// The members of a body.
+/// Returns a body, by its members.
 #[tactic(auto, unfolding(crate::specs::Nodes::body))]
 pub fn body(first: usize, past: usize, members: Items<Member>) -> Body
     ensures { result ≡ nodes.body first past members }
@@ -321,7 +321,7 @@ pub fn body(first: usize, past: usize, members: Items<Member>) -> Body
     }
 }
 
-/// The tree of a whole text of so many tokens.
+/// Returns the tree of a whole text of `past` tokens.
 #[tactic(auto, unfolding(crate::specs::Nodes::tree))]
 pub fn tree(past: usize, body: Body) -> Tree
     ensures { result ≡ nodes.tree past body }

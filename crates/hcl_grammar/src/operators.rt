@@ -8,7 +8,7 @@ ghost use Rattle.hcl_grammar.specs.Operators as operators;
 use crate::tree::{BinaryOperator, UnaryOperator};
 use hcl_token::Kind;
 
-/// The operator before an operand that a token is, if it is one.
+/// Returns the operator before an operand that a token is, if it is one.
 pub fn unary_operator(kind: Kind) -> Option<UnaryOperator>
     ensures { result ≡ operators.unary_operator kind }
 {
@@ -19,8 +19,9 @@ pub fn unary_operator(kind: Kind) -> Option<UnaryOperator>
     }
 }
 
-/// The operator between operands that a token is, with its level, if it is one. Level 0 binds
-/// closest.
+/// Returns the operator between two operands that a token is, with its level, if it is one.
+///
+/// Level 0 binds closest.
 pub fn binary_operator(kind: Kind) -> Option<(usize, BinaryOperator)>
     ensures { result ≡ operators.binary_operator kind }
 {

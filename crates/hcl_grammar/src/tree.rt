@@ -1,9 +1,9 @@
 //! The tree of a text.
 //!
 //! A node has the numbers of its tokens in the text's list of tokens, from 0: `first` is that of
-//! its first token, and `past` the one past its last; they are equal where the node has no token.
+//! its first token, and `past` the one after its last; they are equal where the node has no token.
 //! What is dropped between two tokens of a node (comments and, inside brackets, line ends) is
-//! counted, what stands before its first is not.
+//! counted, what precedes its first is not.
 //!
 //! HCL native syntax specification, Structural Elements, Expressions and Templates.
 
@@ -55,7 +55,7 @@ pub enum BinaryOperator {
 pub struct Expr {
     /// The number of its first token.
     pub first: u32,
-    /// The number past its last token.
+    /// The number after its last token.
     pub past: u32,
     /// What it is.
     pub kind: ExprKind,
@@ -70,7 +70,7 @@ const _: () = prove!(size_of::<Expr>() == 40);
 pub enum ExprKind {
     /// `A ? B : C`
     Conditional(Boxed<Expr>, Boxed<Expr>, Boxed<Expr>),
-    /// An operand, and one or more operators of one level, each with the operand behind it.
+    /// An operand, and one or more operators of one level, each with its second operand.
     Binary(Boxed<Expr>, Boxed<Items<Operation>>),
     /// `-A` or `!A`
     Unary(UnaryOperator, Boxed<Expr>),
@@ -80,18 +80,18 @@ pub enum ExprKind {
     Term(Term),
 }
 
-/// An operator of a chain, and the operand behind it. The operator stands alone between the operand
-/// before it and this one.
+/// An operator of a chain, and its second operand. The operator is the only token between the
+/// operand before it and this one.
 #[cycle(tree)]
 #[derive(Drop)]
 pub struct Operation {
     /// The operator.
     pub operator: BinaryOperator,
-    /// The operand behind it.
+    /// The second operand.
     pub operand: Expr,
 }
 
-/// What goes on with a term.
+/// An attribute, an index or a splat that follows a term.
 #[cycle(tree)]
 #[derive(Drop)]
 pub enum Tail {
@@ -113,7 +113,7 @@ pub enum Tail {
 pub struct Term {
     /// The number of its first token.
     pub first: u32,
-    /// The number past its last token.
+    /// The number after its last token.
     pub past: u32,
     /// What it is.
     pub kind: Primary,
@@ -153,7 +153,7 @@ pub struct Call {
     pub names: Items<usize>,
     /// The arguments.
     pub arguments: Items<Expr>,
-    /// Whether `...` stands behind the last argument.
+    /// Whether `...` follows the last argument.
     pub expand_final: bool,
 }
 
@@ -161,9 +161,9 @@ pub struct Call {
 #[cycle(tree)]
 #[derive(Drop)]
 pub struct Elem {
-    /// What stands before `=` or `:`.
+    /// The expression before `=` or `:`.
     pub key: Expr,
-    /// What stands behind it.
+    /// The expression after it.
     pub value: Expr,
 }
 
@@ -173,7 +173,7 @@ pub struct Elem {
 pub struct Intro {
     /// The number of its first token, the word `for`.
     pub first: usize,
-    /// The number past its last token.
+    /// The number after its last token.
     pub past: usize,
     /// The number of the first name's token.
     pub name: usize,
@@ -189,9 +189,9 @@ pub struct Intro {
 pub struct ForTuple {
     /// What begins it.
     pub intro: Intro,
-    /// What stands behind the colon.
+    /// The expression after the colon.
     pub value: Expr,
-    /// What stands behind `if`, if that is there.
+    /// The condition after `if`, if there is one.
     pub filter: Option<Boxed<Expr>>,
 }
 
@@ -201,26 +201,26 @@ pub struct ForTuple {
 pub struct ForObject {
     /// What begins it.
     pub intro: Intro,
-    /// What stands behind the colon.
+    /// The expression after the colon.
     pub key: Expr,
-    /// What stands behind `=>`.
+    /// The expression after `=>`.
     pub value: Expr,
-    /// Whether `...` stands behind the value.
+    /// Whether `...` follows the value.
     pub grouped: bool,
-    /// What stands behind `if`, if that is there.
+    /// The condition after `if`, if there is one.
     pub filter: Option<Boxed<Expr>>,
 }
 
-/// Literal text with interpolations and directives: what stands between the quotes, between the
-/// lines of a heredoc, or between directives.
+/// Literal text with interpolations and directives: the content of a quoted text, of a heredoc, or
+/// of a directive.
 #[cycle(tree)]
 #[derive(Drop)]
 pub struct Template {
-    /// The number of its first token; where it has none, the number past the token before it.
+    /// The number of its first token; where it has none, the number after the token before it.
     pub first: u32,
-    /// The number past its last token.
+    /// The number after its last token.
     pub past: u32,
-    /// Its parts, one behind the other.
+    /// Its parts, in order.
     pub parts: Items<Part>,
 }
 
@@ -244,13 +244,13 @@ pub enum Part {
 pub struct IfDirective {
     /// The number of its first token, the `%{` before `if`.
     pub first: usize,
-    /// The number past its last token, the `}` behind `endif`.
+    /// The number after its last token, the `}` after `endif`.
     pub past: usize,
-    /// What stands behind `if`.
+    /// The condition after `if`.
     pub condition: Expr,
-    /// What stands behind the condition.
+    /// The text up to `else` or `endif`.
     pub then_branch: Template,
-    /// What stands behind `else`, if that is there.
+    /// The text after `else`, if that is there.
     pub else_branch: Option<Template>,
 }
 
@@ -260,11 +260,11 @@ pub struct IfDirective {
 pub struct ForDirective {
     /// The number of its first token, the `%{` before `for`.
     pub first: usize,
-    /// The number past its last token, the `}` behind `endfor`.
+    /// The number after its last token, the `}` after `endfor`.
     pub past: usize,
-    /// What stands in the first braces.
+    /// What its first braces contain.
     pub intro: Intro,
-    /// What stands between the two.
+    /// The text between its braces.
     pub body: Template,
 }
 
@@ -273,11 +273,11 @@ pub struct ForDirective {
 pub struct Attribute {
     /// The number of its first token, the name.
     pub first: usize,
-    /// The number past its last token; the comment and the line end behind it are its tokens.
+    /// The number after its last token; the comment and the line end that follow are its tokens.
     pub past: usize,
     /// The number of the name's token.
     pub name: usize,
-    /// What stands behind `=`.
+    /// The expression after `=`.
     pub value: Boxed<Expr>,
 }
 
@@ -286,9 +286,9 @@ pub struct Attribute {
 pub struct Label {
     /// The number of its first token: the name, or the quote that opens it.
     pub first: usize,
-    /// The number past its last token.
+    /// The number after its last token.
     pub past: usize,
-    /// The number of the token that is its text, without quotes; none where nothing stands between
+    /// The number of the token that is its text, without quotes; none where nothing is between
     /// the quotes.
     pub name: Option<usize>,
 }
@@ -299,18 +299,18 @@ pub struct Label {
 pub struct Block {
     /// The number of its first token, the word.
     pub first: u32,
-    /// The number past its last token; the comment and the line end behind the brace are its
+    /// The number after its last token; the comment and the line end after the brace are its
     /// tokens.
     pub past: u32,
     /// The number of the token of the word that it begins with.
     pub block_type: u32,
     /// The labels between the word and the brace.
     pub labels: Items<Label>,
-    /// What stands in the braces.
+    /// What the braces contain.
     pub content: Content,
 }
 
-/// What stands in the braces of a block.
+/// What the braces of a block contain.
 #[cycle(body)]
 #[derive(Drop)]
 pub enum Content {
@@ -320,14 +320,14 @@ pub enum Content {
     OneLine(Option<Boxed<Attribute>>),
 }
 
-/// The attributes and blocks of a text or of a block, one behind the other.
+/// The attributes and blocks of a text or of a block, in order.
 #[cycle(body)]
 #[derive(Drop)]
 pub struct Body {
     /// The number of its first token, blank lines and comments too; where it has none, the number
-    /// past the token before it.
+    /// after the token before it.
     pub first: usize,
-    /// The number past its last token.
+    /// The number after its last token.
     pub past: usize,
     /// Its attributes and blocks.
     pub members: Items<Member>,

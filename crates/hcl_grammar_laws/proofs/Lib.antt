@@ -17,6 +17,8 @@ pub mod RestartBodies
 pub mod Own
 pub mod Standing
 pub mod EachNode
+pub mod HeldNodes
+pub mod NodeTokens
 pub mod Climb
 pub mod Alike
 pub mod AlikeExpressions

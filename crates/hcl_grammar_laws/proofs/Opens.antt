@@ -116,6 +116,9 @@ open_attribute a = search (rules, bodies.the_lemmas)
 pub open_block : (a : Block) → out-Member (member.Block a) ≡ Member-F.Block a
 open_block a = search (rules, bodies.the_lemmas)
 
+pub call_names : (a : List ℕ) (b : List Expr) (c : Bool) → (out-Call (roll-Call (record { names = a; arguments = b; expand_final = c }))).names ≡ a
+call_names a b c = search (rules, the_lemmas)
+
 pub call_arguments : (a : List ℕ) (b : List Expr) (c : Bool) → (out-Call (roll-Call (record { names = a; arguments = b; expand_final = c }))).arguments ≡ b
 call_arguments a b c = search (rules, the_lemmas)
 

@@ -1,4 +1,5 @@
--- Tokens that the cut lets stand side by side with no gap, though they join: the grammar does not.
+-- Tokens that join, and that a tokenization allows next to each other with no gap: the grammar does
+-- not allow them.
 use Rattle.std.specs.Prelude.{◌≡◌, ℕ, suc, ◌||◌, Bool, true, false, List, slice_get, Some}
 use Rattle.hcl_token.specs.declared.kind.Kind.{Kind}
 use Rattle.hcl_token.specs.declared.kind.Kind.TheVariants as k
@@ -15,7 +16,7 @@ glues k.Dot k.DotIndex w = true
 glues k.Number k.Identifier w = starts_with 101 w || starts_with 69 w
 glues _ _ w = false
 
--- no such two stand side by side, whatever is dropped
+-- no such two are next to each other, whatever is dropped
 abbrev pub NoGlue : Type 0
 NoGlue = (ts : List Token) (d : ℕ) (t : Tree) → IsFile ts d t → (n : ℕ) (a b : Token)
     → slice_get ts n ≡ Some a → slice_get ts (suc n) ≡ Some b → glues a.0 b.0 b.1 ≡ false

@@ -19,10 +19,10 @@ open_member_past (Member-F.Block b) = b.past
 abbrev pub member_past : Member → ℕ
 member_past m = open_member_past (out-Member m)
 
--- The answer at place i, and the place behind it, where b constructs may stand in one another.
+-- The answer at place i, and the place after it, where b constructs may be in one another.
 pub record IsMemberResult (ts : List Token) (b i : ℕ) (answer : Result (Option Member) TokenFault)
     (new : ℕ) : Type 0 where
-  -- what follows the member as a body does so behind the member
+  -- a body that begins at the new place is one with the member before it
   pub derived : IfOk answer
       (λ o. IfSome o (λ m. (ms : List Member) (l : ℕ) → IsMembers ts b ms new l
       → IsMembers ts b (m ∷ ms) i l))

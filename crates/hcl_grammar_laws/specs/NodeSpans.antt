@@ -1,19 +1,20 @@
--- What stands in a tree, and over which tokens: each node over those from its number `first` up to
--- its number `past`, without what is dropped.
+-- What is in a tree, and from which tokens it is derived: each node from those from its number
+-- `first` up to its number `past`, without what is dropped. The rules are compared with this list;
+-- hcl_grammar has the one with roles and tails (TreeNodes).
 use Rattle.std.specs.Prelude.{ℕ, Bool, List, [], ◌∷◌, ◌++◌, map, Option, Some, None}
 use Rattle.std.specs.List.{flat_map}
 use Rattle.hcl_grammar.specs.declared.tree.Attribute.{Attribute}
 use Rattle.hcl_grammar.specs.declared.tree.Block.{Block}
 use Rattle.hcl_grammar.specs.declared.tree.Body.{Body}
-use Rattle.hcl_grammar.specs.declared.tree.Call.{Call, out-Call}
-use Rattle.hcl_grammar.specs.declared.tree.Content.{Content, out-Content}
+use Rattle.hcl_grammar.specs.declared.tree.Call.{out-Call}
+use Rattle.hcl_grammar.specs.declared.tree.Content.{out-Content}
 use Rattle.hcl_grammar.specs.declared.tree.Content.TheOpen.{Content-F, Member-F}
 use Rattle.hcl_grammar.specs.declared.tree.Elem.{Elem}
 use Rattle.hcl_grammar.specs.declared.tree.Expr.{Expr}
 use Rattle.hcl_grammar.specs.declared.tree.ForDirective.{ForDirective}
-use Rattle.hcl_grammar.specs.declared.tree.ForObject.{ForObject, out-ForObject}
-use Rattle.hcl_grammar.specs.declared.tree.ForTuple.{ForTuple, out-ForTuple}
-use Rattle.hcl_grammar.specs.declared.tree.ExprKind.{ExprKind, out-ExprKind}
+use Rattle.hcl_grammar.specs.declared.tree.ForObject.{out-ForObject}
+use Rattle.hcl_grammar.specs.declared.tree.ForTuple.{out-ForTuple}
+use Rattle.hcl_grammar.specs.declared.tree.ExprKind.{out-ExprKind}
 use Rattle.hcl_grammar.specs.declared.tree.ExprKind.TheOpen.{ExprKind-F, Primary-F, Tail-F, Part-F}
 use Rattle.hcl_grammar.specs.declared.tree.IfDirective.{IfDirective, out-IfDirective}
 use Rattle.hcl_grammar.specs.declared.tree.Intro.{Intro}
@@ -23,7 +24,7 @@ use Rattle.hcl_grammar.specs.declared.tree.Member.{Member, out-Member}
 use Rattle.hcl_grammar.specs.declared.tree.Member.TheVariants as member
 use Rattle.hcl_grammar.specs.declared.tree.Part.{Part, out-Part}
 use Rattle.hcl_grammar.specs.declared.tree.Part.TheVariants as part
-use Rattle.hcl_grammar.specs.declared.tree.Primary.{Primary, out-Primary}
+use Rattle.hcl_grammar.specs.declared.tree.Primary.{out-Primary}
 use Rattle.hcl_grammar.specs.declared.tree.Tail.{Tail, out-Tail}
 use Rattle.hcl_grammar.specs.declared.tree.Template.{Template}
 use Rattle.hcl_grammar.specs.declared.tree.Term.{Term}
@@ -31,6 +32,7 @@ use Rattle.hcl_grammar.specs.declared.tree.Tree.{Tree}
 use Rattle.hcl_grammar.specs.Bodies.{IsLabels, IsOneLineBody, IsMembers, IsFile}
 use Rattle.hcl_grammar.specs.Grammar.{IsExpr, IsTerm, IsIntro, IsParts, IsPart}
 use Rattle.hcl_grammar.specs.Tokens.{Token}
+use Rattle.hcl_grammar.specs.TreeLayers.{ExprKindLayer, PrimaryLayer, TailLayer, PartLayer, ContentLayer, MemberLayer}
 
 -- a node that has tokens of its own
 pub data Node : Type 0 where
@@ -49,7 +51,7 @@ pub data Node : Type 0 where
   if_directive : IfDirective → Node
   for_directive : ForDirective → Node
 
--- The tokens from the node's first up to its past derive it; an attribute, a block and a label are
+-- The tokens from the node's `first` up to its `past` derive it; an attribute, a block and a label are
 -- each a list of one.
 pub data Derives (ts : List Token) : Node → Type 0 where
   is_body : {d : ℕ} {x : Body} → IsMembers ts d x.members x.first x.past → Derives ts (body x)
@@ -71,27 +73,25 @@ pub data Derives (ts : List Token) : Node → Type 0 where
   is_for_directive : {d : ℕ} {m : Bool} {x : ForDirective}
       → IsPart ts d m (part.For x) x.first x.past → Derives ts (for_directive x)
 
--- ---- what stands directly in a node, in the order of the text
+-- ---- what is directly in a node, in the order of the text
 
-abbrev pub member_node : Member-F Content Member Block Body → Node
+abbrev pub member_node : MemberLayer → Node
 member_node (Member-F.Attribute a) = attribute a
 member_node (Member-F.Block b) = block b
 
 abbrev pub members_nodes : List Member → List Node
 members_nodes ms = map (λ (m : Member). member_node (out-Member m)) ms
 
-abbrev pub content_nodes : Content-F Content Member Block Body → List Node
+abbrev pub content_nodes : ContentLayer → List Node
 content_nodes (Content-F.Body b) = body b ∷ []
 content_nodes (Content-F.OneLine None) = []
 content_nodes (Content-F.OneLine (Some a)) = one_line_attribute a ∷ []
 
-abbrev pub tail_nodes : Tail-F ExprKind Part Primary Tail Call Elem Expr ForDirective ForObject ForTuple
-    IfDirective Intro Operation Template Term → List Node
+abbrev pub tail_nodes : TailLayer → List Node
 tail_nodes (Tail-F.Index e) = expr e ∷ []
 tail_nodes _ = []
 
-abbrev pub expr_kind_nodes : ExprKind-F ExprKind Part Primary Tail Call Elem Expr ForDirective ForObject ForTuple
-    IfDirective Intro Operation Template Term → List Node
+abbrev pub expr_kind_nodes : ExprKindLayer → List Node
 expr_kind_nodes (ExprKind-F.Conditional c then_branch else_branch) = expr c ∷ expr then_branch ∷ expr else_branch ∷ []
 expr_kind_nodes (ExprKind-F.Binary head links) = expr head ∷ map (λ (l : Operation). expr l.operand) links
 expr_kind_nodes (ExprKind-F.Unary op operand) = expr operand ∷ []
@@ -105,8 +105,7 @@ abbrev pub filter_nodes : Option Expr → List Node
 filter_nodes None = []
 filter_nodes (Some e) = expr e ∷ []
 
-abbrev pub primary_nodes : Primary-F ExprKind Part Primary Tail Call Elem Expr ForDirective ForObject
-    ForTuple IfDirective Intro Operation Template Term → List Node
+abbrev pub primary_nodes : PrimaryLayer → List Node
 primary_nodes Primary-F.Number = []
 primary_nodes Primary-F.Identifier = []
 primary_nodes (Primary-F.Call c) = map expr (out-Call c).arguments
@@ -122,8 +121,7 @@ primary_nodes (Primary-F.Quoted t) = template t ∷ []
 primary_nodes (Primary-F.Heredoc t) = template t ∷ []
 primary_nodes (Primary-F.Parens e) = expr e ∷ []
 
-abbrev pub part_nodes : Part-F ExprKind Part Primary Tail Call Elem Expr ForDirective ForObject ForTuple
-    IfDirective Intro Operation Template Term → List Node
+abbrev pub part_nodes : PartLayer → List Node
 part_nodes (Part-F.Literal n) = []
 part_nodes (Part-F.Interp e) = expr e ∷ []
 part_nodes (Part-F.If x) = if_directive x ∷ []
@@ -149,7 +147,7 @@ nodes (if_directive x) =
 nodes (for_directive x) = intro x.intro ∷ template x.body ∷ []
 
 mutual
-  -- a node stands in another: it is that node, or stands in what stands there
+  -- a node is in another: it is that node, or is in one that is directly there
   pub data IsWithin (n : Node) : Node → Type 0 where
     itself : IsWithin n n
     within : {p : Node} → IsWithinOneOf n (nodes p) → IsWithin n p
@@ -158,7 +156,7 @@ mutual
     in_first : {p : Node} {ps : List Node} → IsWithin n p → IsWithinOneOf n (p ∷ ps)
     in_rest : {p : Node} {ps : List Node} → IsWithinOneOf n ps → IsWithinOneOf n (p ∷ ps)
 
--- in the tree of a list of tokens each node stands over its own tokens
+-- in the tree of a list of tokens each node is derived by its own
 abbrev pub NodesSpanTheirTokens : Type 0
 NodesSpanTheirTokens = (ts : List Token) (d : ℕ) (t : Tree) → IsFile ts d t → (n : Node)
     → IsWithin n (body t.body) → Derives ts n

@@ -1,3 +1,3 @@
--- For proofs: what the code of a parser stands on.
+-- For proofs: what the code of a parser relies on.
 pub mod ParserResults
 pub mod PrecedenceClimbing

@@ -2,13 +2,14 @@
 
 ghost use Rattle.hcl_grammar_laws.specs.Comments.{CommentTextIsIgnored};
 ghost use Rattle.hcl_grammar_laws.specs.NodeSpans.{NodesSpanTheirTokens};
+ghost use Rattle.hcl_grammar_laws.specs.NodeTokens.{NodesAreDerived, NumbersAreWithin};
 ghost use Rattle.hcl_grammar_laws.specs.Glue.{NoGlue};
 ghost use Rattle.hcl_grammar_laws.specs.Nesting.{NestingIsMonotone};
 ghost use Rattle.hcl_grammar_laws.specs.OneTree.{OneTree};
 ghost use Rattle.hcl_grammar_laws.specs.Pure.ParserResults.{FileParserIsExact, MemberParserIsExact};
 ghost use Rattle.hcl_grammar_laws.specs.Pure.PrecedenceClimbing.{PrecedenceClimbing};
 
-/// Over the same tokens stands one tree at most.
+/// From the same tokens at most one tree is derived.
 pub fn one_tree()
     ensures { OneTree }
 {}
@@ -24,31 +25,41 @@ pub fn nesting_is_monotone()
     ensures { NestingIsMonotone }
 {}
 
-/// Where the grammar is followed, `<` does not stand beside `<`, `.` beside `.` or a legacy index,
-/// nor a number beside a name that begins with `e` or `E`.
+/// Where the grammar is followed, `<` is not next to `<`, `.` not next to `.` or a legacy
+/// index, nor a number next to a name that begins with `e` or `E`.
 pub fn no_glue()
     ensures { NoGlue }
 {}
 
-/// Each node that stands in the tree of a list of tokens is derived by those from its `first` up to
+/// Each node of the tree of a list of tokens is derived by those from its `first` up to
 /// its `past`, without those that are dropped.
 pub fn nodes_span_their_tokens()
     ensures { NodesSpanTheirTokens }
 {}
 
+/// Each node of the list of a tree (hcl_grammar, `TreeNodes`) is derived by its own tokens.
+pub fn nodes_are_derived()
+    ensures { NodesAreDerived }
+{}
+
+/// Each number of a node is that of a token, or the one after the last.
+pub fn numbers_are_within()
+    ensures { NumbersAreWithin }
+{}
+
 /// For a parser: an answer that is the pure parser's, memory aside, is the tree that is derived, or
-/// the fault.
+/// the error.
 pub fn file_parser_is_exact()
     ensures { FileParserIsExact }
 {}
 
-/// For a parser: one look behind an operand tells which levels of operators have anything there.
+/// For a parser: one look after an operand shows which levels of operators have anything there.
 pub fn precedence_climbing()
     ensures { PrecedenceClimbing }
 {}
 
 /// For a parser: an answer that is the pure parser's at one member of a body, memory aside, is the
-/// member that stands there, or the fault.
+/// member there, or the error.
 pub fn member_parser_is_exact()
     ensures { MemberParserIsExact }
 {}

@@ -1,5 +1,5 @@
-//! Laws of the grammar: it is unambiguous, a parser answers exactly its trees, and each node stands
-//! over its own tokens.
+//! Laws of the grammar: it is unambiguous, a parser answers exactly its trees, and each node is
+//! derived by its own tokens.
 #![tactic(auto)]
 
 pub mod laws;

@@ -1,4 +1,4 @@
--- Which faults there are, and where in the text they stand.
+-- Kinds of a parser's errors, and where in the text they are.
 use Rattle.std.specs.Prelude.{◌≡◌, ℕ, length, unwrap_or}
 use Rattle.std.specs.Option.{option_map}
 use Rattle.hcl_token.specs.TokenizedText.{TokenizedText, item_of}
@@ -24,7 +24,7 @@ abbrev pub byte_offset : TokenizedText → ℕ → ℕ
 byte_offset t number =
     unwrap_or (option_map (λ (i : Item). i.start) (item_of t.pairs number)) (length t.text)
 
--- a fault by the number of its token, as one by its byte
+-- an error by the number of its token, as one by its byte
 abbrev pub to_parse_fault : TokenizedText → TokenFault → ParseFault
 to_parse_fault t (token.Syntax number) = fault.Syntax (byte_offset t number)
 to_parse_fault t (token.TooDeep number) = fault.TooDeep (byte_offset t number)

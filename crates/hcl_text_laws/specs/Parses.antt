@@ -7,7 +7,7 @@ use Rattle.hcl_grammar.specs.declared.bounds.TheConstants.{MAX_NESTING}
 use Rattle.hcl_grammar.specs.declared.tree.Tree.{Tree}
 use Rattle.hcl_grammar.specs.Bodies.{IsFile}
 
--- the text is cut into tokens, and this tree stands over them
+-- the text has a tokenization, and this tree is derived from its tokens
 pub record Parses (text : List ℕ) (t : Tree) : Type 0 where
   pub pairs : List Pair
   pub last : List ℕ
@@ -23,8 +23,9 @@ ParsedTokensAreApart = (text : List ℕ) (pairs : List Pair) (last : List ℕ) (
 abbrev pub OneParse : Type 0
 OneParse = (text : List ℕ) (t u : Tree) → Parses text t → Parses text u → t ≡ u
 
--- The same tokens with other gaps: where each gap can stand between its tokens, and none is empty
--- between two that join, they are the cut of the text that they make, and it has the same tree.
+-- The same tokens with other gaps: where each gap is allowed between its tokens, and none is empty
+-- between two that join, they are the tokenization of the text that they make, which has the same
+-- tree.
 abbrev pub OtherGapsParse : Type 0
 OtherGapsParse = (text : List ℕ) (pairs others : List Pair) (last other : List ℕ) (d : ℕ) (t : Tree)
     → IsTokenization text pairs last → IsFile (tokens_of pairs) d t

@@ -9,22 +9,22 @@ use thiserror::Error;
 
 /// Why a text does not parse, and where. Places count bytes from 0.
 ///
-/// The text is read from left to right, and the first fault that is met is told.
+/// The text is read from left to right, and the error is the first.
 #[derive(Clone, Copy, Debug, PartialEq, Eq, Error)]
 pub enum ParseFault {
-    /// The first token that the grammar does not let stand here; the length of the text, where it
+    /// The first token that the grammar does not allow here; the length of the text, where it
     /// ends too early.
     #[error("byte {at}: syntax error")]
     Syntax { at: usize },
-    /// The token that opens the 101st construct in one another.
+    /// The token that opens one construct too many in one another (`MAX_NESTING`).
     #[error("byte {at}: nested more than 100 deep")]
     TooDeep { at: usize },
-    /// A growth was refused.
+    /// An allocation failed.
     #[error("out of memory")]
     Memory,
 }
 
-/// The byte where a token begins; the length of the text, if there is none.
+/// Returns the byte where a token begins; the length of the text, if there is none.
 fn byte_offset(scanned: &Scanned<'_>, number: usize) -> usize
     ensures { result ≡ byte_offset scanned.now number }
 {
@@ -35,7 +35,7 @@ fn byte_offset(scanned: &Scanned<'_>, number: usize) -> usize
     }
 }
 
-/// A fault by the number of its token, as one by its byte.
+/// Returns an error by the number of its token as one by its byte.
 pub fn to_parse_fault(scanned: &Scanned<'_>, fault: TokenFault) -> ParseFault
     ensures { result ≡ to_parse_fault scanned.now fault }
 {

@@ -17,7 +17,7 @@ pub fn parsed_tokens_are_apart()
     hcl_grammar_laws::laws::no_glue();
 }
 
-/// The same tokens with other gaps, which can stand between them, parse to the same tree.
+/// The same tokens with other gaps that are allowed between them parse to the same tree.
 pub fn other_gaps_parse()
     ensures { OtherGapsParse }
 {

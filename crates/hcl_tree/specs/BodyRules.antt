@@ -45,7 +45,7 @@ module _ (t : ReaderState) where
   abbrev pub file : Step Tree
   file = b.file t.tokens t.depth
 
--- what stands in the braces of a block, which were opened
+-- the content of a block, whose brace was opened
 module _ (t : ReaderState) where
   abbrev pub one_line_body : Step Content
   one_line_body = b.one_line_body t.tokens t.depth

@@ -15,7 +15,7 @@ use hcl_grammar::tree::{Content, Member};
 use hcl_grammar::{Items, nodes};
 use hcl_token::Kind;
 
-/// At most one attribute, of a block on one line.
+/// Takes at most one attribute, of a block on one line.
 #[tactic(auto, unfolding(hcl_grammar::specs::Pure::BodyParser::one_line_body))]
 fn one_line_body(reader: &Reader<'_, '_>, at: &mut usize) -> Result<Content, TokenFault>
     ensures { Reads (spec.one_line_body reader.now at.old) result at.new }
@@ -31,7 +31,7 @@ fn one_line_body(reader: &Reader<'_, '_>, at: &mut usize) -> Result<Content, Tok
     Ok(nodes::one_line(reader.alloc(), attribute)?)
 }
 
-/// An attribute, behind its name and `=`.
+/// Takes the rest of an attribute, after its name and `=`.
 #[tactic(auto, unfolding(hcl_grammar::specs::Pure::BodyParser::attribute_by))]
 fn attribute(reader: &Reader<'_, '_>, first: usize, at: &mut usize) -> Result<Member, TokenFault>
     ensures { Reads (spec.attribute reader.now first at.old) result at.new }
@@ -41,7 +41,7 @@ fn attribute(reader: &Reader<'_, '_>, first: usize, at: &mut usize) -> Result<Me
     Ok(Member::Attribute(nodes::attribute(first, *at, value)))
 }
 
-/// The body of a block that was opened.
+/// Takes the body of a block that was opened.
 #[cycle(nest)]
 #[tactic(auto, unfolding(hcl_grammar::specs::Pure::BodyParser::nested_body))]
 fn nested_body(reader: &Reader<'_, '_>, at: &mut usize) -> Result<Content, TokenFault>
@@ -54,7 +54,7 @@ fn nested_body(reader: &Reader<'_, '_>, at: &mut usize) -> Result<Content, Token
     Ok(nodes::block_body(reader.alloc(), nodes::body(first, to, members))?)
 }
 
-/// What stands behind the `{` of a block that was opened: a line end and a body, or what stands on
+/// Takes what the braces of a block contain, after the `{`: a line end and a body, or what is on
 /// the line.
 #[cycle(nest)]
 #[tactic(auto, unfolding(hcl_grammar::specs::Pure::BodyParser::block_content))]
@@ -67,7 +67,7 @@ fn block_content(reader: &Reader<'_, '_>, at: &mut usize) -> Result<Content, Tok
     one_line_body(reader, at)
 }
 
-/// A block, behind its word.
+/// Takes the rest of a block, after its word.
 #[cycle(nest)]
 #[tactic(auto, unfolding(hcl_grammar::specs::Pure::BodyParser::block_by))]
 fn block(reader: &Reader<'_, '_>, first: usize, at: &mut usize) -> Result<Member, TokenFault>
@@ -84,7 +84,7 @@ fn block(reader: &Reader<'_, '_>, first: usize, at: &mut usize) -> Result<Member
     Ok(nodes::block(first, *at, labels, content)?)
 }
 
-/// An attribute or a block, behind its first word.
+/// Takes the rest of an attribute or of a block, after its first word.
 #[cycle(nest)]
 #[tactic(auto, unfolding(hcl_grammar::specs::Pure::BodyParser::attribute_or_block))]
 fn attribute_or_block(
@@ -101,7 +101,7 @@ fn attribute_or_block(
     }
 }
 
-/// A member, if one comes next.
+/// Takes a member, if one comes next.
 #[cycle(nest)]
 #[tactic(auto, unfolding(hcl_grammar::specs::Pure::BodyParser::member_of))]
 fn next_member(reader: &Reader<'_, '_>, at: &mut usize) -> Result<Option<Member>, TokenFault>
@@ -115,7 +115,7 @@ fn next_member(reader: &Reader<'_, '_>, at: &mut usize) -> Result<Option<Member>
     Ok(Some(attribute_or_block(reader, first, at)?))
 }
 
-/// The members of a body.
+/// Takes the members of a body.
 #[cycle(nest)]
 pub fn members(reader: &Reader<'_, '_>, at: &mut usize) -> Result<Items<Member>, TokenFault>
     ensures { Reads (spec.members reader.now at.old) result at.new }
@@ -133,10 +133,9 @@ pub fn members(reader: &Reader<'_, '_>, at: &mut usize) -> Result<Items<Member>,
     Ok(found)
 }
 
-/// The member of a text's body that comes next, if one does.
+/// Takes the next member of a text's body, if one comes next.
 ///
-/// Line ends before it are not taken. A text's members, one behind the other, are what `parse`
-/// makes its tree of.
+/// Line ends before it are not taken. `parse` makes its tree of a text's members in order.
 pub fn member(reader: &Reader<'_, '_>, at: &mut usize) -> Result<Option<Member>, TokenFault>
     ensures derived { IsMemberResult reader.now.tokens reader.now.depth at.old result at.new }
     ensures reads { Reads (spec.member reader.now at.old) result at.new }

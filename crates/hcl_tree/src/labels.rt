@@ -11,7 +11,8 @@ use hcl_grammar::tree::Label;
 use hcl_grammar::{Items, nodes};
 use hcl_token::Kind;
 
-/// A label in quotes, behind the opening quote, which is token `first`. It has no interpolation.
+/// Takes the rest of a label in quotes, after its quote, which is token `first`. It has no
+/// interpolation.
 #[tactic(auto, unfolding(hcl_grammar::specs::Pure::BodyParser::quoted_label))]
 fn quoted_label(reader: &Reader<'_, '_>, first: usize, at: &mut usize) -> Result<Label, TokenFault>
     ensures { ReadsExactly (spec.quoted_label reader.now first at.old) result at.new }
@@ -26,7 +27,7 @@ fn quoted_label(reader: &Reader<'_, '_>, first: usize, at: &mut usize) -> Result
     Ok(nodes::label(first, *at, None))
 }
 
-/// A label, if one comes next.
+/// Takes a label, if one comes next.
 #[tactic(auto, unfolding(hcl_grammar::specs::Pure::BodyParser::label_of, hcl_grammar::specs::Tokens::after_next))]
 fn label(reader: &Reader<'_, '_>, at: &mut usize) -> Result<Option<Label>, TokenFault>
     ensures { ReadsExactly (spec.label reader.now at.old) result at.new }
@@ -45,7 +46,7 @@ fn label(reader: &Reader<'_, '_>, at: &mut usize) -> Result<Option<Label>, Token
     }
 }
 
-/// The labels that come next.
+/// Takes the labels that come next.
 pub fn labels(reader: &Reader<'_, '_>, at: &mut usize) -> Result<Items<Label>, TokenFault>
     ensures { Reads (spec.labels reader.now at.old) result at.new }
 {

@@ -21,7 +21,7 @@ use hcl_text_laws::{ParseFault, to_parse_fault};
 use hcl_token::Kind;
 use std::alloc::Global;
 
-/// The tree over all the tokens.
+/// Takes all tokens, and returns their tree.
 #[tactic(auto, unfolding(hcl_grammar::specs::Pure::BodyParser::file))]
 fn file(reader: &Reader<'_, '_>, at: &mut usize) -> Result<Tree, TokenFault>
     ensures { Reads (spec.file reader.now at.old) result at.new }
@@ -68,7 +68,7 @@ pub fn parse(alloc: Global, scanned: &Scanned<'_>) -> Result<Tree, ParseFault>
     // A text that parses is not refused, unless memory runs out.
     ensures only { (t : tree.Tree) → Parses scanned.now.text t
         → MatchResult result (λ x. x ≡ t) IsMemory }
-    // Where the tokens follow the grammar with more constructs in one another, the fault is that.
+    // Where the tokens follow the grammar with more constructs in one another, that is the error.
     ensures deeper { (d : ℕ) (t : tree.Tree) → IsFile (tokens_of scanned.now.pairs) d t
         → MatchResult result (λ x. x ≡ t) IsMemoryOrDeep }
     // The place of an error is where a token begins, or the length of the text.

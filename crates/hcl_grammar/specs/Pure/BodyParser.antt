@@ -82,7 +82,7 @@ module _ (ts : List Token) where
       end ← position
       pure (member.Attribute (node.attribute first end value))
 
-    -- the body of a block, behind the line of its brace
+    -- the body of a block, after the line of its brace
     unfoldable pub nested_body : Step Content
     nested_body = do
       from ← position
@@ -148,7 +148,7 @@ module _ (ts : List Token) where
         m ← member_of
         members_step (members_from n) found m)
 
-  -- a body with at most so many constructs in one another
+  -- a body with at most n constructs in one another
   unfoldable pub members : ℕ → Step (List Member)
   members zero = members_from zero (λ i. Err (TooDeep i)) (length ts) []
   members (suc depth) = members_from (suc depth) (members depth) (length ts) []

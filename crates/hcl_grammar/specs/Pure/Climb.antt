@@ -1,4 +1,4 @@
--- For proofs: the levels of operators, by one look behind the operand. Where no operator follows
+-- For proofs: the levels of operators, by one look after the operand. Where no operator follows
 -- it, no level is gone into.
 use Rattle.std.specs.Prelude.{ℕ, zero, suc, Bool, List, [], length, Option, Some, None}
 use Rattle.hcl_token.specs.declared.kind.Kind.{Kind}
@@ -10,7 +10,7 @@ use Rattle.hcl_grammar.specs.Pure.Parser as p
 use Rattle.hcl_grammar.specs.Pure.Reading.{Step, ◌>>=◌, pure, position}
 use Rattle.hcl_grammar.specs.Tokens.{Token, next_kind}
 
--- the level of an operator; past all levels, if it is none
+-- the level of an operator; the number of levels, if it is none
 abbrev pub level_of_operator : Option (ℕ × BinaryOperator) → ℕ
 level_of_operator None = levels
 level_of_operator (Some q) = q.0
@@ -24,7 +24,7 @@ unfoldable pub next_level : List Token → Bool → ℕ → ℕ
 next_level ts m i = level_of_kind (next_kind ts m i)
 
 module _ (ts : List Token) (depth : ℕ) (inner : p.Deeper) where
-  -- the operators of the levels below n, behind an operand that was read
+  -- the operators of the levels below n, after an operand that was read
   unfoldable pub climb_levels : ℕ → Bool → ℕ → Expr → Step Expr
   climb_levels zero m first head = pure head
   climb_levels (suc n) m first head = do

@@ -28,7 +28,7 @@ use Rattle.hcl_grammar.specs.Tokens.{Token, next_kind, after_next, first_token_i
 abbrev pub as_some : {A : Type 0} → Step A → Step (Option A)
 as_some p = p >>= (λ x. pure (Some x))
 
--- the steps that read what stands one construct deeper
+-- the steps that read what is one construct deeper
 pub record Deeper : Type 0 where
   pub expr : Bool → Goal → Step Expr
   pub parts : Bool → Step (List Part)
@@ -73,7 +73,7 @@ module _ (ts : List Token) where
     is_comment ← eat ts false k.LineComment
     if is_comment then (do expect ts false k.LineEnd; pure true) else eat ts false k.LineEnd
 
-  -- nl*, at most so many
+  -- nl*, at most n
   unfoldable pub skip_newlines_from : ℕ → Step (Unit {0})
   skip_newlines_from zero = pure tt
   skip_newlines_from (suc n) = do
@@ -97,7 +97,7 @@ module _ (ts : List Token) where
     more ← eat_separator
     if more then pure true else (do expect ts false k.CloseBrace; pure false)
 
-  -- the names behind the first of a function's name
+  -- the names after the first of a function's name
   unfoldable pub names_from : Bool → ℕ → List ℕ → Step (List ℕ)
   names_from m zero found = pure found
   names_from m (suc n) found = do
@@ -126,7 +126,7 @@ module _ (ts : List Token) where
 module _ (ts : List Token) where
   -- inner: the expressions of one construct deeper
   module _ (inner : Exprs) where
-    -- (Expr ("," Expr)* ","?)? and `]`, put behind those that were found; so in the lists below
+    -- (Expr ("," Expr)* ","?)? and `]`, added to those that were found; so in the lists below
     unfoldable pub tuple_items_from : ℕ → List Expr → Step (List Expr)
     tuple_items_from zero found = syntax_fault ts true
     tuple_items_from (suc n) found = do
@@ -401,7 +401,7 @@ module _ (ts : List Token) where
         x ← operand m
         more (found ++ node.operation op x ∷ [])
 
-      -- the operators of level n, each with the operand behind it
+      -- the operators of level n, each with its second operand
       unfoldable pub operations_from : Bool → ℕ → ℕ → List Operation → Step (List Operation)
       operations_from m n zero found = pure found
       operations_from m n (suc turns) found = do
@@ -549,10 +549,10 @@ module _ (ts : List Token) where
   twice (suc zero) = too_deep.expr
   twice (suc (suc depth)) = (under depth).expr
 
-  -- expressions with at most so many constructs in one another
+  -- expressions with at most n constructs in one another
   abbrev pub expr : ℕ → Exprs
   expr depth = (under depth).expr
 
-  -- parts of templates with at most so many
+  -- parts of templates with at most n
   abbrev pub parts : ℕ → Bool → Step (List Part)
   parts depth = (under depth).parts

@@ -5,7 +5,7 @@ use Rattle.hcl_grammar.specs.declared.fault.TokenFault.{TokenFault}
 use Rattle.hcl_grammar.specs.declared.fault.TokenFault.TheVariants.{Syntax, TooDeep, Memory}
 use Rattle.hcl_grammar.specs.Tokens.{Token, next_index, next_token, next_kind, after_next, is_kind, is_word}
 
--- what is read and the place behind it, or why nothing is
+-- what is read and the place after it, or why nothing is
 abbrev pub Outcome : Type 0 → Type 0
 Outcome A = Result (A × ℕ) TokenFault
 
@@ -13,7 +13,7 @@ Outcome A = Result (A × ℕ) TokenFault
 abbrev pub Step : Type 0 → Type 0
 Step A = ℕ → Outcome A
 
--- the next step begins behind what was read; where nothing was, there is none
+-- the next step begins after what was read; where nothing was, there is none
 abbrev pub and_then : {A B : Type 0} → Outcome A → (A → Step B) → Outcome B
 and_then (Ok read) next_kind = next_kind read.0 read.1
 and_then (Err fault) next_kind = Err fault
@@ -51,7 +51,7 @@ module _ (ts : List Token) where
   unfoldable pub next_is : Bool → Kind → ℕ → Bool
   next_is skip_newlines kind i = is_kind (next_kind ts skip_newlines i) kind
 
-  -- the place behind a token of this kind, if one comes next
+  -- the place after a token of this kind, if one comes next
   unfoldable pub after_if_next : Bool → Kind → ℕ → ℕ
   after_if_next skip_newlines kind i = if next_is skip_newlines kind i then after_next ts skip_newlines i else i
 

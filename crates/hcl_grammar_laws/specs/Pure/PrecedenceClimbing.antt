@@ -1,4 +1,4 @@
--- For proofs: the levels of operators by one look behind the operand.
+-- For proofs: the levels of operators by one look after the operand.
 use Rattle.std.specs.Prelude.{◌≡◌, ℕ, ◌≤◌, Bool, List, Ok}
 use Rattle.hcl_grammar.specs.declared.tree.Expr.{Expr}
 use Rattle.hcl_grammar.specs.Pure.Climb.{next_level, climb_levels}
@@ -7,11 +7,11 @@ use Rattle.hcl_grammar.specs.Pure.Reading.{and_then}
 use Rattle.hcl_grammar.specs.Tokens.{Token, next_index}
 
 pub record ClimbsPrecedence (ts : List Token) (depth : ℕ) (inner : Deeper) : Type 0 where
-  -- a level is an operand and the operators of the levels below it that stand behind
+  -- a level is an operand and the operators of the levels below it that follow
   pub level_is : (n : ℕ) (m : Bool) (i : ℕ)
       → level ts depth inner n m i
       ≡ and_then (unary ts depth inner m i) (climb_levels ts depth inner n m (next_index ts m i))
-  -- where no operator of a level below n comes next, nothing of these levels stands behind
+  -- where no operator of a level below n comes next, nothing of these levels follows
   pub rest_not : (n : ℕ) (m : Bool) (first : ℕ) (head : Expr) (i : ℕ) → n ≤ next_level ts m i
       → climb_levels ts depth inner n m first head i ≡ Ok (head, i)
   -- and level n is the operand
