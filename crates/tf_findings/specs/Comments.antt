@@ -1,7 +1,7 @@
 -- What a comment says that silences rules, as `# tflint-ignore: terraform_deprecated_index,
 -- terraform_typed_variables # why`.
 -- TFLint, Annotations.
-use Rattle.std.specs.Prelude.{ℕ, ◌-◌, nat_le, nat_lt, not, ◌&&◌, ◌||◌, ◌==◌, Bool, List, [], ◌∷◌, take, drop, length, slice_index, codes, if◌then◌else◌}
+use Rattle.std.specs.Prelude.{ℕ, ◌-◌, nat_le, nat_lt, not, true, false, ◌&&◌, ◌||◌, ◌==◌, Bool, List, [], ◌∷◌, take, drop, length, slice_index, codes, if◌then◌else◌}
 use Rattle.std.specs.List.{prefix_len, list_all, list_any}
 use Rattle.std.specs.Str.{bytes_eq}
 use Rattle.hcl_token.specs.declared.kind.Kind.{Kind}
@@ -10,6 +10,12 @@ use Rattle.tf_rules.specs.declared.rule.Rule.{Rule}
 use Rattle.tf_rules.specs.Table.{name_of}
 use Rattle.tf_findings.specs.declared.silencing.class.ByteClass.{ByteClass}
 use Rattle.tf_findings.specs.declared.silencing.class.ByteClass.TheVariants.{Whitespace, NameByte, NotComma, NotHash}
+
+-- whether a token of the kind is a comment
+abbrev pub is_comment : Kind → Bool
+is_comment LineComment = true
+is_comment InlineComment = true
+is_comment _ = false
 
 -- a space or a tab; an ASCII letter, a digit, `_` or `-`; anything but a comma; anything but `#`
 abbrev pub is_in_class : ByteClass → ℕ → Bool

@@ -47,10 +47,8 @@ fn step_edits(alloc: Global, linted: &LintedText<'_>, rule: Rule) -> Result<Step
         ⊎ ((fault ≡ FixFault.TooLong) × CannotStep rule p fault)) }
 {
     let found = linted.found.as_slice();
-    match fix_step_of_findings(alloc, &linted.scanned, linted.rules, found, rule) {
-        Ok(mended) => Ok(mended),
-        Err(fault) => Err(FixFault::from(fault)),
-    }
+    let edits = fix_step_of_findings(alloc, &linted.scanned, linted.rules, found, rule)?;
+    Ok(edits)
 }
 
 /// The step of a rule over a text that was searched with a set that has it.
