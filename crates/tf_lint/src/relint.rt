@@ -163,7 +163,7 @@ fn relint_text<'t>(
 
 /// Returns a buffer large enough for the tokens of `text`: the old text had `count`, and each new
 /// token contains an added byte. The buffer is reserved at once, since a vector that grows would
-/// leave smaller freed blocks behind.
+/// leave smaller freed blocks.
 fn token_buffer_for(
     alloc: Global,
     token_buffer: Vec<Token>,
@@ -175,7 +175,7 @@ fn token_buffer_for(
     for piece in replaced {
         most = most.saturating_add(piece.added as usize);
     }
-    // the cut asks for as much as an eighth of the bytes at once
+    // `scan` allocates a token for each eight bytes at once
     let most = most.min(text.len()).max(text.len() / 8);
     if most <= token_buffer.capacity() {
         return Ok(token_buffer);
