@@ -2,3 +2,4 @@
 -- in it. What has to be believed is in the files next to this folder.
 pub mod Unpacking
 pub mod Packing
+pub mod SnakeCaseRest
