@@ -53,8 +53,14 @@ fn lint_scanned<'t>(
     ensures fault { (text : List ℕ) → scanned.entry.text ≡ text
         → IfErr result (λ fault. IsReadFault text fault) }
 {
-    let TextFindings { members, found } =
-        lint_tokens(alloc, &scanned, rules, &scanned, &[], keep_members)?;
+    let TextFindings { members, found } = lint_tokens(
+        alloc,
+        &scanned,
+        rules,
+        &scanned,
+        &[],
+        keep_members,
+    )?;
     Ok(LintedText {
         scanned,
         rules,
@@ -99,8 +105,7 @@ fn relint_scanned<'t>(
     ensures fault { (text : List ℕ) → scanned.entry.text ≡ text
         → IfErr result (λ fault. IsReadFault text fault) }
 {
-    let TextFindings { members, found } =
-        lint_tokens(alloc, &scanned, rules, old, members, true)?;
+    let TextFindings { members, found } = lint_tokens(alloc, &scanned, rules, old, members, true)?;
     Ok(LintedText {
         scanned,
         rules,
@@ -200,8 +205,8 @@ fn name_broken_step(
     relinted: Result<RelintedText<'_>, FixFault>,
     rule: Rule,
 ) -> Result<RelintedText<'_>, FixFault>
-    ensures ok { IfOk result (λ made. relinted ≡ Ok made) }
-    ensures err { IfErr result (λ e. (why : FixFault) × (relinted ≡ Err why)
+    ensures ok { IfOk result (λ made. relinted.entry ≡ Ok made) }
+    ensures err { IfErr result (λ e. (why : FixFault) × (relinted.entry ≡ Err why)
         × (((why ≡ FixFault.Memory) × (e ≡ FixFault.Memory))
         ⊎ ((why ≢ FixFault.Memory) × (e ≡ FixFault.FixBroken rule)))) }
 {

@@ -1,12 +1,12 @@
 -- The loop over the bytes of a name accepts exactly the names of the definition.
-use Rattle.std.proofs.Common.{◌≡◌, ℕ, Bool, true, false, not, ◌&&◌, ◌||◌, ◌==◌, List, [], ◌∷◌, refl, sym, ap, ◌∙◌, if◌then◌else◌}
+use Rattle.std.proofs.Common.{◌≡◌, rules, ℕ, Bool, true, false, not, ◌&&◌, ◌||◌, ◌==◌, List, [], ◌∷◌, refl, sym, ap, ◌∙◌, if◌then◌else◌}
 use Rattle.std.specs.Prelude.{nat_le}
 use Rattle.std.specs.List.{list_all}
 use Rattle.tf_rules.specs.SnakeCase.{is_lower, is_lower_or_digit, is_group, add_to_first, split_underscores, is_snake_case}
 use Rattle.tf_rules.specs.Inner.SnakeCaseRest.{is_valid_rest}
 
 -- what the groups after a byte are, if that byte is an underscore or not: the first one goes on
-groups_after : Bool → List (List ℕ) → Bool
+abbrev groups_after : Bool → List (List ℕ) → Bool
 groups_after true gs = list_all is_group gs
 groups_after false [] = true
 groups_after false (g ∷ gs) = list_all is_lower_or_digit g && list_all is_group gs
