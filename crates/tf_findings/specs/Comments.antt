@@ -1,7 +1,7 @@
 -- What a comment says that silences rules, as `# tflint-ignore: terraform_deprecated_index,
 -- terraform_typed_variables # why`.
 -- TFLint, Annotations.
-use Rattle.std.specs.Prelude.{ℕ, ◌-◌, nat_le, nat_lt, not, ◌&&◌, ◌||◌, ◌==◌, Bool, List, [], ◌∷◌, take, drop, length, slice_index, codes, if◌then◌else◌}
+use Rattle.std.specs.Prelude.{ℕ, ◌-◌, nat_le, nat_lt, not, true, false, ◌&&◌, ◌||◌, ◌==◌, Bool, List, [], ◌∷◌, take, drop, length, slice_index, codes, if◌then◌else◌}
 use Rattle.std.specs.List.{prefix_len, list_all, list_any}
 use Rattle.std.specs.Str.{bytes_eq}
 use Rattle.hcl_token.specs.declared.kind.Kind.{Kind}
@@ -11,6 +11,12 @@ use Rattle.tf_rules.specs.Table.{name_of}
 use Rattle.tf_findings.specs.declared.silencing.class.ByteClass.{ByteClass}
 use Rattle.tf_findings.specs.declared.silencing.class.ByteClass.TheVariants.{Whitespace, NameByte, NotComma, NotHash}
 
+-- whether a token of the kind is a comment
+abbrev pub is_comment : Kind → Bool
+is_comment LineComment = true
+is_comment InlineComment = true
+is_comment _ = false
+
 -- a space or a tab; an ASCII letter, a digit, `_` or `-`; anything but a comma; anything but `#`
 abbrev pub is_in_class : ByteClass → ℕ → Bool
 is_in_class Whitespace b = b == 32 || b == 9
@@ -19,7 +25,7 @@ is_in_class NameByte b = (nat_le 97 b && nat_le b 122)
 is_in_class NotComma b = not (b == 44)
 is_in_class NotHash b = not (b == 35)
 
--- how many bytes at the front are of the class
+-- how many bytes at the start are of the class
 abbrev pub class_prefix_len : ByteClass → List ℕ → ℕ
 class_prefix_len class = prefix_len (is_in_class class)
 
@@ -41,11 +47,11 @@ abbrev pub split_commas : List ℕ → List (List ℕ)
 split_commas [] = [] ∷ []
 split_commas (b ∷ bs) = if b == 44 then [] ∷ split_commas bs else cons_to_first b (split_commas bs)
 
--- the name at the front of a part, behind blanks
+-- the name at the start of a part, after whitespace
 abbrev pub leading_name : List ℕ → List ℕ
 leading_name part = take (class_prefix_len NameByte (skip_whitespace part)) (skip_whitespace part)
 
--- whether a part is a name with any blanks round it
+-- whether a part is a name, with or without whitespace around it
 abbrev pub is_name : List ℕ → Bool
 is_name part = nat_lt 0 (class_prefix_len NameByte (skip_whitespace part))
     && is_all_whitespace (drop (class_prefix_len NameByte (skip_whitespace part)) (skip_whitespace part))
@@ -54,18 +60,18 @@ is_name part = nat_lt 0 (class_prefix_len NameByte (skip_whitespace part))
 abbrev pub names_rule : Rule → List ℕ → Bool
 names_rule rule part = bytes_eq (leading_name part) (name_of rule) || bytes_eq (leading_name part) (codes "all")
 
--- what stands before the first `#`
+-- the text before the first `#`
 abbrev pub list_part : List ℕ → List ℕ
 list_part t = take (class_prefix_len NotHash t) t
 
--- Behind the word: names parted by commas, of which one means the rule. A reason behind `#` has at
--- least one blank before it.
+-- The list after `tflint-ignore:`: names separated by commas, of which one means the rule. A reason
+-- may follow, after whitespace and `#`.
 abbrev pub list_names : Rule → List ℕ → Bool
 list_names rule t =
     (class_prefix_len NotHash t == length t || ends_in_whitespace (list_part t))
     && (list_all is_name (split_commas (list_part t)) && list_any (names_rule rule) (split_commas (list_part t)))
 
--- what a comment holds says it: blanks, the word `tflint-ignore:`, and the list
+-- the body of a comment silences a rule: whitespace, `tflint-ignore:`, and the list
 abbrev pub body_silences : Rule → List ℕ → Bool
 body_silences rule t = bytes_eq (take 14 (skip_whitespace t)) (codes "tflint-ignore:")
     && list_names rule (drop 14 (skip_whitespace t))

@@ -1,4 +1,4 @@
--- What is found in a tree: at its nodes, in the order in which these stand.
+-- What is found in a tree: at its nodes, in preorder.
 use Rattle.std.specs.Prelude.{◌≡◌, List, ◌++◌, length}
 use Rattle.std.specs.List.{flat_map}
 use Rattle.hcl_token.specs.Tokens.{Pair}
@@ -10,12 +10,12 @@ use Rattle.tf_rules.specs.Preorder.{Node, IsPreorder}
 
 pub record AreTreeFindings (rules : RuleSet) (pairs : List Pair) (roots : List Node)
     (found : List Finding) : Type 0 where
-  -- all nodes that stand in the tree
+  -- all nodes of the tree
   pub nodes : List Node
   pub preorder : IsPreorder roots nodes
   pub are : found ≡ valid_findings (length pairs) (flat_map (node_findings rules pairs) nodes)
 
--- to a list what is found at some nodes, and in what stands in them, is added
+-- what is found at some nodes, and at the nodes inside of them, is added to a list
 pub record AreAddedFindings (rules : RuleSet) (pairs : List Pair) (roots : List Node)
     (old new : List Finding) : Type 0 where
   pub nodes : List Node

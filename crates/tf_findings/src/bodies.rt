@@ -77,8 +77,8 @@ fn walk_optional_attribute(
     }
 }
 
-/// What the rules of the set on expressions find in a tree,
-/// in the order in which a walk comes by them. `AllocError` where memory is refused.
+/// Returns what the rules of the set on expressions find in a tree, in preorder. Returns
+/// `AllocError` if memory runs out.
 ///
 /// TFLint ruleset for the Terraform language.
 pub fn tree_findings(
@@ -98,7 +98,7 @@ pub fn tree_findings(
 }
 
 /// Adds what the rules of the set find in an attribute or a block, as `tree_findings` finds it in a
-/// whole tree. `AllocError` where memory is refused.
+/// whole tree. Returns `AllocError` if memory runs out.
 ///
 /// TFLint ruleset for the Terraform language.
 pub fn add_node_findings(

@@ -1,5 +1,7 @@
 -- One step of a fix: what `make` answers about its edits, and which texts they turn into each other.
 use Rattle.std.proofs.Common.{◌≡◌, ℕ, ◌*◌, ◌≤◌, ◌<◌, Bool, true, false, List, [], ◌∷◌, length, map, None, Result, Ok, Err, if◌then◌else◌, refl, sym, ap, subst, ◌∙◌, arith, nat_lt}
+use Rattle.std.specs.Prelude.{IfErr}
+use Rattle.std.specs.Result.{IsErr, IsErrAnd}
 use Rattle.std.proofs.lemmas.Bool.{ltb-true, ltb-false}
 use Rattle.edit_record.specs.Lists.Validity.{make_edits}
 use Rattle.edit_record.specs.Lists.PieceEdits.{ChangesAreNonempty, PiecesTransform, PiecesMakeValidEdits}
@@ -14,6 +16,7 @@ use Rattle.hcl_token.specs.Tokens.{whole_text}
 use Rattle.tf_rules.specs.declared.finding.Finding.{Finding}
 use Rattle.tf_rules.specs.declared.rule.Rule.{Rule}
 use Rattle.tf_fix.specs.StepText.{fix_step_text}
+use Rattle.tf_fix.specs.declared.fault.LintFault.{LintFault}
 use Rattle.tf_fix.specs.Comments.{comment_edit}
 use Rattle.tf_fix.specs.StepEdits.{fix_step_entries}
 use Rattle.tf_rules.specs.Findings.{AreValidFindings}
@@ -100,6 +103,11 @@ pub step_same : PiecesAlwaysMake → (cut : TokenizedText) (new : List ℕ) (es 
 step_same make cut new es list is p same = step_same_if (nat_lt MAX_TEXT (length new)) (edits_of cut es) list (sym same ∙ step_made make cut new es is p)
 
 -- what is read of the call of `make`
+-- what `?` returns
+pub handed_on : {T : Type 0} (r : Result T LintFault) (f : LintFault) (P : LintFault → Type 0) → IsErr r × IsErrAnd r (λ e. e ≡ f) → P f → IfErr r P
+handed_on (Ok x) f P told p = tt
+handed_on (Err e) f P told p = subst P (sym told.1) p
+
 pub read_made : (text read : List ℕ) (es given : List EditEntry) (answer other : Result EditList BadEdits)
     → answer ≡ make_edits (length read) given → read ≡ text → given ≡ es → answer ≡ other → make_edits (length text) es ≡ other
 read_made text read es given answer other called t e is =

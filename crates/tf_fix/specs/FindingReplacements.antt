@@ -1,4 +1,4 @@
--- What is replaced to mend a finding, and of which rule it is.
+-- The replacements that fix a finding, and of which rule it is.
 use Rattle.std.specs.Prelude.{◌≡◌, ℕ, true, false, List, [], ◌∷◌, ◌++◌, drop, unwrap_or, codes, Option, Some, None, ⊤}
 use Rattle.std.specs.List.{flat_map}
 use Rattle.hcl_token.specs.declared.kind.Kind.TheVariants.{Number, OpenBracket, CloseBracket, OpenParen, CloseParen, Identifier, DoubleEqual, Greater}
@@ -54,8 +54,8 @@ abbrev pub pairs_parts : List Pair → List Part
 pairs_parts [] = []
 pairs_parts (p ∷ ps) = Gap p.gap ∷ Token p.kind p.spelling ∷ pairs_parts ps
 
--- What comes behind a place: behind the gap of the first token no further gap comes before what is
--- written, and where a token that stays follows right behind, none stands before that.
+-- What is inserted at a place: after the gap of the first token no further gap precedes what is
+-- inserted, and there is none before a kept token that follows directly.
 abbrev pub inserted_parts : ℕ → List Pair → List Part → List Part
 inserted_parts skip ps tail = drop skip (pairs_parts ps ++ tail)
 
@@ -72,8 +72,8 @@ replacements_from pairs first place skip written (Some k ∷ kept) past =
     record { from = place; to = at_token k.from; inserted_parts = inserted_parts skip (inserted pairs first written) empty_gap }
     ∷ replacements_from pairs first (at_gap k.to) 0 k.after kept past
 
--- What is replaced to mend the tokens from number first up to, not with, number past: whole tokens
--- and gaps. Comments are mended by an edit inside the token.
+-- The replacements that fix the tokens from number `first` to number `past` (exclusive): whole
+-- tokens and gaps. Comments are fixed by an edit inside the token.
 abbrev pub fix_replacements : List Pair → ℕ → ℕ → Option Fix → List Replacement
 fix_replacements pairs first past None = []
 fix_replacements pairs first past (Some CommentMarker) = []

@@ -1,4 +1,5 @@
--- One step of a fix: what one rule finds in a text, and what comes of it.
+-- One step of a fix: what one rule finds in a text, and the text that the step makes. The text is
+-- by StepText, the edits are by StepEdits over Replacements.
 use Rattle.std.specs.Prelude.{◌≡◌, ◌≤◌, ◌<◌, ℕ, List, length}
 use Rattle.hcl_scan.specs.Tokenization.{MAX_TEXT}
 use Rattle.hcl_token.specs.TokenizedText.{TokenizedText}
@@ -23,7 +24,7 @@ RulesFind rules p found = AreFindings rules p.scanned.pairs p.tree.body.members 
 abbrev pub AreFindingsOf : RuleSet → Parsed → TokenizedText → List Finding → Type 0
 AreFindingsOf rules p cut found = (p.scanned ≡ cut) × IsParseOf p.scanned.text p × RulesFind rules p found
 
--- the text behind the step of a rule that found this
+-- the text that the step of a rule makes that found this
 abbrev pub step_text_of : Parsed → List Finding → List ℕ
 step_text_of p found = fix_step_text p.scanned found
 
@@ -31,17 +32,17 @@ step_text_of p found = fix_step_text p.scanned found
 abbrev pub step_edits_of : Rule → Parsed → List Finding → EditList
 step_edits_of rule p found = fix_step_edits rule p.scanned found
 
--- how many findings it mends
+-- how many findings it fixes
 abbrev pub step_count_of : List Finding → ℕ
 step_count_of found = length (selected found)
 
--- the text behind the step of the rule, over what it alone finds, is over the limit
+-- the text that the step of the rule makes, over what it alone finds, is over the limit
 abbrev pub IsTooLong : Rule → Parsed → Type 0
 IsTooLong rule p =
     (found : List Finding) × RulesFind (only rule) p found × (MAX_TEXT < length (step_text_of p found))
 
--- the step of the rule over a text: these edits, which turn it into the text behind the step, and
--- so many findings that they mend
+-- the step of the rule over a text: these edits, which transform it into the text that the step
+-- makes, and `count` findings that they fix
 pub record IsFixStep (rule : Rule) (p : Parsed) (count : ℕ) (edits : EditList) : Type 0 where
   pub found : List Finding
   pub findings_are : RulesFind (only rule) p found

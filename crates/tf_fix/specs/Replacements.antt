@@ -1,17 +1,17 @@
--- What a step of a fix makes of a text: some parts go, and others come in their place.
+-- What a step of a fix makes of a text: some parts are replaced by others.
 use Rattle.std.specs.Prelude.{ℕ, ◌≤◌, List, [], ◌∷◌, ◌++◌, drop, slice_range, None, if◌then◌else◌}
 use Rattle.edit_record.specs.Lists.Pieces.{Piece}
 use Rattle.edit_record.specs.Lists.Pieces.Piece.{Kept, Changed}
 use Rattle.tf_fix.specs.Parts.{Part, text_of_parts}
 use Rattle.tf_fix.specs.SettledSpaces.{Prev, prev_after, settled, is_glued, space}
 
--- The parts from one place to another go, and others come in their place.
+-- The parts from one place to another are replaced by others.
 pub record Replacement : Type 0 where
   pub from : ℕ
   pub to : ℕ
   pub inserted_parts : List Part
 
--- each begins where the one before ends, or later, and all are within so many parts
+-- each begins where the one before ends, or later, and all are within `end` parts
 abbrev pub AreInOrder : ℕ → List Replacement → ℕ → Type 0
 AreInOrder at [] end = at ≤ end
 AreInOrder at (r ∷ rs) end = (at ≤ r.from) × (r.from ≤ r.to) × AreInOrder r.to rs end
@@ -35,13 +35,12 @@ stays_until at parts (r ∷ rs) = slice_range parts at r.from
 abbrev pub space_before : Prev → List Part → List ℕ
 space_before prev parts = if is_glued prev parts then space else []
 
--- what a replacement adds: the parts that come, settled, and a space where the last token joins
--- with what stays behind them
+-- what a replacement adds: the inserted parts, settled, and a space if the last token joins with
+-- what is kept after them
 abbrev pub added : Prev → List Part → List Part → List ℕ
 added prev come stay = text_of_parts (settled prev come) ++ space_before (prev_after prev come) stay
 
--- The text in pieces: what stays is kept, and what goes changes into what is added. The neighbour
--- stands before place at.
+-- The text in pieces: kept, or replaced by what is added. The neighbor is the token before place at.
 abbrev pub pieces_from : Prev → ℕ → List Part → List Replacement → List Piece
 pieces_from prev at parts [] = Kept (text_of_parts (drop at parts)) ∷ []
 pieces_from prev at parts (r ∷ rs) =

@@ -1,16 +1,15 @@
--- Blanks between tokens that join.
+-- Spaces between tokens that join.
 use Rattle.std.specs.Prelude.{ℕ, Bool, false, List, [], ◌∷◌, Option, Some, None, if◌then◌else◌}
 use Rattle.hcl_token.specs.declared.kind.Kind.{Kind}
 use Rattle.hcl_token.specs.Joins.{joins_with}
 use Rattle.tf_fix.specs.Parts.{Part}
 use Rattle.tf_fix.specs.Parts.Part.{Gap, Token}
 
--- A token that stands right before, with nothing between; none at the front of a text and behind
--- blanks.
+-- The token directly before, with nothing between; none at the start of a text and after whitespace.
 abbrev pub Prev : Type 0
 Prev = Option (Kind × List ℕ)
 
--- the neighbour behind these parts, where this one stands before them
+-- the neighbor after these parts, if this one is before them
 abbrev pub prev_after : Prev → List Part → Prev
 prev_after prev [] = prev
 prev_after prev (Gap [] ∷ parts) = prev_after prev parts
@@ -36,7 +35,7 @@ settled prev (Token kind spelling ∷ parts) =
     then Gap space ∷ Token kind spelling ∷ settled (Some (kind, spelling)) parts
     else Token kind spelling ∷ settled (Some (kind, spelling)) parts
 
--- a neighbour joins with the first token of the parts, and nothing stands between
+-- a neighbor joins with the first token of the parts, with nothing between
 abbrev pub is_glued : Prev → List Part → Bool
 is_glued prev [] = false
 is_glued prev (Gap [] ∷ parts) = is_glued prev parts

@@ -1,6 +1,6 @@
--- What one step of a fix makes of the gaps and tokens of a text: for each finding that it takes,
--- other pairs come in the place of the finding's own, and then each empty gap between two tokens
--- that join becomes one space.
+-- What one step of a fix makes of the gaps and tokens of a text: the pairs of each finding that it
+-- selects are replaced by others, and then each empty gap between two tokens that join becomes one
+-- space.
 use Rattle.std.specs.Prelude.{ℕ, ◌&&◌, Bool, true, false, List, [], ◌∷◌, ◌++◌, drop, map, slice_range, unwrap_or, Option, Some, None, if◌then◌else◌}
 use Rattle.hcl_token.specs.TokenizedText.{TokenizedText, gap_of}
 use Rattle.hcl_token.specs.Tokens.{Pair, whole_text}
@@ -31,9 +31,8 @@ inserted_and_kept_pairs pairs first written (Some k ∷ kept) =
     inserted pairs first written
     ++ (with_gap [] (slice_range pairs k.from k.to) ++ inserted_and_kept_pairs pairs first k.after kept)
 
--- What comes in the place of the tokens from number first up to, not with, number past; the first
--- takes the gap of the first of these.
--- Where no fix can mend them they stay.
+-- What replaces the tokens from number `first` to number `past` (exclusive); the first takes the
+-- gap of the first of these. Without a fix they are kept.
 abbrev pub fixed_pairs : List Pair → ℕ → ℕ → Option Fix → List Pair
 fixed_pairs pairs first past None = slice_range pairs first past
 -- the comment with `#` in place of its `//`
@@ -53,7 +52,7 @@ abbrev pub is_empty : List ℕ → Bool
 is_empty [] = true
 is_empty (b ∷ bytes) = false
 
--- one space in place of an empty gap, where the token behind it joins with its neighbour
+-- one space in place of an empty gap, if the token after it joins with its neighbor
 abbrev pub settled_pair : Prev → Pair → Pair
 settled_pair prev p =
     if is_empty p.gap && joins_prev prev p.kind p.spelling then record p { gap = space } else p
@@ -62,7 +61,7 @@ abbrev pub settled_pairs : Prev → List Pair → List Pair
 settled_pairs prev [] = []
 settled_pairs prev (p ∷ ps) = settled_pair prev p ∷ settled_pairs (Some (p.kind, p.spelling)) ps
 
--- the text behind the step that takes of these findings
+-- the text that the step makes which selects from these findings
 abbrev pub fix_step_text : TokenizedText → List Finding → List ℕ
 fix_step_text cut findings =
     whole_text (settled_pairs None (fixed_pairs_from 0 cut.pairs (selected findings))) cut.last

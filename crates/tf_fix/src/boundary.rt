@@ -11,11 +11,11 @@ use hcl_scan::Scanned;
 pub enum Boundary {
     /// Right before the gap of this token, or before the last gap.
     Gap(usize),
-    /// Right before this token, behind its gap.
+    /// Directly before this token, after its gap.
     Token(usize),
 }
 
-/// Whether token `i` stands before the place.
+/// Returns whether token `i` is before the place.
 pub fn is_after(boundary: Boundary, i: usize) -> bool
     ensures { IsTrue result ↔ (2 * i + 2 ≤ boundary_index boundary) }
 {
@@ -45,7 +45,7 @@ pub fn is_before_token(boundary: Boundary, i: usize) -> bool
     }
 }
 
-/// How many bytes stand before the place.
+/// Returns how many bytes are before the place.
 pub fn offset(scanned: &Scanned<'_>, boundary: Boundary) -> usize
     requires { boundary_index boundary ≤ 2 * length scanned.now.pairs }
     ensures { result ≡ length (text_of_parts (take (boundary_index boundary) (parts scanned.now))) }

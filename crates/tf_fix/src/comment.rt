@@ -1,4 +1,4 @@
-//! The edits that mend comments: `//` becomes `#`.
+//! The edits that fix comments: `//` becomes `#`.
 
 ghost use Rattle.std.specs.Prelude.{◌≡◌, ◌<◌, length, map, filter, IfOk};
 ghost use Rattle.tf_findings.specs.RuleFilter.{is_found_by};
@@ -21,7 +21,8 @@ fn comment_edit(alloc: Global, scanned: &Scanned<'_>, one: Finding) -> Result<Ed
     Edit::new(alloc, at, b"//", b"#")
 }
 
-/// The edits that mend the comments which one step of the rule takes, in the order of the text.
+/// Returns the edits that fix the comments which one step of the rule selects, in the order of the
+/// text.
 pub fn comment_edits(
     alloc: Global,
     scanned: &Scanned<'_>,

@@ -1,4 +1,4 @@
-//! Why what the rules find is not told, or not mended.
+//! Why the findings of a text are not reported, or not fixed.
 
 ghost use Rattle.std.specs.Prelude.{◌≡◌};
 ghost use Rattle.tf_fix.specs.declared.fault.LintFault.TheVariants.{Memory};
@@ -6,13 +6,13 @@ ghost use Rattle.tf_fix.specs.declared.fault.LintFault.TheVariants.{Memory};
 use std::alloc::{AllocError, AllocFailed};
 use thiserror::Error;
 
-/// Why what the rules find in a text is not told, or not mended.
+/// Why the findings of a text are not reported, or not fixed.
 #[derive(Clone, Copy, Debug, PartialEq, Eq, Error)]
 pub enum LintFault {
-    /// The mended text would have more than 16,777,216 bytes.
+    /// The fixed text would have more than `MAX_TEXT` bytes.
     #[error("the text has more than 16777216 bytes")]
     TooLong,
-    /// A growth was refused.
+    /// Memory ran out.
     #[error("out of memory")]
     Memory,
 }

@@ -1,4 +1,4 @@
-//! What comes in the place of parts that go.
+//! The text that replaces removed parts.
 
 ghost use Rattle.std.specs.Prelude.{◌≡◌, ℕ, IfOk};
 ghost use Rattle.tf_fix.specs.Parts.{text_of_parts};
@@ -49,7 +49,7 @@ pub fn added_text(
     Ok(text)
 }
 
-/// The token that then stands last.
+/// Returns the last token after the insertion.
 pub fn prev_after_insertion<'t>(prev: PrevToken<'t>, insertion: Insertion) -> PrevToken<'t>
     ensures { (pairs : _) (first : ℕ)
         → prev_view result ≡ prev_after (prev_view prev.entry) (pairs_parts (inserted pairs first insertion)) }

@@ -1,4 +1,4 @@
-//! What holds of the texts that mending makes. Each law is the contract of a function that does
+//! What holds of the texts that a fix makes. Each law is the contract of a function that does
 //! nothing.
 
 ghost use Rattle.std.specs.Prelude.{◌≡◌, ◌≤◌, ℕ, false, List, length};
@@ -27,7 +27,7 @@ pub fn pairs_and_parts_agree()
         ≡ replaced_text (parts cut) (step_replacements cut.pairs findings) }
 {}
 
-/// Where comments are mended no space has to come: no token joins with a comment.
+/// The fix of a comment needs no space: no token joins with a comment.
 pub fn comment_fixes_need_no_space()
     ensures { (cut : TokenizedText) (findings : List Finding) → AreApart cut.pairs
         → AreOfRule CommentSyntax cut.pairs findings → AreValidFindings (length cut.pairs) findings

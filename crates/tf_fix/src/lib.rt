@@ -1,8 +1,8 @@
-//! One step of a fix: from what a rule has found in a text to the exact edits that mend it.
+//! One step of a fix: from what a rule finds in a text to the exact edits that fix it.
 //!
-//! `fix_step` makes the edits of one rule's step over a text and its tree, `found_step` those over
-//! what was found already. `taken` counts the findings that one step takes, `fix_step_edits` makes
-//! its edits. `laws` says what text they lead to.
+//! `fix_step` makes the edits of one rule's step over a text and its tree, `fix_step_of_findings`
+//! those over what was found already. `selected_count` counts the findings that one step fixes,
+//! `fix_step_edits` makes its edits. `laws` says to what text they lead.
 #![tactic(auto)]
 
 mod boundary;

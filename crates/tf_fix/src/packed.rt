@@ -10,8 +10,8 @@ use std::alloc::AllocError;
 use std::marker::Model;
 use tf_rules::Insertion;
 
-/// A replacement as it stands in the list of all that one step makes, in 16 bytes: a place as how
-/// many gaps and tokens stand before it.
+/// A replacement in the list of all that one step makes, in 16 bytes: a place is how many gaps and
+/// tokens are before it.
 #[derive(Drop)]
 pub struct PackedReplacement {
     from: u32,
@@ -20,7 +20,7 @@ pub struct PackedReplacement {
     insertion: Insertion,
 }
 
-// A step has one or more for each finding that it mends.
+// A step has one or more for each finding that it fixes.
 const _: () = prove!(size_of::<PackedReplacement>() == 16);
 
 impl Model for PackedReplacement {
@@ -37,8 +37,8 @@ impl Model for PackedReplacement {
     } };
 }
 
-/// How many gaps and tokens stand before a place; `AllocError` past 32 bits, where no list of
-/// tokens has room for so many.
+/// Returns how many gaps and tokens are before a place. A number that does not fit in 32 bits, which
+/// no list of tokens reaches, is an `AllocError`.
 fn pack_boundary(boundary: Boundary) -> Result<u32, AllocError>
     ensures ok { IfOk result (λ n. boundary_at n ≡ boundary) }
     ensures err { IfErr result (λ _. 2 ^ 32 ≤ boundary_index boundary) }
@@ -51,7 +51,7 @@ fn pack_boundary(boundary: Boundary) -> Result<u32, AllocError>
     }
 }
 
-/// The number of a token in 32 bits; `AllocError` past them.
+/// Returns the number of a token in 32 bits. A larger one is an `AllocError`.
 fn pack_number(number: usize) -> Result<u32, AllocError>
     ensures ok { IfOk result (λ n. n ≡ number) }
     ensures err { IfErr result (λ _. 2 ^ 32 ≤ number) }
@@ -75,7 +75,7 @@ fn unpack_boundary(place: u32) -> Boundary
 }
 
 impl PackedReplacement {
-    /// The replacement in few bytes; `AllocError` where a number is past 32 bits.
+    /// Packs a replacement. A number that does not fit in 32 bits is an `AllocError`.
     pub fn new(one: Replacement) -> Result<PackedReplacement, AllocError>
         ensures ok { IfOk result (λ packed. packed ≡ one) }
         ensures err { IfErr result
@@ -106,7 +106,7 @@ impl PackedReplacement {
     }
 }
 
-/// Adds a replacement behind others.
+/// Appends a replacement.
 pub fn push_packed(all: &mut Vec<PackedReplacement>, one: Replacement) -> Result<(), AllocError>
     ensures { OnOk result (all.new.items ≡ all.old.items ++ one ∷ []) }
 {

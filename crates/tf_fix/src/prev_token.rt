@@ -13,7 +13,7 @@ use hcl_token::{Kind, joins};
 /// The token right before a place.
 #[derive(Clone, Copy)]
 pub enum PrevToken<'t> {
-    /// Blanks stand before it, or it is the front of the text.
+    /// There is whitespace before it, or it is the start of the text.
     Nothing,
     Token { kind: Kind, spelling: &'t [u8] },
 }
@@ -41,7 +41,7 @@ pub fn joins_prev(prev: PrevToken<'_>, kind: Kind, spelling: &[u8]) -> bool
     }
 }
 
-/// The token before gap `i`, where `near` stands before `from`.
+/// Returns the token before gap `i`, if `prev` is the one before `from`.
 fn prev_before_gap<'t>(
     scanned: &Scanned<'t>,
     prev: PrevToken<'t>,
@@ -60,8 +60,8 @@ fn prev_before_gap<'t>(
     }
 }
 
-/// Returns the token right before `to`, or `Nothing` if a space or tab separates them. `near` is
-/// the token right before `from`, for the case that there is no token between the two places.
+/// Returns the token directly before `to`, or `Nothing` if whitespace separates them. `prev` is the
+/// token directly before `from`, for the case that there is no token between the two places.
 pub fn prev_before<'t>(
     scanned: &Scanned<'t>,
     prev: PrevToken<'t>,
@@ -88,8 +88,8 @@ pub fn prev_before<'t>(
     }
 }
 
-/// Whether `near`, which stands before `from`, joins with the first token up to `to`, with nothing
-/// between.
+/// Returns whether `prev`, the token before `from`, joins with the first token up to `to`, with
+/// nothing between.
 pub fn is_glued(scanned: &Scanned<'_>, prev: PrevToken<'_>, from: Boundary, to: Boundary) -> bool
     requires order { boundary_index from ≤ boundary_index to }
     requires within { boundary_index to ≤ 2 * length scanned.now.pairs + 1 }

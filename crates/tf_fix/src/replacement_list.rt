@@ -1,4 +1,4 @@
-//! What is replaced to mend the findings that one step takes.
+//! The replacements that fix the findings which one step selects.
 
 ghost use Rattle.std.specs.Prelude.{◌≡◌, ◌++◌, ◌<◌, length, filter, IfOk, IfErr};
 ghost use Rattle.tf_findings.specs.RuleFilter.{is_found_by};
@@ -70,7 +70,7 @@ fn push_kept_replacements(
     }
 }
 
-/// What is replaced to mend the finding, behind what is replaced before it.
+/// Appends the replacements that fix the finding.
 fn push_finding_replacements(
     all: &mut Vec<PackedReplacement>,
     scanned: &Scanned<'_>,
@@ -99,15 +99,15 @@ fn push_finding_replacements(
                     one.past(),
                 )
             }
-            // A comment is mended within its token.
+            // A comment is fixed inside its token.
             Fix::CommentMarker => Ok(()),
         },
         None => Ok(()),
     }
 }
 
-/// What is replaced to mend the findings that one step of the rule takes, in order. Where it takes
-/// none it asks for no memory.
+/// Returns the replacements that fix the findings which one step of the rule selects, in order. If
+/// it selects none, it allocates nothing.
 pub fn selected_replacements(
     alloc: Global,
     scanned: &Scanned<'_>,
@@ -122,7 +122,7 @@ pub fn selected_replacements(
     ensures bytes { IfOk result (λ all. HaveBytes scanned.now.pairs all.items) }
     ensures allocates { IfErr result (λ _. 0 < length (selected (filter (is_found_by rule) findings.now))) }
 {
-    // Each finding that is taken has one or more; comments, which have none, are mended elsewhere.
+    // Each selected finding has one or more; comments, which have none, are fixed elsewhere.
     let mut all = Vec::with_capacity(alloc, selected_count(findings, rule))?;
     let mut past = 0;
     for one in findings {

@@ -1,7 +1,9 @@
 //! One step of a fix.
 
-ghost use Rattle.std.specs.Prelude.{◌≡◌, ◌<◌, ◌≤◌, ◌⊎◌, length, filter, IfOk, IfErr};
+ghost use Rattle.std.specs.Prelude.{◌≡◌, ◌<◌, ◌≤◌, ◌⊎◌, Ok, Err, length, filter, IfOk, IfErr};
 ghost use Rattle.edit_record.specs.Lists.Pieces.{Transforms};
+ghost use Rattle.edit_record.specs.Lists.Validity.{make_edits};
+ghost use Rattle.edit_record.specs.declared.lists.edit.BadEdits.{BadEdits};
 ghost use Rattle.hcl_scan.specs.Tokenization.{MAX_TEXT};
 ghost use Rattle.hcl_scan.specs.Follows.{AreApart};
 ghost use Rattle.tf_findings.specs.RuleFilter.{is_found_by};
@@ -49,11 +51,27 @@ fn fix_step_entries(
     Ok(replacement_edits(alloc, scanned, &all)?)
 }
 
-/// The edits that mend the findings of a rule which one step of a fix takes. They turn the text
-/// into the mended one, and there are no others. `TooLong` where that would have more than
-/// 16,777,216 bytes; the only other refusal is `Memory`.
+/// Makes a list of edits of a text of `old_len` bytes. A list that `Edits::make` refuses is
+/// reported as `TooLong`: the edits of a step are in order and inside the text, so that only the
+/// length of the new text can be wrong. It allocates nothing.
+fn list_within_limit(old_len: usize, edits: Vec<Edit>) -> Result<Edits, LintFault>
+    ensures ok { IfOk result (λ list. make_edits old_len edits.items ≡ Ok list) }
+    ensures err { IfErr result
+        (λ e. (e ≡ TooLong) × (why : BadEdits) × (make_edits old_len edits.items ≡ Err why)) }
+{
+    match Edits::make(old_len, edits) {
+        Ok(list) => Ok(list),
+        Err(_) => Err(LintFault::TooLong),
+    }
+}
+
+/// Returns the edits that fix the findings which one step of the rule selects. They transform the
+/// text into the fixed one. In a text that parses, no two tokens that join are adjacent, as the
+/// contract requires.
 ///
-/// A text that parses has no empty gap between two tokens that join.
+/// # Errors
+///
+/// `TooLong` if the fixed text would have more than `MAX_TEXT` bytes, and `Memory`.
 pub fn fix_step_edits(
     alloc: Global,
     scanned: &Scanned<'_>,
@@ -79,8 +97,6 @@ pub fn fix_step_edits(
     let edits = fix_step_entries(alloc, scanned, rule, findings)?;
     pieces_make_valid_edits();
     pieces_transform();
-    match Edits::make(text.len(), edits) {
-        Ok(edits) => Ok(edits),
-        Err(_) => Err(LintFault::TooLong),
-    }
+    let list = list_within_limit(text.len(), edits)?;
+    Ok(list)
 }

@@ -1,4 +1,4 @@
-//! Which findings one step of a fix takes.
+//! Which findings one step of a fix selects.
 
 ghost use Rattle.std.specs.Prelude.{◌≡◌, ◌&&◌, not, nat_lt, length, filter};
 ghost use Rattle.tf_findings.specs.RuleFilter.{is_found_by};
@@ -8,16 +8,16 @@ ghost use Rattle.tf_fix.specs.Selection.{selected};
 use tf_findings::is_found_by;
 use tf_rules::{Finding, Rule};
 
-/// Whether the finding is taken, where those taken before it end before token `past`.
+/// Returns whether the finding is selected, if those selected before it end before token `past`.
 pub fn is_selected(one: &Finding, past: usize) -> bool
     ensures { result ≡ (is_fixable one.now.fix && not (nat_lt one.now.first past)) }
 {
     one.is_fixable() && past <= one.first()
 }
 
-/// How many findings of a rule one step of a fix takes; those of other rules are passed over. They
-/// are looked at in order: by their first token, of those with one first token the longer first.
-/// One that can be fixed is taken where it shares no token with one that is taken before it.
+/// Returns how many findings of a rule one step of a fix selects; those of other rules are ignored.
+/// One that can be fixed is selected if it begins after all that were selected before it. In the
+/// order of a report these are the findings that share no token with one selected before.
 pub fn selected_count(findings: &[Finding], rule: Rule) -> usize
     ensures { result ≡ length (selected (filter (is_found_by rule) findings.now)) }
 {

@@ -16,8 +16,8 @@ use hcl_scan::Scanned;
 use std::alloc::{AllocError, Global};
 use tf_rules::Insertion;
 
-/// The parts from one place to another go, and others come in their place. `first` is the number of
-/// the finding's first token.
+/// The parts from one place to another are replaced by `insertion`. `first` is the number of the
+/// finding's first token.
 #[derive(Clone, Copy)]
 pub struct Replacement {
     pub from: Boundary,

@@ -22,22 +22,22 @@ use tf_findings::findings;
 use tf_findings::laws::{findings_match_their_rule, findings_of_one_rule};
 use tf_rules::{Finding, Rule, RuleSet};
 
-/// The edits of one rule's step, and how many findings they mend.
+/// The edits of one rule's step, and how many findings they fix.
 #[derive(Drop)]
 pub struct StepEdits {
-    /// How many findings are mended.
+    /// How many findings are fixed.
     pub count: usize,
-    /// What turns the text into the one behind the step.
+    /// The edits that transform the text into the fixed one.
     pub edits: Edits,
 }
 
-/// The edits of one rule's fix of a text that parses, whose tree is lent with it: of what the rule
-/// finds, all is fixed that can be and shares no token with what was fixed before it.
+/// Returns the edits of one rule's fix of a text that parses and its tree: each finding of the rule
+/// is fixed that can be and shares no token with one fixed before it, in the order of a report.
 ///
 /// # Errors
 ///
-/// `TooLong` if the new text would have more than 16,777,216 bytes, and `Memory`. It is not an
-/// error that the new text does not parse.
+/// `TooLong` if the new text would have more than `MAX_TEXT` bytes, and `Memory`. It is not an error
+/// that the new text does not parse.
 pub fn fix_step(
     alloc: Global,
     scanned: &Scanned<'_>,
@@ -60,8 +60,8 @@ pub fn fix_step(
     }
 }
 
-/// The edits of one rule's fix of a text in which the rules of a set that has the rule found this,
-/// and how many findings they fix.
+/// Returns the edits of one rule's fix of a text, and how many findings they fix. `found` is what
+/// the rules of a set find in the text, which has the rule.
 pub fn fix_step_of_findings(
     alloc: Global,
     scanned: &Scanned<'_>,

@@ -1,4 +1,4 @@
--- Faults of the layers below as those of a fix: want of memory is always one of its own.
+-- Errors of the layers below as those of a fix: out of memory is always an error of its own.
 use Rattle.hcl_scan.specs.declared.fault.ScanFault.{ScanFault}
 use Rattle.hcl_scan.specs.declared.fault.ScanFault.TheVariants.{TooLong, NotUtf8, BadCharacter, BadEscape, OpenString, OpenTemplate, OpenHeredoc, OpenComment, Memory}
 use Rattle.hcl_text_laws.specs.declared.fault.ParseFault.{ParseFault}

@@ -13,7 +13,7 @@ use Rattle.tf_rules.specs.Findings.{valid_findings}
 use Rattle.tf_rules.specs.declared.rule_set.RuleSet.{RuleSet}
 use Rattle.tf_rules.specs.TopLevelFindings.{top_level_member_findings}
 
--- a member stands there, and that is what the rules find in it
+-- a member is there, and these are the findings in it
 pub record IsLintedMember (rules : RuleSet) (pairs : List Pair) (x : LintedMember) : Type 0 where
   pub member : Member
   pub is_member : IsOneMember (tokens_of pairs) MAX_NESTING member x.from x.past

@@ -15,7 +15,7 @@ use Rattle.tf_lint.specs.declared.fault.FixFault.{FixFault}
 abbrev pub DoesNotParse : List ℕ → Type 0
 DoesNotParse text = (t : Tree) → ¬ (Parses text t)
 
--- no tree stands over the tokens of the text, however much may nest in it
+-- the grammar derives no tree from the tokens of the text, at any depth of nesting
 abbrev pub HasNoTree : List ℕ → Type 0
 HasNoTree text = (pairs : List Pair) × (last : List ℕ) × IsTokenization text pairs last
     × ((d : ℕ) (t : Tree) → ¬ (IsFile (tokens_of pairs) d t))
@@ -25,9 +25,9 @@ abbrev pub HasNoTreeWithinLimit : List ℕ → Type 0
 HasNoTreeWithinLimit text =
     (pairs : List Pair) × (last : List ℕ) × IsTokenization text pairs last × DoesNotParse text
 
--- Why a text that has tokens does not parse. Where a tree stands over them, in which more nests
--- than may, the fault is TooDeep; where there is none it may be either. Of the place nothing is
--- said.
+-- Why a text that has tokens does not parse. If the grammar derives a tree from them that nests
+-- deeper than is allowed, the error is TooDeep; if it derives none it may be either. Of the place
+-- nothing is said.
 abbrev pub IsParseFault : List ℕ → ParseFault → Type 0
 IsParseFault text (Syntax at) = HasNoTree text
 IsParseFault text (TooDeep at) = HasNoTreeWithinLimit text
@@ -37,8 +37,7 @@ IsParseFault text Memory = ⊥
 abbrev pub IsUtf8WithinLimit : List ℕ → Type 0
 IsUtf8WithinLimit text = (length text ≤ MAX_TEXT) × IsUtf8 text
 
--- why a text is not read: it has no tokens, it does not parse, or a growth was refused while it was
--- looked into
+-- why a text is not read: it has no tokens, it does not parse, or memory ran out while it was read
 abbrev pub IsReadFault : List ℕ → FixFault → Type 0
 IsReadFault text (FixFault.Scan fault) = IsFault text fault
 IsReadFault text (FixFault.Parse fault) = IsParseFault text fault

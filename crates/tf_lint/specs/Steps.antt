@@ -20,7 +20,7 @@ use Rattle.tf_fix.specs.OneStep.{RulesFind, step_text_of, step_edits_of, step_co
 use Rattle.tf_fix.specs.ParsedTexts.{IsParseOf}
 use Rattle.tf_lint.specs.ParseFaults.{DoesNotParse, IsReadFault}
 
--- so many findings of the set has the text
+-- how many findings of the set the text has
 abbrev pub IsRemainingCount : RuleSet → Parsed → ℕ → Type 0
 IsRemainingCount rules p count = (found : List Finding) × RulesFind rules p found × (count ≡ length found)
 
@@ -39,7 +39,7 @@ abbrev pub fix_order : List Rule
 fix_order = filter has_fix all_rules
 
 -- what steps lead to: the text, the edits of each step that changed it, and how many findings were
--- mended
+-- fixed
 pub record Steps : Type 0 where
   pub text : List ℕ
   pub lists : List EditList
@@ -99,14 +99,14 @@ RunSteps rules (rule ∷ others) p answer =
 
 -- ---- the whole fix
 
--- One list in the place of those of all steps, squashed from the first on, each into the result so
--- far: none changes nothing, and a single one stays as it is.
+-- One list in place of those of all steps, composed from the first on: none changes nothing, and a
+-- single one is kept as it is.
 abbrev pub IsSquashOfAll : ℕ → List EditList → EditList → Type 0
 IsSquashOfAll len [] edits = edits ≡ as_list len []
 IsSquashOfAll len (first ∷ more) edits = SquashAll first more edits
 
--- a new text, the edits that lead to it, how many findings were mended, and how many findings of
--- the chosen rules the new text has
+-- a new text, the edits that lead to it, how many findings were fixed, and how many findings of the
+-- enabled rules the new text has
 pub record Rewrite : Type 0 where
   pub text : List ℕ
   pub edits : EditList

@@ -25,13 +25,13 @@ use tf_rules::{Finding, RuleSet};
 pub struct BodyFindings {
     /// Its members, each with what was found in it, as far as they are kept.
     pub members: Vec<LintedMember>,
-    /// What was found at the nodes that stand in its members.
+    /// What was found at the nodes of its members.
     pub nodes: Vec<Finding>,
     /// What was found at those of them that are blocks.
     pub blocks: Vec<Finding>,
 }
 
-/// Adds findings behind others; where there are no others, without a copy.
+/// Appends findings; if there are none yet, without a copy.
 pub fn append_findings(found: &mut Vec<Finding>, more: Vec<Finding>) -> Result<(), AllocError>
     ensures { OnOk result (found.new.items ≡ found.old.items ++ more.items) }
 {
@@ -94,10 +94,9 @@ fn add_member(
     }
 }
 
-/// The members of a body with what the rules find in them. Of another text that was read with the
-/// same rules its members are taken as they are, as long as their tokens stand in this one.
-///
-/// Without `retain_one` each member is given up as soon as it was looked at.
+/// Reads the members of a body and returns what the rules find in them. `old_members` are members
+/// of another text that was read with the same rules: their findings are reused as long as their
+/// tokens are in this one. Without `keep_members` each member is freed as soon as it was linted.
 pub fn lint_body(
     alloc: Global,
     scanned: &Scanned<'_>,

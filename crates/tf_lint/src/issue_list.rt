@@ -15,10 +15,8 @@ use tf_findings::findings;
 use tf_fix::LintFault;
 use tf_rules::{Finding, RuleSet};
 
-/// The issues of the rules in the set, by place, then by rule, then the longer first; without what
-/// comments silence. The only refusal is `Memory`.
-///
-/// The tree is that of the text.
+/// Returns the issues of the rules in the set, by place, then by rule, then the longer first;
+/// without what comments silence. The tree is that of the text. The only error is `Memory`.
 pub fn issues(
     alloc: Global,
     scanned: &Scanned<'_>,
@@ -34,7 +32,8 @@ pub fn issues(
     Ok(issues)
 }
 
-/// The issue of each of these findings in a text, in their order. The only refusal is `Memory`.
+/// Returns the issue of each of these findings in a text, in their order. The only error is
+/// `Memory`; for no findings nothing is allocated.
 pub fn issues_of(
     alloc: Global,
     scanned: &Scanned<'_>,
@@ -101,7 +100,8 @@ pub fn lines_of_findings(
     Ok(lines)
 }
 
-/// The same of issues.
+/// Returns a report on the file of this name: the line of each of these issues, in their order, each
+/// followed by LF.
 pub fn lines_of_issues(alloc: Global, name: &str, found: &[Issue]) -> Result<String, AllocError>
     ensures lines { IfOk result
         (λ lines. string_bytes lines ≡ lines_of name.now (reports found.now)) }

@@ -8,7 +8,7 @@ use tf_rules::{Finding, RuleSet};
 #[derive(Drop)]
 pub struct LintedText<'t> {
     pub scanned: Scanned<'t>,
-    /// The rules that were asked.
+    /// The enabled rules.
     pub rules: RuleSet,
     /// What they find, in the order of a report, without what comments silence.
     pub found: Vec<Finding>,
@@ -17,14 +17,14 @@ pub struct LintedText<'t> {
     pub members: Vec<LintedMember>,
 }
 
-/// What the search of the next text asks of one that was searched, without the text: it is let go
-/// of as soon as the next one was searched.
+/// What linting the next text needs of one that was linted, without the text, which is freed as soon
+/// as the next one was linted.
 #[derive(Drop)]
 pub struct PreviousText {
     pub tokens: TokenList,
     /// How many these are.
     pub count: usize,
-    /// The rules that were asked.
+    /// The enabled rules.
     pub rules: RuleSet,
     /// The attributes and blocks of its body, each with what the rules find in it.
     pub members: Vec<LintedMember>,

@@ -28,12 +28,12 @@ use tf_rules::{Finding, RuleSet};
 /// A member of a text's body: where it was read, and what the rules find in it.
 #[derive(Drop)]
 pub struct LintedMember {
-    /// The number of the token that it was read from. What is dropped before its first token stands
-    /// behind that.
+    /// The number of the token that it was read from, at or before its first token: the tokens
+    /// between are skipped.
     pub from: usize,
-    /// The number past its last token.
+    /// One more than the number of its last token.
     pub past: usize,
-    /// What is found at the nodes that stand in it.
+    /// What is found at its nodes.
     pub nodes: Vec<Finding>,
     /// What is found at it, if it is a block.
     pub blocks: Vec<Finding>,
@@ -42,8 +42,8 @@ pub struct LintedMember {
 /// The least capacity of a vector that has grown by `push`.
 const MIN_GROWN_CAPACITY: usize = 4;
 
-/// The same findings, with no room for more where they are few: most members have one or two, and
-/// are kept while their text is fixed.
+/// Returns the same findings, without spare capacity if they are few: most members have one or two,
+/// and are kept while their text is fixed.
 fn shrink(alloc: Global, found: Vec<Finding>) -> Result<Vec<Finding>, AllocError>
     ensures { IfOk result (λ list. list.items ≡ found.items) }
 {
@@ -106,8 +106,8 @@ fn lint_next_member(
     Ok(Some(lint_member(alloc, scanned, rules, from, *at, &x)?))
 }
 
-/// Whether the tokens of a member of the old text stand in the new one from number `at` on. The
-/// last member of a text is read again: what ends it may be the end of the text.
+/// Returns whether the tokens of a member of the old text are in the new one from number `at` on.
+/// The last member of a text is read again: what ends it may be the end of the text.
 fn is_unchanged(
     alloc: Global,
     old: &Scanned<'_>,
@@ -140,7 +140,8 @@ fn is_unchanged(
     )
 }
 
-/// A member of the old text as it stands in the new one from number `at` on, if it does.
+/// Returns a member of the old text with its numbers in the new one, if its tokens are there from
+/// number `at` on.
 fn reuse_member(
     alloc: Global,
     old: &Scanned<'_>,
@@ -165,8 +166,8 @@ fn reuse_member(
     }))
 }
 
-/// The member with this index of the old text, if there is one, and it stands in the new one from
-/// number `at` on.
+/// Returns the member with this index of the old text, if there is one and its tokens are in the new
+/// one from number `at` on.
 fn reuse_member_at(
     alloc: Global,
     old: &Scanned<'_>,
@@ -184,8 +185,8 @@ fn reuse_member_at(
     reuse_member(alloc, old, scanned, &old_members[index], at)
 }
 
-/// The member that comes next, if one does: that of the old text with this index, if its tokens
-/// stand here, else as it is read.
+/// Returns the next member, if there is one: that of the old text with this index, if its tokens are
+/// here, else as it is read.
 pub fn next_member(
     alloc: Global,
     scanned: &Scanned<'_>,

@@ -18,10 +18,8 @@ pub fn parse_text<'t>(alloc: Global, text: &'t [u8]) -> Result<Parsed<'t>, FixFa
     ensures fault { IfErr result (λ fault. IsReadFault text.now fault) }
 {
     let scanned = scan(alloc, text)?;
-    match parse(alloc, &scanned) {
-        Ok(tree) => Ok(Parsed { scanned, tree }),
-        Err(fault) => Err(FixFault::from(fault)),
-    }
+    let tree = parse(alloc, &scanned)?;
+    Ok(Parsed { scanned, tree })
 }
 
 /// The tokens of a text, if it parses. No tree of it is kept.
@@ -31,8 +29,6 @@ pub fn check_syntax<'t>(alloc: Global, text: &'t [u8]) -> Result<Scanned<'t>, Fi
     ensures fault { IfErr result (λ fault. IsReadFault text.now fault) }
 {
     let scanned = scan(alloc, text)?;
-    match check(alloc, &scanned) {
-        Ok(()) => Ok(scanned),
-        Err(fault) => Err(FixFault::from(fault)),
-    }
+    check(alloc, &scanned)?;
+    Ok(scanned)
 }

@@ -1,6 +1,6 @@
 //! A text with what the rules find in it.
 
-ghost use Rattle.std.specs.Prelude.{◌≡◌, ◌≢◌, ◌⊎◌, ℕ, List, IfOk, IfErr};
+ghost use Rattle.std.specs.Prelude.{◌≡◌, ◌≢◌, ◌⊎◌, ℕ, List, Ok, Err, IfOk, IfErr};
 ghost use Rattle.tf_fix.specs.ParsedTexts.{IsParseOf};
 ghost use Rattle.tf_lint.specs.ParseFaults.{DoesNotParse, IsReadFault};
 ghost use Rattle.hcl_scan.specs.Tokenization.{IsTokenization};
@@ -12,7 +12,7 @@ ghost use Rattle.tf_fix.specs.declared.parsed.Parsed.{Parsed};
 use crate::fault::FixFault;
 use crate::linted_text::{LintedText, PreviousText};
 use crate::member::LintedMember;
-use crate::text_findings::lint_tokens;
+use crate::text_findings::{TextFindings, lint_tokens};
 use edit_record::lists::Edits;
 use hcl_rescan::{ReplacedRange, rescan};
 use hcl_scan::laws::{no_tokenization_with_fault, one_tokenization};
@@ -53,15 +53,20 @@ fn lint_scanned<'t>(
     ensures fault { (text : List ℕ) → scanned.entry.text ≡ text
         → IfErr result (λ fault. IsReadFault text fault) }
 {
-    match lint_tokens(alloc, &scanned, rules, &scanned, &[], keep_members) {
-        Ok(seen) => Ok(LintedText {
-            scanned,
-            rules,
-            found: seen.found,
-            members: seen.members,
-        }),
-        Err(fault) => Err(FixFault::from(fault)),
-    }
+    let TextFindings { members, found } = lint_tokens(
+        alloc,
+        &scanned,
+        rules,
+        &scanned,
+        &[],
+        keep_members,
+    )?;
+    Ok(LintedText {
+        scanned,
+        rules,
+        found,
+        members,
+    })
 }
 
 /// A number of bytes of a text, in 32 bits, which hold each.
@@ -100,15 +105,13 @@ fn relint_scanned<'t>(
     ensures fault { (text : List ℕ) → scanned.entry.text ≡ text
         → IfErr result (λ fault. IsReadFault text fault) }
 {
-    match lint_tokens(alloc, &scanned, rules, old, members, true) {
-        Ok(seen) => Ok(LintedText {
-            scanned,
-            rules,
-            found: seen.found,
-            members: seen.members,
-        }),
-        Err(fault) => Err(FixFault::from(fault)),
-    }
+    let TextFindings { members, found } = lint_tokens(alloc, &scanned, rules, old, members, true)?;
+    Ok(LintedText {
+        scanned,
+        rules,
+        found,
+        members,
+    })
 }
 
 /// A text that was searched, and the memory of the tokens of the one before it, as far as there
@@ -165,7 +168,7 @@ fn relint_text<'t>(
 
 /// Returns a buffer large enough for the tokens of `text`: the old text had `count`, and each new
 /// token contains an added byte. The buffer is reserved at once, since a vector that grows would
-/// leave smaller freed blocks behind.
+/// leave smaller freed blocks.
 fn token_buffer_for(
     alloc: Global,
     token_buffer: Vec<Token>,
@@ -177,7 +180,7 @@ fn token_buffer_for(
     for piece in replaced {
         most = most.saturating_add(piece.added as usize);
     }
-    // the cut asks for as much as an eighth of the bytes at once
+    // `scan` allocates a token for each eight bytes at once
     let most = most.min(text.len()).max(text.len() / 8);
     if most <= token_buffer.capacity() {
         return Ok(token_buffer);
@@ -186,7 +189,7 @@ fn token_buffer_for(
     Vec::with_capacity(alloc, most)
 }
 
-/// Why a text that the step of a rule made is not read.
+/// Returns why a text that the step of a rule made is not linted: `Memory`, or else `FixBroken`.
 fn step_fault(fault: FixFault, rule: Rule) -> FixFault
     ensures { ((fault ≡ FixFault.Memory) × (result ≡ FixFault.Memory))
         ⊎ ((fault ≢ FixFault.Memory) × (result ≡ FixFault.FixBroken rule)) }
@@ -197,7 +200,23 @@ fn step_fault(fault: FixFault, rule: Rule) -> FixFault
     }
 }
 
-/// The same of a text that the step of this rule made of one that was searched.
+/// Names the rule whose step made a text that can't be linted, as the reason why it can't.
+fn name_broken_step(
+    relinted: Result<RelintedText<'_>, FixFault>,
+    rule: Rule,
+) -> Result<RelintedText<'_>, FixFault>
+    ensures ok { IfOk result (λ made. relinted.entry ≡ Ok made) }
+    ensures err { IfErr result (λ e. (why : FixFault) × (relinted.entry ≡ Err why)
+        × (((why ≡ FixFault.Memory) × (e ≡ FixFault.Memory))
+        ⊎ ((why ≢ FixFault.Memory) × (e ≡ FixFault.FixBroken rule)))) }
+{
+    match relinted {
+        Ok(made) => Ok(made),
+        Err(fault) => Err(step_fault(fault, rule)),
+    }
+}
+
+/// Lints the text that the step of this rule made of one that was linted.
 pub fn relint_step<'t>(
     alloc: Global,
     text: &'t [u8],
@@ -218,10 +237,8 @@ pub fn relint_step<'t>(
     no_tokenization_with_fault();
     one_tokenization();
     let token_buffer = token_buffer_for(alloc, token_buffer, text, previous.count, &replaced)?;
-    match relint_text(alloc, text, old_text, previous, token_buffer, replaced) {
-        Ok(made) => Ok(made),
-        Err(fault) => Err(step_fault(fault, rule)),
-    }
+    let relinted = relint_text(alloc, text, old_text, previous, token_buffer, replaced);
+    name_broken_step(relinted, rule)
 }
 
 /// Splits a linted text into what the next one can reuse and its findings, without the text itself.

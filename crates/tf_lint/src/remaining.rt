@@ -15,8 +15,8 @@ use std::alloc::{AllocError, Global};
 use tf_fix::LintFault;
 use tf_rules::Finding;
 
-/// What the rules of a fix still find in the text that it left. Lines and issues are made of it
-/// only where they are asked for.
+/// What the rules of a fix still find in the new text. Lines and issues are made of it only when
+/// they are needed.
 #[derive(Drop)]
 pub struct Remaining {
     pub(crate) tokens: TokenList,
@@ -32,8 +32,8 @@ impl Remaining {
         self.found.len()
     }
 
-    /// The line of each issue that is left, in a report on the file of this name, each followed by
-    /// LF. The text is the one that the fix left. Where nothing is left, no memory is asked for.
+    /// Returns the line of each issue that is left, in a report on the file of this name, each
+    /// followed by LF. The text is the new one. If nothing is left, nothing is allocated.
     pub fn lines(self, alloc: Global, name: &str, text: &[u8]) -> Result<String, AllocError>
         requires { (rules : RuleSet) × IsRemaining rules text.now self }
         ensures lines { (rules : RuleSet) → IsRemaining rules text.now self
@@ -45,8 +45,8 @@ impl Remaining {
         lines_of_findings(alloc, name, &scanned, &self.found)
     }
 
-    /// The issues that are left, in the order of a report. The text is the one that the fix left.
-    /// The only refusal is `Memory`; where nothing is left, none is asked for.
+    /// Returns the issues that are left, in the order of a report. The text is the new one. The only
+    /// error is `Memory`; if nothing is left, nothing is allocated.
     pub fn issues(self, alloc: Global, text: &[u8]) -> Result<Vec<Issue>, LintFault>
         requires { (rules : RuleSet) × IsRemaining rules text.now self }
         ensures issues { (rules : RuleSet) → IsRemaining rules text.now self

@@ -11,7 +11,7 @@ use hcl_token::Place;
 use std::alloc::AllocError;
 use tf_rules::{Finding, Rule};
 
-/// Adds what stands in front of an issue's text in its line, in a report on the file of this name:
+/// Appends the part of a line before an issue's text, in a report on the file of this name:
 /// `NAME:LINE:COLUMN: SEVERITY - `.
 pub fn add_line_prefix(
     name: &str,
@@ -28,7 +28,7 @@ pub fn add_line_prefix(
     write!(lines, "{name}:{line}:{column}: {severity} - ")
 }
 
-/// Adds what stands behind it: ` (RULE)`.
+/// Appends the part after it: ` (RULE)`.
 pub fn add_line_suffix(rule: Rule, lines: &mut String) -> Result<(), AllocError>
     ensures { OnOk result (string_bytes lines.new ≡ string_bytes lines.old ++ line_suffix rule) }
 {

@@ -26,16 +26,16 @@ pub struct NewText {
     pub edits: Edits,
 }
 
-/// What the step of a rule did to a text.
+/// The result of the step of a rule over a text.
 #[derive(Drop)]
 pub struct Step {
-    /// How many findings it mended.
+    /// How many findings it fixed.
     pub count: usize,
-    /// None where the text stayed as it was.
+    /// None if the text is unchanged.
     pub change: Option<NewText>,
 }
 
-/// The edits of the step of a rule over a text that was searched with a set that has it.
+/// Returns the edits of the step of a rule over a text that was linted with a set that has it.
 fn step_edits(alloc: Global, linted: &LintedText<'_>, rule: Rule) -> Result<StepEdits, FixFault>
     requires linted { (p : Parsed) × IsLintOf p linted.now }
     requires rule_in_set { has_rule linted.now.rules rule ≡ true }
@@ -47,13 +47,11 @@ fn step_edits(alloc: Global, linted: &LintedText<'_>, rule: Rule) -> Result<Step
         ⊎ ((fault ≡ FixFault.TooLong) × CannotStep rule p fault)) }
 {
     let found = linted.found.as_slice();
-    match fix_step_of_findings(alloc, &linted.scanned, linted.rules, found, rule) {
-        Ok(mended) => Ok(mended),
-        Err(fault) => Err(FixFault::from(fault)),
-    }
+    let edits = fix_step_of_findings(alloc, &linted.scanned, linted.rules, found, rule)?;
+    Ok(edits)
 }
 
-/// The step of a rule over a text that was searched with a set that has it.
+/// Makes the step of a rule over a text that was linted with a set that has it.
 pub fn apply_step(alloc: Global, linted: &LintedText<'_>, rule: Rule) -> Result<Step, FixFault>
     requires linted { (p : Parsed) × IsLintOf p linted.now }
     requires rule_in_set { has_rule linted.now.rules rule ≡ true }
@@ -75,7 +73,7 @@ pub fn apply_step(alloc: Global, linted: &LintedText<'_>, rule: Rule) -> Result<
     })
 }
 
-/// What the edits make of a text in which they stand.
+/// Applies the edits to a text to which they belong.
 fn apply_step_edits(alloc: Global, text: &[u8], edits: &Edits) -> Result<Vec<u8>, FixFault>
     requires { (new : List ℕ) × Transforms edits.now text.now new }
     ensures made { (new : List ℕ) → Transforms edits.now text.now new

@@ -34,18 +34,18 @@ use tf_rules::{Finding, Rule, RuleSet};
 pub struct FixResult {
     /// None where no rule changes the text.
     pub change: Option<NewText>,
-    /// How many findings were mended.
+    /// How many findings were fixed.
     pub fixed: usize,
     /// What the chosen rules find in the new text.
     pub left: Remaining,
 }
 
-/// What a fix made of a text, where nobody asks by which edits.
+/// What a fix made of a text, without the edits.
 #[derive(Drop)]
 pub struct FixedText {
     /// None where no rule changes the text.
     pub text: Option<Vec<u8>>,
-    /// How many findings were mended.
+    /// How many findings were fixed.
     pub fixed: usize,
     /// What the chosen rules find in the new text.
     pub left: Remaining,
@@ -58,7 +58,7 @@ enum FirstChange<'o> {
     NoChange {
         fixed: usize,
     },
-    /// This rule is the first that does, and those of the rest come behind it.
+    /// This rule is the first that does; the rest follow it.
     Changed {
         fixed: usize,
         change: NewText,
@@ -67,7 +67,7 @@ enum FirstChange<'o> {
     },
 }
 
-/// The edits so far with those of one more step. Where none are kept, none are made.
+/// Composes the edits up to there with those of one more step. If none are kept, none are made.
 fn compose(
     alloc: Global,
     edits_so_far: Option<Edits>,
@@ -96,7 +96,7 @@ fn compose(
     }
 }
 
-/// One list in the place of two, the second of which goes on from the first.
+/// Composes two lists of edits, of which the second edits the text that the first makes.
 fn squash_two(alloc: Global, edits_so_far: &Edits, more: &Edits) -> Result<Edits, FixFault>
     requires { AreComposable edits_so_far.now more.now }
     ensures composed { IfOk result (λ composed. IsSquash edits_so_far.now more.now composed) }
@@ -119,7 +119,7 @@ fn has_step(rules: RuleSet, rule: Rule) -> bool
     rule.has_fix() && rules.has(rule)
 }
 
-/// The first of the rules that changes the text, where so many findings were mended before.
+/// Finds the first of the rules that changes the text. `count` findings were fixed before.
 fn find_first_change<'o>(
     alloc: Global,
     linted: &LintedText<'_>,
@@ -170,7 +170,7 @@ struct FixState<'o> {
 }
 
 /// Lints `text`, which the step of rule `by` made from `old_text`, and finds the first of the rules
-/// `order` that changes it. The new tokens are stored in `spare`.
+/// `order` that changes it. The new tokens are stored in `token_buffer`.
 fn next_state<'o>(
     alloc: Global,
     old_text: &[u8],

@@ -31,7 +31,7 @@ use tf_rules::{Finding, RuleSet};
 /// What the rules find in a text, and in each member of its body.
 #[derive(Drop)]
 pub struct TextFindings {
-    /// The members of its body, one behind the other, as far as they are kept.
+    /// The members of its body, in order, as far as they are kept.
     pub members: Vec<LintedMember>,
     /// What is found in the text, in the order of a report, without what comments silence.
     pub found: Vec<Finding>,
@@ -110,14 +110,14 @@ fn finish_body(
     }
 }
 
-/// What the rules of the set find in a text, if it parses, as `tf_findings::findings` finds it
-/// in its tree; or why it does not parse, as `hcl_tree::parse` says it.
+/// Returns what the rules of the set find in a text, if it parses, as `tf_findings::findings` finds
+/// it in its tree; or why it does not parse, as `hcl_tree::parse` says it.
 ///
 /// The text is read once, from left to right. Of its tree no more is kept at a time than one
-/// attribute or block of its body. Of another text, that was read before with the same rules, the
-/// members are handed in: where the tokens of the next of them stand here too, what was found in it
-/// is taken as it was, its numbers moved, and it is not read again. There need not be any. The
-/// members are kept for a next text, or they are given up, and what was found in them is not copied.
+/// attribute or block of its body. `old_members` are the members of another text that was read with
+/// the same rules; there may be none. If the tokens of the next of them are here too, its findings
+/// are reused, with their numbers moved, and it is not read again. The members are kept for a next
+/// text, or freed, and then their findings are not copied.
 pub fn lint_tokens(
     alloc: Global,
     scanned: &Scanned<'_>,
@@ -135,7 +135,7 @@ pub fn lint_tokens(
     ensures valid { IfOk result (λ linted. AreValidFindings (length scanned.now.pairs) linted.found.items) }
     // A text that parses is not refused, unless memory runs out.
     ensures only { (t : Tree) → Parses scanned.now.text t → IfErr result IsMemory }
-    // Where the tokens follow the grammar with more constructs in one another, the fault is that.
+    // If the tokens follow the grammar with more constructs nested, the error is TooDeep.
     ensures too_deep { (d : ℕ) (t : Tree) → IsFile (tokens_of scanned.now.pairs) d t
         → IfErr result IsMemoryOrDeep }
 {

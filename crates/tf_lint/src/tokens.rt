@@ -1,4 +1,4 @@
-//! Tokens that stand in two texts.
+//! Tokens that are in two texts.
 
 ghost use Rattle.std.specs.Prelude.{◌≡◌, ◌≢◌, ◌<◌, ◌≤◌, ◌+◌, true, false, length, take, drop, slice_get};
 ghost use Rattle.hcl_scan.specs.Follows.{tokens_of};
@@ -30,7 +30,8 @@ fn same_token(old: &Scanned<'_>, new: &Scanned<'_>, i: usize, j: usize) -> bool
     same_spelling(old.spelling(i), new.spelling(j))
 }
 
-/// Whether so many tokens are the same with the gaps between them: their bytes are compared at once.
+/// Returns whether `count` tokens are the same with the gaps between them: their bytes are compared
+/// at once.
 #[tactic(auto, using(crate::proofs::TokenLemmas::stretch_tokens))]
 fn same_stretch(old: &Scanned<'_>, new: &Scanned<'_>, from: usize, to: usize, count: usize) -> bool
     requires old { from + count ≤ length old.now.pairs }
@@ -42,7 +43,7 @@ fn same_stretch(old: &Scanned<'_>, new: &Scanned<'_>, from: usize, to: usize, co
     old.has_same_tokens(from, new, to, count)
 }
 
-/// Whether so many tokens are the same, one by one, whatever gaps stand between them.
+/// Returns whether `count` tokens are the same, one by one, whatever the gaps between them.
 fn same_each(old: &Scanned<'_>, new: &Scanned<'_>, from: usize, to: usize, count: usize) -> bool
     requires old { from + count ≤ length old.now.pairs }
     requires new { to + count ≤ length new.now.pairs }
@@ -61,7 +62,7 @@ fn same_each(old: &Scanned<'_>, new: &Scanned<'_>, from: usize, to: usize, count
     true
 }
 
-/// Whether `count` tokens stand in the old text from number `from` on, and the same in the new one
+/// Returns whether the `count` tokens of the old text from number `from` on are those of the new one
 /// from number `to` on.
 pub fn same_tokens(
     old: &Scanned<'_>,

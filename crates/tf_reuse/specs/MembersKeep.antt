@@ -1,4 +1,4 @@
--- What is found in a member whose tokens stand elsewhere too.
+-- What is found in a member whose tokens are also the tokens of another text.
 use Rattle.std.specs.Prelude.{◌≡◌, ◌≢◌, ◌≤◌, ◌<◌, ℕ, ◌+◌, ◌^◌, false, List, [], ◌∷◌, length, map, take, drop, None}
 use Rattle.tf_reuse.specs.OneMember.{IsOneMember}
 use Rattle.hcl_grammar.specs.Tokens.{Token, next_kind}
@@ -13,7 +13,7 @@ use Rattle.tf_rules.specs.Findings.{valid_findings}
 use Rattle.tf_rules.specs.declared.rule_set.RuleSet.{RuleSet}
 use Rattle.tf_rules.specs.TopLevelFindings.{top_level_member_findings}
 
--- so many tokens stand from number `from` on in the one list, and from number `to` on in the other:
+-- `count` tokens from number `from` on in the one list are those from number `to` on in the other:
 -- of the same kinds, spelled alike
 pub record SameTokens (old new : List Token) (from to count : ℕ) : Type 0 where
   pub in_old : from + count ≤ length old
@@ -21,8 +21,8 @@ pub record SameTokens (old new : List Token) (from to count : ℕ) : Type 0 wher
   pub fits : to + count < 2 ^ 64
   pub same : take count (drop from old) ≡ take count (drop to new)
 
--- A member that stands over these tokens, with others behind it, stands over them elsewhere, and
--- the same is found in it, its numbers moved.
+-- The grammar derives a member from these tokens, if it does so elsewhere, with more tokens after
+-- it; and the findings in it are those found there, with their numbers moved.
 abbrev pub UnchangedMembersKeepFindings : Type 0
 UnchangedMembersKeepFindings = (rules : RuleSet) (old new : List Pair) (depth from to count : ℕ) (x : Member)
     → SameTokens (tokens_of old) (tokens_of new) from to count

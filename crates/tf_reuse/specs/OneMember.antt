@@ -13,8 +13,8 @@ use Rattle.hcl_grammar.specs.Lookahead.{NextIs, IsNewline, IsEol}
 use Rattle.hcl_grammar.specs.Nodes as node
 use Rattle.hcl_grammar.specs.Tokens.{Token, next_index, after_next, first_token_in}
 
--- What the grammar says of the first member of a body (`IsMembers`), with nothing of those behind
--- it: an attribute or a block from its name on up to the end of its last line.
+-- What the grammar says of the first member of a body (`IsMembers`), without the members after it:
+-- an attribute or a block from its name on up to the end of its last line.
 pub data IsOneMember (ts : List Token) : ℕ → Member → ℕ → ℕ → Type 0 where
   attribute : {d : ℕ} {e : Expr} {i j n : ℕ} → NextIs ts false k.Identifier i
       → NextIs ts false k.Equal (after_next ts false i)
@@ -33,7 +33,7 @@ pub data IsOneMember (ts : List Token) : ℕ → Member → ℕ → ℕ → Type
       → IsEol ts (after_next ts false o) q
       → IsOneMember ts (suc d) (node.block (next_index ts false i) q ls (content.OneLine a)) i q
 
--- A member with the members of a body behind it begins a body.
+-- A member followed by the members of a body begins a body.
 abbrev pub PrependedMemberExtendsBody : Type 0
 PrependedMemberExtendsBody = (ts : List Token) (d : ℕ) (x : Member) (ms : List Member) (i n l : ℕ)
     → IsOneMember ts d x i n → IsMembers ts d ms n l → IsMembers ts d (x ∷ ms) i l

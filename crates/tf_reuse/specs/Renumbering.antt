@@ -1,4 +1,4 @@
--- Numbers of tokens, where those that stood from one number on stand from another on.
+-- Numbers of tokens that were moved from one number to another.
 use Rattle.std.specs.Prelude.{ℕ, ◌+◌, ◌-◌, ◌^◌, min, map}
 use Rattle.std.specs.Option.{option_map}
 use Rattle.tf_rules.specs.declared.finding.Finding.{Finding}
@@ -8,8 +8,8 @@ use Rattle.tf_rules.specs.declared.fix.Fix.TheVariants.{CommentMarker, Tokens}
 use Rattle.tf_rules.specs.declared.fix.KeptTokens.{KeptTokens}
 use Rattle.tf_rules.specs.Fixes.{kept}
 
--- the number of a token, where the tokens that stood from number `from` on stand from number `to`
--- on; no greater than a usize can be
+-- the number of a token, if the tokens from number `from` on were moved to number `to`; at most the
+-- greatest usize
 abbrev pub renumber : ℕ → ℕ → ℕ → ℕ
 renumber from to n = min (to + (n - from)) (2 ^ 64 - 1)
 

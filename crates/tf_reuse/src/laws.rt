@@ -4,13 +4,13 @@
 ghost use Rattle.tf_reuse.specs.MembersKeep.{UnchangedMembersKeepFindings};
 ghost use Rattle.tf_reuse.specs.OneMember.{PrependedMemberExtendsBody};
 
-/// A member whose tokens stand elsewhere too stands there, and what the rules find in it is the
-/// same, its numbers moved.
+/// A member whose tokens are also elsewhere is a member there, and what the rules find in it is the
+/// same, with its numbers moved.
 pub fn unchanged_members_keep_findings()
     ensures { UnchangedMembersKeepFindings }
 {}
 
-/// A member by itself, in front of the members of a body, begins a body.
+/// A member by itself, before the members of a body, begins a body.
 pub fn prepended_member_extends_body()
     ensures { PrependedMemberExtendsBody }
 {}

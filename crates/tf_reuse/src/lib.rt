@@ -1,5 +1,5 @@
-//! What is found in an attribute or a block whose tokens stand elsewhere too: the same, its numbers
-//! moved.
+//! What is found in an attribute or a block whose tokens are also those of another text: the same,
+//! with its numbers moved.
 #![tactic(auto)]
 
 pub mod laws;

@@ -8,8 +8,7 @@ ghost use Rattle.tf_reuse.specs.Renumbering.{renumber_finding};
 use std::alloc::{AllocError, Global};
 use tf_rules::{Finding, Fix, KeptTokens, Message};
 
-/// The number of a token, where the tokens that stood from number `from` on stand from number `to`
-/// on.
+/// Returns the number of a token, if the tokens from number `from` on were moved to number `to`.
 fn renumber(number: usize, from: usize, to: usize) -> usize
     ensures { result ≡ spec.renumber from to number }
 {
@@ -82,7 +81,7 @@ fn renumber_finding(finding: &Finding, from: usize, to: usize) -> Result<Finding
     Finding::new(finding.rule(), first, past, message, fix)
 }
 
-/// The findings in tokens that stood from number `from` on, where they stand from number `to` on.
+/// Returns the findings in tokens that were moved from number `from` to number `to`.
 pub fn renumber_findings(
     alloc: Global,
     findings: &[Finding],

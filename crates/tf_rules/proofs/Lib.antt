@@ -1,3 +1,4 @@
 mod TriviaLemmas
+mod SnakeCaseLemmas
 pub mod FoundBy
 pub mod AllFoundBy

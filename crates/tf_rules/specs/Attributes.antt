@@ -52,7 +52,7 @@ is_empty_string_kind _ = false
 abbrev pub is_empty_string : Expr → Bool
 is_empty_string e = is_empty_string_kind (out-ExprKind e.kind)
 
--- an attribute of this name, and, where that is asked for, with the value `""`
+-- an attribute of this name; if must_be_empty, one whose value is `""`
 abbrev pub is_attribute : List Pair → List ℕ → Bool → Attribute → Bool
 is_attribute pairs name empty a =
     bytes_eq (token_text pairs a.name) name && (not empty || is_empty_string a.value)

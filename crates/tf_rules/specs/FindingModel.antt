@@ -4,7 +4,7 @@ use Rattle.tf_rules.specs.declared.finding.Message.{Message}
 use Rattle.tf_rules.specs.declared.fix.Fix.{Fix}
 use Rattle.tf_rules.specs.declared.rule.Rule.{Rule}
 
--- its rule, its tokens from number first up to past, its message, and what mends it
+-- its rule, its tokens from number `first` to number `past` (exclusive), its message, and its fix
 pub record FindingModel : Type 0 where
   pub rule : Rule
   pub first : ℕ

@@ -10,7 +10,7 @@ use Rattle.tf_rules.specs.declared.fix.KeptTokens.{KeptTokens}
 abbrev pub insert_only : Insertion → Fix
 insert_only before = Tokens before (None ∷ None ∷ [])
 
--- tokens that are kept, and what is written behind them
+-- tokens that are kept, and what is written after them
 abbrev pub kept : ℕ → ℕ → Insertion → KeptTokens
 kept from to after = record { from = from; to = to; after = after }
 
@@ -40,7 +40,7 @@ abbrev pub changes_end : ℕ → Insertion → ℕ → ℕ → Bool
 changes_end first Nothing at past = nat_lt first at && nat_lt at past
 changes_end first _ at past = nat_le at past
 
--- what is kept stands in order behind number at, where this is written
+-- what is kept is in order after number at, where this is written
 abbrev pub are_in_order : ℕ → ℕ → ℕ → Insertion → List (Option KeptTokens) → Bool
 are_in_order first past at written [] = changes_end first written at past
 are_in_order first past at written (None ∷ kept) = are_in_order first past at written kept
@@ -48,7 +48,7 @@ are_in_order first past at written (Some k ∷ kept) =
     changes_something written at k.from
     && (nat_lt k.from k.to && are_in_order first past k.to k.after kept)
 
--- what a fix keeps stands in order in the tokens from number first up to past
+-- what a fix keeps is in order in the tokens from number `first` to number `past` (exclusive)
 abbrev pub is_in_order : ℕ → ℕ → Fix → Bool
 is_in_order first past CommentMarker = past == first + 1
 is_in_order first past (Tokens before kept) = are_in_order first past first before kept

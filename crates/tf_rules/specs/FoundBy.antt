@@ -18,5 +18,5 @@ pub record IsFoundBy (pairs : List Pair) (rule : Rule) (f : Finding) : Type 0 wh
   -- the rule on comments writes in comments, and no other does
   pub inside : is_comment_fix f.fix ≡ is_comment_rule rule
   pub has_slashes : is_comment_fix f.fix ≡ true → IsSlashCommentAt pairs f.first
-  -- a rule whose findings can be mended has a step in a fix
+  -- a rule whose findings can be fixed has a step in a fix
   pub has_fix : is_fixable f.fix ≡ true → has_fix rule ≡ true

@@ -14,7 +14,7 @@ use Rattle.tf_rules.specs.Rules.Interpolation.{interpolation_findings, sole_inte
 use Rattle.tf_rules.specs.Rules.Lookup.{lookup_findings}
 use Rattle.tf_rules.specs.Preorder.{Node, expr, term, tail, part, member}
 
--- what the rules of the set find at a node, not in what stands in it
+-- what the rules of the set find at a node, not at the nodes inside of it
 abbrev pub node_findings : RuleSet → List Pair → Node → List Finding
 node_findings rules pairs (expr role e) =
     if has_rule rules EmptyListEquality then equality_findings pairs e.first (out-ExprKind e.kind)

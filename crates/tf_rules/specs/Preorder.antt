@@ -1,4 +1,4 @@
--- What stands in a syntax tree, and as what.
+-- The nodes of a syntax tree, each with its role, in preorder.
 use Rattle.std.specs.Prelude.{◌≡◌, Bool, true, false, List, [], ◌∷◌, ◌++◌, map, Option, Some, None}
 use Rattle.std.specs.List.{flat_map}
 use Rattle.hcl_grammar.specs.declared.tree.Attribute.{Attribute}
@@ -25,9 +25,9 @@ use Rattle.tf_rules.specs.TreeLayers.{ExprKindLayer, PrimaryLayer, TailLayer, Pa
 
 -- a node of a tree
 pub data Node : Type 0 where
-  -- an expression, and as what it stands
+  -- an expression, and its role
   expr : Role → Expr → Node
-  -- a term, and as what the expression stands that is this term and nothing else
+  -- a term, and the role of the expression that is this term, with or without tails
   term : Role → Term → Node
   -- a tail of a term, and whether, going back from it over names and legacy indices, one comes to
   -- the tail `.*`
@@ -37,10 +37,10 @@ pub data Node : Type 0 where
   -- an attribute or a block
   member : Member → Node
 
--- What stands directly in a node, in the order of the text.
+-- The nodes that are directly inside of a node, in the order of the text.
 
--- Whether, going back from behind a tail over names and legacy indices, one comes to `.*`; the flag
--- says so of the role before the tail.
+-- Whether the names and legacy indices that precede the place after a tail follow `.*`; the flag
+-- says so of the place before the tail.
 abbrev pub splat_after : Bool → TailLayer → Bool
 splat_after splat (Tail-F.Name n) = splat
 splat_after splat (Tail-F.LegacyIndex n) = splat
@@ -133,6 +133,6 @@ pub data IsPreorder : List Node → List Node → Type 0 where
   visit : {n : Node} {ns inside others : List Node} → IsPreorder (children n) inside → IsPreorder ns others
       → IsPreorder (n ∷ ns) (n ∷ (inside ++ others))
 
--- in some nodes stands one list
+-- there is one list of the nodes inside of some nodes
 abbrev pub PreorderIsUnique : Type 0
 PreorderIsUnique = (ns xs ys : List Node) → IsPreorder ns xs → IsPreorder ns ys → xs ≡ ys

@@ -13,7 +13,7 @@ pub record RuleInfo : Type 0 where
   pub severity : Severity
   -- whether a fix has a step for it
   pub has_fix : Bool
-  -- what its message says before the name, and behind it
+  -- what its message says before the name, and after it
   pub before : List ℕ
   pub after : List ℕ
 
@@ -76,7 +76,7 @@ severity_of rule = (info_of rule).severity
 abbrev pub has_fix : Rule → Bool
 has_fix rule = (info_of rule).has_fix
 
--- whether the rule is that on comments, which are mended within a token
+-- whether the rule is that on comments, whose fixes change the inside of a token
 abbrev pub is_comment_rule : Rule → Bool
 is_comment_rule CommentSyntax = true
 is_comment_rule _ = false

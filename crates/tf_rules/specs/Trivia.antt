@@ -5,11 +5,11 @@ use Rattle.hcl_token.specs.declared.kind.Kind.{Kind}
 use Rattle.hcl_token.specs.declared.kind.Kind.TheVariants as k
 use Rattle.hcl_token.specs.Tokens.{Pair}
 
--- the tokens from number first up to, not with, number past
+-- the tokens from number `first` to number `past` (exclusive)
 abbrev pub token_range : List Pair → ℕ → ℕ → List Pair
 token_range pairs first past = take (past - first) (drop first pairs)
 
--- a line end, or, where that is asked for, a line comment
+-- a line end, or, if count_comments, a line comment
 abbrev pub is_line_break : Bool → Kind → Bool
 is_line_break comments k.LineEnd = true
 is_line_break comments k.LineComment = comments
@@ -22,7 +22,7 @@ is_trivia k.LineComment = true
 is_trivia k.InlineComment = true
 is_trivia _ = false
 
--- whether a comment or a line end stands among the tokens
+-- whether a comment or a line end is among the tokens
 abbrev pub has_trivia : List Pair → Bool
 has_trivia [] = false
 has_trivia (p ∷ ps) = is_trivia p.kind || has_trivia ps
@@ -44,13 +44,13 @@ is_closing k.CloseBrace = true
 is_closing k.SeqClose = true
 is_closing _ = false
 
--- how many brackets and sequences are open behind a token, if so many are before it
+-- how many brackets and sequences are open after a token, by how many are open before it
 abbrev pub depth_after : Kind → ℕ → ℕ
 depth_after kind depth =
     if is_opening kind then depth + 1 else (if is_closing kind then depth - 1 else depth)
 
--- Whether a line end (or line comment) stands among these tokens outside of the brackets and
--- sequences that are opened among them, of which so many are open before the first of these.
+-- Whether a line end (or line comment) is among these tokens outside of the brackets and sequences
+-- that open among them; depth is how many of those are open before the first of these.
 abbrev pub has_line_break : Bool → ℕ → List Pair → Bool
 has_line_break comments depth [] = false
 has_line_break comments depth (p ∷ ps) =

@@ -68,7 +68,7 @@ fn optional_has_attribute(
     }
 }
 
-/// Whether a block has an attribute of this name, and, where that is asked for, with the value
+/// Returns whether a block has an attribute of this name; if `must_be_empty`, one whose value is
 /// `""`.
 pub fn has_attribute(scanned: &Scanned<'_>, name: &[u8], must_be_empty: bool, b: &Block) -> bool
     ensures { result ≡ has_attribute scanned.now.pairs name.now must_be_empty (attributes b.now) }

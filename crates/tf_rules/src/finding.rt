@@ -154,7 +154,7 @@ impl Finding {
         self.first as usize
     }
 
-    /// The number past its last token.
+    /// One more than the number of its last token.
     #[inline]
     pub fn past(&self) -> usize
         ensures { result ≡ self.now.past }
@@ -177,14 +177,14 @@ impl Finding {
         }
     }
 
-    /// What mends it, where a fix can.
+    /// Its fix, if it has one.
     pub fn fix(&self) -> Option<Fix>
         ensures { result ≡ self.now.fix }
     {
         self.packed_fix.fix()
     }
 
-    /// Whether a fix can mend it.
+    /// Whether it has a fix.
     #[inline]
     pub fn is_fixable(&self) -> bool
         ensures { result ≡ is_fixable self.now.fix }
@@ -192,8 +192,8 @@ impl Finding {
         self.packed_fix.is_fix()
     }
 
-    /// Whether its tokens are tokens of a text that has `count`, and what its fix keeps stands in
-    /// order in them.
+    /// Whether its tokens are tokens of a text that has `count`, and what its fix keeps is in order
+    /// and inside of them.
     pub fn is_valid(&self, count: usize) -> bool
         ensures { result ≡ is_valid count self.now }
     {
@@ -203,8 +203,12 @@ impl Finding {
     }
 }
 
-/// Adds a finding to those in a text that has `count` tokens, if it is sound there; in the text's
-/// own tree each is. `AllocError` where there is no room for one more, and then nothing is added.
+/// Adds a finding to those in a text that has `count` tokens, if it is valid there; each finding in
+/// the text's own tree is.
+///
+/// # Errors
+///
+/// Returns `AllocError` if memory runs out; then nothing is added.
 pub fn add_finding(
     found: &mut Vec<Finding>,
     count: usize,
@@ -220,7 +224,7 @@ pub fn add_finding(
     Ok(())
 }
 
-/// The test of a finding says the same as facts on its numbers.
+/// A finding that passes the test of `Finding::is_valid` is valid.
 pub fn is_valid_is_exact()
     ensures { (count : ℕ) (finding : Finding) → is_valid count finding ≡ true
         → IsValidFinding count finding }

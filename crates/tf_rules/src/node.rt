@@ -1,4 +1,4 @@
-//! What is found at a node, and not in what stands in it.
+//! What the rules find at a node, without the nodes inside of it.
 
 ghost use Rattle.std.specs.Prelude.{◌≡◌, ◌++◌, OnOk, length};
 ghost use Rattle.tf_rules.specs.NodeFindings.{node_findings};
@@ -12,7 +12,7 @@ use crate::rules::{equality, index, interpolation, lookup};
 use hcl_grammar::tree::{Expr, Tail, Term};
 use std::alloc::AllocError;
 
-/// At an expression, and as what it stands.
+/// Adds what the rules find at an expression in this role.
 pub fn check_expr(
     cx: &LintContext<'_, '_>,
     role: Role,

@@ -11,8 +11,8 @@ ghost use Rattle.tf_rules.specs.Inner.Unpacking.{IsCanonicalRange, IsCanonical, 
 use crate::fix::{Fix, Insertion, KeptTokens};
 use std::alloc::AllocError;
 
-/// What a fix does, without the numbers of the tokens that it keeps: at most two stretches, each
-/// with what is written behind it.
+/// What a fix does, without the numbers of the tokens that it keeps: at most two ranges, each with
+/// what is inserted after it.
 #[derive(Clone, Copy)]
 pub enum PackedFixKind {
     Nothing,
@@ -41,7 +41,7 @@ pub struct PackedFix {
     two: PackedRange,
 }
 
-/// A number in 32 bits; `AllocError` past them, where no list of tokens has room for so many.
+/// Returns a number in 32 bits. A larger one, which no list of tokens reaches, is an `AllocError`.
 pub fn to_u32(number: usize) -> Result<u32, AllocError>
     ensures ok { IfOk result (λ n. n ≡ number) }
     ensures err { IfErr result (λ _. fits_u32 number ≡ false) }
@@ -64,7 +64,7 @@ pub fn name_to_u32(name: Option<usize>) -> Result<u32, AllocError>
     }
 }
 
-/// The numbers of what is kept, and what is written behind it.
+/// Returns the numbers of what is kept, and what is inserted after it.
 fn pack_kept(kept: Option<KeptTokens>) -> Result<(PackedRange, Option<Insertion>), AllocError>
     ensures ok { IfOk result
         (λ s. (option_map (unpack_kept s.0) s.1 ≡ kept) × IsCanonicalRange s.1 s.0) }
@@ -121,7 +121,7 @@ fn pack_tokens(before: Insertion, kept: [Option<KeptTokens>; 2]) -> Result<Packe
 }
 
 impl PackedFix {
-    /// What mends a finding; `AllocError` where a number has no room.
+    /// Packs a fix. A number that does not fit in 32 bits is an `AllocError`.
     pub fn of(fix: Option<Fix>) -> Result<PackedFix, AllocError>
         ensures ok { IfOk result (λ packed_fix. (unpack_fix packed_fix ≡ fix) × IsCanonical packed_fix) }
         ensures err { IfErr result (λ _. fits_fix fix ≡ false) }

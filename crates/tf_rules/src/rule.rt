@@ -58,9 +58,9 @@ pub struct RuleInfo {
     pub has_fix: bool,
     /// What its message says before the name.
     pub before: &'static str,
-    /// What its message says behind the name.
+    /// What its message says after the name.
     pub after: &'static str,
-    /// What it asks for, as the help of `lint` says it.
+    /// What it requires, as the help of `lint` says it.
     pub description: &'static str,
 }
 

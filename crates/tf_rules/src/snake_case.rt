@@ -1,7 +1,8 @@
 //! Names in snake_case.
 
 ghost use Rattle.std.specs.Prelude.{◌≡◌, false};
-ghost use Rattle.tf_rules.specs.SnakeCase.{is_lower, is_lower_or_digit, is_valid_next, is_valid_rest, is_snake_case};
+ghost use Rattle.tf_rules.specs.SnakeCase.{is_lower, is_lower_or_digit, is_snake_case};
+ghost use Rattle.tf_rules.specs.Inner.SnakeCaseRest.{is_valid_next, is_valid_rest};
 
 fn is_lower(c: u8) -> bool
     ensures { result ≡ is_lower c }
@@ -34,8 +35,9 @@ fn is_valid_rest(rest: &[u8]) -> bool
     !after_underscore
 }
 
-/// Whether a name is a lower-case letter, then lower-case letters and digits, with single `_`
-/// between them.
+/// Returns whether a name begins with a lower-case letter, and consists of lower-case letters and
+/// digits with single underscores between them.
+#[tactic(auto, using(crate::proofs::SnakeCaseLemmas::snake_case_rest))]
 pub fn is_snake_case(name: &[u8]) -> bool
     ensures { result ≡ is_snake_case name.now }
 {

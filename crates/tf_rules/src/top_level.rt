@@ -59,7 +59,7 @@ fn check_members(
 }
 
 /// Adds what the rules of the set find at the blocks of a text's body, from the first to the last.
-/// `AllocError` where memory is refused.
+/// Returns `AllocError` if memory runs out.
 ///
 /// TFLint ruleset for the Terraform language.
 pub fn add_top_level_findings(
@@ -81,7 +81,7 @@ pub fn add_top_level_findings(
 }
 
 /// Adds what the rules of the set find at an attribute or a block of a text's body, as
-/// `add_top_level_findings` adds it for all of them. `AllocError` where memory is refused.
+/// `add_top_level_findings` adds it for all of them. Returns `AllocError` if memory runs out.
 ///
 /// TFLint ruleset for the Terraform language.
 pub fn add_top_level_member_findings(

@@ -67,7 +67,7 @@ fn depth_after(kind: Kind, depth: usize) -> usize
     depth
 }
 
-/// Whether a comment or a line end stands among the tokens.
+/// Returns whether a comment or a line end is among the tokens.
 pub fn has_trivia(scanned: &Scanned<'_>, first: usize, past: usize) -> bool
     ensures { result ≡ has_trivia (token_range scanned.now.pairs first past) }
 {

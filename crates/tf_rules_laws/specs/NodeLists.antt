@@ -1,5 +1,5 @@
--- What stands in a tree is listed twice: here are the nodes that the rules go through, in the laws
--- of the grammar those that have tokens of their own.
+-- The nodes of a tree are listed twice: here those that the rules visit, in the laws of the grammar
+-- those that have tokens of their own.
 use Rattle.std.specs.Prelude.{◌≡◌, Bool, true, false, List, ◌∷◌, map}
 use Rattle.hcl_grammar.specs.declared.tree.Attribute.{Attribute}
 use Rattle.hcl_grammar.specs.declared.tree.Block.{Block}
@@ -17,8 +17,8 @@ use Rattle.tf_rules.specs.declared.role.Role.{Role}
 use Rattle.tf_rules.specs.Preorder.{Node, expr, term, part, member, IsPreorder}
 
 -- The nodes that are in both lists. The other nodes of the grammar have no node of their own among
--- those of the rules, but what they hold stands there: a body, a template, what begins a `for`, the
--- attribute of a block on one line, and a label, which holds nothing.
+-- those of the rules, but what is inside of them is there: a body, a template, what begins a `for`,
+-- the attribute of a block on one line, and a label, which has nothing inside.
 abbrev pub is_in_both : grammar.Node → Bool
 is_in_both (grammar.body b) = false
 is_in_both (grammar.one_line_attribute a) = false
@@ -27,7 +27,7 @@ is_in_both (grammar.intro i) = false
 is_in_both (grammar.template t) = false
 is_in_both _ = true
 
--- a node of the grammar and one of the rules that are one, as whatever it stands
+-- a node of the grammar and one of the rules that are one, in whatever role
 pub data IsSameNode : grammar.Node → Node → Type 0 where
   same_expr : {p : Role} {e : Expr} → IsSameNode (grammar.expr e) (expr p e)
   same_term : {p : Role} {t : Term} → IsSameNode (grammar.term t) (term p t)
@@ -45,7 +45,7 @@ pub data IsAmong (n : grammar.Node) : List Node → Type 0 where
   here : {m : Node} {ms : List Node} → IsSameNode n m → IsAmong n (m ∷ ms)
   there : {m : Node} {ms : List Node} → IsAmong n ms → IsAmong n (m ∷ ms)
 
--- what stands in a body for the grammar stands there for the rules
+-- the nodes of a body in the grammar's list are in the rules' list
 abbrev pub EveryNodeIsVisited : Type 0
 EveryNodeIsVisited = (b : Body) (ns : List Node) → IsPreorder (map member b.members) ns
     → (n : grammar.Node) → is_in_both n ≡ true → grammar.IsWithin n (grammar.body b) → IsAmong n ns

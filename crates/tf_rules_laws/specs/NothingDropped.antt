@@ -7,8 +7,8 @@ use Rattle.tf_findings.specs.Findings.{all_findings}
 use Rattle.tf_rules.specs.declared.rule_set.RuleSet.{RuleSet}
 use Rattle.tf_rules.specs.Findings.{valid_findings}
 
--- Over a text that parses, what the rules find is all that they name at the nodes that stand in its
--- tree, at its blocks and at its comments: the test drops none.
+-- In a text that parses, what the rules find is all that they name at the nodes of its tree, at its
+-- blocks and at its comments: the test of a finding drops none.
 abbrev pub NoFindingIsDropped : Type 0
 NoFindingIsDropped = (text : List ℕ) (tree : Tree) (parses : Parses text tree) (rules : RuleSet)
     (nodes : List Node) → IsPreorder (map member tree.body.members) nodes

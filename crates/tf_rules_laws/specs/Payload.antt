@@ -1,4 +1,4 @@
--- What a node of a tree has of its own, beside the nodes that stand in it.
+-- What a node of a tree has of its own, without the nodes inside of it.
 use Rattle.std.specs.Prelude.{◌≡◌, ℕ, Bool, List, [], ◌∷◌, map, length, Option, Some, None}
 use Rattle.hcl_grammar.specs.declared.tree.Attribute.{Attribute}
 use Rattle.hcl_grammar.specs.declared.tree.Call.{out-Call}
@@ -75,7 +75,7 @@ abbrev pub else_payload : Option Template → List Payload
 else_payload None = []
 else_payload (Some t) = template_payload t
 
--- of the parts of an `if` directive those that stand before `else` are counted
+-- of the parts of an `if` directive those before `else` are counted
 abbrev pub part_payload : PartLayer → List Payload
 part_payload (Part-F.Literal n) = number 0 ∷ number n ∷ []
 part_payload (Part-F.Interp e) = number 1 ∷ []
@@ -108,8 +108,8 @@ payload (tail splat t) = number 2 ∷ flag splat ∷ tail_payload (out-Tail t)
 payload (part x) = number 3 ∷ part_payload (out-Part x)
 payload (member m) = number 4 ∷ member_payload (out-Member m)
 
--- A node is told by what it has of its own and by its parts, so that `parts` forgets nothing that
--- stands in it.
+-- A node is determined by what it has of its own and by its children, so that the list of children
+-- forgets nothing inside of it.
 abbrev pub ChildrenAreComplete : Type 0
 ChildrenAreComplete = (a b : Node) → payload a ≡ payload b → children a ≡ children b → a ≡ b
 
@@ -117,8 +117,8 @@ ChildrenAreComplete = (a b : Node) → payload a ≡ payload b → children a �
 abbrev pub node_key : Node → List Payload × ℕ
 node_key n = (payload n, length (children n))
 
--- The nodes that stand in a tree tell the tree, each by what it has of its own and by how many
--- parts it has: two trees of as many roots in which the same stands in the same order are one.
+-- The nodes of a tree determine it, each by what it has of its own and by how many children it has:
+-- two trees of as many roots with the same nodes in the same order are one.
 abbrev pub PreorderDeterminesTree : Type 0
 PreorderDeterminesTree = (ns ms xs ys : List Node) → length ns ≡ length ms → IsPreorder ns xs → IsPreorder ms ys
     → map node_key xs ≡ map node_key ys → ns ≡ ms

@@ -9,13 +9,13 @@ pub fn children_are_complete()
     ensures { ChildrenAreComplete }
 {}
 
-/// The nodes that stand in a tree tell the tree, each by what it has of its own and by how many
-/// parts it has: nothing of a tree is left out of the list of them.
+/// The nodes of a tree determine it, each by what it has of its own and by how many children it has:
+/// nothing of a tree is left out of the list of them.
 pub fn preorder_determines_tree()
     ensures { PreorderDeterminesTree }
 {}
 
-/// What stands in a body for the grammar stands there for the rules: they go through each node.
+/// The nodes of a body in the grammar's list are in the rules' list: the rules visit each node.
 pub fn every_node_is_visited()
     ensures { EveryNodeIsVisited }
 {}

@@ -22,7 +22,7 @@ silences_at pairs rule line i =
 abbrev pub silences_among : List Pair → Rule → ℕ → List ℕ → Bool
 silences_among pairs rule line numbers = list_any (silences_at pairs rule line) numbers
 
--- the numbers rise, from a on, and stand before b
+-- the numbers rise, from a on, and are below b
 abbrev pub AreIncreasing : ℕ → List ℕ → ℕ → Type 0
 AreIncreasing a [] b = a ≤ b
 AreIncreasing a (n ∷ ns) b = (a ≤ n) × AreIncreasing (n + 1) ns b
@@ -40,12 +40,12 @@ covers rule line m = covers_line line m.line && has_rule m.rules rule
 abbrev pub is_silenced_by : Rule → ℕ → List Annotation → Bool
 is_silenced_by rule line marks = list_any (covers rule line) marks
 
--- the marks have lines past a, up to b, each past that of the mark before it
+-- the annotations have lines after a, up to b, each after that of the annotation before it
 abbrev pub AreLinesIncreasing : ℕ → List Annotation → ℕ → Type 0
 AreLinesIncreasing a [] b = a ≤ b
 AreLinesIncreasing a (m ∷ ms) b = (a < m.line) × AreLinesIncreasing m.line ms b
 
--- the marks ascend, and the first may silence what stands on this line or behind it
+-- the annotations ascend, and the first may silence findings on this line or a later one
 abbrev pub CanSilence : ℕ → List Annotation → Type 0
 CanSilence line [] = Unit {0}
 CanSilence line (m ∷ ms) = (line ≤ m.line + 1) × ((b : ℕ) × AreLinesIncreasing m.line ms b)

@@ -1,4 +1,4 @@
--- For proofs: lists to which the findings at nodes, and in what stands in them, are added.
+-- For proofs: lists to which the findings at nodes, and at the nodes inside of them, are added.
 use Rattle.std.specs.Prelude.{List, [], ◌∷◌, ◌++◌, length}
 use Rattle.hcl_token.specs.Tokens.{Pair}
 use Rattle.tf_rules.specs.declared.rule_set.RuleSet.{RuleSet}

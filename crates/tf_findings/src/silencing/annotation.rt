@@ -23,7 +23,7 @@ fn covers_line(line: usize, comment: usize) -> bool
 }
 
 impl Annotation {
-    /// The mark of its line that silences these rules too.
+    /// Returns the annotation of the same line that silences these rules too.
     pub fn merge(self, rules: RuleSet) -> Annotation
         ensures line { result.line ≡ self.line }
         ensures rules { (rule : Rule)

@@ -11,8 +11,8 @@ use crate::silencing::comment::silenced_rules;
 use hcl_scan::{Lines, Scanned};
 use std::alloc::{AllocError, Global};
 
-/// Adds a mark behind those of earlier lines; on the line of the last, the two become one, so that
-/// each line has one at most.
+/// Adds an annotation after those of earlier lines; on the line of the last, the two become one, so
+/// that each line has one at most.
 fn add_annotation(
     annotations: &mut Vec<Annotation>,
     annotation: Annotation,
@@ -74,8 +74,8 @@ fn add_comment_annotation(
     }
 }
 
-/// The marks of a text, by line, in which the tokens of these numbers silence something, and no
-/// other does.
+/// Returns the annotations of a text, by line, in which the tokens of these numbers silence
+/// something, and no other token does.
 pub fn annotations_of(
     alloc: Global,
     scanned: &Scanned<'_>,

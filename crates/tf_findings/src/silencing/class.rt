@@ -28,7 +28,7 @@ pub fn is_in_class(class: ByteClass, b: u8) -> bool
     }
 }
 
-/// How many bytes at the front are of the class.
+/// Returns how many bytes at the start are of the class.
 pub fn class_prefix_len(class: ByteClass, t: &[u8]) -> usize
     ensures value { result ≡ class_prefix_len class t.now }
     ensures within { result ≤ length t.now }

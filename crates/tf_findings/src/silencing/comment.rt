@@ -6,7 +6,7 @@ ghost use Rattle.std.specs.Str.{bytes_eq};
 ghost use Rattle.tf_rules.specs.declared.rule.Rule.{Rule};
 ghost use Rattle.tf_rules.specs.RuleSets.{has_rule};
 ghost use Rattle.tf_rules.specs.Rules.CommentSyntax.{is_line_comment};
-ghost use Rattle.tf_findings.specs.Comments.{skip_whitespace, is_all_whitespace, ends_in_whitespace, split_commas, leading_name, is_name, names_rule, list_names, body_silences, comment_body, silences};
+ghost use Rattle.tf_findings.specs.Comments.{is_comment, skip_whitespace, is_all_whitespace, ends_in_whitespace, split_commas, leading_name, is_name, names_rule, list_names, body_silences, comment_body, silences};
 ghost use Rattle.tf_findings.specs.Inner.Annotations.{option_has};
 
 use crate::silencing::class::{ByteClass, class_prefix_len, is_in_class};
@@ -100,7 +100,7 @@ fn after_separator(t: &[u8], n: usize) -> &[u8]
     &t[n + 1..]
 }
 
-/// The rules of the list behind the word, up to the reason behind `#`, if there is one.
+/// Returns the rules of the list after `tflint-ignore:`, up to the reason after `#`, if there is one.
 fn list_rules(t: &[u8]) -> Option<RuleSet>
     ensures { (rule : Rule) → option_has result rule ≡ list_names rule t.now }
 {
@@ -144,6 +144,7 @@ fn comment_body(kind: Kind, spelling: &[u8]) -> &[u8]
 
 /// Whether a token of the kind is a comment: no other can silence anything.
 pub fn is_comment(kind: Kind) -> bool
+    ensures value { result ≡ is_comment kind }
     ensures silences_none { (spelling : List ℕ) (rule : Rule) → result ≡ false
         → silences kind spelling rule ≡ false }
     ensures other { result ≡ false → is_line_comment kind ≡ false }

@@ -13,14 +13,14 @@ use hcl_scan::Scanned;
 use std::alloc::{AllocError, Global};
 use tf_rules::{Finding, Rule};
 
-/// Whether a line lies behind the one that follows a mark's.
+/// Returns whether a line is after the one that follows the annotation's.
 fn is_out_of_reach(line: usize, annotation: &Annotation) -> bool
     ensures { result ≡ nat_lt (annotation.now.line + 1) line }
 {
     line > annotation.line && line - annotation.line > 1
 }
 
-/// The marks from the first on that can silence anything on this line.
+/// Returns the annotations from the first on that can silence anything on this line.
 fn annotations_from(annotations: &[Annotation], line: usize) -> &[Annotation]
     requires { (b : ℕ) × AreLinesIncreasing 0 annotations.now b }
     ensures order { (b : ℕ) × AreLinesIncreasing 0 result.now b }
@@ -38,8 +38,8 @@ fn annotations_from(annotations: &[Annotation], line: usize) -> &[Annotation]
     rest
 }
 
-/// Returns the marks that can silence something on `line` or on later lines. `rest` is the previous
-/// answer, for line `reached`, so that rising lines take one pass.
+/// Returns the annotations that can silence something on `line` or on later lines. `rest` is the
+/// previous answer, for `last_line`, so that rising lines take one pass.
 fn annotations_at<'m>(
     annotations: &'m [Annotation],
     rest: &'m [Annotation],
@@ -56,7 +56,7 @@ fn annotations_at<'m>(
         → is_silenced_by rule l result.now ≡ is_silenced_by rule l annotations.now }
 {
     if line < last_line {
-        // Never where findings stand by place: it keeps the answer right for others.
+        // Never if the findings are in order; without it the answer would be wrong for others.
         return annotations_from(annotations, line);
     }
     annotations_from(rest, line)
@@ -71,8 +71,8 @@ fn first_covers(annotations: &[Annotation], rule: Rule, line: usize) -> bool
     }
 }
 
-/// Whether one of the marks, of which the first two alone can, silences what the rule finds on this
-/// line.
+/// Returns whether an annotation, of which only the first two can, silences what the rule finds on
+/// this line.
 fn is_silenced_by(annotations: &[Annotation], rule: Rule, line: usize) -> bool
     requires { CanSilence line annotations.now }
     ensures { result ≡ is_silenced_by rule line annotations.now }
@@ -84,8 +84,7 @@ fn is_silenced_by(annotations: &[Annotation], rule: Rule, line: usize) -> bool
     }
 }
 
-/// Puts a finding behind the first `kept` of a list, if it is not silenced, and answers how many
-/// these are then.
+/// Moves a finding to index `kept` of a list, if it is not silenced, and returns how many are kept.
 fn retain_one(found: &mut [Finding], kept: usize, f: Finding, is_silenced: bool) -> usize
     requires { kept < length found.old }
     ensures retained { take result found.new
@@ -100,8 +99,8 @@ fn retain_one(found: &mut [Finding], kept: usize, f: Finding, is_silenced: bool)
     kept + 1
 }
 
-/// Puts the findings that none of the marks silences to the front of a list, in the same order, and
-/// answers how many these are.
+/// Moves the findings that no annotation silences to the start of a list, in the same order, and
+/// returns how many these are.
 fn retain_unsilenced(
     scanned: &Scanned<'_>,
     found: &mut [Finding],
@@ -127,7 +126,7 @@ fn retain_unsilenced(
     kept
 }
 
-/// The findings that none of the marks silences.
+/// Returns the findings that no annotation silences.
 fn unsilenced(
     scanned: &Scanned<'_>,
     found: Vec<Finding>,
@@ -145,10 +144,9 @@ fn unsilenced(
     remaining
 }
 
-/// The findings that no comment of the text silences, in the same order.
-///
-/// The tokens that silence anything are told by their numbers. Where there is one, it takes one pass
-/// over the findings, if these stand by place. These stay in their list.
+/// Returns the findings that no comment of the text silences, in the same order and in the same
+/// list. `silencing_tokens` are the numbers of the tokens that silence anything. If there are any,
+/// it takes one pass over findings that are in order.
 ///
 /// TFLint, Annotations.
 pub fn remove_silenced(

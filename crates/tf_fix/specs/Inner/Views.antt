@@ -12,7 +12,7 @@ use Rattle.tf_fix.specs.declared.prev_token.PrevToken.TheVariants.{Nothing as No
 use Rattle.tf_rules.specs.declared.fix.Insertion.{Insertion}
 use Rattle.tf_fix.specs.declared.splice.Replacement.{Replacement as Replacing}
 
--- how many parts stand before the place
+-- how many parts are before the place
 abbrev pub boundary_index : Boundary → ℕ
 boundary_index (BeforeGap i) = 2 * i
 boundary_index (BeforeToken i) = 2 * i + 1
@@ -24,7 +24,7 @@ prev_view (TokenNear kind spelling) = Some (kind, spelling.now)
 abbrev pub prev_at : Pair → Prev
 prev_at p = Some (p.kind, p.spelling)
 
--- how many parts of what comes stand for the gap before this place, which is there already
+-- how many of the inserted parts are the gap before this place, which is there already
 abbrev pub skip_of : Boundary → ℕ
 skip_of (BeforeGap i) = 0
 skip_of (BeforeToken i) = 1

@@ -54,11 +54,11 @@ pub record IsStep (rule : Rule) (p : Parsed) (step : Step) : Type 0 where
 
 -- ---- the first step that changes the text
 
--- the most findings that steps of these rules can mend
+-- the most findings that steps of these rules can fix
 abbrev pub max_fixes : List Rule → ℕ
 max_fixes order = MAX_TEXT * length order
 
--- what is known of the steps from here on, where so many findings were mended before
+-- what is known of the steps from here on, if `count` findings were fixed before
 abbrev pub IsFirstChange : RuleSet → List Rule → Parsed → ℕ → FirstChange → Type 0
 IsFirstChange rules order p count (NoChange fixed) =
     (n : ℕ) × (fixed ≡ count + n)
@@ -80,7 +80,7 @@ IsFirstChange rules order p count (Changed fixed change by rest) =
 
 -- ---- from some steps on
 
--- what steps make of a text that the edits so far lead to
+-- what steps make of a text that the edits up to there lead to
 pub record FixesFrom (rules : RuleSet) (order : List Rule) (text : List ℕ) (done : EditList)
     (count : ℕ) (made : Rewrite) : Type 0 where
   pub parsed : Parsed

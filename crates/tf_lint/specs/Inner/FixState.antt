@@ -9,8 +9,8 @@ use Rattle.tf_lint.specs.Inner.FirstChange.{IsFirstChange}
 use Rattle.tf_lint.specs.LintedText.{IsPreviousOf}
 use Rattle.tf_lint.specs.declared.steps.FixState.{FixState}
 
--- the text with its tree, what was found in it, and what these rules did to it, where so many
--- findings were mended before
+-- the text with its tree, what was found in it, and what these rules did to it, if `count` findings
+-- were fixed before
 pub record IsFixState (order : List Rule) (count : ℕ) (p : Parsed) (turned : FixState) : Type 0 where
   pub reads : IsParseOf turned.text.items p
   pub previous : IsPreviousOf p turned.previous

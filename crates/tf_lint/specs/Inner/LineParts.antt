@@ -1,4 +1,4 @@
--- What stands in a line of a report in front of an issue's text, and behind it.
+-- The parts of a line of a report before an issue's text, and after it.
 use Rattle.std.specs.Prelude.{ℕ, List, ◌++◌, codes}
 use Rattle.std.specs.Fmt.{decimal}
 use Rattle.hcl_token.specs.declared.place.Place.{Place}

@@ -10,7 +10,7 @@ use Rattle.tf_rules.specs.declared.packed.PackedFixKind.{PackedFixKind}
 use Rattle.tf_rules.specs.declared.packed.PackedFixKind.TheVariants as outline
 use Rattle.tf_rules.specs.declared.packed.PackedRange.{PackedRange}
 
--- the tokens that are kept, and what is written behind them
+-- the tokens that are kept, and what is written after them
 abbrev pub unpack_kept : PackedRange → Insertion → KeptTokens
 unpack_kept s after = record { from = s.from; to = s.to; after = after }
 

@@ -36,10 +36,10 @@ is_empty_list_kind _ = false
 abbrev pub is_empty_list : Expr → Bool
 is_empty_list e = is_empty_list_kind (out-ExprKind e.kind)
 
--- A comparison of the empty list with the operand that ends before token past, with the operator
--- between tokens from and to. It can be written as a length where the list's brackets have nothing
--- between them, no comment or line end stands beside the operator, and the operand does not end
--- with a heredoc.
+-- A comparison of the empty list with the operand that ends before token `past`, with the
+-- operator between tokens `from` and `to`. It can be written as a length if the list's brackets have
+-- nothing between them, no comment or line end is next to the operator, and the operand does not
+-- end with a heredoc.
 abbrev pub is_comparison_fixable : List Pair → Expr → ℕ → ℕ → ℕ → Bool
 is_comparison_fixable pairs empty past from to =
     (empty.past == empty.first + 2)

@@ -49,10 +49,10 @@ abbrev pub is_elsewhere : Role → Bool
 is_elsewhere Elsewhere = true
 is_elsewhere _ = false
 
--- Quoted text from token first up to past that is an interpolation of this expression. What the
--- interpolation holds, comments too, begins two tokens behind the quote and ends two before the
--- end. It can be written without quotes and braces where no line end would then stand outside of
--- brackets, and where it is a term with its tails, or is all that stands at its place.
+-- Quoted text from token `first` to token `past` (exclusive) that is an interpolation of this
+-- expression. What is inside of the interpolation, comments too, begins two tokens after the quote
+-- and ends two before the end. It can be written without quotes and braces if no line end would
+-- then be outside of brackets, and if it is a term with its tails, or the whole value at its place.
 abbrev pub is_interpolation_fixable : List Pair → Role → ℕ → ℕ → Expr → Bool
 is_interpolation_fixable pairs role first past e =
     not (has_line_break false 0 (token_range pairs (first + 2) (past - 2)))

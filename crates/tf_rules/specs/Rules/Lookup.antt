@@ -45,8 +45,8 @@ abbrev pub is_lookup : List Pair → List ℕ → Bool
 is_lookup pairs (n ∷ []) = is_lookup_token (spelling_of pairs n)
 is_lookup pairs _ = false
 
--- No comment and no line end stands in the call outside of its arguments, and the first argument
--- can have an index behind it.
+-- No comment and no line end is in the call outside of its arguments, and an index can follow the
+-- first argument.
 abbrev pub is_lookup_fixable : List Pair → ℕ → ℕ → Expr → Expr → Bool
 is_lookup_fixable pairs first past a b =
     is_indexable_kind (out-ExprKind a.kind) && (not (has_line_break true 0 (token_range pairs a.first a.past))

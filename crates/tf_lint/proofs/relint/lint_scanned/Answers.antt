@@ -1,12 +1,15 @@
-use Rattle.std.proofs.Common.{List, ℕ, subst}
+use Rattle.std.proofs.Common.{List, ℕ, refl, subst}
 use Rattle.hcl_scan.specs.Tokenization.{IsTokenization}
+use Rattle.tf_lint.specs.Faults.{fault_of_parse}
+use Rattle.tf_lint.specs.ParseFaults.{IsReadFault}
 use Rattle.tf_lint.proofs.LintLemmas.{read_whole, not_whole}
+use Rattle.tf_lint.proofs.RunLemmas.{residual}
 use Rattle.tf_lint.proofs.relint.lint_scanned.Goals as goal
 
-pub returns-in-Ok-clause-linted : goal.returns-in-Ok-clause-linted
-returns-in-Ok-clause-linted c = λ text same.
-    read_whole text _ same (subst (λ (t : List ℕ). IsTokenization t c.args.scanned.pairs c.args.scanned.last) same c.requires) c.in-Ok.ensures.found c.in-Ok.ensures.members c.in-Ok.ensures.valid
+pub returns-clause-linted : goal.returns-clause-linted
+returns-clause-linted c = λ text same.
+    read_whole text _ same (subst (λ (t : List ℕ). IsTokenization t c.args.scanned.pairs c.args.scanned.last) same c.requires) c.in_ok-members.ensures.found c.in_ok-members.ensures.members c.in_ok-members.ensures.valid
 
-pub returns-clause-fault : goal.returns-clause-fault
-returns-clause-fault c = λ text same.
-    not_whole text c.args.scanned c.in-Err.fault _ same (subst (λ (t : List ℕ). IsTokenization t c.args.scanned.pairs c.args.scanned.last) same c.requires) c.from.ensures c.in-Err.ensures.only c.in-Err.ensures.too_deep
+pub returns-in_err-members-clause-fault : goal.returns-in_err-members-clause-fault
+returns-in_err-members-clause-fault c = λ text same.
+    residual c.from_residual.result (fault_of_parse c.in_err-members.field-0.0) (IsReadFault text) c.from_residual.ensures (not_whole text c.args.scanned c.in_err-members.field-0.0 _ same (subst (λ (t : List ℕ). IsTokenization t c.args.scanned.pairs c.args.scanned.last) same c.requires) refl c.in_err-members.ensures.only c.in_err-members.ensures.too_deep)

@@ -1,5 +1,5 @@
 use Rattle.std.proofs.Common.{◌≡◌, false, drop}
-use Rattle.tf_rules.specs.SnakeCase.{is_valid_rest}
+use Rattle.tf_rules.specs.Inner.SnakeCaseRest.{is_valid_rest}
 use Rattle.tf_rules.proofs.snake_case.is_valid_rest.Given as goal
 
 abbrev pub invariant-loop-c : goal.invariant-loop-c
