@@ -1,9 +1,9 @@
-//! Texts of Terraform: what the rules find in each, and what comes of fixing it, laying it out and
-//! taking that back.
+//! Terraform sources: what the rules find in each, and the result of fixing it, formatting it and
+//! reverting that.
 //!
 //! The file `corpus/expected` has a line for each text: the name of its file, how many issues of
 //! each rule it has, and how many are left once nothing can be fixed any more. What is printed are
-//! the texts of which something else comes, what occurs in none of them, and their number.
+//! the texts with another result, what occurs in none of them, and their number.
 
 mod counts;
 mod coverage;
@@ -48,7 +48,7 @@ fn try_one(rt: &HostRuntime, line: &str, seen: &mut Seen, tally: &mut Tally) -> 
     print_difference(rt, line, found.as_str(), &report)
 }
 
-/// Tells a text of which something else comes than its line says.
+/// Reports a text whose result differs from its line.
 fn print_difference(rt: &HostRuntime, line: &str, found: &str, report: &Report) -> Result<()> {
     if found != line {
         println!(rt; "{line}\n  found: {found}")?;
@@ -76,7 +76,7 @@ fn line_of(
     line
 }
 
-/// Notes what occurs in a text, and writes how many issues of each rule it has behind its line.
+/// Notes what occurs in a text, and writes how many issues of each rule it has after its line.
 fn look(text: &[u8], line: &mut String, seen: &mut Seen, tally: &mut Tally, report: &mut Report) {
     match scan(report.alloc, text) {
         Ok(scanned) => look_at(&scanned, line, seen, tally, report),
@@ -98,7 +98,7 @@ fn look_at(
             match issues(report.alloc, scanned, &tree, RuleSet::all()) {
                 Ok(found) => {
                     tally.add(&found);
-                    counts::tell(&found, line, report);
+                    counts::write_counts(&found, line, report);
                 }
                 Err(_) => report.hold(false, "its issues are not found"),
             }

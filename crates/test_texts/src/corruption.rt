@@ -51,7 +51,7 @@ fn try_one(rt: &HostRuntime, name: &str) -> Result<usize> {
     Ok(mutations::count(text.len()))
 }
 
-/// Tells the damaged texts at which something is wrong.
+/// Reports the corrupted texts at which something is wrong.
 fn corrupted_texts(rt: &HostRuntime, name: &str, text: &[u8]) -> Result<()> {
     for number in 0..mutations::count(text.len()) {
         let mut report = Report::new(rt.alloc());

@@ -26,9 +26,9 @@ fn short(rule: Rule) -> &'static str {
     name.strip_prefix("terraform_").unwrap_or(name)
 }
 
-/// Writes the rules of the issues behind the line, in their order, each with the number of its
+/// Writes the rules of the issues after the line, in their order, each with the number of its
 /// issues.
-pub fn tell(issues: &[Issue], line: &mut String, report: &mut Report) {
+pub fn write_counts(issues: &[Issue], line: &mut String, report: &mut Report) {
     for rule in Rule::ALL {
         let count = issues.iter().filter(|issue| issue.rule == rule).count();
         if count > 0 {
@@ -67,7 +67,7 @@ impl Tally {
         }
     }
 
-    /// Tells the rules that occur too seldom.
+    /// Reports the rules that occur too seldom.
     pub fn print_rare(&self, rt: &HostRuntime) -> Result<()> {
         for (rule, texts) in Rule::ALL.iter().zip(self.texts.iter()) {
             if *texts < wanted(*rule) {

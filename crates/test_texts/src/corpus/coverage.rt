@@ -51,7 +51,7 @@ const KINDS: [Kind; 44] = [
     Kind::HereLit,
 ];
 
-/// Forms of tokens, nodes of the tree, and what can come of a command that is taken out.
+/// Forms of tokens, nodes of the tree, and results of undoing a command out of order.
 const FORMS: [&str; 78] = [
     "LF",
     "CR LF",
@@ -133,7 +133,7 @@ const FORMS: [&str; 78] = [
     "a command that a later one blocks",
 ];
 
-/// What has occurred so far, in the order of `KINDS` and of `FORMS`.
+/// What has occurred up to there, in the order of `KINDS` and of `FORMS`.
 #[derive(Drop)]
 pub struct Seen {
     kinds: [bool; 44],
@@ -142,7 +142,7 @@ pub struct Seen {
     unlisted: bool,
 }
 
-/// Notes what stands at this place of a list, and answers whether it is in the list.
+/// Notes the entry at this index of a list, and returns whether the list has it.
 fn note(seen: &mut [bool], at: Option<usize>) -> bool {
     let Some(i) = at else {
         return false;
@@ -183,7 +183,7 @@ impl Seen {
         }
     }
 
-    /// Tells what has not occurred.
+    /// Reports what has not occurred.
     pub fn print_missing(&self, rt: &HostRuntime) -> Result<()> {
         self.print_missing_kinds(rt)?;
         self.print_missing_forms(rt)?;

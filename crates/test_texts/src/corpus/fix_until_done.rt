@@ -1,4 +1,4 @@
-//! A text fixed until nothing can be fixed, then laid out, and all that taken back.
+//! A text fixed until nothing can be fixed, then formatted, and all that reverted.
 
 use crate::corpus::coverage::Seen;
 use crate::corpus::sessions::{is_one_list, reverts_to, step};
@@ -21,7 +21,7 @@ pub fn run(text: &[u8], seen: &mut Seen, report: &mut Report) -> usize {
     left
 }
 
-/// Fixes the text until a fix mends nothing.
+/// Fixes the text until a fix changes nothing.
 fn fix(session: &mut Session, report: &mut Report) -> usize {
     for _ in 0..FIXES {
         let done = step(session, Command::Fix(RuleSet::all()), report);

@@ -15,8 +15,8 @@ pub fn step(session: &mut Session, command: Command, report: &mut Report) -> Don
             let differs = session.text() != text.as_slice();
             report.hold(done.changed == differs, "the answer tells another change");
             let records = count.saturating_add(usize::from(differs));
-            let goes_on = session.journal().records().len() == records;
-            report.hold(goes_on, "the journal has another length");
+            let is_longer = session.journal().records().len() == records;
+            report.hold(is_longer, "the journal has another length");
             done
         }
         Err(_) => {
@@ -46,14 +46,17 @@ pub fn reverts_to(session: &Session, first: &[u8], report: &mut Report) {
 /// Whether the edits of all records, squashed from the first on, go between this text and that of
 /// the session.
 pub fn is_one_list(session: &Session, first: &[u8], report: &mut Report) {
-    let goes = match Edits::make(first.len(), Vec::new(report.alloc)) {
+    let can_revert = match Edits::make(first.len(), Vec::new(report.alloc)) {
         Ok(none) => match squashed(report.alloc, none, session.journal().records()) {
             Ok(all) => leads_between(&all, first, session.text(), report.alloc),
             Err(_) => false,
         },
         Err(_) => false,
     };
-    report.hold(goes, "the squashed edits do not go between the two texts");
+    report.hold(
+        can_revert,
+        "the squashed edits do not go between the two texts",
+    );
 }
 
 fn squashed(alloc: Global, first: Edits, records: &[Record]) -> Result<Edits, Unmet> {

@@ -1,4 +1,4 @@
-//! Each command of a session taken out, from a copy of the session.
+//! Each command of a session undone out of order, in a copy of the session.
 
 use crate::corpus::coverage::Seen;
 use crate::corpus::sessions::{is_one_list, reverts_to};
@@ -7,7 +7,7 @@ use crate::state::State;
 use edit_record::{Edit, Record};
 use tf_session::{Command, Done, Fault, Session};
 
-/// Takes each command out, and two that are not there.
+/// Undoes each command out of order, and two that are not there.
 pub fn take_each(session: &Session, first: &[u8], seen: &mut Seen, report: &mut Report) {
     let state = State::of(session, report);
     for number in 0..=session.journal().records().len().saturating_add(1) {
@@ -45,7 +45,7 @@ fn is_blocked(fault: Fault) -> bool {
     matches!(fault, Fault::Blocked { .. })
 }
 
-/// Whether a command of this number, of so many, can be refused so.
+/// Whether the command of this number, of `count`, can be refused so.
 fn is_right(fault: Fault, number: usize, count: usize) -> bool {
     let is_there = number > 0 && number <= count;
     match fault {

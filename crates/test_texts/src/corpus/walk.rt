@@ -1,4 +1,4 @@
-//! A walk over a tree, which notes each production that it comes by.
+//! A walk over a tree, which notes each production that it meets.
 
 use crate::corpus::coverage::Seen;
 use crate::report::Report;
@@ -248,23 +248,23 @@ impl<'t> Left<'t> {
 
 fn see_elem(scanned: &Scanned<'_>, elem: &Elem, seen: &mut Seen) {
     let (between, first) = (elem.key.past as usize, elem.value.first as usize);
-    let is_colon = stands(scanned, Kind::Colon, between, first);
+    let is_colon = is_there(scanned, Kind::Colon, between, first);
     seen.form(if is_colon { "KEY : A" } else { "KEY = A" });
     let past = elem.value.past as usize;
-    let behind = past.saturating_add(1);
-    let is_comma = stands(scanned, Kind::Comma, past, behind);
+    let following = past.saturating_add(1);
+    let is_comma = is_there(scanned, Kind::Comma, past, following);
     seen.form_if(is_comma, "elements behind a comma");
-    let is_end = stands(scanned, Kind::LineEnd, past, behind);
+    let is_end = is_there(scanned, Kind::LineEnd, past, following);
     seen.form_if(is_end, "elements behind a line end");
 }
 
-/// Whether a token of this kind stands among these of the text.
-fn stands(scanned: &Scanned<'_>, kind: Kind, first: usize, past: usize) -> bool {
-    let mut stands = false;
+/// Whether a token of this kind is among these of the text.
+fn is_there(scanned: &Scanned<'_>, kind: Kind, first: usize, past: usize) -> bool {
+    let mut is_there = false;
     for i in first..past {
-        stands = stands || (i < scanned.len() && scanned.kind(i) == kind);
+        is_there = is_there || (i < scanned.len() && scanned.kind(i) == kind);
     }
-    stands
+    is_there
 }
 
 fn name_of_shape(shape: &Primary) -> &'static str {

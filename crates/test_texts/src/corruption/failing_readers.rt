@@ -1,8 +1,8 @@
-//! Readers that fail behind each byte, and one that never ends: no call goes on, and nothing is
-//! written. No call takes more than one byte over the limit of a text.
+//! Readers that fail after each byte, and one that never ends: no call continues, and nothing is
+//! written. No call reads more than one byte over the limit of a text.
 
 use crate::corruption::one_command::stream;
-use crate::corruption::streams::{Behind, Drops, Room};
+use crate::corruption::streams::{After, Drops, LimitedWriter};
 use crate::report::Report;
 use crate::state::State;
 use tf_session::{
@@ -12,24 +12,24 @@ use tf_session::{
 /// One more than a text may have.
 const TAKEN: usize = 16_777_217;
 
-/// Tries each front of the text of a state, and each of its journal.
+/// Tries each prefix of the text of a state, and each of its journal.
 pub fn hold(state: &State, report: &mut Report) {
     let (text, journal) = (state.text.as_slice(), state.journal.as_slice());
     for len in 0..=text.len() {
-        let front = Drops::new(&text[..len], Behind::Failure);
-        alone(front, RunFault::Read, report);
+        let prefix = Drops::new(&text[..len], After::Failure);
+        alone(prefix, RunFault::Read, report);
         beside(
-            front,
-            Drops::new(journal, Behind::Nothing),
+            prefix,
+            Drops::new(journal, After::Nothing),
             RunFault::Read,
             report,
         );
     }
     for len in 0..=journal.len() {
-        let front = Drops::new(&journal[..len], Behind::Failure);
+        let prefix = Drops::new(&journal[..len], After::Failure);
         beside(
-            Drops::new(text, Behind::Nothing),
-            front,
+            Drops::new(text, After::Nothing),
+            prefix,
             RunFault::Read,
             report,
         );
@@ -38,18 +38,18 @@ pub fn hold(state: &State, report: &mut Report) {
 
 /// Tries a text that never ends.
 pub fn hold_endless(report: &mut Report) {
-    let endless = Drops::new(b"", Behind::Hashes);
+    let endless = Drops::new(b"", After::Hashes);
     alone(endless, RunFault::Endless, report);
     beside(
         endless,
-        Drops::new(b"", Behind::Nothing),
+        Drops::new(b"", After::Nothing),
         RunFault::Endless,
         report,
     );
 }
 
-/// Whether this fault is told, and the reader gave as much as the fault says.
-fn is_told(fault: Option<RunFault>, reader: &Drops<'_>, wanted: RunFault, report: &mut Report) {
+/// Whether this error is returned, and the reader gave as much as the error says.
+fn is_reported(fault: Option<RunFault>, reader: &Drops<'_>, wanted: RunFault, report: &mut Report) {
     report.hold(
         fault == Some(wanted),
         "a call tells another fault of a reader",
@@ -72,15 +72,15 @@ fn alone(text: Drops<'_>, wanted: RunFault, report: &mut Report) {
 fn takes(text: Drops<'_>, wanted: RunFault, report: &mut Report) {
     let mut reader = text;
     let taken = take_text(report.alloc, &mut Told::new(&mut reader));
-    is_told(taken.err(), &reader, wanted, report);
+    is_reported(taken.err(), &reader, wanted, report);
     let mut reader = text;
     let checked = check_stream(report.alloc, &mut Told::new(&mut reader));
-    is_told(checked.err(), &reader, wanted, report);
+    is_reported(checked.err(), &reader, wanted, report);
 }
 
 fn lints(text: Drops<'_>, wanted: RunFault, report: &mut Report) {
     let mut reader = text;
-    let mut out = Room::ample(report.alloc);
+    let mut out = LimitedWriter::ample(report.alloc);
     let linted = lint_stream(
         report.alloc,
         "f",
@@ -88,25 +88,25 @@ fn lints(text: Drops<'_>, wanted: RunFault, report: &mut Report) {
         &mut Told::new(&mut out),
         RuleSet::all(),
     );
-    is_told(linted.err(), &reader, wanted, report);
+    is_reported(linted.err(), &reader, wanted, report);
     report.hold(
-        out.held.is_empty(),
+        out.received.is_empty(),
         "a lint of a text that is not read writes",
     );
 }
 
 fn steps(text: Drops<'_>, wanted: RunFault, report: &mut Report) {
     let mut reader = text;
-    let mut out = Room::ample(report.alloc);
+    let mut out = LimitedWriter::ample(report.alloc);
     let stepped = step_text_stream(
         report.alloc,
         Command::Fmt,
         &mut Told::new(&mut reader),
         &mut Told::new(&mut out),
     );
-    is_told(stepped.err(), &reader, wanted, report);
+    is_reported(stepped.err(), &reader, wanted, report);
     report.hold(
-        out.held.is_empty(),
+        out.received.is_empty(),
         "a fmt of a text that is not read writes",
     );
 }
@@ -119,11 +119,14 @@ fn beside(text: Drops<'_>, journal: Drops<'_>, wanted: RunFault, report: &mut Re
         &mut Told::new(&mut text_in),
         &mut Told::new(&mut journal_in),
     );
-    is_told(loaded.err(), &text_in, wanted, report);
+    is_reported(loaded.err(), &text_in, wanted, report);
     for command in [Command::Fmt, Command::Fix(RuleSet::all()), Command::Revert] {
         let (mut text_in, mut journal_in) = (text, journal);
-        let (to_journal, to_text) = (Room::ample(report.alloc), Room::ample(report.alloc));
-        let came = stream(
+        let (to_journal, to_text) = (
+            LimitedWriter::ample(report.alloc),
+            LimitedWriter::ample(report.alloc),
+        );
+        let outcome = stream(
             command,
             &mut text_in,
             &mut journal_in,
@@ -131,7 +134,7 @@ fn beside(text: Drops<'_>, journal: Drops<'_>, wanted: RunFault, report: &mut Re
             to_text,
             report.alloc,
         );
-        came.refuses(wanted, report, "a stream goes on over a read that fails");
-        is_told(came.answer.err(), &text_in, wanted, report);
+        outcome.refuses(wanted, report, "a stream goes on over a read that fails");
+        is_reported(outcome.answer.err(), &text_in, wanted, report);
     }
 }

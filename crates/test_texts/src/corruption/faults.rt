@@ -1,4 +1,4 @@
-//! Why a text is not read, and what stands at the place that is told.
+//! Why a text is not read, and what is at the reported place.
 
 use crate::report::Report;
 use hcl_scan::{Scanned, scan};
@@ -6,12 +6,11 @@ use hcl_tree::parse;
 use std::str::from_utf8;
 use tf_session::{Fault, ParseFault, ScanFault};
 
-/// Why no command reads a text; none if it parses. What is told of the text is held against the
-/// text.
+/// Why no command reads a text; none if it parses. The error is compared with the text.
 pub fn refusal(text: &[u8], report: &mut Report) -> Option<Fault> {
     match scan(report.alloc, text) {
         Ok(scanned) => {
-            is_cut(&scanned, text, report);
+            has_exact_tokens(&scanned, text, report);
             no_tree(&scanned, report)
         }
         Err(fault) => {
@@ -22,7 +21,7 @@ pub fn refusal(text: &[u8], report: &mut Report) -> Option<Fault> {
 }
 
 /// Whether gaps and tokens are the text, which is UTF-8.
-fn is_cut(scanned: &Scanned<'_>, text: &[u8], report: &mut Report) {
+fn has_exact_tokens(scanned: &Scanned<'_>, text: &[u8], report: &mut Report) {
     let mut at = 0usize;
     for i in 0..scanned.len() {
         at = past(text, at, scanned.gap(i), report);
@@ -33,9 +32,9 @@ fn is_cut(scanned: &Scanned<'_>, text: &[u8], report: &mut Report) {
     report.hold(is_whole, "the tokens make another text");
 }
 
-/// The place behind these bytes, which stand at this place of the text.
+/// The place after these bytes, which are at this place of the text.
 fn past(text: &[u8], at: usize, bytes: &[u8], report: &mut Report) -> usize {
-    report.hold(stands(text, at, bytes), "the tokens make another text");
+    report.hold(is_there(text, at, bytes), "the tokens make another text");
     at.saturating_add(bytes.len())
 }
 
@@ -49,7 +48,7 @@ fn no_tree(scanned: &Scanned<'_>, report: &mut Report) -> Option<Fault> {
     }
 }
 
-/// Whether a token begins at the fault, or the text ends there.
+/// Whether a token begins at the error, or the text ends there.
 fn is_at_token(fault: ParseFault, scanned: &Scanned<'_>) -> bool {
     match fault {
         ParseFault::Syntax { at } | ParseFault::TooDeep { at } => {
@@ -63,34 +62,34 @@ fn starts_at(scanned: &Scanned<'_>, i: usize, at: usize) -> bool {
     i < scanned.len() && scanned.item(i).start as usize == at
 }
 
-/// Whether what stands at the fault can have it.
+/// Whether what is at the place can have this error.
 fn is_at(fault: ScanFault, text: &[u8]) -> bool {
     let is_utf8 = from_utf8(text).is_ok();
     match fault {
         ScanFault::NotUtf8 { at } => !is_utf8 && is_first_ill_formed(text, at),
         ScanFault::BadCharacter { at } => is_utf8 && at < text.len(),
-        ScanFault::BadEscape { at } => is_utf8 && stands(text, at, b"\\"),
-        ScanFault::OpenString { at } => is_utf8 && stands(text, at, b"\""),
+        ScanFault::BadEscape { at } => is_utf8 && is_there(text, at, b"\\"),
+        ScanFault::OpenString { at } => is_utf8 && is_there(text, at, b"\""),
         ScanFault::OpenTemplate { at } => {
-            is_utf8 && (stands(text, at, b"${") || stands(text, at, b"%{"))
+            is_utf8 && (is_there(text, at, b"${") || is_there(text, at, b"%{"))
         }
-        ScanFault::OpenHeredoc { at } => is_utf8 && stands(text, at, b"<<"),
-        ScanFault::OpenComment { at } => is_utf8 && stands(text, at, b"/*"),
+        ScanFault::OpenHeredoc { at } => is_utf8 && is_there(text, at, b"<<"),
+        ScanFault::OpenComment { at } => is_utf8 && is_there(text, at, b"/*"),
         ScanFault::TooLong | ScanFault::Memory => false,
     }
 }
 
-/// Whether the text is UTF-8 up to this place, and no more with the next byte and those that go on
-/// with it.
+/// Whether the text is UTF-8 up to this place, and no longer with the next byte and its
+/// continuation bytes.
 fn is_first_ill_formed(text: &[u8], at: usize) -> bool {
-    let Some((front, rest)) = text.split_at_checked(at) else {
+    let Some((prefix, rest)) = text.split_at_checked(at) else {
         return false;
     };
-    from_utf8(front).is_ok()
+    from_utf8(prefix).is_ok()
         && (1..5).all(|len| len > rest.len() || from_utf8(&rest[..len]).is_err())
 }
 
-fn stands(text: &[u8], at: usize, opening: &[u8]) -> bool {
+fn is_there(text: &[u8], at: usize, opening: &[u8]) -> bool {
     match text.split_at_checked(at) {
         Some((_, rest)) => rest.starts_with(opening),
         None => false,

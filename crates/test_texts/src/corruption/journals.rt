@@ -2,8 +2,8 @@
 
 use crate::corruption::mutations;
 use crate::corruption::one_command::{can_stay, outside};
-use crate::corruption::sessions::take_back;
-use crate::corruption::streams::{Behind, Drops};
+use crate::corruption::sessions::revert_all;
+use crate::corruption::streams::{After, Drops};
 use crate::report::Report;
 use crate::state::State;
 use tf_session::{Command, RecordFault, RunFault, Session, Told, load};
@@ -16,7 +16,7 @@ pub fn hold(state: &State, report: &mut Report) {
     }
 }
 
-/// The lengths of the journal's fronts that are journals.
+/// The lengths of the journal's prefixes that are journals.
 fn ends(state: &State, report: &mut Report) -> Vec<usize> {
     let mut session = state.session(report);
     let mut ends = Vec::new(report.alloc);
@@ -30,27 +30,27 @@ fn ends(state: &State, report: &mut Report) -> Vec<usize> {
 
 fn try_one(state: &State, ends: &[usize], number: usize, report: &mut Report) {
     let journal = mutations::of(&state.journal, number, report);
-    let front = mutations::front(state.journal.len(), number);
-    let mut text_in = Told::new(Drops::new(&state.text, Behind::Nothing));
-    let mut journal_in = Told::new(Drops::new(&journal, Behind::Nothing));
+    let prefix = mutations::prefix(state.journal.len(), number);
+    let mut text_in = Told::new(Drops::new(&state.text, After::Nothing));
+    let mut journal_in = Told::new(Drops::new(&journal, After::Nothing));
     match load(report.alloc, &mut text_in, &mut journal_in) {
         Ok(session) => {
-            let is_end = front.is_none_or(|len| ends.contains(&len));
+            let is_end = prefix.is_none_or(|len| ends.contains(&len));
             report.hold(is_end, "a part of a record is read");
             is_read(&session, state, &journal, report);
         }
         Err(RunFault::BadJournal(fault)) => {
-            let is_told = is_told(fault, front, &journal);
-            report.hold(is_told, "another fault of a journal is told");
+            let is_reported = is_reported(fault, prefix, &journal);
+            report.hold(is_reported, "another fault of a journal is told");
             is_refused(state, &journal, fault, report);
         }
         Err(_) => report.hold(false, "a damaged journal is refused otherwise"),
     }
 }
 
-/// Whether the fault can be told of that journal; where it is a front, only that it is cut short.
-fn is_told(fault: RecordFault, front: Option<usize>, journal: &[u8]) -> bool {
-    match front {
+/// Whether that journal can have this error; a prefix only that it is cut short.
+fn is_reported(fault: RecordFault, prefix: Option<usize>, journal: &[u8]) -> bool {
+    match prefix {
         Some(len) => fault == RecordFault::CutShort { at: len },
         None => place_of(fault).is_some_and(|at| at <= journal.len()),
     }
@@ -71,9 +71,9 @@ fn place_of(fault: RecordFault) -> Option<usize> {
 /// No stream over a journal that is refused writes anything.
 fn is_refused(state: &State, journal: &[u8], fault: RecordFault, report: &mut Report) {
     for command in [Command::Fmt, Command::Revert] {
-        let came = outside(command, &state.text, journal, report.alloc);
+        let outcome = outside(command, &state.text, journal, report.alloc);
         let fault = RunFault::BadJournal(fault);
-        came.refuses(fault, report, "a stream goes on over a refused journal");
+        outcome.refuses(fault, report, "a stream goes on over a refused journal");
     }
 }
 
@@ -89,24 +89,24 @@ fn is_read(session: &Session, state: &State, journal: &[u8], report: &mut Report
     same_outside(&read, Command::Revert, report);
 }
 
-/// Taken out, a command leaves others that are taken back where all were, to the same text.
+/// A command undone out of order leaves others that can be reverted if all could, to the same text.
 fn check_take(state: &State, report: &mut Report) {
     let mut session = state.session(report);
     let count = session.journal().records().len();
-    let goes = take_back(&mut session, report);
+    let can_revert = revert_all(&mut session, report);
     for number in 1..=count {
-        take_out(state, number, goes, session.text(), report);
+        undo_command(state, number, can_revert, session.text(), report);
     }
 }
 
-fn take_out(state: &State, number: usize, goes: bool, first: &[u8], report: &mut Report) {
+fn undo_command(state: &State, number: usize, can_revert: bool, first: &[u8], report: &mut Report) {
     let mut session = state.session(report);
     let command = Command::Take(u32::try_from(number).unwrap_or(0));
     match session.step(report.alloc, command) {
         Ok(_) => {
-            let again = take_back(&mut session, report);
-            report.hold(again == goes, "what is left is taken back otherwise");
-            let is_first = !goes || session.text() == first;
+            let again = revert_all(&mut session, report);
+            report.hold(again == can_revert, "what is left is taken back otherwise");
+            let is_first = !can_revert || session.text() == first;
             report.hold(is_first, "what is left leads to another text");
         }
         Err(fault) => {
@@ -117,19 +117,20 @@ fn take_out(state: &State, number: usize, goes: bool, first: &[u8], report: &mut
     }
 }
 
-/// A stream does what a session does, and writes what lies in it then, or tells the same fault and
-/// writes nothing.
+/// A stream does what a session does, and writes the session's text then, or returns the same error
+/// and writes nothing.
 fn same_outside(state: &State, command: Command, report: &mut Report) {
     let mut session = state.session(report);
     let answer = session.step(report.alloc, command);
-    let came = outside(command, &state.text, &state.journal, report.alloc);
+    let outcome = outside(command, &state.text, &state.journal, report.alloc);
     match answer {
         Ok(done) => {
-            report.hold(came.answer == Ok(done), "a stream answers otherwise");
-            came.written
+            report.hold(outcome.answer == Ok(done), "a stream answers otherwise");
+            outcome
+                .written
                 .hold(&session, report, "a stream writes something else");
         }
-        Err(fault) => came.refuses(
+        Err(fault) => outcome.refuses(
             RunFault::from(fault),
             report,
             "a stream tells another fault",

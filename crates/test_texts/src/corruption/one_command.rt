@@ -1,6 +1,6 @@
 //! One command from readers to writers.
 
-use crate::corruption::streams::{Behind, Drops, Room};
+use crate::corruption::streams::{After, Drops, LimitedWriter};
 use crate::report::Report;
 use crate::state::State;
 use std::alloc::Global;
@@ -10,13 +10,13 @@ use tf_session::{
 
 /// What a stream answered and wrote.
 #[derive(Drop)]
-pub struct Came {
+pub struct Outcome {
     pub answer: Result<Done, RunFault>,
     pub written: State,
 }
 
-impl Came {
-    /// Notes where another fault was told than this, or something was written.
+impl Outcome {
+    /// Notes if another error than this was returned, or something was written.
     pub fn refuses(&self, fault: RunFault, report: &mut Report, what: &'static str) {
         let is_unwritten = self.written.text.is_empty() && self.written.journal.is_empty();
         report.hold(self.answer == Err(fault) && is_unwritten, what);
@@ -29,10 +29,10 @@ pub fn stream(
     command: Command,
     text: &mut Drops<'_>,
     journal: &mut Drops<'_>,
-    journal_out: Room,
-    text_out: Room,
+    journal_out: LimitedWriter,
+    text_out: LimitedWriter,
     alloc: Global,
-) -> Came {
+) -> Outcome {
     let text = &mut Told::new(text);
     let journal = &mut Told::new(journal);
     let mut journal_out = Told::new(journal_out);
@@ -45,23 +45,23 @@ pub fn stream(
             revert_stream(alloc, text, journal, to_journal, to_text)
         }
     };
-    Came {
+    Outcome {
         answer,
         written: State {
-            text: text_out.into_inner().held,
-            journal: journal_out.into_inner().held,
+            text: text_out.into_inner().received,
+            journal: journal_out.into_inner().received,
         },
     }
 }
 
-/// The same, where neither readers nor writers fail.
-pub fn outside(command: Command, text: &[u8], journal: &[u8], alloc: Global) -> Came {
+/// Runs one command of a stream with readers and writers that do not fail.
+pub fn outside(command: Command, text: &[u8], journal: &[u8], alloc: Global) -> Outcome {
     stream(
         command,
-        &mut Drops::new(text, Behind::Nothing),
-        &mut Drops::new(journal, Behind::Nothing),
-        Room::ample(alloc),
-        Room::ample(alloc),
+        &mut Drops::new(text, After::Nothing),
+        &mut Drops::new(journal, After::Nothing),
+        LimitedWriter::ample(alloc),
+        LimitedWriter::ample(alloc),
         alloc,
     )
 }

@@ -1,11 +1,11 @@
 //! Commands over a text: what each answers and leaves, by why the text is not read.
 
-use crate::corruption::sessions::take_back;
+use crate::corruption::sessions::revert_all;
 use crate::report::Report;
 use crate::state::{State, start};
 use tf_session::{Command, Done, Fault, RuleSet, Session};
 
-/// Does commands over a text, of which it is known why it is not read, and takes them back.
+/// Does commands over a text, of which it is known why it is not read, and reverts them.
 pub fn serves(text: &[u8], refusal: Option<Fault>, report: &mut Report) {
     let mut session = start(text, report);
     has_none(&mut session, report);
@@ -13,12 +13,12 @@ pub fn serves(text: &[u8], refusal: Option<Fault>, report: &mut Report) {
     for command in [fix, Command::Fmt, fix, Command::Fmt] {
         serve(&mut session, command, refusal, report);
     }
-    let goes_back = take_back(&mut session, report);
-    report.hold(goes_back, "a command is not taken back");
+    let is_reverted = revert_all(&mut session, report);
+    report.hold(is_reverted, "a command is not taken back");
     report.hold(session.text() == text, "the reverts lead to another text");
 }
 
-/// No command can be taken back or out where there is none.
+/// No command can be reverted or undone out of order if there is none.
 fn has_none(session: &mut Session, report: &mut Report) {
     for command in [Command::Revert, Command::Take(0), Command::Take(1)] {
         let answer = session.step(report.alloc, command);
@@ -50,15 +50,15 @@ fn is_refused(command: Command, refusal: Option<Fault>, fault: Fault) -> bool {
     }
 }
 
-/// Whether the answer tells whether the text changed, and the journal goes on exactly there.
+/// Whether the answer says whether the text changed, and the journal is longer exactly then.
 fn is_done(session: &Session, before: &State, command: Command, done: Done, report: &mut Report) {
     let after = State::of(session, report);
     let differs = after.text.as_slice() != before.text.as_slice();
     report.hold(done.changed == differs, "the answer tells another change");
-    let goes_on = after.journal.len() > before.journal.len();
-    let is_front = after.journal.starts_with(&before.journal);
+    let is_longer = after.journal.len() > before.journal.len();
+    let is_prefix = after.journal.starts_with(&before.journal);
     report.hold(
-        is_front && goes_on == differs,
+        is_prefix && is_longer == differs,
         "the journal goes on otherwise",
     );
     let counts = done.fixed > 0 || done.left > 0;

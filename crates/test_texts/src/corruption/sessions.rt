@@ -22,9 +22,9 @@ pub fn worked(text: &[u8], report: &mut Report) -> State {
     State::of(&session, report)
 }
 
-/// Takes commands back as long as there are some, and answers whether all could be; one whose
-/// record does not stand changes nothing.
-pub fn take_back(session: &mut Session, report: &mut Report) -> bool {
+/// Reverts commands as long as there are some, and returns whether all could be; one whose record
+/// does not match changes nothing.
+pub fn revert_all(session: &mut Session, report: &mut Report) -> bool {
     for _ in 0..session.journal().records().len() {
         let before = State::of(session, report);
         match session.step(report.alloc, Command::Revert) {
@@ -42,12 +42,12 @@ pub fn take_back(session: &mut Session, report: &mut Report) -> bool {
     true
 }
 
-/// Whether the journal is a front of what it was, and the answer tells whether the text is another
+/// Whether the journal is a prefix of what it was, and the answer says whether the text is another
 /// one.
 fn is_shorter(session: &Session, before: &State, changed: bool, report: &mut Report) {
     let after = State::of(session, report);
-    let is_front = before.journal.starts_with(&after.journal);
-    let is_shorter = is_front && after.journal.len() < before.journal.len();
+    let is_prefix = before.journal.starts_with(&after.journal);
+    let is_shorter = is_prefix && after.journal.len() < before.journal.len();
     report.hold(is_shorter, "a revert leaves another journal");
     let differs = after.text.as_slice() != before.text.as_slice();
     report.hold(changed == differs, "a revert tells another change");

@@ -3,9 +3,9 @@
 use std::alloc::Global;
 use std::io::{self, Error, ErrorKind, Read, Write};
 
-/// What comes behind the bytes of a reader.
+/// What follows the bytes of a reader.
 #[derive(Clone, Copy, Debug, PartialEq, Eq)]
-pub enum Behind {
+pub enum After {
     Nothing,
     /// A read that fails.
     Failure,
@@ -13,20 +13,20 @@ pub enum Behind {
     Hashes,
 }
 
-/// Gives these bytes one by one, and then what comes behind them.
+/// Gives these bytes one by one, and then what follows them.
 #[derive(Clone, Copy)]
 pub struct Drops<'a> {
     left: &'a [u8],
-    behind: Behind,
-    /// How many bytes were given of those behind.
+    following: After,
+    /// How many bytes were given of those that follow.
     pub given: usize,
 }
 
 impl<'a> Drops<'a> {
-    pub fn new(bytes: &'a [u8], behind: Behind) -> Drops<'a> {
+    pub fn new(bytes: &'a [u8], following: After) -> Drops<'a> {
         Drops {
             left: bytes,
-            behind,
+            following,
             given: 0,
         }
     }
@@ -34,10 +34,10 @@ impl<'a> Drops<'a> {
 
 impl Read for Drops<'_> {
     fn read(&mut self, buf: &mut [u8]) -> io::Result<usize> {
-        if self.left.is_empty() && self.behind == Behind::Failure {
+        if self.left.is_empty() && self.following == After::Failure {
             return Err(Error::from(ErrorKind::Interrupted));
         }
-        if self.left.is_empty() && self.behind == Behind::Hashes {
+        if self.left.is_empty() && self.following == After::Hashes {
             for byte in buf.iter_mut() {
                 *byte = b'#';
             }
@@ -58,43 +58,43 @@ pub enum Full {
     Fails,
     /// It takes nothing.
     TakesNothing,
-    /// It has room enough, and its flush fails.
+    /// It takes all bytes, and its flush fails.
     FailsToFlush,
 }
 
-/// Takes so many bytes, one by one.
+/// Takes a number of bytes, one by one.
 #[derive(Drop)]
-pub struct Room {
-    pub held: Vec<u8>,
-    room: usize,
+pub struct LimitedWriter {
+    pub received: Vec<u8>,
+    limit: usize,
     full: Full,
 }
 
-impl Room {
-    pub fn new(alloc: Global, room: usize, full: Full) -> Room {
-        Room {
-            held: Vec::new(alloc),
-            room,
+impl LimitedWriter {
+    pub fn new(alloc: Global, limit: usize, full: Full) -> LimitedWriter {
+        LimitedWriter {
+            received: Vec::new(alloc),
+            limit,
             full,
         }
     }
 
     /// Takes all.
-    pub fn ample(alloc: Global) -> Room {
-        Room::new(alloc, usize::MAX, Full::TakesNothing)
+    pub fn ample(alloc: Global) -> LimitedWriter {
+        LimitedWriter::new(alloc, usize::MAX, Full::TakesNothing)
     }
 }
 
-impl Write for Room {
+impl Write for LimitedWriter {
     fn write(&mut self, buf: &[u8]) -> io::Result<usize> {
-        let n = buf.len().min(self.room).min(1);
+        let n = buf.len().min(self.limit).min(1);
         if n == 0 && self.full == Full::Fails && !buf.is_empty() {
             return Err(Error::from(ErrorKind::Other));
         }
-        if self.held.extend_from_slice(&buf[..n]).is_err() {
+        if self.received.extend_from_slice(&buf[..n]).is_err() {
             return Err(Error::from(ErrorKind::OutOfMemory));
         }
-        self.room -= n;
+        self.limit -= n;
         Ok(n)
     }
 
