@@ -1,5 +1,5 @@
 -- Each node of the tree of a list of tokens is derived somewhere in it.
-use Rattle.std.proofs.Common.{◌≡◌, ℕ, zero, suc, ◌+◌, ◌≤◌, Bool, false, List, [], ◌∷◌, ◌++◌, map, length, slice_get, Option, Some, refl, sym, ap, ◌∙◌, subst, arith}
+use Rattle.std.proofs.Common.{◌≡◌, ℕ, zero, suc, ◌+◌, ◌≤◌, Bool, true, false, List, [], ◌∷◌, ◌++◌, map, length, slice_get, Option, Some, refl, sym, ap, ◌∙◌, subst, arith}
 use Rattle.std.specs.List.{flat_map}
 use Rattle.hcl_token.specs.declared.kind.Kind.{Kind}
 use Rattle.hcl_token.specs.declared.kind.Kind.TheVariants as k
@@ -60,6 +60,11 @@ all_append ts (x ∷ xs) ys a b = (a.0, all_append ts xs ys a.1 b)
 -- the nodes are these
 are : (ts : List Token) (xs ys : List Node) → xs ≡ ys → All ts ys → All ts xs
 are ts xs ys e a = subst (All ts) (sym e) a
+
+in_block : (ts : List Token) (x : Block) → All ts (map n.label x.labels) → All ts (n.content_children (out-Content x.content)) → All ts (n.member_children (out-Member (member.Block x)))
+in_block ts x h g =
+    are ts _ (map n.label x.labels ++ n.content_children (out-Content x.content)) (ap n.member_children (open_block x))
+    (all_append ts (map n.label x.labels) (n.content_children (out-Content x.content)) h g)
 
 module _ {ts : List Token} where
   -- ---- expressions
@@ -226,11 +231,6 @@ module _ {ts : List Token} where
   in_attribute : (x : Attribute) → Held ts (n.expr AttributeValue x.value) → All ts (n.member_children (out-Member (member.Attribute x)))
   in_attribute x h = are ts _ (n.expr AttributeValue x.value ∷ []) (ap n.member_children (open_attribute x)) (h, tt)
 
-  in_block : (x : Block) → All ts (map n.label x.labels) → All ts (n.content_children (out-Content x.content)) → All ts (n.member_children (out-Member (member.Block x)))
-  in_block x h g =
-      are ts _ (map n.label x.labels ++ n.content_children (out-Content x.content)) (ap n.member_children (open_block x))
-      (all_append ts (map n.label x.labels) (n.content_children (out-Content x.content)) h g)
-
   in_member : {d : ℕ} {ms : List Member} {i j : ℕ} → IsMembers ts d ms i j → (x : Member) → slice_get ms 0 ≡ Some x → All ts (n.member_children (out-Member x))
   unfolding node.attribute node.block
   in_member no_members x e = absurd (cc)
@@ -238,10 +238,10 @@ module _ {ts : List Token} where
   in_member (attribute p q y s r) x e = subst (λ x. All ts (n.member_children (out-Member x))) (some_is e) (in_attribute _ (held_expr y))
   in_member (block p ns b s ms c l r) x e =
       subst (λ x. All ts (n.member_children (out-Member x))) (some_is e)
-      (in_block _ (all_labels ns) (are ts _ (n.body _ ∷ []) (ap n.content_children (open_lines _)) (body_held (span_line s).within ms, tt)))
+      (in_block ts _ (all_labels ns) (are ts _ (n.body _ ∷ []) (ap n.content_children (open_lines _)) (body_held (span_line s).within ms, tt)))
   in_member (line_block p ns b t c l r) x e =
       subst (λ x. All ts (n.member_children (out-Member x))) (some_is e)
-      (in_block _ (all_labels ns) (are ts _ _ (ap n.content_children (open_line _)) (line_held t)))
+      (in_block ts _ (all_labels ns) (are ts _ _ (ap n.content_children (open_line _)) (line_held t)))
 
   -- ---- a tree
 
