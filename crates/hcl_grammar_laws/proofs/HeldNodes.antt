@@ -13,7 +13,7 @@ use Rattle.hcl_grammar.specs.declared.tree.Content.TheOpen.{Content-F}
 use Rattle.hcl_grammar.specs.declared.tree.Elem.{Elem}
 use Rattle.hcl_grammar.specs.declared.tree.Expr.{Expr}
 use Rattle.hcl_grammar.specs.declared.tree.ExprKind.{out-ExprKind}
-use Rattle.hcl_grammar.specs.declared.tree.IfDirective.{IfDirective, roll-IfDirective}
+use Rattle.hcl_grammar.specs.declared.tree.IfDirective.{roll-IfDirective}
 use Rattle.hcl_grammar.specs.declared.tree.Intro.{Intro}
 use Rattle.hcl_grammar.specs.declared.tree.Label.{Label}
 use Rattle.hcl_grammar.specs.declared.tree.Member.{Member, out-Member}
@@ -29,7 +29,7 @@ use Rattle.hcl_grammar.specs.Bodies.{IsLabels, no_labels, word_label, text_label
 use Rattle.hcl_grammar.specs.Grammar.{IsExpr, plain, conditional, IsLevel, lowest, level, IsOperations, no_operations, operation, IsUnary, with_operator, post, IsTails, no_tails, tails, IsTail, by_name, legacy, attribute_splat, full_splat, index, IsTerm, number, identifier, call, tuple, object, for_tuple, for_object, quoted, heredoc, parens, IsArguments, no_arguments, last_argument, spread_argument, argument, IsItems, no_items, last_item, item, IsElems, no_elems, last_elem, elems, IsElem, by_equals, by_colon, IsIntro, intro, IsFilter, no_filter, filter, IsParts, no_parts, parts, IsPart, quote_text, here_text, interp, if_directive, for_directive, IsElse, no_else, has_else}
 use Rattle.hcl_grammar.specs.Nodes as node
 use Rattle.hcl_grammar.specs.Operators.{levels}
-use Rattle.hcl_grammar.specs.Tokens.{Token, after_next, first_token_in}
+use Rattle.hcl_grammar.specs.Tokens.{Token, first_token_in}
 use Rattle.hcl_grammar.specs.TreeNodes as n
 use Rattle.hcl_grammar.specs.TreeNodes.{Node, children, IsWithin, itself, within, IsWithinOneOf, in_first, in_rest}
 use Rattle.hcl_grammar_laws.proofs.Opens.{open_conditional, open_chain, open_prefixed, open_tailed, open_plain, open_number, open_identifier, open_call, open_tuple, open_object, open_for_tuple, open_for_object, open_quoted, open_heredoc, open_parens, open_name, open_legacy, open_attribute_splat, open_full_splat, open_index, open_literal, open_interp, open_if, open_for, open_lines, open_line, open_attribute, open_block, call_arguments, for_tuple_intro, for_tuple_value, for_tuple_filter, for_object_intro, for_object_key, for_object_value, for_object_filter, if_directive_condition, if_directive_met, if_directive_unmet}

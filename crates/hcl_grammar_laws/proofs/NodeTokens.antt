@@ -1,5 +1,5 @@
 -- Each node of a tree is derived by its own tokens, and its numbers are those of tokens.
-use Rattle.std.proofs.Common.{◌≡◌, ℕ, zero, suc, ◌<◌, ◌≤◌, Bool, true, false, List, [], ◌∷◌, length, slice_get, Option, Some, refl, sym, ap, ◌∙◌, subst, arith}
+use Rattle.std.proofs.Common.{◌≡◌, ℕ, suc, ◌<◌, ◌≤◌, Bool, true, false, List, [], ◌∷◌, length, slice_get, Option, Some, refl, sym, ap, ◌∙◌, subst, arith}
 use Rattle.std.specs.List.{AllByRecursion}
 use Rattle.std.specs.Prelude.{IfSome}
 use Rattle.hcl_token.specs.declared.kind.Kind.{Kind}
@@ -11,20 +11,20 @@ use Rattle.hcl_grammar.specs.declared.tree.ForDirective.{ForDirective, roll-ForD
 use Rattle.hcl_grammar.specs.declared.tree.IfDirective.{IfDirective, roll-IfDirective}
 use Rattle.hcl_grammar.specs.declared.tree.Intro.{Intro}
 use Rattle.hcl_grammar.specs.declared.tree.Label.{Label}
-use Rattle.hcl_grammar.specs.declared.tree.Member.{Member, out-Member}
+use Rattle.hcl_grammar.specs.declared.tree.Member.{Member}
 use Rattle.hcl_grammar.specs.declared.tree.Member.TheVariants as member
-use Rattle.hcl_grammar.specs.declared.tree.Part.{Part, out-Part}
+use Rattle.hcl_grammar.specs.declared.tree.Part.{Part}
 use Rattle.hcl_grammar.specs.declared.tree.Part.TheVariants as part
 use Rattle.hcl_grammar.specs.declared.tree.Primary.{out-Primary}
 use Rattle.hcl_grammar.specs.declared.tree.Tail.{Tail, out-Tail}
 use Rattle.hcl_grammar.specs.declared.tree.Template.{Template}
 use Rattle.hcl_grammar.specs.declared.tree.Term.{Term}
-use Rattle.hcl_grammar.specs.Bodies.{IsLabels, no_labels, word_label, text_label, empty_label, IsOneLineBody, nothing, one as just, IsMembers, no_members, blank, attribute, block, line_block}
+use Rattle.hcl_grammar.specs.Bodies.{IsLabels, word_label, text_label, empty_label, IsOneLineBody, nothing, one as just, IsMembers, no_members, blank, attribute, block, line_block}
 use Rattle.hcl_grammar.specs.Grammar.{IsExpr, plain, conditional, IsLevel, lowest, level, IsUnary, with_operator, post, IsTail, by_name, legacy, attribute_splat, full_splat, index, IsTerm, number, identifier, call, tuple, object, for_tuple, for_object, quoted, heredoc, parens, IsIntro, intro, IsPart, quote_text, here_text, interp, if_directive, for_directive}
-use Rattle.hcl_grammar.specs.Lookahead.{NextIs, NextIsWord, IsNameTail, no_names, name, IsSecondName, no_second, second}
+use Rattle.hcl_grammar.specs.Lookahead.{NextIs, IsNameTail, no_names, name, IsSecondName, no_second, second}
 use Rattle.hcl_grammar.specs.Nodes as node
-use Rattle.hcl_grammar.specs.Tokens.{Token, next_index, after_next, for_word}
-use Rattle.hcl_grammar.specs.TreeLayers.{PrimaryLayer, TailLayer, PartLayer, MemberLayer}
+use Rattle.hcl_grammar.specs.Tokens.{Token, next_index, after_next}
+use Rattle.hcl_grammar.specs.TreeLayers.{PartLayer, MemberLayer}
 use Rattle.hcl_grammar.specs.TreeNodes as n
 use Rattle.hcl_grammar.specs.TreeNodes.{Node}
 use Rattle.hcl_grammar_laws.proofs.HeldNodes.{Held, held_body, held_member, held_on_line, held_label, held_expr, held_term, held_tail, held_intro, held_template, held_part, held}
@@ -32,7 +32,7 @@ use Rattle.hcl_grammar_laws.proofs.Opens.{open_number, open_identifier, open_cal
 use Rattle.hcl_grammar_laws.proofs.Own.{own_template, own_body}
 use Rattle.hcl_grammar_laws.proofs.Restart.{own_expr, own_term}
 use Rattle.hcl_grammar_laws.proofs.RestartBodies.{some_is, own_intro, own_part, own_label, own_on_line, own_attribute, own_block, take_block}
-use Rattle.hcl_grammar_laws.proofs.Spans.{Takes, Spans, step, step_word, loose, both, ahead, behind, span_line, span_eol, span_expr, span_links, span_unary, span_tails, span_tail, span_term, span_intro, span_parts, span_part, span_labels, span_on_line, span_members}
+use Rattle.hcl_grammar_laws.proofs.Spans.{Takes, Spans, step, loose, both, ahead, span_line, span_eol, span_expr, span_links, span_unary, span_tails, span_term, span_intro, span_parts, span_part, span_labels, span_on_line, span_members}
 use Rattle.hcl_grammar_laws.specs.NodeTokens.{IsDerived, is_body, is_member, is_one_line_attribute, is_label, is_expr, is_term, is_tail, is_intro, is_template, is_part, AreNumbersWithin, NodesAreDerived, NumbersAreWithin}
 
 -- what the numbers of a node's first token and after its last say of these two
