@@ -1,5 +1,5 @@
 -- Each node of the tree of a list of tokens is derived somewhere in it.
-use Rattle.std.proofs.Common.{◌≡◌, ℕ, zero, suc, ◌+◌, ◌≤◌, Bool, false, List, [], ◌∷◌, ◌++◌, map, length, slice_get, Option, Some, refl, sym, ap, ◌∙◌, subst, arith}
+use Rattle.std.proofs.Common.{◌≡◌, ℕ, zero, suc, ◌+◌, ◌≤◌, Bool, true, false, List, [], ◌∷◌, ◌++◌, map, length, slice_get, Option, Some, refl, sym, ap, ◌∙◌, subst, arith}
 use Rattle.std.specs.List.{flat_map}
 use Rattle.hcl_token.specs.declared.kind.Kind.{Kind}
 use Rattle.hcl_token.specs.declared.kind.Kind.TheVariants as k
@@ -13,7 +13,7 @@ use Rattle.hcl_grammar.specs.declared.tree.Content.TheOpen.{Content-F}
 use Rattle.hcl_grammar.specs.declared.tree.Elem.{Elem}
 use Rattle.hcl_grammar.specs.declared.tree.Expr.{Expr}
 use Rattle.hcl_grammar.specs.declared.tree.ExprKind.{out-ExprKind}
-use Rattle.hcl_grammar.specs.declared.tree.IfDirective.{IfDirective, roll-IfDirective}
+use Rattle.hcl_grammar.specs.declared.tree.IfDirective.{roll-IfDirective}
 use Rattle.hcl_grammar.specs.declared.tree.Intro.{Intro}
 use Rattle.hcl_grammar.specs.declared.tree.Label.{Label}
 use Rattle.hcl_grammar.specs.declared.tree.Member.{Member, out-Member}
@@ -29,7 +29,7 @@ use Rattle.hcl_grammar.specs.Bodies.{IsLabels, no_labels, word_label, text_label
 use Rattle.hcl_grammar.specs.Grammar.{IsExpr, plain, conditional, IsLevel, lowest, level, IsOperations, no_operations, operation, IsUnary, with_operator, post, IsTails, no_tails, tails, IsTail, by_name, legacy, attribute_splat, full_splat, index, IsTerm, number, identifier, call, tuple, object, for_tuple, for_object, quoted, heredoc, parens, IsArguments, no_arguments, last_argument, spread_argument, argument, IsItems, no_items, last_item, item, IsElems, no_elems, last_elem, elems, IsElem, by_equals, by_colon, IsIntro, intro, IsFilter, no_filter, filter, IsParts, no_parts, parts, IsPart, quote_text, here_text, interp, if_directive, for_directive, IsElse, no_else, has_else}
 use Rattle.hcl_grammar.specs.Nodes as node
 use Rattle.hcl_grammar.specs.Operators.{levels}
-use Rattle.hcl_grammar.specs.Tokens.{Token, after_next, first_token_in}
+use Rattle.hcl_grammar.specs.Tokens.{Token, first_token_in}
 use Rattle.hcl_grammar.specs.TreeNodes as n
 use Rattle.hcl_grammar.specs.TreeNodes.{Node, children, IsWithin, itself, within, IsWithinOneOf, in_first, in_rest}
 use Rattle.hcl_grammar_laws.proofs.Opens.{open_conditional, open_chain, open_prefixed, open_tailed, open_plain, open_number, open_identifier, open_call, open_tuple, open_object, open_for_tuple, open_for_object, open_quoted, open_heredoc, open_parens, open_name, open_legacy, open_attribute_splat, open_full_splat, open_index, open_literal, open_interp, open_if, open_for, open_lines, open_line, open_attribute, open_block, call_arguments, for_tuple_intro, for_tuple_value, for_tuple_filter, for_object_intro, for_object_key, for_object_value, for_object_filter, if_directive_condition, if_directive_met, if_directive_unmet}
@@ -60,6 +60,11 @@ all_append ts (x ∷ xs) ys a b = (a.0, all_append ts xs ys a.1 b)
 -- the nodes are these
 are : (ts : List Token) (xs ys : List Node) → xs ≡ ys → All ts ys → All ts xs
 are ts xs ys e a = subst (All ts) (sym e) a
+
+in_block : (ts : List Token) (x : Block) → All ts (map n.label x.labels) → All ts (n.content_children (out-Content x.content)) → All ts (n.member_children (out-Member (member.Block x)))
+in_block ts x h g =
+    are ts _ (map n.label x.labels ++ n.content_children (out-Content x.content)) (ap n.member_children (open_block x))
+    (all_append ts (map n.label x.labels) (n.content_children (out-Content x.content)) h g)
 
 module _ {ts : List Token} where
   -- ---- expressions
@@ -226,11 +231,6 @@ module _ {ts : List Token} where
   in_attribute : (x : Attribute) → Held ts (n.expr AttributeValue x.value) → All ts (n.member_children (out-Member (member.Attribute x)))
   in_attribute x h = are ts _ (n.expr AttributeValue x.value ∷ []) (ap n.member_children (open_attribute x)) (h, tt)
 
-  in_block : (x : Block) → All ts (map n.label x.labels) → All ts (n.content_children (out-Content x.content)) → All ts (n.member_children (out-Member (member.Block x)))
-  in_block x h g =
-      are ts _ (map n.label x.labels ++ n.content_children (out-Content x.content)) (ap n.member_children (open_block x))
-      (all_append ts (map n.label x.labels) (n.content_children (out-Content x.content)) h g)
-
   in_member : {d : ℕ} {ms : List Member} {i j : ℕ} → IsMembers ts d ms i j → (x : Member) → slice_get ms 0 ≡ Some x → All ts (n.member_children (out-Member x))
   unfolding node.attribute node.block
   in_member no_members x e = absurd (cc)
@@ -238,10 +238,10 @@ module _ {ts : List Token} where
   in_member (attribute p q y s r) x e = subst (λ x. All ts (n.member_children (out-Member x))) (some_is e) (in_attribute _ (held_expr y))
   in_member (block p ns b s ms c l r) x e =
       subst (λ x. All ts (n.member_children (out-Member x))) (some_is e)
-      (in_block _ (all_labels ns) (are ts _ (n.body _ ∷ []) (ap n.content_children (open_lines _)) (body_held (span_line s).within ms, tt)))
+      (in_block ts _ (all_labels ns) (are ts _ (n.body _ ∷ []) (ap n.content_children (open_lines _)) (body_held (span_line s).within ms, tt)))
   in_member (line_block p ns b t c l r) x e =
       subst (λ x. All ts (n.member_children (out-Member x))) (some_is e)
-      (in_block _ (all_labels ns) (are ts _ _ (ap n.content_children (open_line _)) (line_held t)))
+      (in_block ts _ (all_labels ns) (are ts _ _ (ap n.content_children (open_line _)) (line_held t)))
 
   -- ---- a tree
 

@@ -1,5 +1,5 @@
 -- Each node of a tree is derived by its own tokens, and its numbers are those of tokens.
-use Rattle.std.proofs.Common.{◌≡◌, ℕ, zero, suc, ◌<◌, ◌≤◌, Bool, true, false, List, [], ◌∷◌, length, slice_get, Option, Some, refl, sym, ap, ◌∙◌, subst, arith}
+use Rattle.std.proofs.Common.{◌≡◌, ℕ, suc, ◌<◌, ◌≤◌, Bool, true, false, List, [], ◌∷◌, length, slice_get, Option, Some, refl, sym, ap, ◌∙◌, subst, arith}
 use Rattle.std.specs.List.{AllByRecursion}
 use Rattle.std.specs.Prelude.{IfSome}
 use Rattle.hcl_token.specs.declared.kind.Kind.{Kind}
@@ -11,20 +11,20 @@ use Rattle.hcl_grammar.specs.declared.tree.ForDirective.{ForDirective, roll-ForD
 use Rattle.hcl_grammar.specs.declared.tree.IfDirective.{IfDirective, roll-IfDirective}
 use Rattle.hcl_grammar.specs.declared.tree.Intro.{Intro}
 use Rattle.hcl_grammar.specs.declared.tree.Label.{Label}
-use Rattle.hcl_grammar.specs.declared.tree.Member.{Member, out-Member}
+use Rattle.hcl_grammar.specs.declared.tree.Member.{Member}
 use Rattle.hcl_grammar.specs.declared.tree.Member.TheVariants as member
-use Rattle.hcl_grammar.specs.declared.tree.Part.{Part, out-Part}
+use Rattle.hcl_grammar.specs.declared.tree.Part.{Part}
 use Rattle.hcl_grammar.specs.declared.tree.Part.TheVariants as part
 use Rattle.hcl_grammar.specs.declared.tree.Primary.{out-Primary}
 use Rattle.hcl_grammar.specs.declared.tree.Tail.{Tail, out-Tail}
 use Rattle.hcl_grammar.specs.declared.tree.Template.{Template}
 use Rattle.hcl_grammar.specs.declared.tree.Term.{Term}
-use Rattle.hcl_grammar.specs.Bodies.{IsLabels, no_labels, word_label, text_label, empty_label, IsOneLineBody, nothing, one as just, IsMembers, no_members, blank, attribute, block, line_block}
+use Rattle.hcl_grammar.specs.Bodies.{IsLabels, word_label, text_label, empty_label, IsOneLineBody, nothing, one as just, IsMembers, no_members, blank, attribute, block, line_block}
 use Rattle.hcl_grammar.specs.Grammar.{IsExpr, plain, conditional, IsLevel, lowest, level, IsUnary, with_operator, post, IsTail, by_name, legacy, attribute_splat, full_splat, index, IsTerm, number, identifier, call, tuple, object, for_tuple, for_object, quoted, heredoc, parens, IsIntro, intro, IsPart, quote_text, here_text, interp, if_directive, for_directive}
-use Rattle.hcl_grammar.specs.Lookahead.{NextIs, NextIsWord, IsNameTail, no_names, name, IsSecondName, no_second, second}
+use Rattle.hcl_grammar.specs.Lookahead.{NextIs, IsNameTail, no_names, name, IsSecondName, no_second, second}
 use Rattle.hcl_grammar.specs.Nodes as node
-use Rattle.hcl_grammar.specs.Tokens.{Token, next_index, after_next, for_word}
-use Rattle.hcl_grammar.specs.TreeLayers.{PrimaryLayer, TailLayer, PartLayer, MemberLayer}
+use Rattle.hcl_grammar.specs.Tokens.{Token, next_index, after_next}
+use Rattle.hcl_grammar.specs.TreeLayers.{PartLayer, MemberLayer}
 use Rattle.hcl_grammar.specs.TreeNodes as n
 use Rattle.hcl_grammar.specs.TreeNodes.{Node}
 use Rattle.hcl_grammar_laws.proofs.HeldNodes.{Held, held_body, held_member, held_on_line, held_label, held_expr, held_term, held_tail, held_intro, held_template, held_part, held}
@@ -32,7 +32,7 @@ use Rattle.hcl_grammar_laws.proofs.Opens.{open_number, open_identifier, open_cal
 use Rattle.hcl_grammar_laws.proofs.Own.{own_template, own_body}
 use Rattle.hcl_grammar_laws.proofs.Restart.{own_expr, own_term}
 use Rattle.hcl_grammar_laws.proofs.RestartBodies.{some_is, own_intro, own_part, own_label, own_on_line, own_attribute, own_block, take_block}
-use Rattle.hcl_grammar_laws.proofs.Spans.{Takes, Spans, step, step_word, loose, both, ahead, behind, span_line, span_eol, span_expr, span_links, span_unary, span_tails, span_tail, span_term, span_intro, span_parts, span_part, span_labels, span_on_line, span_members}
+use Rattle.hcl_grammar_laws.proofs.Spans.{Takes, Spans, step, loose, both, ahead, span_line, span_eol, span_expr, span_links, span_unary, span_tails, span_term, span_intro, span_parts, span_part, span_labels, span_on_line, span_members}
 use Rattle.hcl_grammar_laws.specs.NodeTokens.{IsDerived, is_body, is_member, is_one_line_attribute, is_label, is_expr, is_term, is_tail, is_intro, is_template, is_part, AreNumbersWithin, NodesAreDerived, NumbersAreWithin}
 
 -- what the numbers of a node's first token and after its last say of these two
@@ -48,6 +48,21 @@ rolled_if first past c t u = roll-IfDirective (record { first = first; past = pa
 
 abbrev rolled_for : ℕ → ℕ → Intro → Template → ForDirective
 rolled_for first past i t = roll-ForDirective (record { first = first; past = past; intro = i; body = t })
+
+-- the number of a token that comes next
+at_token : (ts : List Token) (m : Bool) (t : Kind) (i : ℕ) → NextIs ts m t i → next_index ts m i < length ts
+unfolding after_next
+at_token ts m t i p = let s = step ts m t i p in omega (arith, s.within)
+
+-- the numbers are these
+are : (ts : List Token) (xs ys : List ℕ) → xs ≡ ys → AreTokens ts ys → AreTokens ts xs
+are ts xs ys e a = subst (AreTokens ts) (sym e) a
+
+literal_within : (ts : List Token) (i : ℕ) → i < length ts → AreNumbersWithin (length ts) (n.part (part.Literal i))
+literal_within ts i h = record {
+  tokens = subst (λ (l : PartLayer). AreTokens ts (n.part_numbers l)) (sym (open_literal i)) (h, tt);
+  span = subst (λ (l : PartLayer). IfSome (n.part_span l) (Bounds ts)) (sym (open_literal i)) (omega arith, omega (arith, h));
+}
 
 module _ {ts : List Token} where
   -- ---- what a node takes
@@ -105,8 +120,8 @@ module _ {ts : List Token} where
 
   part_derived : {d : ℕ} {m : Bool} {x : Part} {i j : ℕ} → IsPart ts d m x i j → IsDerived ts (n.part x)
   unfolding after_next
-  part_derived {d} (quote_text {m} {i} p) = is_literal {d} {m} (next_index ts m i) (own_part (quote_text p))
-  part_derived {d} (here_text {m} {i} p) = is_literal {d} {m} (next_index ts m i) (own_part (here_text p))
+  part_derived {d} (quote_text {m} {i} p) = is_literal {d = d} {m = m} (next_index ts m i) (own_part (quote_text p))
+  part_derived {d} (here_text {m} {i} p) = is_literal {d = d} {m = m} (next_index ts m i) (own_part (here_text p))
   part_derived (interp {e} {i} {j} p x q) =
       record { from = i; to = after_next ts true j; derived = is_part (interp p x q); own = subst (λ (l : PartLayer). IfSome (n.part_span l) (λ s. (s.0 ≡ i) × (s.1 ≡ after_next ts true j))) (sym (open_interp e)) tt }
   part_derived (if_directive p w c q ps o) = is_if _ _ _ _ _ (own_part (if_directive p w c q ps o))
@@ -148,66 +163,51 @@ module _ {ts : List Token} where
   bounds : {i j : ℕ} → Takes ts i j → Bounds ts (i, j)
   bounds s = (omega (arith, s.forth), s.within)
 
-  -- the numbers of a token that comes next
-  at_token : (m : Bool) (t : Kind) (i : ℕ) → NextIs ts m t i → next_index ts m i < length ts
-  unfolding after_next
-  at_token m t i p = let s = step ts m t i p in omega (arith, s.within)
-
   names_within : {m : Bool} {ns : List ℕ} {i j : ℕ} → IsNameTail ts m ns i j → AreTokens ts ns
   names_within no_names = tt
-  names_within (name p q ns) = (at_token _ k.Identifier _ q, names_within ns)
+  names_within (name p q ns) = (at_token ts _ k.Identifier _ q, names_within ns)
 
   second_within : {o : Option ℕ} {i j : ℕ} → IsSecondName ts o i j → AreTokens ts (n.optional_number o)
   second_within no_second = tt
-  second_within (second p q) = (at_token _ k.Identifier _ q, tt)
-
-  -- the numbers are these
-  are : (xs ys : List ℕ) → xs ≡ ys → AreTokens ts ys → AreTokens ts xs
-  are xs ys e a = subst (AreTokens ts) (sym e) a
+  second_within (second p q) = (at_token ts _ k.Identifier _ q, tt)
 
   term_numbers : {d : ℕ} {m : Bool} {x : Term} {i j : ℕ} → IsTerm ts d m x i j → AreTokens ts (n.primary_numbers (out-Primary x.kind))
   unfolding node.term node.call node.for_tuple node.for_object
-  term_numbers (number p) = are _ [] (ap n.primary_numbers open_number) tt
-  term_numbers (identifier p q r) = are _ [] (ap n.primary_numbers open_identifier) tt
+  term_numbers (number p) = are ts _ [] (ap n.primary_numbers open_number) tt
+  term_numbers (identifier p q r) = are ts _ [] (ap n.primary_numbers open_identifier) tt
   term_numbers (call {m} {names} {i} p ns q xs) =
-      are _ (next_index ts m i ∷ names) (ap n.primary_numbers (open_call _) ∙ call_names (next_index ts m i ∷ names) _ _) (at_token m k.Identifier i p, names_within ns)
-  term_numbers (tuple p w xs) = are _ [] (ap n.primary_numbers (open_tuple _)) tt
-  term_numbers (object p w l es) = are _ [] (ap n.primary_numbers (open_object _)) tt
-  term_numbers (for_tuple p y c v f) = are _ [] (ap n.primary_numbers (open_for_tuple _)) tt
-  term_numbers (for_object p y c a w v s f) = are _ [] (ap n.primary_numbers (open_for_object _)) tt
-  term_numbers (quoted p ps q) = are _ [] (ap n.primary_numbers (open_quoted _)) tt
-  term_numbers (heredoc p ps q) = are _ [] (ap n.primary_numbers (open_heredoc _)) tt
-  term_numbers (parens p x q) = are _ [] (ap n.primary_numbers (open_parens _)) tt
+      are ts _ (next_index ts m i ∷ names) (ap n.primary_numbers (open_call _) ∙ call_names (next_index ts m i ∷ names) _ _) (at_token ts m k.Identifier i p, names_within ns)
+  term_numbers (tuple p w xs) = are ts _ [] (ap n.primary_numbers (open_tuple _)) tt
+  term_numbers (object p w l es) = are ts _ [] (ap n.primary_numbers (open_object _)) tt
+  term_numbers (for_tuple p y c v f) = are ts _ [] (ap n.primary_numbers (open_for_tuple _)) tt
+  term_numbers (for_object p y c a w v s f) = are ts _ [] (ap n.primary_numbers (open_for_object _)) tt
+  term_numbers (quoted p ps q) = are ts _ [] (ap n.primary_numbers (open_quoted _)) tt
+  term_numbers (heredoc p ps q) = are ts _ [] (ap n.primary_numbers (open_heredoc _)) tt
+  term_numbers (parens p x q) = are ts _ [] (ap n.primary_numbers (open_parens _)) tt
 
   tail_numbers : {d : ℕ} {m : Bool} {x : Tail} {i j : ℕ} → IsTail ts d m x i j → AreTokens ts (n.tail_numbers (out-Tail x))
-  tail_numbers (by_name {m} {i} p q) = are _ (next_index ts m (after_next ts m i) ∷ []) (ap n.tail_numbers (open_name _)) (at_token m k.Identifier (after_next ts m i) q, tt)
-  tail_numbers (legacy {m} {i} p) = are _ (next_index ts m i ∷ []) (ap n.tail_numbers (open_legacy _)) (at_token m k.DotIndex i p, tt)
-  tail_numbers (attribute_splat p q) = are _ [] (ap n.tail_numbers open_attribute_splat) tt
-  tail_numbers (full_splat p q c) = are _ [] (ap n.tail_numbers open_full_splat) tt
-  tail_numbers (index p x q) = are _ [] (ap n.tail_numbers (open_index _)) tt
+  tail_numbers (by_name {m} {i} p q) = are ts _ (next_index ts m (after_next ts m i) ∷ []) (ap n.tail_numbers (open_name _)) (at_token ts m k.Identifier (after_next ts m i) q, tt)
+  tail_numbers (legacy {m} {i} p) = are ts _ (next_index ts m i ∷ []) (ap n.tail_numbers (open_legacy _)) (at_token ts m k.DotIndex i p, tt)
+  tail_numbers (attribute_splat p q) = are ts _ [] (ap n.tail_numbers open_attribute_splat) tt
+  tail_numbers (full_splat p q c) = are ts _ [] (ap n.tail_numbers open_full_splat) tt
+  tail_numbers (index p x q) = are ts _ [] (ap n.tail_numbers (open_index _)) tt
 
   intro_numbers : {d : ℕ} {x : Intro} {i j : ℕ} → IsIntro ts d x i j → AreTokens ts (x.name ∷ n.optional_number x.second_name)
   unfolding node.intro
-  intro_numbers (intro w p s v y) = (at_token _ k.Identifier _ p, second_within s)
+  intro_numbers (intro w p s v y) = (at_token ts _ k.Identifier _ p, second_within s)
 
   label_numbers : {l : Label} {i j : ℕ} → IsLabels ts (l ∷ []) i j → AreTokens ts (n.optional_number l.name)
   unfolding node.label
-  label_numbers (word_label q ls) = (at_token _ k.Identifier _ q, tt)
-  label_numbers (text_label p q r ls) = (at_token _ k.QuoteLit _ q, tt)
+  label_numbers (word_label q ls) = (at_token ts _ k.Identifier _ q, tt)
+  label_numbers (text_label p q r ls) = (at_token ts _ k.QuoteLit _ q, tt)
   label_numbers (empty_label p r ls) = tt
 
   name_within : {d : ℕ} {o : Option Attribute} {i j : ℕ} → IsOneLineBody ts d o i j → (x : Attribute) → o ≡ Some x → x.name < length ts
   unfolding node.attribute
   name_within nothing x e = absurd (cc)
-  name_within (just {i} p q y) x e = subst (λ (z : Attribute). z.name < length ts) (some_is e) (at_token false k.Identifier i p)
+  name_within (just {i} p q y) x e = subst (λ (z : Attribute). z.name < length ts) (some_is e) (at_token ts false k.Identifier i p)
 
   -- ---- a part and a member
-
-  literal_within : (i : ℕ) → i < length ts → AreNumbersWithin (length ts) (n.part (part.Literal i))
-  literal_within i h = record {
-    tokens = subst (λ (l : PartLayer). AreTokens ts (n.part_numbers l)) (sym (open_literal i)) (h, tt);
-    span = subst (λ (l : PartLayer). IfSome (n.part_span l) (Bounds ts)) (sym (open_literal i)) (omega arith, omega (arith, h));
-  }
 
   if_within : (a b : ℕ) (c : Expr) (t : Template) (u : Option Template) → Takes ts a b → AreNumbersWithin (length ts) (n.part (node.if_part a b c t u))
   unfolding node.if_part
@@ -224,8 +224,8 @@ module _ {ts : List Token} where
   }
 
   part_within : {d : ℕ} {m : Bool} {x : Part} {i j : ℕ} → IsPart ts d m x i j → AreNumbersWithin (length ts) (n.part x)
-  part_within (quote_text {m} {i} p) = literal_within (next_index ts m i) (at_token m k.QuoteLit i p)
-  part_within (here_text {m} {i} p) = literal_within (next_index ts m i) (at_token m k.HereLit i p)
+  part_within (quote_text {m} {i} p) = literal_within ts (next_index ts m i) (at_token ts m k.QuoteLit i p)
+  part_within (here_text {m} {i} p) = literal_within ts (next_index ts m i) (at_token ts m k.HereLit i p)
   part_within (interp {e} p x q) = record {
     tokens = subst (λ (l : PartLayer). AreTokens ts (n.part_numbers l)) (sym (open_interp e)) tt;
     span = subst (λ (l : PartLayer). IfSome (n.part_span l) (Bounds ts)) (sym (open_interp e)) tt;
