@@ -85,3 +85,30 @@ flags_decide_space before pairs i a b some within a_is b_is h g =
     ∙ ap (option_map (λ (y : Pair). space_len before s.pair y)) t.at
     ∙ ap Some len
     )
+
+by_no_flag : (flags spaced len : ℕ) → 0 < flags → spaced ≡ 0 → cond (nat_eq flags 0) 0 len ≡ cond (nat_eq flags 0) 0 (cond (nat_eq spaced 0) 0 1) → len ≡ 0
+by_no_flag flags spaced len h g e =
+    let some : nat_eq flags 0 ≡ false = grind (arith, nat_tests) in
+    let none : nat_eq spaced 0 ≡ true = ap (λ n. nat_eq n 0) g in
+    rw (some, none) at e
+
+flags_decide_no_pair : (before : List Kind) (p q : Pair) → 0 < flags_decide p.kind q.kind → bit_and (flags_decide p.kind q.kind) 7 ≡ 0 → space_len before p q ≡ 0
+flags_decide_no_pair before p q h g =
+    let named : Bool = bytes_eq p.spelling (codes "in") && is_after_identifier before in
+    let len : Bool → Bool → ℕ = λ u v. if has_no_gap_before q.kind then 0 else (if by_rest u v (is_after_operand before) p.kind q.kind || joins_with p.kind p.spelling q.kind q.spelling then 1 else 0) in
+    let rows : space_len before p q ≡ len (is_identifier p.kind && named) (is_star p.kind && is_splat_star before p.kind) =
+    ap₂ len (and_both (is_identifier p.kind) (bytes_eq p.spelling (codes "in")) (is_after_identifier before)) (star_splat before p.kind) in
+    rows ∙ by_no_flag (flags_decide p.kind q.kind) (bit_and (flags_decide p.kind q.kind) 7) (len (is_identifier p.kind && named) (is_star p.kind && is_splat_star before p.kind)) h g (flags_decide_by named (is_splat_star before p.kind) (is_after_operand before) p.spelling q.spelling p.kind q.kind)
+
+pub flags_decide_no_space : (before : List Kind) (pairs : List Pair) (i : ℕ) (a b : Kind) → 0 < i → i < length pairs → Some a ≡ kind_of pairs (i - 1) → Some b ≡ kind_of pairs i
+    → 0 < bit_and (flags_after a) (flags_before b) → bit_and (bit_and (flags_after a) (flags_before b)) 7 ≡ 0 → Some 0 ≡ space_len_at before pairs i
+flags_decide_no_space before pairs i a b some within a_is b_is h g =
+    let s = turn pairs (i - 1) (length pairs) (omega arith) (omega arith) in
+    let t = turn pairs i (length pairs) within (omega arith) in
+    let same = ap₂ flags_decide (kind_is pairs (i - 1) (length pairs) a s a_is) (kind_is pairs i (length pairs) b t b_is) in
+    let len = flags_decide_no_pair before s.pair t.pair (subst (λ n. 0 < n) same h) (subst (λ n. bit_and n 7 ≡ 0) same g) in
+    sym (
+    ap (option_and_then (λ (x : Pair). option_map (λ (y : Pair). space_len before x y) (slice_get pairs i))) s.at
+    ∙ ap (option_map (λ (y : Pair). space_len before s.pair y)) t.at
+    ∙ ap Some len
+    )
