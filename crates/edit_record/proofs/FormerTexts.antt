@@ -33,12 +33,16 @@ pub head_is_former : (word : Word) (old_len count : ℕ) (rest : List ℕ)
     → record_head word ++ (list_head old_len count ++ rest) ≡ codes "tfrec 2 " ++ (word_text word ++ (number_text space old_len ++ (number_text newline count ++ rest)))
 head_is_former word old_len count rest = simp append_assoc
 
+seven : (a b c d e f rest : List ℕ) → (a ++ b ++ c) ++ (d ++ ((e ++ f) ++ rest)) ≡ a ++ (b ++ (c ++ (d ++ (e ++ (f ++ rest)))))
+seven a b c d e f rest = simp append_assoc
+
 pub old_head_is_former : (word : Word) (n old_len count : ℕ) (rest : List ℕ)
     → old_record_head word n ++ (codes "step " ++ (list_head old_len count ++ rest))
     ≡ codes "tfrec 1 " ++ (word_text word ++ (number_text newline n ++ (codes "step " ++ (number_text space old_len ++ (number_text newline count ++ rest)))))
-old_head_is_former word n old_len count rest = simp append_assoc
+old_head_is_former word n old_len count rest =
+    seven (codes "tfrec 1 ") (word_text word) (number_text newline n) (codes "step ") (number_text space old_len) (number_text newline count) rest
 
-record FormerReach (text : List ℕ) : Type 0 where
+pub record FormerReach (text : List ℕ) : Type 0 where
   pub word : Word
   pub old_len : ℕ
   pub count : ℕ
@@ -62,7 +66,7 @@ reach_to_former text n =
     let r = n.reaches in
     record { word = n.word; old_len = r.old_len; count = r.count; old_len_fits = r.old_len_fits; count_fits = r.count_fits; next = r.next; next_is = r.next_is; rest = r.rest; is = n.is ∙ ap (λ (y : List ℕ). record_head n.word ++ y) r.is }
 
-record FormerOldReach (text : List ℕ) : Type 0 where
+pub record FormerOldReach (text : List ℕ) : Type 0 where
   pub word : Word
   pub steps : ℕ
   pub old_len : ℕ
@@ -108,7 +112,7 @@ three : {A B C D E : Type 0} (r : Result A TextError) (s : A → Result B TextEr
 three (Ok a) s p f g = two (s a) (p a) (f a) g
 three (Err e) s p f g = refl
 
-former_edit_at : List ℕ → Result (EditEntry × List ℕ) TextError
+pub former_edit_at : List ℕ → Result (EditEntry × List ℕ) TextError
 former_edit_at t = do
   at ← number_at 0 max_number space t
   r ← number_at 0 max_number space at.1
@@ -122,7 +126,7 @@ pub edit_at_is_former : (t : List ℕ) → edit_at t ≡ former_edit_at t
 unfolding edit_at edit_head_at former_edit_at
 edit_at_is_former t = three (number_at 0 max_number space t) (λ at. number_at 0 max_number space at.1) (λ at r. number_at 0 max_number newline r.1) (λ at r w. ((at.0, r.0, w.0), w.1)) _
 
-former_edit_list_at : ℕ → List ℕ → Result (EditList × List ℕ) TextError
+pub former_edit_list_at : ℕ → List ℕ → Result (EditList × List ℕ) TextError
 former_edit_list_at left t = do
   old_len ← number_at 0 max_number space t
   count ← number_at 0 max_number newline old_len.1
@@ -133,7 +137,7 @@ pub edit_list_at_is_former : (left : ℕ) (t : List ℕ) → edit_list_at left t
 unfolding edit_list_at list_head_at former_edit_list_at
 edit_list_at_is_former left t = two (number_at 0 max_number space t) (λ old_len. number_at 0 max_number newline old_len.1) (λ old_len count. ((old_len.0, count.0), count.1)) _
 
-former_edit_list_allocates : List ℕ → Bool
+pub former_edit_list_allocates : List ℕ → Bool
 former_edit_list_allocates t =
     is_ok_and (number_at 0 max_number space t) λ old_len.
     is_ok_and (number_at 0 max_number newline old_len.1) λ count.
