@@ -2,14 +2,14 @@
 use Rattle.std.specs.Prelude.{◌≡◌, ℕ, Bool, true, false, List, [], ◌∷◌, ◌++◌, Ok, Err}
 use Rattle.edit_record.specs.declared.lists.record.Word.{Word}
 use Rattle.edit_record.specs.Lists.Pieces.{EditList}
-use Rattle.edit_record.specs.Lists.ChangeResults.{HasExpectedLen}
+use Rattle.edit_record.specs.Lists.ChangeResults.{IsChangeResult, HasExpectedLen}
 use Rattle.edit_record.specs.declared.lists.direction.Direction.TheVariants.{Backward}
-use Rattle.edit_record.specs.Lists.Journal.{JournalEntry, record_transforms, record_backward}
+use Rattle.edit_record.specs.Lists.Journal.{JournalEntry, record_transforms}
 use Rattle.tf_session.specs.declared.command.Command.{Command}
 use Rattle.tf_session.specs.declared.command.Command.TheVariants.{Fmt, Fix, Revert, Take}
 use Rattle.tf_session.specs.declared.command.Done.{Done}
 use Rattle.tf_session.specs.declared.command.Fault.{Fault}
-use Rattle.tf_session.specs.declared.command.Fault.TheVariants.{Scan, Parse, FixBroken, TooLong, NoRecord, Refused, Memory, Blocked}
+use Rattle.tf_session.specs.declared.command.Fault.TheVariants.{NoRecord, Refused, Memory}
 use Rattle.tf_lint.specs.Steps.{Rewrite, texts_differ}
 use Rattle.tf_session.specs.Rewrites.{Rewrites, RefusesText}
 use Rattle.tf_session.specs.Machine.{StackEntry, done}
@@ -87,20 +87,15 @@ StepsTo command text new =
 abbrev pub IsLast : List JournalEntry → JournalEntry → Type 0
 IsLast js r = (earlier : List JournalEntry) × (js ≡ earlier ++ r ∷ [])
 
--- Why a revert is refused: there is no record, or the last one does not stand in the text, so that
--- it turns no text into this one.
--- Memory is taken only where the text has the length that the last record asks for.
+-- Why a revert is refused: there is no record; or the edits of the last record can't be undone in
+-- the text, for this reason; or memory ran out, which can only be for a text of the length that
+-- these edits make.
 abbrev pub RefusesRevert : List ℕ → List JournalEntry → Fault → Type 0
-RefusesRevert t js (Scan fault) = ⊥
-RefusesRevert t js (Parse fault) = ⊥
-RefusesRevert t js (FixBroken rule) = ⊥
-RefusesRevert t js TooLong = ⊥
 RefusesRevert t js NoRecord = js ≡ []
 RefusesRevert t js (Refused refused) =
-    (r : JournalEntry) × IsLast js r × (record_backward r t ≡ Err refused)
-    × ((v : List ℕ) → ¬ (record_transforms r v t))
+    (r : JournalEntry) × IsLast js r × IsChangeResult Backward r.edits t (Err refused)
 RefusesRevert t js Memory = (r : JournalEntry) × IsLast js r × HasExpectedLen Backward r.edits t
-RefusesRevert t js (Blocked number) = ⊥
+RefusesRevert t js _ = ⊥
 
 -- why a command is refused
 abbrev pub RefusesStep : Command → List ℕ → List JournalEntry → Fault → Type 0

@@ -3,7 +3,7 @@
 
 ghost use Rattle.tf_session.specs.RevertRestores.{RevertRestores, RevertSucceeds};
 
-use edit_record::laws::text_is_unambiguous;
+use edit_record::laws::{change_result_is_unique, text_is_unambiguous};
 
 /// A fmt or a fix that changed the text, and then a revert over what it wrote, give the first text
 /// and the journal as it was read.
@@ -18,5 +18,6 @@ pub fn revert_restores_text_and_journal()
 pub fn revert_fails_only_from_outside()
     ensures { RevertSucceeds }
 {
+    change_result_is_unique();
     text_is_unambiguous();
 }

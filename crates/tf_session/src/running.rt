@@ -9,7 +9,7 @@ ghost use Rattle.tf_session.specs.Records.{IsJournalOfStack};
 use crate::command::{Command, Reply};
 use crate::session::Session;
 use edit_record::lists::Journal;
-use edit_record::lists::laws::transformed_lengths_match;
+use edit_record::lists::laws::{change_result_is_unique, transformed_lengths_match};
 use edit_record::swaps::laws::move_to_end_is_unique;
 use std::alloc::{AllocError, Global};
 
@@ -34,6 +34,7 @@ pub fn run(
         × IsHistory end) }
     ensures allocates { IfErr result (λ _. 0 < length commands.now) }
 {
+    change_result_is_unique();
     move_to_end_is_unique();
     transformed_lengths_match();
     let mut session = Session::start(text, Journal::empty(alloc));
