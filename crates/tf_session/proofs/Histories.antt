@@ -263,22 +263,22 @@ never_breaks takes_one lengths n p (Length expected found) h st =
 never_breaks takes_one lengths n p (Differs step edit) h st = h
 never_breaks takes_one lengths n p Refused.Memory h st = h
 
-always_undone : MoveToEndIsUnique → (n : ℕ) (p : History) (r : Refused) → UndoFails n (top_text p) (records_in p.layers) r → IsHistory p → ⊥
-always_undone takes_one n p r h st =
+always_undone : ChangeResultIsUnique → MoveToEndIsUnique → (n : ℕ) (p : History) (r : Refused) → UndoFails n (top_text p) (records_in p.layers) r → IsHistory p → ⊥
+always_undone unique takes_one n p r h st =
     let a = about p h.nth.before h.nth.item h.nth.after h.nth.all st in
-    let w = ((takes_one h.nth.item.edits (edits_of h.nth.after)).equivalent h.new_records h.moved_edits h.is_moved (last_text p.first a.layer.low) (top_text p)).0 (a.layer.here.text, a.transforms, a.higher) in
-    h.none w.0 w.2
+    let w = ((takes_one h.nth.item.edits (edits_of h.nth.after)).equivalent h.new_lists h.moved_edits h.is_moved (last_text p.first a.layer.low) (top_text p)).0 (a.layer.here.text, a.transforms, a.higher) in
+    undone_or_refused unique h.moved_edits (top_text p) w.0 r h.refuses w.2
 
-refused_one : MoveToEndIsUnique → TurnLengths → (n : ℕ) (p : History) (e : Fault) → RefusesRemoval n (top_text p) (records_in p.layers) e → IsHistory p → HistoryStepOrMemory (Take n) p (Err e) p
-refused_one takes_one lengths n p (Scan fault) h st = absurd h
-refused_one takes_one lengths n p (Parse fault) h st = absurd h
-refused_one takes_one lengths n p (FixBroken rule) h st = absurd h
-refused_one takes_one lengths n p TooLong h st = (h, refl)
-refused_one takes_one lengths n p NoRecord h st = (h, refl)
-refused_one takes_one lengths n p (Fault.Refused refused) (inl h) st = absurd (never_breaks takes_one lengths n p refused h st)
-refused_one takes_one lengths n p (Fault.Refused refused) (inr h) st = absurd (always_undone takes_one n p refused h st)
-refused_one takes_one lengths n p Memory h st = (h, refl)
-refused_one takes_one lengths n p (Blocked number) h st = (h, refl)
+refused_one : ChangeResultIsUnique → MoveToEndIsUnique → TurnLengths → (n : ℕ) (p : History) (e : Fault) → RefusesRemoval n (top_text p) (records_in p.layers) e → IsHistory p → HistoryStepOrMemory (Take n) p (Err e) p
+refused_one unique takes_one lengths n p (Scan fault) h st = absurd h
+refused_one unique takes_one lengths n p (Parse fault) h st = absurd h
+refused_one unique takes_one lengths n p (FixBroken rule) h st = absurd h
+refused_one unique takes_one lengths n p TooLong h st = (h, refl)
+refused_one unique takes_one lengths n p NoRecord h st = (h, refl)
+refused_one unique takes_one lengths n p (Fault.Refused refused) (inl h) st = absurd (never_breaks takes_one lengths n p refused h st)
+refused_one unique takes_one lengths n p (Fault.Refused refused) (inr h) st = absurd (always_undone unique takes_one n p refused h st)
+refused_one unique takes_one lengths n p Memory h st = (h, refl)
+refused_one unique takes_one lengths n p (Blocked number) h st = (h, refl)
 
 refused_text : (command : Command) (p : History) (e : Fault) → (Rewrites command (top_text p) (Err e) → HistoryStep command p (Err e) p) → MatchBool (is_memory_fault e) (IsUtf8WithinLimit (top_text p)) (Rewrites command (top_text p) (Err e))
     → MatchBool (is_memory_fault e) (IsUtf8WithinLimit (top_text p) × (p ≡ p)) (HistoryStep command p (Err e) p)
@@ -295,7 +295,7 @@ stays : ChangeResultIsUnique → MoveToEndIsUnique → TurnLengths → (command 
 stays unique takes_one lengths Fmt p e h st = refused_text Fmt p e (λ m. (Err e, m, (refl, refl))) h
 stays unique takes_one lengths (Fix rules) p e h st = refused_text (Fix rules) p e (λ m. (Err e, m, (refl, refl))) h
 stays unique takes_one lengths Revert p e h st = refused_last unique p e h st
-stays unique takes_one lengths (Take n) p e h st = refused_one takes_one lengths n p e h st
+stays unique takes_one lengths (Take n) p e h st = refused_one unique takes_one lengths n p e h st
 
 -- a run goes on by one command
 run_more : (old mid new : History) (cs : List Command) (rs : List (Result Done Fault)) (c : Command) (r : Result Done Fault) → HistoryRun old cs rs mid → HistoryStepOrMemory c mid r new → HistoryRun old (cs ++ c ∷ []) (rs ++ r ∷ []) new

@@ -12,6 +12,7 @@ pub mod JournalOne
 pub mod TakeLaws
 pub mod OneMachine
 pub mod RemovalIsUnique
+pub mod AnyRemoval
 pub mod LayersLaws
 pub mod ReadTexts
 pub mod RevertRestores

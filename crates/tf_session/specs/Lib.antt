@@ -15,6 +15,7 @@ pub mod ResultIsUnique
 pub mod FmtLaws
 pub mod JournalLaws
 pub mod TakeLaws
+pub mod RemovalLaws
 pub mod MachinesAgree
 pub mod Session
 pub mod Streaming

@@ -56,15 +56,14 @@ LengthsBreak n js (Refused.Length expected found) =
     (k : ℕ) × FailsAfter n js k (λ a b. LengthMismatch a b expected found)
 LengthsBreak n js _ = ⊥
 
--- all later records change places with record n, but its edits, as they are behind them, turn no
--- text into this one
+-- all later records change places with record n, but its edits, as they are after them, can't be
+-- undone in this text
 pub record UndoFails (n : ℕ) (t : List ℕ) (js : List JournalEntry) (refused : Refused) : Type 0 where
   pub nth : Nth n js
-  pub new_records : List EditList
+  pub new_lists : List EditList
   pub moved_edits : EditList
-  pub is_moved : IsMovedToEnd nth.item.edits (edits_of nth.after) new_records moved_edits
+  pub is_moved : IsMovedToEnd nth.item.edits (edits_of nth.after) new_lists moved_edits
   pub refuses : IsChangeResult Backward moved_edits t (Err refused)
-  pub none : (v : List ℕ) → ¬ (Transforms moved_edits v t)
 
 -- Memory is taken where the next record goes on from record n and their first edits do not meet,
 -- and to undo the edits of record n as they are behind all others, in a text of the length that
@@ -91,9 +90,3 @@ removal_fault n MoveFault.Memory = Fault.Memory
 abbrev pub counted_records : MoveFault → ℕ
 counted_records (MoveFault.Blocked passed) = passed + 1
 counted_records _ = 0
-
--- no text becomes this one by these edits, and why; or a growth was refused, for a text of the
--- length that they ask
-abbrev pub CannotUndo : EditList → List ℕ → Refused → Type 0
-CannotUndo e t Refused.Memory = HasExpectedLen Backward e t
-CannotUndo e t refused = IsChangeResult Backward e t (Err refused) × ((v : List ℕ) → ¬ (Transforms e v t))

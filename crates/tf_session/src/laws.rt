@@ -1,14 +1,19 @@
 //! Laws of the machine that `run` stands for: functions that do nothing, for callers whose proofs
 //! want what their clauses say.
 
+ghost use Rattle.std.specs.Prelude.{List, ℕ};
+ghost use Rattle.edit_record.specs.Lists.Journal.{JournalEntry};
 ghost use Rattle.tf_session.specs.ResultIsUnique.{CommandResultIsUnique};
 ghost use Rattle.tf_session.specs.FmtLaws.{FmtKeepsTokens, FmtIsIdempotent};
 ghost use Rattle.tf_session.specs.JournalLaws.{JournalSquashesToOne};
 ghost use Rattle.tf_session.specs.TakeLaws.{CommandResultIsUniqueOverLayers, TakeResultIsUnique, TakePreservesHistory, OutOfMemoryChangesNothingOverLayers, RevertsRestoreTheFirstAfterTakes, JournalSquashesToOneAfterTakes};
+ghost use Rattle.tf_session.specs.RemovalLaws.{RemovalIsUnique};
 ghost use Rattle.tf_session.specs.MachinesAgree.{MachinesAgreeWithoutTake};
 ghost use Rattle.tf_session.specs.RunLaws.{OutOfMemoryChangesNothing, RevertsPop, RevertsRestoreTheFirst};
 
-use edit_record::lists::laws::{apply_is_deterministic, transformed_lengths_match};
+use edit_record::lists::laws::{
+    apply_is_deterministic, change_result_is_unique, transformed_lengths_match,
+};
 use edit_record::squashes::laws::squash_all_is_unique;
 use edit_record::swaps::laws::{move_to_end_is_unique, swap_is_unique};
 use hcl_layout::laws::{layout_keeps_tokens, layout_of_layout, one_layout};
@@ -86,6 +91,16 @@ pub fn take_result_is_unique()
     swap_is_unique();
     move_to_end_is_unique();
     apply_is_deterministic();
+}
+
+/// A take over any text and journal, from outside too, has one result, memory aside: it is not both
+/// done and refused, and it is refused for one reason.
+pub fn removal_is_unique()
+    ensures { (n : ℕ) (text : List ℕ) (records : List JournalEntry) → RemovalIsUnique n text records }
+{
+    swap_is_unique();
+    move_to_end_is_unique();
+    change_result_is_unique();
 }
 
 /// A command over a first text with its layers of edits has one reply, and leaves one history.

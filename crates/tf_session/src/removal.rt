@@ -1,11 +1,13 @@
 //! A text and its records without one of the records.
 
 ghost use Rattle.std.specs.Prelude.{◌≡◌, ◌≤◌, ◌<◌, ◌+◌, ◌^◌, ◌++◌, List, ℕ, length, take, IfOk, IfErr};
+ghost use Rattle.edit_record.specs.Lists.ChangeResults.{IsChangeCallResult};
 ghost use Rattle.edit_record.specs.Lists.Pieces.{Transforms};
+ghost use Rattle.edit_record.specs.declared.lists.direction.Direction.TheVariants.{Backward};
 ghost use Rattle.edit_record.specs.Swaps.MoveToEndResult.{moved_or};
 ghost use Rattle.tf_lint.specs.Steps.{texts_differ};
 ghost use Rattle.tf_session.specs.Machine.{done};
-ghost use Rattle.tf_session.specs.RemovingRecord.{RemovesRecord, RefusesRemoval, CannotUndo, removal_fault, counted_records};
+ghost use Rattle.tf_session.specs.RemovingRecord.{RemovesRecord, RefusesRemoval, removal_fault, counted_records};
 
 use crate::command::Fault;
 use edit_record::lists::laws::undo_is_exact;
@@ -85,9 +87,8 @@ fn edits_at_end<'a>(first: &'a Edits, moved: &'a Option<Edits>) -> &'a Edits
 
 /// The text before the edits.
 fn undo_edits(alloc: Global, edits: &Edits, text: &[u8]) -> Result<Vec<u8>, Refused>
-    ensures transforms { IfOk result (λ old. Transforms edits.now old.items text.now) }
+    ensures pieces { IsChangeCallResult Backward edits.now text.now result }
     ensures only { IfOk result (λ old. (v : List ℕ) → Transforms edits.now v text.now → v ≡ old.items) }
-    ensures refused { IfErr result (λ refused. CannotUndo edits.now text.now refused) }
 {
     undo_is_exact(edits);
     edits.undo(alloc, text)

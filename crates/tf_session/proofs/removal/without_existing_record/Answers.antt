@@ -10,12 +10,12 @@ pub returns-in-Ok-undo_edits-clause-rewrites : goal.returns-in-Ok-undo_edits-cla
 returns-in-Ok-undo_edits-clause-rewrites c =
     made c.args.number c.args.records.now c.index-records-number.result c.requires.some c.requires.there c.index-records-number.is
     c.args.text.now c.in-Ok-undo_edits.text.items c.in-Ok.others.items _ (rw c.edits.ensures at c.in-Ok.ensures.0) c.in-Ok.ensures.1
-    (rw (c.edits_at_end.ensures, c.edits-in-Ok.ensures) at c.in-Ok-undo_edits.ensures.transforms) (rw (c.edits_at_end.ensures, c.edits-in-Ok.ensures) at c.in-Ok-undo_edits.ensures.only)
+    (rw (c.edits_at_end.ensures, c.edits-in-Ok.ensures) at c.in-Ok-undo_edits.ensures.pieces) (rw (c.edits_at_end.ensures, c.edits-in-Ok.ensures) at c.in-Ok-undo_edits.ensures.only)
 
 pub returns-in-Err-undo_edits-clause-refused : goal.returns-in-Err-undo_edits-clause-refused
 returns-in-Err-undo_edits-clause-refused c =
     rw c.from.ensures (not_back c.args.number c.args.records.now c.index-records-number.result c.requires.some c.requires.there c.index-records-number.is
-    c.args.text.now (edits_of c.in-Ok.others.items) _ _ (rw c.edits.ensures at c.in-Ok.ensures.0) (rw (c.edits_at_end.ensures, c.edits-in-Ok.ensures) at c.in-Err-undo_edits.ensures.refused))
+    c.args.text.now (edits_of c.in-Ok.others.items) _ _ (rw c.edits.ensures at c.in-Ok.ensures.0) (rw (c.edits_at_end.ensures, c.edits-in-Ok.ensures) at c.in-Err-undo_edits.ensures.pieces))
 
 pub removal_fault-requires : goal.removal_fault-requires
 removal_fault-requires c =
