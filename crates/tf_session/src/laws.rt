@@ -14,7 +14,7 @@ ghost use Rattle.tf_session.specs.RunLaws.{OutOfMemoryChangesNothing, RevertsPop
 use edit_record::lists::laws::{
     apply_is_deterministic, change_result_is_unique, transformed_lengths_match,
 };
-use edit_record::squashes::laws::squash_all_is_unique;
+use edit_record::squashes::laws::{composable_lists_squash, squash_all_is_unique};
 use edit_record::swaps::laws::{move_to_end_is_unique, swap_is_unique};
 use hcl_layout::laws::{layout_keeps_tokens, layout_of_layout, one_layout};
 use hcl_scan::laws::{no_tokenization_with_fault, one_fault, one_tokenization};
@@ -67,6 +67,7 @@ pub fn journal_squashes_to_one()
     ensures { JournalSquashesToOne }
 {
     transformed_lengths_match();
+    composable_lists_squash();
     squash_all_is_unique();
 }
 
@@ -134,5 +135,6 @@ pub fn journal_squashes_to_one_after_takes()
     ensures { JournalSquashesToOneAfterTakes }
 {
     transformed_lengths_match();
+    composable_lists_squash();
     squash_all_is_unique();
 }
