@@ -25,6 +25,7 @@ use Rattle.tf_session.specs.Layers.{Layer, History, last_text, top_text, record_
 use Rattle.tf_session.specs.Records.{HasWord, AddsRecordOf, RevertsLast, DoesStep, RefusesRevert, RefusesStep}
 use Rattle.tf_session.proofs.JournalOne.{TurnLengths}
 use Rattle.tf_session.proofs.Lists.{not_nil}
+use Rattle.tf_session.proofs.Runs.{run_more}
 use Rattle.tf_session.proofs.Stacks.{same_texts, undone_or_refused}
 
 -- layers on layers
@@ -297,13 +298,6 @@ stays unique takes_one lengths (Fix rules) p e h st = refused_text (Fix rules) p
 stays unique takes_one lengths Revert p e h st = refused_last unique p e h st
 stays unique takes_one lengths (Take n) p e h st = refused_one unique takes_one lengths n p e h st
 
--- a run goes on by one command
-run_more : (old mid new : History) (cs : List Command) (rs : List (Result Done Fault)) (c : Command) (r : Result Done Fault) → HistoryRun old cs rs mid → HistoryStepOrMemory c mid r new → HistoryRun old (cs ++ c ∷ []) (rs ++ r ∷ []) new
-run_more old mid new [] [] c r h st = (new, subst (λ (x : History). HistoryStepOrMemory c x r new) h st, refl)
-run_more old mid new [] (x ∷ rs) c r h st = absurd h
-run_more old mid new (x ∷ cs) [] c r h st = absurd h
-run_more old mid new (x ∷ cs) (y ∷ rs) c r h st = (h.0, h.1, run_more h.0 mid new cs rs c r h.2 st)
-
 -- What a session's step ensures takes a run, and the history that its records stand for, one command further.
 pub moved : ChangeResultIsUnique → MoveToEndIsUnique → TurnLengths → (first mid : History) (cs : List Command) (rs : List (Result Done Fault)) (command : Command) (reply : Result Done Fault) (t : List ℕ) (js : List JournalEntry) (u : List ℕ) (ks : List JournalEntry)
     → HistoryRun first cs rs mid → t ≡ top_text mid → js ≡ records_in mid.layers → IsHistory mid
@@ -312,7 +306,7 @@ pub moved : ChangeResultIsUnique → MoveToEndIsUnique → TurnLengths → (firs
 moved unique takes_one lengths first mid cs rs command (Ok d) t js u ks run top recs st does _ _ _ =
     let does2 = subst (λ (x : List JournalEntry). DoesStep command (top_text mid) x d u ks) recs (subst (λ (x : List ℕ). DoesStep command x js d u ks) top does) in
     let h = acted takes_one command mid d u ks does2 st in
-    (h.0, run_more first mid h.0 cs rs command (Ok d) run h.1, h.2, h.3, h.4)
+    (h.0, run_more HistoryStepOrMemory first mid h.0 cs rs command (Ok d) run h.1, h.2, h.3, h.4)
 moved unique takes_one lengths first mid cs rs command (Err e) t js u ks run top recs st _ why ut kj =
     let why2 = subst (λ (x : List JournalEntry). RefusesStep command (top_text mid) x e) recs (subst (λ (x : List ℕ). RefusesStep command x js e) top why) in
-    (mid, run_more first mid mid cs rs command (Err e) run (stays unique takes_one lengths command mid e why2 st), ut ∙ top, kj ∙ recs, st)
+    (mid, run_more HistoryStepOrMemory first mid mid cs rs command (Err e) run (stays unique takes_one lengths command mid e why2 st), ut ∙ top, kj ∙ recs, st)

@@ -1,4 +1,5 @@
 pub mod Lists
+pub mod Runs
 pub mod Stacks
 pub mod RemoveRecord
 pub mod Histories

@@ -18,6 +18,7 @@ use Rattle.tf_lint.specs.ParseFaults.{IsUtf8WithinLimit}
 use Rattle.tf_session.specs.Machine.{StackEntry, Stack, done, PushesText, StackStep, StackStepOrMemory, StackRun, IsNotTake, WithoutTake}
 use Rattle.tf_session.specs.Records.{IsJournalOfStack, AddsRecordOf, RevertsLast, DoesStep, RefusesRevert, RefusesStep}
 use Rattle.tf_session.proofs.Lists.{not_nil, same_last}
+use Rattle.tf_session.proofs.Runs.{run_more}
 
 abbrev stack : List ℕ → List StackEntry → Stack
 stack t below = record { top = t; below = below }
@@ -93,13 +94,6 @@ refused_text command s (Fault.Refused refused) f h = f h
 refused_text command s Memory f h = (h, refl)
 refused_text command s (Blocked number) f h = f h
 
--- a run goes on by one command
-pub run_more : (old mid new : Stack) (cs : List Command) (rs : List (Result Done Fault)) (c : Command) (r : Result Done Fault) → StackRun old cs rs mid → StackStepOrMemory c mid r new → StackRun old (cs ++ c ∷ []) (rs ++ r ∷ []) new
-run_more old mid new [] [] c r h st = (new, subst (λ (x : Stack). StackStepOrMemory c x r new) h st, refl)
-run_more old mid new [] (x ∷ rs) c r h st = absurd h
-run_more old mid new (x ∷ cs) [] c r h st = absurd h
-run_more old mid new (x ∷ cs) (y ∷ rs) c r h st = (h.0, h.1, run_more h.0 mid new cs rs c r h.2 st)
-
 module _ (unique : ChangeResultIsUnique) where
   refused_take : (t : List ℕ) (below : List StackEntry) (js : List JournalEntry) (e : Fault) → RefusesRevert t js e → IsJournalOfStack js t below → StackStepOrMemory Revert (stack t below) (Err e) (stack t below)
   refused_take t below js (Scan fault) p st = absurd p
@@ -130,9 +124,9 @@ module _ (unique : ChangeResultIsUnique) where
       → (n : Stack) × StackRun first (cs ++ command ∷ []) (rs ++ reply ∷ []) n × (u ≡ n.top) × IsJournalOfStack ks n.top n.below
   stepped first mid cs rs command (Ok d) t js u ks untaken run top st does _ _ _ =
       let h = did command untaken mid.top mid.below js d u ks (subst (λ (x : List ℕ). DoesStep command x js d u ks) top does) st in
-      (h.0, run_more first mid h.0 cs rs command (Ok d) run h.1, h.2, h.3)
+      (h.0, run_more StackStepOrMemory first mid h.0 cs rs command (Ok d) run h.1, h.2, h.3)
   stepped first mid cs rs command (Err e) t js u ks untaken run top st _ why ut kj =
-      (mid, run_more first mid mid cs rs command (Err e) run (refused command untaken mid.top mid.below js e (subst (λ (x : List ℕ). RefusesStep command x js e) top why) st), ut ∙ top, subst (λ (x : List JournalEntry). IsJournalOfStack x mid.top mid.below) (sym kj) st)
+      (mid, run_more StackStepOrMemory first mid mid cs rs command (Err e) run (refused command untaken mid.top mid.below js e (subst (λ (x : List ℕ). RefusesStep command x js e) top why) st), ut ∙ top, subst (λ (x : List JournalEntry). IsJournalOfStack x mid.top mid.below) (sym kj) st)
 
 -- no take among some commands and one more
 pub without_before : (cs : List Command) (c : Command) → WithoutTake (cs ++ c ∷ []) → WithoutTake cs

@@ -13,7 +13,7 @@ use Rattle.tf_session.specs.declared.command.Command.TheVariants.{Fmt, Fix, Reve
 use Rattle.tf_session.specs.declared.command.Done.{Done}
 use Rattle.tf_session.specs.declared.command.Fault.{Fault}
 use Rattle.tf_lint.specs.Steps.{Rewrite, texts_differ}
-use Rattle.tf_session.specs.Machine.{is_memory}
+use Rattle.tf_session.specs.Runs.{is_memory}
 use Rattle.tf_session.specs.Layers.{Layer, History, initial_history, last_text, top_text, record_of, records_in, LayersAreConsistent, IsHistory, push_layer, PushesLayer, PopsLayer, TakeStep, HistoryStep, HistoryMayAllocate, HistoryRun}
 use Rattle.tf_session.specs.TakeLaws.{HistoryRunWithMemory, TakePreservesHistory, RevertsRestoreTheFirstAfterTakes, JournalSquashesToOneAfterTakes}
 use Rattle.tf_session.proofs.JournalOne.{TurnLengths, SquashesAreOne, become_one}

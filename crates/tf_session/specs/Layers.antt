@@ -1,7 +1,7 @@
 -- The machine that keeps the edits between its texts: fmt and fix put a layer on, revert takes the
 -- last one off, and take takes any one out, as if the command that put it on had not been given.
 -- Without take it is the machine of whole texts.
-use Rattle.std.specs.Prelude.{◌≡◌, ◌≢◌, ℕ, List, [], ◌∷◌, ◌++◌, map, Result, Ok, Err, if◌then◌else◌, MatchBool}
+use Rattle.std.specs.Prelude.{◌≡◌, ◌≢◌, ℕ, List, [], ◌∷◌, ◌++◌, map, Result, Ok, Err, if◌then◌else◌}
 use Rattle.edit_record.specs.declared.lists.record.Word.{Word}
 use Rattle.edit_record.specs.Lists.Pieces.{EditList, Transforms}
 use Rattle.edit_record.specs.Lists.Journal.{JournalEntry, edits_of, words_of}
@@ -14,7 +14,8 @@ use Rattle.tf_session.specs.declared.command.Fault.TheVariants.{NoRecord}
 use Rattle.tf_lint.specs.Steps.{Rewrite, texts_differ}
 use Rattle.tf_session.specs.Rewrites.{Rewrites}
 use Rattle.tf_lint.specs.ParseFaults.{IsUtf8WithinLimit}
-use Rattle.tf_session.specs.Machine.{done, is_memory}
+use Rattle.tf_session.specs.Machine.{done}
+use Rattle.tf_session.specs.Runs.{StepOrMemory, RunBy}
 use Rattle.tf_session.specs.NthItem.{Nth}
 use Rattle.tf_session.specs.RemovingRecord.{CannotRemove, RemovalMayAllocate}
 
@@ -129,16 +130,10 @@ HistoryMayAllocate (Fix rules) h = IsUtf8WithinLimit (top_text h)
 HistoryMayAllocate Revert h = h.layers ≢ []
 HistoryMayAllocate (Take n) h = RemovalMayAllocate n (top_text h) (records_in h.layers)
 
--- One command where growths may be refused: then its reply is Memory, and it changes nothing.
+-- one command where memory may run out
 abbrev pub HistoryStepOrMemory : Command → History → Result Done Fault → History → Type 0
-HistoryStepOrMemory command old reply new =
-    MatchBool (is_memory reply) (HistoryMayAllocate command old × (new ≡ old))
-    (HistoryStep command old reply new)
+HistoryStepOrMemory = StepOrMemory HistoryMayAllocate HistoryStep
 
 -- Each command has its reply, in order. One whose reply is Memory might as well not be in the list.
 abbrev pub HistoryRun : History → List Command → List (Result Done Fault) → History → Type 0
-HistoryRun old [] [] new = new ≡ old
-HistoryRun old [] (reply ∷ replies) new = ⊥
-HistoryRun old (command ∷ commands) [] new = ⊥
-HistoryRun old (command ∷ commands) (reply ∷ replies) new =
-    (mid : History) × HistoryStepOrMemory command old reply mid × HistoryRun mid commands replies new
+HistoryRun = RunBy HistoryStepOrMemory

@@ -5,6 +5,7 @@ pub mod Parsing
 pub mod Fixing
 pub mod Formatting
 pub mod Rewrites
+pub mod Runs
 pub mod Machine
 pub mod NthItem
 pub mod RemovingRecord

@@ -1,7 +1,7 @@
 -- The machine: a stack of whole texts. A fmt puts the layout on top and a fix the stated
 -- replacement, where it differs, and a revert takes the top off. There is no record and no place in
 -- it.
-use Rattle.std.specs.Prelude.{◌≡◌, ◌≢◌, ℕ, Bool, true, false, List, [], ◌∷◌, Result, Ok, Err, if◌then◌else◌, MatchBool}
+use Rattle.std.specs.Prelude.{◌≡◌, ◌≢◌, ℕ, Bool, true, List, [], ◌∷◌, Result, Ok, Err, if◌then◌else◌}
 use Rattle.std.specs.List.{AllByRecursion}
 use Rattle.tf_session.specs.declared.command.Command.{Command}
 use Rattle.tf_session.specs.declared.command.Command.TheVariants.{Fmt, Fix, Revert, Take}
@@ -9,7 +9,8 @@ use Rattle.tf_session.specs.declared.command.Done.{Done}
 use Rattle.tf_session.specs.declared.command.Fault.{Fault}
 use Rattle.tf_session.specs.declared.command.Fault.TheVariants.{NoRecord}
 use Rattle.tf_lint.specs.Steps.{Rewrite, texts_differ}
-use Rattle.tf_session.specs.Rewrites.{Rewrites, is_memory_fault}
+use Rattle.tf_session.specs.Rewrites.{Rewrites}
+use Rattle.tf_session.specs.Runs.{StepOrMemory, RunBy}
 use Rattle.tf_lint.specs.ParseFaults.{IsUtf8WithinLimit}
 
 -- a text, and the command that put the next one on it
@@ -59,11 +60,6 @@ StackStep (Fix rules) old reply new =
 StackStep Revert old reply new = PopsText old.top old.below reply new
 StackStep (Take n) old reply new = ⊥
 
--- whether a growth was refused inside the command
-abbrev pub is_memory : Result Done Fault → Bool
-is_memory (Ok d) = false
-is_memory (Err fault) = is_memory_fault fault
-
 -- A fmt or a fix takes memory only for a text that it looks into, and a revert only where there is
 -- something below.
 abbrev pub StackMayAllocate : Command → Stack → Type 0
@@ -72,18 +68,13 @@ StackMayAllocate (Fix rules) s = IsUtf8WithinLimit s.top
 StackMayAllocate Revert s = s.below ≢ []
 StackMayAllocate (Take n) s = ⊥
 
--- One command where growths may be refused: then its reply is Memory, and it changes nothing.
+-- one command where memory may run out
 abbrev pub StackStepOrMemory : Command → Stack → Result Done Fault → Stack → Type 0
-StackStepOrMemory command old reply new =
-    MatchBool (is_memory reply) (StackMayAllocate command old × (new ≡ old)) (StackStep command old reply new)
+StackStepOrMemory = StepOrMemory StackMayAllocate StackStep
 
 -- Each command has its reply, in order. One whose reply is Memory might as well not be in the list.
 abbrev pub StackRun : Stack → List Command → List (Result Done Fault) → Stack → Type 0
-StackRun old [] [] new = new ≡ old
-StackRun old [] (reply ∷ replies) new = ⊥
-StackRun old (command ∷ commands) [] new = ⊥
-StackRun old (command ∷ commands) (reply ∷ replies) new =
-    (mid : Stack) × StackStepOrMemory command old reply mid × StackRun mid commands replies new
+StackRun = RunBy StackStepOrMemory
 
 -- ---- the lists of commands that are this machine's
 

@@ -4,7 +4,8 @@ use Rattle.tf_session.specs.declared.command.Command.{Command}
 use Rattle.tf_session.specs.declared.command.Command.TheVariants.{Revert}
 use Rattle.tf_session.specs.declared.command.Done.{Done}
 use Rattle.tf_session.specs.declared.command.Fault.{Fault}
-use Rattle.tf_session.specs.Machine.{StackEntry, Stack, initial_stack, done, is_memory, StackStep, StackRun}
+use Rattle.tf_session.specs.Machine.{StackEntry, Stack, initial_stack, done, StackStep, StackRun}
+use Rattle.tf_session.specs.Runs.{is_memory, RunBy}
 
 -- the commands whose reply is not Memory
 abbrev pub completed_commands : List Command → List (Result Done Fault) → List Command
@@ -20,11 +21,7 @@ completed_replies (reply ∷ replies) = if is_memory reply then completed_replie
 
 -- the machine over a list of commands, where no growth is refused
 abbrev pub StackRunWithMemory : Stack → List Command → List (Result Done Fault) → Stack → Type 0
-StackRunWithMemory old [] [] new = new ≡ old
-StackRunWithMemory old [] (reply ∷ replies) new = ⊥
-StackRunWithMemory old (command ∷ commands) [] new = ⊥
-StackRunWithMemory old (command ∷ commands) (reply ∷ replies) new =
-    (mid : Stack) × StackStep command old reply mid × StackRunWithMemory mid commands replies new
+StackRunWithMemory = RunBy StackStep
 
 -- In any run, replies and stack are those of the machine over the commands that had memory.
 abbrev pub OutOfMemoryChangesNothing : Type 0

@@ -1,5 +1,5 @@
 -- Laws of the machine with take, over lists of commands.
-use Rattle.std.specs.Prelude.{◌≡◌, ◌+◌, ℕ, List, [], ◌∷◌, length, replicate, Result}
+use Rattle.std.specs.Prelude.{◌≡◌, ◌+◌, ℕ, List, ◌∷◌, length, replicate, Result}
 use Rattle.edit_record.specs.Lists.Pieces.{EditList, Transforms}
 use Rattle.edit_record.specs.Lists.Journal.{edits_of}
 use Rattle.tf_session.specs.declared.command.Command.{Command}
@@ -9,15 +9,12 @@ use Rattle.tf_session.specs.declared.command.Fault.{Fault}
 use Rattle.tf_session.specs.JournalLaws.{SquashToOne}
 use Rattle.tf_session.specs.ResultIsUnique.{AreSameUpToParseFault}
 use Rattle.tf_session.specs.RunLaws.{completed_commands, completed_replies}
+use Rattle.tf_session.specs.Runs.{RunBy}
 use Rattle.tf_session.specs.Layers.{History, initial_history, top_text, records_in, IsHistory, RemovesLayer, TakeStep, HistoryStep, HistoryRun}
 
 -- the machine over a list of commands, where no growth is refused
 abbrev pub HistoryRunWithMemory : History → List Command → List (Result Done Fault) → History → Type 0
-HistoryRunWithMemory old [] [] new = new ≡ old
-HistoryRunWithMemory old [] (reply ∷ replies) new = ⊥
-HistoryRunWithMemory old (command ∷ commands) [] new = ⊥
-HistoryRunWithMemory old (command ∷ commands) (reply ∷ replies) new =
-    (mid : History) × HistoryStep command old reply mid × HistoryRunWithMemory mid commands replies new
+HistoryRunWithMemory = RunBy HistoryStep
 
 -- In any run, takes among its commands, replies and history are those of the machine over the
 -- commands that had memory.
