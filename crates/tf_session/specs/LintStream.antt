@@ -21,6 +21,10 @@ AreLines name rules text lines count =
     (found : List Report) × HasIssues rules text found × (lines ≡ lines_of name found)
     × (count ≡ length found)
 
+-- these are the lines of the issues of a text
+abbrev pub HasLines : List ℕ → RuleSet → List ℕ → List ℕ → Type 0
+HasLines name rules text lines = (count : ℕ) × AreLines name rules text lines count
+
 -- From the source came a whole text, and to the target went the lines of its issues, of which there
 -- are so many.
 abbrev pub LintsStream : List ℕ → RuleSet → ℕ → Source → Target → Type 0
@@ -31,5 +35,4 @@ LintsStream name rules count source target =
 -- No text came, or it does not parse, or not all lines went out.
 abbrev pub LintStreamFault : List ℕ → RuleSet → RunFault → Source → Target → Type 0
 LintStreamFault name rules fault source target =
-    StreamFault IsReadFault (λ text lines. (count : ℕ)
-    × AreLines name rules text lines count) fault source target
+    StreamFault IsReadFault (HasLines name rules) fault source target

@@ -103,3 +103,7 @@ RefusesStep Fmt t js fault = RefusesText Fmt t fault
 RefusesStep (Fix rules) t js fault = RefusesText (Fix rules) t fault
 RefusesStep Revert t js fault = RefusesRevert t js fault
 RefusesStep (Take n) t js fault = RefusesRemoval n t js fault
+
+-- why a command refuses a text that has no record before it
+abbrev pub RefusesAlone : Command → List ℕ → Fault → Type 0
+RefusesAlone command text fault = RefusesStep command text [] fault

@@ -10,7 +10,7 @@ use Rattle.tf_session.specs.declared.command.Done.{Done}
 use Rattle.tf_session.specs.declared.fault.RunFault.{RunFault}
 use Rattle.tf_session.specs.Parsing.{DoesParse}
 use Rattle.tf_session.specs.Rewrites.{RefusesText}
-use Rattle.tf_session.specs.Records.{DoesStep, RefusesStep, StepsTo}
+use Rattle.tf_session.specs.Records.{DoesStep, StepsTo, RefusesAlone}
 use Rattle.tf_session.specs.Streams.{ReadsText, IsReadStreamFault, RefusesInput, StreamFault}
 
 -- From the source came a whole text; the command made this new text of it, with these records, and
@@ -23,8 +23,7 @@ StepsStream command d new records source target =
 -- No text came, or the command refused it, or not all of the new text went out.
 abbrev pub StepStreamFault : Command → RunFault → Source → Target → Type 0
 StepStreamFault command fault source target =
-    StreamFault (λ text refusal. RefusesStep command text [] refusal)
-    (StepsTo command) fault source target
+    StreamFault (RefusesAlone command) (StepsTo command) fault source target
 
 -- From the source came a whole text, and what a fmt makes of it went to the target.
 abbrev pub FormatsStream : Source → Target → Type 0

@@ -30,18 +30,31 @@ abbrev pub is_write : RunFault → Bool
 is_write (Write part sent) = true
 is_write _ = false
 
--- The whole text is refused, for one of these reasons.
+-- the whole text is refused, for one of these reasons
 abbrev pub RefusesInput : (List ℕ → Fault → Type 0) → RunFault → Source → Type 0
-RefusesInput Why fault source =
+RefusesInput Refuses fault source =
     (text : List ℕ) × ReadsText source text × (refusal : Fault) × (fault ≡ run_fault_of refusal)
-    × Why text refusal
+    × Refuses text refusal
 
--- There is no whole text, and nothing was put; or it is refused, and nothing was put; or not all
--- that was made of it was.
-abbrev pub StreamFault : (List ℕ → Fault → Type 0) → (List ℕ → List ℕ → Type 0) → RunFault → Source
-    → Target → Type 0
-StreamFault Why Made fault source target =
-    (IsReadStreamFault fault source × Untouched target)
-    ⊎ (RefusesInput Why fault source × Untouched target)
-    ⊎ ((text : List ℕ) × (made : List ℕ) × ReadsText source text × Made text made
-    × IsWriteFault Part.Text fault target made)
+-- ---- how a call from a source to a target fails
+
+-- there is no whole text, and nothing was written
+abbrev pub FailsToRead : RunFault → Source → Target → Type 0
+FailsToRead fault source target = IsReadStreamFault fault source × Untouched target
+
+-- the whole text is refused, and nothing was written
+abbrev pub FailsToMake : (List ℕ → Fault → Type 0) → RunFault → Source → Target → Type 0
+FailsToMake Refuses fault source target = RefusesInput Refuses fault source × Untouched target
+
+-- not all that was made of the whole text was written
+abbrev pub FailsToWrite : (List ℕ → List ℕ → Type 0) → RunFault → Source → Target → Type 0
+FailsToWrite Makes fault source target =
+    (text : List ℕ) × (made : List ℕ) × ReadsText source text × Makes text made
+    × IsWriteFault Part.Text fault target made
+
+abbrev pub StreamFault : (List ℕ → Fault → Type 0) → (List ℕ → List ℕ → Type 0) → RunFault
+    → Source → Target → Type 0
+StreamFault Refuses Makes fault source target =
+    FailsToRead fault source target
+    ⊎ FailsToMake Refuses fault source target
+    ⊎ FailsToWrite Makes fault source target
