@@ -12,9 +12,9 @@ use Rattle.tf_session.specs.declared.command.Fault.{Fault}
 use Rattle.tf_session.specs.Machine.{Stack, initial_stack, StackRun}
 use Rattle.tf_session.specs.Records.{IsJournalOfStack}
 
--- The lists, squashed from the first on, each into the result so far, become one that turns the one
--- text into the other. On the way each can follow those before it, so squashing it fails only if
--- memory runs out. There is such a list, as those of a journal's records are valid (law
+-- The lists, squashed from the first on, each into the result up to there, become one that turns
+-- the one text into the other. On the way each can follow those before it, so squashing it fails
+-- only if memory runs out. There is such a list, as those of a journal's records are valid (law
 -- `edits_are_valid` of edit_record).
 pub record SquashToOne (text top : List ℕ) (first : EditList) (others : List EditList) : Type 0 where
   pub composable : (before : List EditList) (next : EditList) (after : List EditList)

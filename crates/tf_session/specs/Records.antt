@@ -22,8 +22,8 @@ HasWord (Fix rules) word = word ≡ Word.Fix
 HasWord Revert word = ⊥
 HasWord (Take n) word = ⊥
 
--- the record of a command that put the upper text on the lower: its word, the stated edits, and it
--- turns the one into the other
+-- the record of a command that pushed the upper text on the lower: its word, the stated edits, and
+-- it turns the one into the other
 pub record IsRecordOf (command : Command) (lower upper : List ℕ) (r : JournalEntry) : Type 0 where
   pub made : Rewrite
   pub makes : Rewrites command lower (Ok made)
@@ -48,8 +48,8 @@ abbrev pub AddsRecord : Bool → Word → EditList → List JournalEntry → Lis
 AddsRecord true word edits js ks = ks ≡ js ++ (record { word = word; edits = edits }) ∷ []
 AddsRecord false word edits js ks = ks ≡ js
 
--- a text that differs is put on with one record more, of just these edits, and one that doesn't
--- with none
+-- a text that differs is the new one, with one record more, of just these edits; one that doesn't
+-- adds none
 abbrev pub AddsRecordOf : Bool → Command → List ℕ → Rewrite → List JournalEntry → List JournalEntry → Type 0
 AddsRecordOf true command t made js ks =
     (r : JournalEntry) × (ks ≡ js ++ r ∷ []) × IsRecordOf command t made.text r × (r.edits ≡ made.edits)
@@ -65,7 +65,7 @@ ReplacesText command made t js d u ks =
 abbrev pub IsUniqueOld : JournalEntry → List ℕ → List ℕ → Type 0
 IsUniqueOld r u t = record_transforms r u t × ((v : List ℕ) → record_transforms r v t → v ≡ u)
 
--- the last record is undone and taken off
+-- the last record is undone and removed
 abbrev pub RevertsLast : List ℕ → List JournalEntry → Done → List ℕ → List JournalEntry → Type 0
 RevertsLast t js d u ks =
     (r : JournalEntry) × (js ≡ ks ++ r ∷ []) × IsUniqueOld r u t × (d ≡ done (texts_differ u t) 0 0)
@@ -78,7 +78,7 @@ DoesStep (Fix rules) t js d u ks =
 DoesStep Revert t js d u ks = RevertsLast t js d u ks
 DoesStep (Take n) t js d u ks = RemovesRecord n t js d u ks
 
--- what a command makes of a text that has no record before it, whatever it answers and records
+-- what a command makes of a text that has no record before it, whatever it returns and records
 abbrev pub StepsTo : Command → List ℕ → List ℕ → Type 0
 StepsTo command text new =
     (d : Done) × (records : List JournalEntry) × DoesStep command text [] d new records

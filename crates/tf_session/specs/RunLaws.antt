@@ -19,7 +19,7 @@ abbrev pub completed_replies : List (Result Done Fault) → List (Result Done Fa
 completed_replies [] = []
 completed_replies (reply ∷ replies) = if is_memory reply then completed_replies replies else reply ∷ completed_replies replies
 
--- the machine over a list of commands, where no growth is refused
+-- the machine over a list of commands, if memory does not run out
 abbrev pub StackRunWithMemory : Stack → List Command → List (Result Done Fault) → Stack → Type 0
 StackRunWithMemory = RunBy StackStep
 
@@ -37,8 +37,8 @@ texts_of s = s.top ∷ map (λ (u : StackEntry). u.text) s.below
 abbrev pub revert_reply : Result Done Fault
 revert_reply = Ok (done true 0 0)
 
--- As many reverts as there are texts below, or fewer, take just so many off and leave the rest byte
--- for byte.
+-- As many reverts as there are texts below, or fewer, pop one text each and leave the rest byte for
+-- byte.
 abbrev pub RevertsPop : Type 0
 RevertsPop = (k : ℕ) (old new : Stack) (replies : List (Result Done Fault))
     → k ≤ length old.below → StackRunWithMemory old (replicate k Revert) replies new

@@ -1,4 +1,4 @@
--- Whole texts from a source and to a target, and what was taken and put at each fault.
+-- Whole texts from a source and to a target, and what was read and written at each error.
 use Rattle.std.specs.Prelude.{◌≡◌, ◌⊎◌, ℕ, Bool, true, false, List}
 use Rattle.hcl_scan.specs.Tokenization.{MAX_TEXT}
 use Rattle.tf_stream.specs.Streams.{Source, Target, ReadsAll, ReadAtFault, WritesPrefix, Untouched}
@@ -13,14 +13,14 @@ use Rattle.tf_session.specs.Faults.{run_fault_of}
 abbrev pub ReadsText : Source → List ℕ → Type 0
 ReadsText source text = ReadsAll MAX_TEXT source text
 
--- why there is no text, and what was taken of the source
+-- why there is no text, and what was read of the source
 abbrev pub IsReadStreamFault : RunFault → Source → Type 0
 IsReadStreamFault Memory source = ReadAtFault MAX_TEXT ReadFault.Memory source
 IsReadStreamFault Read source = ReadAtFault MAX_TEXT ReadFault.Read source
 IsReadStreamFault Endless source = ReadAtFault MAX_TEXT ReadFault.Endless source
 IsReadStreamFault _ source = ⊥
 
--- the fault is Write at this part, and just the bytes that it says were sent went to the target
+-- the error is Write of this part, and just the bytes that it says were sent are in the target
 abbrev pub IsWriteFault : Part → RunFault → Target → List ℕ → Type 0
 IsWriteFault part (Write named sent) target bytes = (named ≡ part) × WritesPrefix sent target bytes
 IsWriteFault part _ target bytes = ⊥

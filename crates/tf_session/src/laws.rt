@@ -1,5 +1,5 @@
-//! Laws of the machine that `run` stands for: functions that do nothing, for callers whose proofs
-//! want what their clauses say.
+//! Laws of the machines that `run` is proved to be. The functions do nothing: a call makes a law's
+//! clause available to the proof of its caller.
 
 ghost use Rattle.std.specs.Prelude.{List, ℕ};
 ghost use Rattle.edit_record.specs.Lists.Journal.{JournalEntry};
@@ -20,12 +20,12 @@ use hcl_layout::laws::{layout_keeps_tokens, layout_of_layout, one_layout};
 use hcl_scan::laws::{no_tokenization_with_fault, one_fault, one_tokenization};
 use tf_lint::laws::fix_is_unique;
 
-/// A command that met a refused growth might as well not be in the list.
+/// A command that ran out of memory might as well not be in the list.
 pub fn out_of_memory_changes_nothing()
     ensures { OutOfMemoryChangesNothing }
 {}
 
-/// Reverts take exactly the last texts off, one each, byte for byte.
+/// Reverts pop exactly the last texts, one each, byte for byte.
 pub fn reverts_pop_the_last()
     ensures { RevertsPop }
 {}
@@ -46,7 +46,7 @@ pub fn command_result_is_unique()
     fix_is_unique();
 }
 
-/// Where a fmt answers `Done`, the new text has the tokens of the old one, comments and line ends
+/// If a fmt returns `Done`, the new text has the tokens of the old one, comments and line ends
 /// among them.
 pub fn fmt_keeps_tokens()
     ensures { FmtKeepsTokens }
@@ -62,7 +62,7 @@ pub fn fmt_is_idempotent()
 }
 
 /// The records of the journal of any run, squashed from the first on, are one list of edits, which
-/// turns the first text into the last: on the way no list is refused but for want of memory.
+/// turns the first text into the last. On the way squashing fails only if memory runs out.
 pub fn journal_squashes_to_one()
     ensures { JournalSquashesToOne }
 {
@@ -118,8 +118,7 @@ pub fn command_result_is_unique_over_layers()
     apply_is_deterministic();
 }
 
-/// A command that met a refused growth might as well not be in the list, takes among its commands
-/// too.
+/// A command that ran out of memory might as well not be in the list, with takes in the list too.
 pub fn out_of_memory_changes_nothing_over_layers()
     ensures { OutOfMemoryChangesNothingOverLayers }
 {}

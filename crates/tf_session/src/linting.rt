@@ -16,10 +16,10 @@ use std::io::{Read, Write};
 use tf_lint::{RuleSet, lines_of_findings};
 use tf_stream::Told;
 
-/// Writes a line for each issue that the rules find in the text, each followed by LF, and answers
-/// their number.
+/// Writes a line for each issue that the rules find in the text of a reader, each followed by LF,
+/// and returns their number.
 ///
-/// All lines are made before the first is written, so nothing is written at any fault but `Write`.
+/// All lines are made before the first is written, so nothing is written at any error but `Write`.
 pub fn lint_stream<R: Read, W: Write>(
     alloc: Global,
     name: &str,
@@ -44,7 +44,7 @@ pub fn lint_stream<R: Read, W: Write>(
     Ok(count)
 }
 
-/// The lines of the issues of a text, and their number.
+/// Returns the lines of the issues of a text, and their number.
 fn issue_lines(
     alloc: Global,
     name: &str,

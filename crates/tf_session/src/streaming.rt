@@ -1,4 +1,4 @@
-//! One command over a whole text, from a reader to a writer, and whether a whole text is laid out.
+//! One command over a whole text, from a reader to a writer, and whether a whole text is formatted.
 
 ghost use Rattle.std.specs.Prelude.{◌≡◌, ◌↔◌, true, false, OnOk, IfOk, IfErr, IsErrOf, IsErrAnd};
 ghost use Rattle.tf_stream.specs.Told.{has_failed};
@@ -18,10 +18,10 @@ use std::alloc::Global;
 use std::io::{Read, Write};
 use tf_stream::Told;
 
-/// One command over the whole text of a reader, with no journal. The new text, changed or not, goes
-/// to the writer.
+/// Does one command over the whole text of a reader, with no journal, and writes the new text,
+/// changed or not.
 ///
-/// Answers the session after the command, and what it did. Nothing is written at any fault but
+/// Returns the session after the command, and what it did. Nothing is written at any error but
 /// `Write`.
 pub fn step_text_stream<R: Read, W: Write>(
     alloc: Global,
@@ -49,8 +49,8 @@ pub fn step_text_stream<R: Read, W: Write>(
     }
 }
 
-/// Formats the text of a reader and writes it to `out`. Writes the same bytes as `step_text_stream` with
-/// `Command::Fmt`, and has the same errors, but makes neither a session nor edits.
+/// Formats the text of a reader and writes it to `out`. Writes the same bytes as `step_text_stream`
+/// with `Command::Fmt`, and has the same errors, but makes neither a session nor edits.
 pub fn format_text_stream<R: Read, W: Write>(
     alloc: Global,
     text: &mut Told<R>,
@@ -74,9 +74,9 @@ pub fn format_text_stream<R: Read, W: Write>(
     }
 }
 
-/// Whether the whole text of a reader is its own layout.
+/// Returns whether the whole text of a reader is its own layout.
 ///
-/// A text that a fmt refuses is refused here too, with the same fault: one that does not parse, or
+/// A text that a fmt refuses is refused here too, with the same error: one that does not parse, or
 /// has a layout of more than 16,777,216 bytes.
 pub fn check_stream<R: Read>(alloc: Global, text: &mut Told<R>) -> Result<bool, RunFault>
     requires { has_failed text.old ≡ false }
