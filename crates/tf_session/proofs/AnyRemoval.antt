@@ -4,18 +4,19 @@ use Rattle.edit_record.specs.Lists.Journal.{JournalEntry, edits_of, words_of}
 use Rattle.edit_record.specs.Lists.Pieces.{EditList, Transforms}
 use Rattle.edit_record.specs.Lists.ChangeResults.{IsChangeResult, ChangeResultIsUnique}
 use Rattle.edit_record.specs.declared.lists.change.Refused.{Refused}
-use Rattle.edit_record.specs.declared.lists.change.Refused.TheVariants.{Length, Differs}
+use Rattle.edit_record.specs.declared.lists.change.Refused.TheVariants.{Length}
 use Rattle.edit_record.specs.declared.lists.direction.Direction.TheVariants.{Backward}
 use Rattle.edit_record.specs.Swaps.Swap.{SwapIsUnique}
 use Rattle.edit_record.specs.Swaps.MoveToEnd.{IsMovedToEnd, MoveToEndIsUnique}
 use Rattle.edit_record.specs.Swaps.MoveToEndResult.{LengthMismatch, SomeMeet, SwapIsTooLong}
 use Rattle.tf_session.specs.declared.command.Done.{Done}
 use Rattle.tf_session.specs.declared.command.Fault.{Fault}
-use Rattle.tf_session.specs.declared.command.Fault.TheVariants.{Scan, Parse, FixBroken, TooLong, NoRecord, Memory, Blocked}
+use Rattle.tf_session.specs.declared.command.Fault.TheVariants.{TooLong, NoRecord, Memory, Blocked}
 use Rattle.tf_lint.specs.Steps.{texts_differ}
 use Rattle.tf_session.specs.Machine.{done}
 use Rattle.tf_session.specs.NthItem.{Nth}
-use Rattle.tf_session.specs.RemovingRecord.{RemovesRecord, FailsAfter, LengthsBreak, UndoFails, RefusesRemoval}
+use Rattle.tf_session.specs.RemovingRecord.{RemovesRecord, FailsAfter, UndoFails, RefusesRemoval}
+use Rattle.tf_session.specs.RemovingRecord.RefusesRemoval.{no_record, blocked, too_long, lengths_differ, not_undone, memory}
 use Rattle.tf_session.specs.RemovalLaws.{RemovalIsUnique}
 use Rattle.tf_session.proofs.RemovalIsUnique.{Excludes, met_excludes, overflows_excludes, nth_once, numbers, there_is, passed_or_stuck, stuck_same}
 use Rattle.tf_session.proofs.Stacks.{undone_or_refused}
@@ -67,24 +68,16 @@ refails n k js Q R goes s = record {
   };
 }
 
-breaks : (n : ℕ) (js : List JournalEntry) (refused : Refused) → LengthsBreak n js refused → (k : ℕ) × FailsAfter n js k (CannotSwap n k (Fault.Refused refused))
-breaks n js (Length expected found) h =
-    (h.0, refails n h.0 js (λ a b. LengthMismatch a b expected found) (CannotSwap n h.0 (Fault.Refused (Length expected found))) (λ a b m. inr (inr (expected, found, refl, m))) h.1)
-breaks n js (Differs step edit) h = absurd h
-breaks n js Refused.Memory h = absurd h
-
-reasons : (n : ℕ) (t : List ℕ) (js : List JournalEntry) (f : Fault) → RefusesRemoval n t js f → (f ≡ Memory) ⊎ Reasons n t js f
-reasons n t js (Scan fault) h = absurd h
-reasons n t js (Parse fault) h = absurd h
-reasons n t js (FixBroken rule) h = absurd h
-reasons n t js TooLong h =
-    inr (inr (inl (h.0, refails n h.0 js SwapIsTooLong (CannotSwap n h.0 TooLong) (λ a b m. inl (refl, m)) h.1)))
-reasons n t js NoRecord h = inr (inl (refl, h))
-reasons n t js (Fault.Refused refused) (inl h) = inr (inr (inl (breaks n js refused h)))
-reasons n t js (Fault.Refused refused) (inr h) = inr (inr (inr (refused, refl, h)))
-reasons n t js Memory h = inl refl
-reasons n t js (Blocked number) h =
-    inr (inr (inl (h.0, refails n h.0 js SomeMeet (CannotSwap n h.0 (Blocked number)) (λ a b m. inr (inl (ap (λ (x : ℕ). Blocked x) h.2, m))) h.1)))
+reasons : (n : ℕ) (t : List ℕ) (js : List JournalEntry) {f : Fault} → RefusesRemoval n t js f → (f ≡ Memory) ⊎ Reasons n t js f
+reasons n t js (no_record none) = inr (inl (refl, none))
+reasons n t js (blocked {k} s) =
+    inr (inr (inl (k, refails n k js SomeMeet (CannotSwap n k (Blocked (n + k + 1))) (λ a b m. inr (inl (refl, m))) s)))
+reasons n t js (too_long {k} s) =
+    inr (inr (inl (k, refails n k js SwapIsTooLong (CannotSwap n k TooLong) (λ a b m. inl (refl, m)) s)))
+reasons n t js (lengths_differ {k} {expected} {found} s) =
+    inr (inr (inl (k, refails n k js (λ a b. LengthMismatch a b expected found) (CannotSwap n k (Fault.Refused (Length expected found))) (λ a b m. inr (inr (expected, found, refl, m))) s)))
+reasons n t js (not_undone {refused} u) = inr (inr (inr (refused, refl, u)))
+reasons n t js (memory may) = inl refl
 
 same_records : (rs ss : List JournalEntry) → edits_of rs ≡ edits_of ss → words_of rs ≡ words_of ss → rs ≡ ss
 same_records [] [] e w = refl
@@ -157,6 +150,6 @@ module _ (one_swap : SwapIsUnique) (takes_one : MoveToEndIsUnique) (unique : Cha
   pub any_removal_is_unique : (n : ℕ) (t : List ℕ) (js : List JournalEntry) → RemovalIsUnique n t js
   any_removal_is_unique n t js = record {
     one_result = λ d e u v ks ls p q. one_removed n t js d e u v ks ls p q;
-    not_both = λ d u ks f p q. out_or_refused n t js d u ks f p (reasons n t js f q);
-    one_reason = λ f g p q. one_or_memory n t js f g (reasons n t js f p) (reasons n t js g q);
+    not_both = λ d u ks f p q. out_or_refused n t js d u ks f p (reasons n t js q);
+    one_reason = λ f g p q. one_or_memory n t js f g (reasons n t js p) (reasons n t js q);
   }

@@ -20,7 +20,8 @@ use Rattle.tf_lint.specs.Steps.{Rewrite, texts_differ}
 use Rattle.tf_session.specs.Rewrites.{Rewrites, is_memory_fault}
 use Rattle.tf_lint.specs.ParseFaults.{IsUtf8WithinLimit}
 use Rattle.tf_session.specs.Machine.{done}
-use Rattle.tf_session.specs.RemovingRecord.{RemovesRecord, UndoFails, LengthsBreak, RefusesRemoval}
+use Rattle.tf_session.specs.RemovingRecord.{RemovesRecord, FailsAfter, UndoFails, RefusesRemoval}
+use Rattle.tf_session.specs.RemovingRecord.RefusesRemoval.{no_record, blocked, too_long, lengths_differ, not_undone, memory}
 use Rattle.tf_session.specs.Layers.{Layer, History, last_text, top_text, record_of, records_in, LayersAreConsistent, IsHistory, PushesLayer, HistoryStep, HistoryStepOrMemory, HistoryRun}
 use Rattle.tf_session.specs.Records.{HasWord, AddsRecordOf, RevertsLast, DoesStep, RefusesRevert, RefusesStep}
 use Rattle.tf_session.proofs.JournalOne.{TurnLengths}
@@ -256,13 +257,10 @@ refused_last unique p (Fault.Refused refused) h st =
 refused_last unique p Memory h st = ((λ e. not_nil h.1.0 h.0 (sym h.1.1 ∙ ap records_in e)), refl)
 refused_last unique p (Blocked number) h st = absurd h
 
-never_breaks : MoveToEndIsUnique → TurnLengths → (n : ℕ) (p : History) (r : Refused) → LengthsBreak n (records_in p.layers) r → IsHistory p → ⊥
-never_breaks takes_one lengths n p (Length expected found) h st =
-    let s = h.1 in
+never_breaks : MoveToEndIsUnique → TurnLengths → (n : ℕ) (p : History) (k expected found : ℕ) → FailsAfter n (records_in p.layers) k (λ a b. LengthMismatch a b expected found) → IsHistory p → ⊥
+never_breaks takes_one lengths n p k expected found s st =
     let a = about p s.nth.before s.nth.item s.nth.after s.nth.all st in
-    follows takes_one lengths s.nth.item.edits (edits_of s.nth.after) h.0 expected found (last_text p.first a.layer.low) a.layer.here.text (top_text p) a.transforms a.higher s.fails
-never_breaks takes_one lengths n p (Differs step edit) h st = h
-never_breaks takes_one lengths n p Refused.Memory h st = h
+    follows takes_one lengths s.nth.item.edits (edits_of s.nth.after) k expected found (last_text p.first a.layer.low) a.layer.here.text (top_text p) a.transforms a.higher s.fails
 
 always_undone : ChangeResultIsUnique → MoveToEndIsUnique → (n : ℕ) (p : History) (r : Refused) → UndoFails n (top_text p) (records_in p.layers) r → IsHistory p → ⊥
 always_undone unique takes_one n p r h st =
@@ -270,16 +268,13 @@ always_undone unique takes_one n p r h st =
     let w = ((takes_one h.nth.item.edits (edits_of h.nth.after)).equivalent h.new_lists h.moved_edits h.is_moved (last_text p.first a.layer.low) (top_text p)).0 (a.layer.here.text, a.transforms, a.higher) in
     undone_or_refused unique h.moved_edits (top_text p) w.0 r h.refuses w.2
 
-refused_one : ChangeResultIsUnique → MoveToEndIsUnique → TurnLengths → (n : ℕ) (p : History) (e : Fault) → RefusesRemoval n (top_text p) (records_in p.layers) e → IsHistory p → HistoryStepOrMemory (Take n) p (Err e) p
-refused_one unique takes_one lengths n p (Scan fault) h st = absurd h
-refused_one unique takes_one lengths n p (Parse fault) h st = absurd h
-refused_one unique takes_one lengths n p (FixBroken rule) h st = absurd h
-refused_one unique takes_one lengths n p TooLong h st = (h, refl)
-refused_one unique takes_one lengths n p NoRecord h st = (h, refl)
-refused_one unique takes_one lengths n p (Fault.Refused refused) (inl h) st = absurd (never_breaks takes_one lengths n p refused h st)
-refused_one unique takes_one lengths n p (Fault.Refused refused) (inr h) st = absurd (always_undone unique takes_one n p refused h st)
-refused_one unique takes_one lengths n p Memory h st = (h, refl)
-refused_one unique takes_one lengths n p (Blocked number) h st = (h, refl)
+refused_one : ChangeResultIsUnique → MoveToEndIsUnique → TurnLengths → (n : ℕ) (p : History) {e : Fault} → RefusesRemoval n (top_text p) (records_in p.layers) e → IsHistory p → HistoryStepOrMemory (Take n) p (Err e) p
+refused_one unique takes_one lengths n p (no_record none) st = (none, refl)
+refused_one unique takes_one lengths n p (blocked {k} s) st = ((k, s, refl), refl)
+refused_one unique takes_one lengths n p (too_long {k} s) st = ((k, s), refl)
+refused_one unique takes_one lengths n p (lengths_differ {k} {expected} {found} s) st = absurd (never_breaks takes_one lengths n p k expected found s st)
+refused_one unique takes_one lengths n p (not_undone {refused} u) st = absurd (always_undone unique takes_one n p refused u st)
+refused_one unique takes_one lengths n p (memory may) st = (may, refl)
 
 refused_text : (command : Command) (p : History) (e : Fault) → (Rewrites command (top_text p) (Err e) → HistoryStep command p (Err e) p) → MatchBool (is_memory_fault e) (IsUtf8WithinLimit (top_text p)) (Rewrites command (top_text p) (Err e))
     → MatchBool (is_memory_fault e) (IsUtf8WithinLimit (top_text p) × (p ≡ p)) (HistoryStep command p (Err e) p)
@@ -296,7 +291,7 @@ stays : ChangeResultIsUnique → MoveToEndIsUnique → TurnLengths → (command 
 stays unique takes_one lengths Fmt p e h st = refused_text Fmt p e (λ m. (Err e, m, (refl, refl))) h
 stays unique takes_one lengths (Fix rules) p e h st = refused_text (Fix rules) p e (λ m. (Err e, m, (refl, refl))) h
 stays unique takes_one lengths Revert p e h st = refused_last unique p e h st
-stays unique takes_one lengths (Take n) p e h st = refused_one unique takes_one lengths n p e h st
+stays unique takes_one lengths (Take n) p e h st = refused_one unique takes_one lengths n p h st
 
 -- What a session's step ensures takes a run, and the history that its records stand for, one command further.
 pub moved : ChangeResultIsUnique → MoveToEndIsUnique → TurnLengths → (first mid : History) (cs : List Command) (rs : List (Result Done Fault)) (command : Command) (reply : Result Done Fault) (t : List ℕ) (js : List JournalEntry) (u : List ℕ) (ks : List JournalEntry)

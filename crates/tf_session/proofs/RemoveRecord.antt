@@ -18,6 +18,7 @@ use Rattle.tf_lint.specs.Steps.{texts_differ}
 use Rattle.tf_session.specs.Machine.{done}
 use Rattle.tf_session.specs.NthItem.{Nth}
 use Rattle.tf_session.specs.RemovingRecord.{RemovesRecord, RefusesRemoval, removal_fault, counted_records}
+use Rattle.tf_session.specs.RemovingRecord.RefusesRemoval.{not_undone, lengths_differ, blocked, too_long, memory}
 
 -- what undoing edits answers, by the laws of edits
 abbrev pub Undoes : EditList → Type 0
@@ -69,15 +70,15 @@ module _ (n : ℕ) (rs : List JournalEntry) (r : JournalEntry) (pos : 1 ≤ n) (
   }
 
   pub not_back : (t : List ℕ) (others : List EditList) (gone : EditList) (refused : Refused) → IsMovedToEnd r.edits (edits_of (rest_of n rs)) others gone → IsChangeCallResult Backward gone t (Err refused) → RefusesRemoval n t rs (fault_of_refused refused)
-  not_back t others gone (Refused.Length expected found) taken not = inr (record { nth = nth_of; new_lists = others; moved_edits = gone; is_moved = taken; refuses = not })
-  not_back t others gone (Refused.Differs step edit) taken not = inr (record { nth = nth_of; new_lists = others; moved_edits = gone; is_moved = taken; refuses = not })
-  not_back t others gone Refused.Memory taken len = (nth_of, inr (others, gone, taken, len))
+  not_back t others gone (Refused.Length expected found) taken not = not_undone (record { nth = nth_of; new_lists = others; moved_edits = gone; is_moved = taken; refuses = not })
+  not_back t others gone (Refused.Differs step edit) taken not = not_undone (record { nth = nth_of; new_lists = others; moved_edits = gone; is_moved = taken; refuses = not })
+  not_back t others gone Refused.Memory taken len = memory (nth_of, inr (others, gone, taken, len))
 
   pub refuses : (t : List ℕ) (e : MoveFault) → IsMoveToEndResult r.edits (rest_of n rs) (Err e) → RefusesRemoval n t rs (removal_fault n e)
-  refuses t (Length expected found) h = inl (h.0, record { nth = nth_of; fails = h.1 })
-  refuses t (Blocked k) h = (k, record { nth = nth_of; fails = h }, refl)
-  refuses t TooLong h = (h.0, record { nth = nth_of; fails = h.1 })
-  refuses t Memory h = (nth_of, inl h)
+  refuses t (Length expected found) h = lengths_differ {k = h.0} (record { nth = nth_of; fails = h.1 })
+  refuses t (Blocked k) h = blocked {k = k} (record { nth = nth_of; fails = h })
+  refuses t TooLong h = too_long {k = h.0} (record { nth = nth_of; fails = h.1 })
+  refuses t Memory h = memory (nth_of, inl h)
 
 at_short : {X : Type 0} (i : ℕ) (x : X) (xs : List X) → IsItem i x xs → i < length xs
 at_short i x [] h = absurd h

@@ -40,21 +40,15 @@ pub record FailsAfter (n : ℕ) (records : List JournalEntry) (k : ℕ)
   pub nth : Nth n records
   pub fails : FailsAt nth.item.edits (edits_of nth.after) k Refuses
 
--- There is none of this number; or the first record after it that can't be swapped has an edit that
--- meets one of record n; or the text without the one and with the other would be too long.
+-- The errors of a take over a history: there is none of this number; or the first record after it
+-- that can't be swapped has an edit that meets one of record n; or the text without the one and with
+-- the other would be too long.
 abbrev pub CannotRemove : ℕ → List JournalEntry → Fault → Type 0
 CannotRemove n records Fault.NoRecord = (n ≡ 0) ⊎ (length records < n)
 CannotRemove n records (Fault.Blocked number) =
     (k : ℕ) × FailsAfter n records k SomeMeet × (number ≡ n + k + 1)
 CannotRemove n records Fault.TooLong = (k : ℕ) × FailsAfter n records k SwapIsTooLong
 CannotRemove n records _ = ⊥
-
--- Of two neighbours from record n on, the second applies to texts of another length than the first
--- makes.
-abbrev pub LengthsBreak : ℕ → List JournalEntry → Refused → Type 0
-LengthsBreak n js (Refused.Length expected found) =
-    (k : ℕ) × FailsAfter n js k (λ a b. LengthMismatch a b expected found)
-LengthsBreak n js _ = ⊥
 
 -- record n can be swapped with all later records, but its edits, as they are after them, can't be
 -- undone in this text
@@ -73,10 +67,19 @@ RemovalMayAllocate n t js =
     ⊎ ((others : List EditList) × (moved_edits : EditList)
     × IsMovedToEnd nth.item.edits (edits_of nth.after) others moved_edits × HasExpectedLen Backward moved_edits t))
 
-abbrev pub RefusesRemoval : ℕ → List ℕ → List JournalEntry → Fault → Type 0
-RefusesRemoval n t js (Fault.Refused refused) = LengthsBreak n js refused ⊎ UndoFails n t js refused
-RefusesRemoval n t js Fault.Memory = RemovalMayAllocate n t js
-RefusesRemoval n t js fault = CannotRemove n js fault
+-- Why record n is not removed, an error a row: there is none of this number. Or the first record
+-- after it that can't be swapped has an edit that meets one of record n; or the text without the one
+-- and with the other would be too long; or that record is for texts of another length. Or the edits
+-- of record n can't be undone in the text. Or memory ran out.
+pub data RefusesRemoval (n : ℕ) (t : List ℕ) (js : List JournalEntry) : Fault → Type 0 where
+  no_record : (n ≡ 0) ⊎ (length js < n) → RefusesRemoval n t js Fault.NoRecord
+  blocked : {k : ℕ} → FailsAfter n js k SomeMeet → RefusesRemoval n t js (Fault.Blocked (n + k + 1))
+  too_long : {k : ℕ} → FailsAfter n js k SwapIsTooLong → RefusesRemoval n t js Fault.TooLong
+  lengths_differ : {k expected found : ℕ} → FailsAfter n js k (λ a b. LengthMismatch a b expected found)
+      → RefusesRemoval n t js (Fault.Refused (Refused.Length expected found))
+  not_undone : {refused : Refused} → UndoFails n t js refused
+      → RefusesRemoval n t js (Fault.Refused refused)
+  memory : RemovalMayAllocate n t js → RefusesRemoval n t js Fault.Memory
 
 -- what `move_to_end` returns of the records after record n, of which it counts the first as 0
 abbrev pub removal_fault : ℕ → MoveFault → Fault
