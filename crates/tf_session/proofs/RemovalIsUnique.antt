@@ -146,6 +146,7 @@ module _ (one_swap : SwapIsUnique) (takes_one : MoveToEndIsUnique) (into_one : A
   -- ---- what excludes what
 
   out_or_stuck : (R : EditList → EditList → Type 0) → Excludes R → (n k : ℕ) (old new : History) (d : Done) → RemovesLayer n old d new → FailsAfter n (records_in old.layers) k R → ⊥
+  unfolding record_nth
   out_or_stuck R ex n k old new d p s =
       passed_or_stuck one_swap R ex n k (records_in old.layers) (record_nth n old.layers p.nth) (edits_of (records_in p.new_records)) p.moved_edits p.is_moved s
 
