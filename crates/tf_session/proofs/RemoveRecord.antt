@@ -1,5 +1,5 @@
 -- One record taken out of a journal.
-use Rattle.std.proofs.Common.{◌≡◌, ◌∙◌, ◌↔◌, ◌≤◌, ◌<◌, ◌+◌, ◌-◌, ℕ, zero, suc, List, [], ◌∷◌, ◌++◌, length, take, drop, get_or, Result, Ok, Err, IfOk, IfErr, refl, sym, ap, subst, arith, append_assoc, inl, inr}
+use Rattle.std.proofs.Common.{◌≡◌, ◌∙◌, ◌↔◌, ◌≤◌, ◌<◌, ◌+◌, ◌-◌, ℕ, zero, suc, List, [], ◌∷◌, ◌++◌, length, take, drop, get_or, Result, Ok, Err, IfOk, refl, sym, ap, subst, arith, append_assoc, inl, inr}
 use Rattle.std.proofs.lemmas.List.{take_more, take-append-drop, length-take-le, length-map, length-drop, take_all}
 use Rattle.std.specs.Global.{Vec}
 use Rattle.edit_record.specs.Lists.Journal.{JournalEntry, edits_of, words_of}
