@@ -7,6 +7,7 @@ use Rattle.edit_record.specs.declared.lists.record.Word.{Word}
 use Rattle.edit_record.specs.Lists.Journal.{JournalEntry, record_transforms, edits_of, words_of}
 use Rattle.edit_record.specs.Lists.Sequence.{TransformsInOrder}
 use Rattle.edit_record.specs.Lists.Pieces.{EditList, Transforms}
+use Rattle.edit_record.specs.Lists.ChangeResults.{ChangeResultIsUnique}
 use Rattle.edit_record.specs.Swaps.Swap.{IsItem}
 use Rattle.edit_record.specs.Swaps.MoveToEnd.{IsMovedToEnd, MoveToEndIsUnique}
 use Rattle.edit_record.specs.Swaps.MoveToEndResult.{LengthMismatch, FailsAt}
@@ -19,12 +20,14 @@ use Rattle.tf_lint.specs.Steps.{Rewrite, texts_differ}
 use Rattle.tf_session.specs.Rewrites.{Rewrites, is_memory_fault}
 use Rattle.tf_lint.specs.ParseFaults.{IsUtf8WithinLimit}
 use Rattle.tf_session.specs.Machine.{done}
-use Rattle.tf_session.specs.RemovingRecord.{RemovesRecord, UndoFails, LengthsBreak, RefusesRemoval}
+use Rattle.tf_session.specs.RemovingRecord.{RemovesRecord, FailsAfter, UndoFails, RefusesRemoval}
+use Rattle.tf_session.specs.RemovingRecord.RefusesRemoval.{no_record, blocked, too_long, lengths_differ, not_undone, memory}
 use Rattle.tf_session.specs.Layers.{Layer, History, last_text, top_text, record_of, records_in, LayersAreConsistent, IsHistory, PushesLayer, HistoryStep, HistoryStepOrMemory, HistoryRun}
 use Rattle.tf_session.specs.Records.{HasWord, AddsRecordOf, RevertsLast, DoesStep, RefusesRevert, RefusesStep}
 use Rattle.tf_session.proofs.JournalOne.{TurnLengths}
 use Rattle.tf_session.proofs.Lists.{not_nil}
-use Rattle.tf_session.proofs.Stacks.{same_texts}
+use Rattle.tf_session.proofs.Runs.{run_more}
+use Rattle.tf_session.proofs.Stacks.{same_texts, undone_or_refused}
 
 -- layers on layers
 pub last_on : (text : List ℕ) (ls ms : List Layer) → last_text text (ls ++ ms) ≡ last_text (last_text text ls) ms
@@ -242,42 +245,36 @@ undoes_last p before r e st =
     let a = about p before r [] e st in
     (last_text p.first a.layer.low, subst (λ (x : List ℕ). Transforms r.edits (last_text p.first a.layer.low) x) a.higher a.transforms)
 
-refused_last : (p : History) (e : Fault) → RefusesRevert (top_text p) (records_in p.layers) e → IsHistory p → HistoryStepOrMemory Revert p (Err e) p
-refused_last p (Scan fault) h st = absurd h
-refused_last p (Parse fault) h st = absurd h
-refused_last p (FixBroken rule) h st = absurd h
-refused_last p TooLong h st = absurd h
-refused_last p NoRecord h st = (refl, no_layers p.layers h, refl)
-refused_last p (Fault.Refused refused) h st =
+refused_last : ChangeResultIsUnique → (p : History) (e : Fault) → RefusesRevert (top_text p) (records_in p.layers) e → IsHistory p → HistoryStepOrMemory Revert p (Err e) p
+refused_last unique p (Scan fault) h st = absurd h
+refused_last unique p (Parse fault) h st = absurd h
+refused_last unique p (FixBroken rule) h st = absurd h
+refused_last unique p TooLong h st = absurd h
+refused_last unique p NoRecord h st = (refl, no_layers p.layers h, refl)
+refused_last unique p (Fault.Refused refused) h st =
     let back = undoes_last p h.1.0 h.0 h.1.1 st in
-    absurd (h.3 back.0 back.1)
-refused_last p Memory h st = ((λ e. not_nil h.1.0 h.0 (sym h.1.1 ∙ ap records_in e)), refl)
-refused_last p (Blocked number) h st = absurd h
+    absurd (undone_or_refused unique h.0.edits (top_text p) back.0 refused h.2 back.1)
+refused_last unique p Memory h st = ((λ e. not_nil h.1.0 h.0 (sym h.1.1 ∙ ap records_in e)), refl)
+refused_last unique p (Blocked number) h st = absurd h
 
-never_breaks : MoveToEndIsUnique → TurnLengths → (n : ℕ) (p : History) (r : Refused) → LengthsBreak n (records_in p.layers) r → IsHistory p → ⊥
-never_breaks takes_one lengths n p (Length expected found) h st =
-    let s = h.1 in
+never_breaks : MoveToEndIsUnique → TurnLengths → (n : ℕ) (p : History) (k expected found : ℕ) → FailsAfter n (records_in p.layers) k (λ a b. LengthMismatch a b expected found) → IsHistory p → ⊥
+never_breaks takes_one lengths n p k expected found s st =
     let a = about p s.nth.before s.nth.item s.nth.after s.nth.all st in
-    follows takes_one lengths s.nth.item.edits (edits_of s.nth.after) h.0 expected found (last_text p.first a.layer.low) a.layer.here.text (top_text p) a.transforms a.higher s.fails
-never_breaks takes_one lengths n p (Differs step edit) h st = h
-never_breaks takes_one lengths n p Refused.Memory h st = h
+    follows takes_one lengths s.nth.item.edits (edits_of s.nth.after) k expected found (last_text p.first a.layer.low) a.layer.here.text (top_text p) a.transforms a.higher s.fails
 
-always_undone : MoveToEndIsUnique → (n : ℕ) (p : History) (r : Refused) → UndoFails n (top_text p) (records_in p.layers) r → IsHistory p → ⊥
-always_undone takes_one n p r h st =
+always_undone : ChangeResultIsUnique → MoveToEndIsUnique → (n : ℕ) (p : History) (r : Refused) → UndoFails n (top_text p) (records_in p.layers) r → IsHistory p → ⊥
+always_undone unique takes_one n p r h st =
     let a = about p h.nth.before h.nth.item h.nth.after h.nth.all st in
-    let w = ((takes_one h.nth.item.edits (edits_of h.nth.after)).equivalent h.new_records h.moved_edits h.is_moved (last_text p.first a.layer.low) (top_text p)).0 (a.layer.here.text, a.transforms, a.higher) in
-    h.none w.0 w.2
+    let w = ((takes_one h.nth.item.edits (edits_of h.nth.after)).equivalent h.new_lists h.moved_edits h.is_moved (last_text p.first a.layer.low) (top_text p)).0 (a.layer.here.text, a.transforms, a.higher) in
+    undone_or_refused unique h.moved_edits (top_text p) w.0 r h.refuses w.2
 
-refused_one : MoveToEndIsUnique → TurnLengths → (n : ℕ) (p : History) (e : Fault) → RefusesRemoval n (top_text p) (records_in p.layers) e → IsHistory p → HistoryStepOrMemory (Take n) p (Err e) p
-refused_one takes_one lengths n p (Scan fault) h st = absurd h
-refused_one takes_one lengths n p (Parse fault) h st = absurd h
-refused_one takes_one lengths n p (FixBroken rule) h st = absurd h
-refused_one takes_one lengths n p TooLong h st = (h, refl)
-refused_one takes_one lengths n p NoRecord h st = (h, refl)
-refused_one takes_one lengths n p (Fault.Refused refused) (inl h) st = absurd (never_breaks takes_one lengths n p refused h st)
-refused_one takes_one lengths n p (Fault.Refused refused) (inr h) st = absurd (always_undone takes_one n p refused h st)
-refused_one takes_one lengths n p Memory h st = (h, refl)
-refused_one takes_one lengths n p (Blocked number) h st = (h, refl)
+refused_one : ChangeResultIsUnique → MoveToEndIsUnique → TurnLengths → (n : ℕ) (p : History) {e : Fault} → RefusesRemoval n (top_text p) (records_in p.layers) e → IsHistory p → HistoryStepOrMemory (Take n) p (Err e) p
+refused_one unique takes_one lengths n p (no_record none) st = (none, refl)
+refused_one unique takes_one lengths n p (blocked {k} s) st = ((k, s, refl), refl)
+refused_one unique takes_one lengths n p (too_long {k} s) st = ((k, s), refl)
+refused_one unique takes_one lengths n p (lengths_differ {k} {expected} {found} s) st = absurd (never_breaks takes_one lengths n p k expected found s st)
+refused_one unique takes_one lengths n p (not_undone {refused} u) st = absurd (always_undone unique takes_one n p refused u st)
+refused_one unique takes_one lengths n p (memory may) st = (may, refl)
 
 refused_text : (command : Command) (p : History) (e : Fault) → (Rewrites command (top_text p) (Err e) → HistoryStep command p (Err e) p) → MatchBool (is_memory_fault e) (IsUtf8WithinLimit (top_text p)) (Rewrites command (top_text p) (Err e))
     → MatchBool (is_memory_fault e) (IsUtf8WithinLimit (top_text p) × (p ≡ p)) (HistoryStep command p (Err e) p)
@@ -290,28 +287,21 @@ refused_text command p (Fault.Refused refused) f h = f h
 refused_text command p Memory f h = (h, refl)
 refused_text command p (Blocked number) f h = f h
 
-stays : MoveToEndIsUnique → TurnLengths → (command : Command) (p : History) (e : Fault) → RefusesStep command (top_text p) (records_in p.layers) e → IsHistory p → HistoryStepOrMemory command p (Err e) p
-stays takes_one lengths Fmt p e h st = refused_text Fmt p e (λ m. (Err e, m, (refl, refl))) h
-stays takes_one lengths (Fix rules) p e h st = refused_text (Fix rules) p e (λ m. (Err e, m, (refl, refl))) h
-stays takes_one lengths Revert p e h st = refused_last p e h st
-stays takes_one lengths (Take n) p e h st = refused_one takes_one lengths n p e h st
-
--- a run goes on by one command
-run_more : (old mid new : History) (cs : List Command) (rs : List (Result Done Fault)) (c : Command) (r : Result Done Fault) → HistoryRun old cs rs mid → HistoryStepOrMemory c mid r new → HistoryRun old (cs ++ c ∷ []) (rs ++ r ∷ []) new
-run_more old mid new [] [] c r h st = (new, subst (λ (x : History). HistoryStepOrMemory c x r new) h st, refl)
-run_more old mid new [] (x ∷ rs) c r h st = absurd h
-run_more old mid new (x ∷ cs) [] c r h st = absurd h
-run_more old mid new (x ∷ cs) (y ∷ rs) c r h st = (h.0, h.1, run_more h.0 mid new cs rs c r h.2 st)
+stays : ChangeResultIsUnique → MoveToEndIsUnique → TurnLengths → (command : Command) (p : History) (e : Fault) → RefusesStep command (top_text p) (records_in p.layers) e → IsHistory p → HistoryStepOrMemory command p (Err e) p
+stays unique takes_one lengths Fmt p e h st = refused_text Fmt p e (λ m. (Err e, m, (refl, refl))) h
+stays unique takes_one lengths (Fix rules) p e h st = refused_text (Fix rules) p e (λ m. (Err e, m, (refl, refl))) h
+stays unique takes_one lengths Revert p e h st = refused_last unique p e h st
+stays unique takes_one lengths (Take n) p e h st = refused_one unique takes_one lengths n p h st
 
 -- What a session's step ensures takes a run, and the history that its records stand for, one command further.
-pub moved : MoveToEndIsUnique → TurnLengths → (first mid : History) (cs : List Command) (rs : List (Result Done Fault)) (command : Command) (reply : Result Done Fault) (t : List ℕ) (js : List JournalEntry) (u : List ℕ) (ks : List JournalEntry)
+pub moved : ChangeResultIsUnique → MoveToEndIsUnique → TurnLengths → (first mid : History) (cs : List Command) (rs : List (Result Done Fault)) (command : Command) (reply : Result Done Fault) (t : List ℕ) (js : List JournalEntry) (u : List ℕ) (ks : List JournalEntry)
     → HistoryRun first cs rs mid → t ≡ top_text mid → js ≡ records_in mid.layers → IsHistory mid
     → IfOk reply (λ d. DoesStep command t js d u ks) → IfErr reply (RefusesStep command t js) → OnErr reply (u ≡ t) → OnErr reply (ks ≡ js)
     → (n : History) × HistoryRun first (cs ++ command ∷ []) (rs ++ reply ∷ []) n × (u ≡ top_text n) × (ks ≡ records_in n.layers) × IsHistory n
-moved takes_one lengths first mid cs rs command (Ok d) t js u ks run top recs st does _ _ _ =
+moved unique takes_one lengths first mid cs rs command (Ok d) t js u ks run top recs st does _ _ _ =
     let does2 = subst (λ (x : List JournalEntry). DoesStep command (top_text mid) x d u ks) recs (subst (λ (x : List ℕ). DoesStep command x js d u ks) top does) in
     let h = acted takes_one command mid d u ks does2 st in
-    (h.0, run_more first mid h.0 cs rs command (Ok d) run h.1, h.2, h.3, h.4)
-moved takes_one lengths first mid cs rs command (Err e) t js u ks run top recs st _ why ut kj =
+    (h.0, run_more HistoryStepOrMemory first mid h.0 cs rs command (Ok d) run h.1, h.2, h.3, h.4)
+moved unique takes_one lengths first mid cs rs command (Err e) t js u ks run top recs st _ why ut kj =
     let why2 = subst (λ (x : List JournalEntry). RefusesStep command (top_text mid) x e) recs (subst (λ (x : List ℕ). RefusesStep command x js e) top why) in
-    (mid, run_more first mid mid cs rs command (Err e) run (stays takes_one lengths command mid e why2 st), ut ∙ top, kj ∙ recs, st)
+    (mid, run_more HistoryStepOrMemory first mid mid cs rs command (Err e) run (stays unique takes_one lengths command mid e why2 st), ut ∙ top, kj ∙ recs, st)

@@ -2,10 +2,12 @@
 use Rattle.std.proofs.Common.{◌≡◌, ◌∙◌, ℕ, List, [], ◌∷◌, ◌++◌, refl, sym, ap, subst}
 use Rattle.std.proofs.lemmas.List.{map_push}
 use Rattle.edit_record.specs.Lists.Journal.{JournalEntry, edits_of}
-use Rattle.edit_record.specs.Lists.Validity.{LengthsMatch}
+use Rattle.std.specs.List.{AllByRecursion}
+use Rattle.edit_record.specs.Lists.Validity.{IsValidList, LengthsMatch}
 use Rattle.edit_record.specs.Lists.Sequence.{TransformsInOrder}
 use Rattle.edit_record.specs.Lists.Pieces.{EditList, Transforms}
-use Rattle.edit_record.specs.Squashes.SquashLists.{SquashAllIsUnique}
+use Rattle.edit_record.specs.Squashes.Squash.{ComposableListsSquash}
+use Rattle.edit_record.specs.Squashes.SquashLists.{SquashAll, SquashAllIsUnique}
 use Rattle.tf_session.specs.JournalLaws.{SquashToOne, JournalSquashesToOne}
 use Rattle.tf_session.specs.Machine.{StackEntry, initial_stack}
 use Rattle.tf_session.specs.Records.{IsJournalOfStack}
@@ -46,20 +48,31 @@ TurnLengths = (e : EditList) (t u : List ℕ) → Transforms e t u → LengthsMa
 abbrev pub SquashesAreOne : Type 0
 SquashesAreOne = (first : EditList) (others : List EditList) → SquashAllIsUnique first others
 
-pub become_one : TurnLengths → SquashesAreOne → (text top : List ℕ) (first : EditList) (others : List EditList) → TransformsInOrder Transforms (first ∷ others) text top → SquashToOne text top first others
-become_one lengths squash_as_one text top first others all = record {
+-- valid lists that turn a text one after another squash to one
+squash_exists : ComposableListsSquash → (first : EditList) (others : List EditList) (text top : List ℕ) → IsValidList first → AllByRecursion IsValidList others
+    → TransformsInOrder Transforms (first ∷ others) text top → (one : EditList) × SquashAll first others one
+squash_exists squashes first [] text top valid rest all = (first, refl)
+squash_exists squashes first (b ∷ bs) text top valid rest all =
+    let (c, valid_c, is) = squashes first b valid rest.0 (text, all.0, all.2.0, all.1, all.2.1) in
+    let whole = (is.equivalent text all.2.0).1 (all.0, all.1, all.2.1) in
+    let (one, squashed) = squash_exists squashes c bs text top valid_c rest.1 (all.2.0, whole, all.2.2) in
+    (one, (c, is, squashed))
+
+pub become_one : TurnLengths → ComposableListsSquash → SquashesAreOne → (text top : List ℕ) (first : EditList) (others : List EditList) → TransformsInOrder Transforms (first ∷ others) text top → SquashToOne text top first others
+become_one lengths squashes squash_as_one text top first others all = record {
   composable = λ before next behind so_far same squashed.
       let whole = subst (λ (cs : List EditList). TransformsInOrder Transforms (first ∷ cs) text top) same all in
       let s = split (first ∷ before) next behind text top whole in
       let before_it = ((squash_as_one first before).equivalent so_far squashed text s.u).1 s.front in
       (sym (lengths so_far text s.u before_it).1 ∙ s.here.len, (text, s.u, s.w, before_it, s.here));
+  exists = λ valid. squash_exists squashes first others text top valid.0 valid.1 all;
   transforms = λ one squashed. ((squash_as_one first others).equivalent one squashed text top).1 all;
 }
 
-pub journal_is_one : TurnLengths → SquashesAreOne → JournalSquashesToOne
-journal_is_one lengths squash_as_one text commands replies end records run stands first others same =
+pub journal_is_one : TurnLengths → ComposableListsSquash → SquashesAreOne → JournalSquashesToOne
+journal_is_one lengths squashes squash_as_one text commands replies end records run stands first others same =
     let ran = refused_do_not_count (initial_stack text) end commands replies run in
     let lowest = same_bottoms (initial_stack text) end (completed_commands commands replies) (completed_replies replies) ran in
     let all = journal_turn records end.top end.below stands in
     let from_text = subst (λ (t : List ℕ). TransformsInOrder Transforms (edits_of records) t end.top) lowest all in
-    become_one lengths squash_as_one text end.top first others (subst (λ (cs : List EditList). TransformsInOrder Transforms cs text end.top) same from_text)
+    become_one lengths squashes squash_as_one text end.top first others (subst (λ (cs : List EditList). TransformsInOrder Transforms cs text end.top) same from_text)

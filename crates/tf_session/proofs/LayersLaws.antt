@@ -1,5 +1,5 @@
 -- Laws of the machine that keeps the edits, over all its commands: each has one answer, and those that were refused for want of memory do not count.
-use Rattle.std.proofs.Common.{◌≡◌, ◌∙◌, ℕ, List, [], ◌∷◌, Bool, true, false, MatchBool, Result, Ok, Err, refl, sym, ap, subst, inl, inr}
+use Rattle.std.proofs.Common.{◌≡◌, ◌∙◌, ℕ, List, Result, Ok, Err, refl, sym, ap, subst, inl, inr}
 use Rattle.edit_record.specs.Lists.Validity.{ApplyIsDeterministic}
 use Rattle.edit_record.specs.declared.lists.record.Word.{Word}
 use Rattle.edit_record.specs.Swaps.Swap.{SwapIsUnique}
@@ -10,13 +10,13 @@ use Rattle.tf_session.specs.declared.command.Command.TheVariants.{Fmt, Fix, Reve
 use Rattle.tf_session.specs.declared.command.Done.{Done}
 use Rattle.tf_session.specs.declared.command.Fault.{Fault}
 use Rattle.tf_lint.specs.Steps.{Rewrite, texts_differ}
-use Rattle.tf_session.specs.Machine.{done, is_memory}
+use Rattle.tf_session.specs.Machine.{done}
 use Rattle.tf_session.specs.ResultIsUnique.{AreSameUpToParseFault}
-use Rattle.tf_session.specs.RunLaws.{completed_commands, completed_replies}
 use Rattle.tf_session.specs.Layers.{History, top_text, PushesLayer, PopsLayer, HistoryStep, HistoryMayAllocate}
-use Rattle.tf_session.specs.TakeLaws.{HistoryRunWithMemory, CommandResultIsUniqueOverLayers, OutOfMemoryChangesNothingOverLayers}
+use Rattle.tf_session.specs.TakeLaws.{CommandResultIsUniqueOverLayers, OutOfMemoryChangesNothingOverLayers}
 use Rattle.tf_session.proofs.ResultIsUnique.{same_fixes, same_layouts}
 use Rattle.tf_session.proofs.Lists.{not_nil, same_last}
+use Rattle.tf_session.proofs.Runs.{memory_does_not_count}
 use Rattle.tf_session.proofs.RemovalIsUnique.{take_has_one_answer}
 use Rattle.tf_rules.specs.declared.rule_set.RuleSet.{RuleSet}
 use Rattle.tf_lint.proofs.DoesNotParse.{OneCut, NoCutWithFault, OneFault}
@@ -62,16 +62,5 @@ module _ (one_cut : OneCut) (no_cut : NoCutWithFault) (one_fault : OneFault) (on
 
 -- ---- want of memory
 
-by_memory : (b : Bool) (old mid new : History) (command : Command) (commands : List Command) (reply : Result Done Fault) (replies : List (Result Done Fault)) → is_memory reply ≡ b
-    → MatchBool b (HistoryMayAllocate command old × (mid ≡ old)) (HistoryStep command old reply mid) → HistoryRunWithMemory mid (completed_commands commands replies) (completed_replies replies) new
-    → HistoryRunWithMemory old (completed_commands (command ∷ commands) (reply ∷ replies)) (completed_replies (reply ∷ replies)) new
-by_memory true old mid new command commands reply replies e step h =
-    rw e (subst (λ (s : History). HistoryRunWithMemory s (completed_commands commands replies) (completed_replies replies) new) step.1 h)
-by_memory false old mid new command commands reply replies e step h = rw e (mid, step, h)
-
 pub refused_do_not_count_over_layers : OutOfMemoryChangesNothingOverLayers
-refused_do_not_count_over_layers old new [] [] run = run
-refused_do_not_count_over_layers old new [] (reply ∷ replies) run = absurd run
-refused_do_not_count_over_layers old new (command ∷ commands) [] run = absurd run
-refused_do_not_count_over_layers old new (command ∷ commands) (reply ∷ replies) run =
-    by_memory (is_memory reply) old run.0 new command commands reply replies refl run.1 (refused_do_not_count_over_layers run.0 new commands replies run.2)
+refused_do_not_count_over_layers = memory_does_not_count HistoryMayAllocate HistoryStep

@@ -1,4 +1,5 @@
 pub mod Lists
+pub mod Runs
 pub mod Stacks
 pub mod RemoveRecord
 pub mod Histories
@@ -12,6 +13,7 @@ pub mod JournalOne
 pub mod TakeLaws
 pub mod OneMachine
 pub mod RemovalIsUnique
+pub mod AnyRemoval
 pub mod LayersLaws
 pub mod ReadTexts
 pub mod RevertRestores

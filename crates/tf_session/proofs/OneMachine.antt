@@ -8,7 +8,8 @@ use Rattle.tf_session.specs.declared.command.Fault.{Fault}
 use Rattle.tf_lint.specs.Steps.{Rewrite, texts_differ}
 use Rattle.tf_session.specs.Rewrites.{Rewrites}
 use Rattle.tf_lint.specs.ParseFaults.{IsUtf8WithinLimit}
-use Rattle.tf_session.specs.Machine.{StackEntry, Stack, initial_stack, push_text, done, PushesText, PopsText, StackStep, is_memory, StackMayAllocate, StackRun, IsNotTake, WithoutTake}
+use Rattle.tf_session.specs.Runs.{is_memory}
+use Rattle.tf_session.specs.Machine.{StackEntry, Stack, initial_stack, push_text, done, PushesText, PopsText, StackStep, StackMayAllocate, StackRun, IsNotTake, WithoutTake}
 use Rattle.tf_session.specs.Layers.{Layer, History, initial_history, last_text, top_text, push_layer, PushesLayer, PopsLayer, PopsLast, HistoryStep, HistoryMayAllocate, HistoryRun}
 use Rattle.tf_session.specs.MachinesAgree.{LayersMatchStack, SameTexts, MachinesAgreeWithoutTake}
 use Rattle.tf_session.proofs.Lists.{not_nil, same_last}

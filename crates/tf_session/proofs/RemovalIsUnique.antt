@@ -28,7 +28,35 @@ met_excludes a b c d m h = h.apart m.1 m.2 (m.3.meet)
 pub overflows_excludes : Excludes SwapIsTooLong
 overflows_excludes a b c d m h = let w = h.within in let o = m.2 in omega (arith, w, o)
 
-module _ (one_swap : SwapIsUnique) (takes_one : MoveToEndIsUnique) (into_one : ApplyIsDeterministic) where
+-- a number has one member
+pub nth_once : {X : Type 0} (xs lower low behind rest : List X) (x y : X) → xs ≡ lower ++ x ∷ behind → xs ≡ low ++ y ∷ rest → length lower ≡ length low → (lower ≡ low) × (x ≡ y) × (behind ≡ rest)
+nth_once xs [] [] behind rest x y e f n = let g : x ∷ behind ≡ y ∷ rest = sym e ∙ f in (refl, cc, cc)
+nth_once xs [] (l ∷ low) behind rest x y e f n = absurd (omega (arith, n))
+nth_once xs (l ∷ lower) [] behind rest x y e f n = absurd (omega (arith, n))
+nth_once xs (l ∷ lower) (m ∷ low) behind rest x y e f n =
+    let g : l ∷ (lower ++ x ∷ behind) ≡ m ∷ (low ++ y ∷ rest) = sym e ∙ f in
+    let tail : lower ++ x ∷ behind ≡ low ++ y ∷ rest = cc in
+    let head : l ≡ m = cc in
+    let h = nth_once (lower ++ x ∷ behind) lower low behind rest x y refl tail (omega (arith, n)) in
+    ((λ i. head i ∷ h.0 i), h.1, h.2)
+
+pub numbers : (n i j : ℕ) → n ≡ i + 1 → n ≡ j + 1 → i ≡ j
+numbers n i j e f = omega (arith, e, f)
+
+pub there_is : {X : Type 0} (n : ℕ) (xs : List X) → Nth n xs → (n ≡ 0) ⊎ (length xs < n) → ⊥
+there_is n xs h (inl z) = let e = h.number in omega (arith, z, e)
+there_is n xs h (inr l) = let e = h.number in let s = ap length h.all ∙ length-append h.before (h.item ∷ h.after) in omega (arith, l, e, s)
+
+record_nth : (n : ℕ) (ls : List Layer) → Nth n ls → Nth n (records_in ls)
+record_nth n ls h = record {
+  before = records_in h.before;
+  item = record_of h.item;
+  after = records_in h.after;
+  all = ap records_in h.all ∙ records_on h.before (h.item ∷ h.after);
+  number = (let l = length-map h.before record_of in let m = h.number in omega (arith, l, m));
+}
+
+module _ (one_swap : SwapIsUnique) where
   -- where all lists can be passed, none refuses
   pub all_or_stuck : (R : EditList → EditList → Type 0) (k : ℕ) (a next there last : EditList) (bs cs passed : List EditList) → Excludes R → IsMovedToEnd a bs cs last → IsMovedToEnd a (take k bs) passed there → IsItem k next bs → R there next → ⊥
   all_or_stuck R k a next there last [] cs passed ex all went is r = is
@@ -64,21 +92,29 @@ module _ (one_swap : SwapIsUnique) (takes_one : MoveToEndIsUnique) (into_one : A
       let h = stuck_once Q R wp.0 bs k j exq exr p q x y next other wp.2 ip rq (subst (λ (z : EditList). IsMovedToEnd z (take j bs) q y) (sym same.1) wq.2) iq rr in
       (ap (λ (z : ℕ). suc z) h.0, h.1, h.2)
 
-  pub met_or_overflows : (a b : EditList) → SomeMeet a b → SwapIsTooLong a b → ⊥
-  met_or_overflows a b m o = o.1 m.1 m.2 m.3.meet
+  -- where record n passes all later ones, none of them refuses it
+  pub passed_or_stuck : (R : EditList → EditList → Type 0) → Excludes R → (n k : ℕ) (rs : List JournalEntry) (nth : Nth n rs) (others : List EditList) (last : EditList)
+      → IsMovedToEnd nth.item.edits (edits_of nth.after) others last → FailsAfter n rs k R → ⊥
+  passed_or_stuck R ex n k rs nth others last all s =
+      let h = nth_once rs nth.before s.nth.before nth.after s.nth.after nth.item s.nth.item nth.all s.nth.all (numbers n (length nth.before) (length s.nth.before) nth.number s.nth.number) in
+      let taken = subst (λ (x : JournalEntry). IsMovedToEnd x.edits (edits_of s.nth.after) others last) h.1
+      (subst (λ (x : List JournalEntry). IsMovedToEnd nth.item.edits (edits_of x) others last) h.2 all) in
+      all_or_stuck R k s.nth.item.edits s.fails.next s.fails.moved_edits last (edits_of s.nth.after) others s.fails.swapped_lists ex taken s.fails.is_moved s.fails.next_is s.fails.refuses
 
-  -- a number has one member
-  pub nth_once : {X : Type 0} (xs lower low behind rest : List X) (x y : X) → xs ≡ lower ++ x ∷ behind → xs ≡ low ++ y ∷ rest → length lower ≡ length low → (lower ≡ low) × (x ≡ y) × (behind ≡ rest)
-  nth_once xs [] [] behind rest x y e f n = let g : x ∷ behind ≡ y ∷ rest = sym e ∙ f in (refl, cc, cc)
-  nth_once xs [] (l ∷ low) behind rest x y e f n = absurd (omega (arith, n))
-  nth_once xs (l ∷ lower) [] behind rest x y e f n = absurd (omega (arith, n))
-  nth_once xs (l ∷ lower) (m ∷ low) behind rest x y e f n =
-      let g : l ∷ (lower ++ x ∷ behind) ≡ m ∷ (low ++ y ∷ rest) = sym e ∙ f in
-      let tail : lower ++ x ∷ behind ≡ low ++ y ∷ rest = cc in
-      let head : l ≡ m = cc in
-      let h = nth_once (lower ++ x ∷ behind) lower low behind rest x y refl tail (omega (arith, n)) in
-      ((λ i. head i ∷ h.0 i), h.1, h.2)
+  -- so the first list that refuses is one, for the same reason
+  pub stuck_same : (Q R : EditList → EditList → Type 0) → Excludes Q → Excludes R → (n k j : ℕ) (rs : List JournalEntry) → FailsAfter n rs k Q → FailsAfter n rs j R → (k ≡ j) × (a : EditList) × (b : EditList) × Q a b × R a b
+  stuck_same Q R exq exr n k j rs s t =
+      let h = nth_once rs s.nth.before t.nth.before s.nth.after t.nth.after s.nth.item t.nth.item s.nth.all t.nth.all (numbers n (length s.nth.before) (length t.nth.before) s.nth.number t.nth.number) in
+      let u : FailsAt s.nth.item.edits (edits_of s.nth.after) j R =
+      subst (λ (x : JournalEntry). FailsAt x.edits (edits_of s.nth.after) j R) (sym h.1) (subst (λ (x : List JournalEntry). FailsAt t.nth.item.edits (edits_of x) j R) (sym h.2) t.fails) in
+      let o = stuck_once Q R s.nth.item.edits (edits_of s.nth.after) k j exq exr s.fails.swapped_lists u.swapped_lists s.fails.moved_edits u.moved_edits s.fails.next u.next
+      s.fails.is_moved s.fails.next_is s.fails.refuses u.is_moved u.next_is u.refuses in
+      (o.0, s.fails.moved_edits, s.fails.next, s.fails.refuses, subst (λ (x : EditList). R x s.fails.next) (sym o.1) (subst (λ (x : EditList). R u.moved_edits x) (sym o.2) u.refuses))
 
+pub met_or_overflows : (a b : EditList) → SomeMeet a b → SwapIsTooLong a b → ⊥
+met_or_overflows a b m o = o.1 m.1 m.2 m.3.meet
+
+module _ (one_swap : SwapIsUnique) (takes_one : MoveToEndIsUnique) (into_one : ApplyIsDeterministic) where
   -- ---- layers
 
   one_rise : (below : List ℕ) (ls ms : List Layer) → LayersAreConsistent below ls → LayersAreConsistent below ms → edits_of (records_in ls) ≡ edits_of (records_in ms) → words_of (records_in ls) ≡ words_of (records_in ms) → ls ≡ ms
@@ -95,9 +131,6 @@ module _ (one_swap : SwapIsUnique) (takes_one : MoveToEndIsUnique) (into_one : A
       let same : l ≡ m = λ i. record { word = word i; edits = edits i; text = text i } in
       λ i. same i ∷ rest i
 
-  numbers : (n i j : ℕ) → n ≡ i + 1 → n ≡ j + 1 → i ≡ j
-  numbers n i j e f = omega (arith, e, f)
-
   one_out : (n : ℕ) (old : History) (d e : Done) (new another : History) → RemovesLayer n old d new → RemovesLayer n old e another → (d ≡ e) × (new ≡ another)
   one_out n old d e new another p q =
       let h = nth_once old.layers p.nth.before q.nth.before p.nth.after q.nth.after p.nth.item q.nth.item p.nth.all q.nth.all (numbers n (length p.nth.before) (length q.nth.before) p.nth.number q.nth.number) in
@@ -112,37 +145,10 @@ module _ (one_swap : SwapIsUnique) (takes_one : MoveToEndIsUnique) (into_one : A
 
   -- ---- what excludes what
 
-  there_is : {X : Type 0} (n : ℕ) (xs : List X) → Nth n xs → (n ≡ 0) ⊎ (length xs < n) → ⊥
-  there_is n xs h (inl z) = let e = h.number in omega (arith, z, e)
-  there_is n xs h (inr l) = let e = h.number in let s = ap length h.all ∙ length-append h.before (h.item ∷ h.after) in omega (arith, l, e, s)
-
-  record_nth : (n : ℕ) (ls : List Layer) → Nth n ls → Nth n (records_in ls)
-  record_nth n ls h = record {
-    before = records_in h.before;
-    item = record_of h.item;
-    after = records_in h.after;
-    all = ap records_in h.all ∙ records_on h.before (h.item ∷ h.after);
-    number = (let l = length-map h.before record_of in let m = h.number in omega (arith, l, m));
-  }
-
   out_or_stuck : (R : EditList → EditList → Type 0) → Excludes R → (n k : ℕ) (old new : History) (d : Done) → RemovesLayer n old d new → FailsAfter n (records_in old.layers) k R → ⊥
+  unfolding record_nth
   out_or_stuck R ex n k old new d p s =
-      let l = length-map p.nth.before record_of in
-      let all : records_in old.layers ≡ records_in p.nth.before ++ record_of p.nth.item ∷ records_in p.nth.after = ap records_in p.nth.all ∙ records_on p.nth.before (p.nth.item ∷ p.nth.after) in
-      let h = nth_once (records_in old.layers) (records_in p.nth.before) s.nth.before (records_in p.nth.after) s.nth.after (record_of p.nth.item) s.nth.item all s.nth.all
-      (l ∙ numbers n (length p.nth.before) (length s.nth.before) p.nth.number s.nth.number) in
-      let taken = subst (λ (x : JournalEntry). IsMovedToEnd x.edits (edits_of s.nth.after) (edits_of (records_in p.new_records)) p.moved_edits) h.1
-      (subst (λ (x : List JournalEntry). IsMovedToEnd p.nth.item.edits (edits_of x) (edits_of (records_in p.new_records)) p.moved_edits) h.2 p.is_moved) in
-      all_or_stuck R k s.nth.item.edits s.fails.next s.fails.moved_edits p.moved_edits (edits_of s.nth.after) (edits_of (records_in p.new_records)) s.fails.swapped_lists ex taken s.fails.is_moved s.fails.next_is s.fails.refuses
-
-  stuck_same : (Q R : EditList → EditList → Type 0) → Excludes Q → Excludes R → (n k j : ℕ) (rs : List JournalEntry) → FailsAfter n rs k Q → FailsAfter n rs j R → (k ≡ j) × (a : EditList) × (b : EditList) × Q a b × R a b
-  stuck_same Q R exq exr n k j rs s t =
-      let h = nth_once rs s.nth.before t.nth.before s.nth.after t.nth.after s.nth.item t.nth.item s.nth.all t.nth.all (numbers n (length s.nth.before) (length t.nth.before) s.nth.number t.nth.number) in
-      let u : FailsAt s.nth.item.edits (edits_of s.nth.after) j R =
-      subst (λ (x : JournalEntry). FailsAt x.edits (edits_of s.nth.after) j R) (sym h.1) (subst (λ (x : List JournalEntry). FailsAt t.nth.item.edits (edits_of x) j R) (sym h.2) t.fails) in
-      let o = stuck_once Q R s.nth.item.edits (edits_of s.nth.after) k j exq exr s.fails.swapped_lists u.swapped_lists s.fails.moved_edits u.moved_edits s.fails.next u.next
-      s.fails.is_moved s.fails.next_is s.fails.refuses u.is_moved u.next_is u.refuses in
-      (o.0, s.fails.moved_edits, s.fails.next, s.fails.refuses, subst (λ (x : EditList). R x s.fails.next) (sym o.1) (subst (λ (x : EditList). R u.moved_edits x) (sym o.2) u.refuses))
+      passed_or_stuck one_swap R ex n k (records_in old.layers) (record_nth n old.layers p.nth) (edits_of (records_in p.new_records)) p.moved_edits p.is_moved s
 
   -- the ways in which none is taken out
   abbrev Ways : ℕ → List JournalEntry → Fault → Type 0
@@ -165,10 +171,10 @@ module _ (one_swap : SwapIsUnique) (takes_one : MoveToEndIsUnique) (into_one : A
   same_way n rs f g (inl p) (inr (inr q)) = absurd (there_is n rs q.2.nth p.1)
   same_way n rs f g (inr (inl p)) (inl q) = absurd (there_is n rs p.2.nth q.1)
   same_way n rs f g (inr (inl p)) (inr (inl q)) = p.0 ∙ sym q.0
-  same_way n rs f g (inr (inl p)) (inr (inr q)) = let s = stuck_same SomeMeet SwapIsTooLong met_excludes overflows_excludes n q.0 p.1 rs q.2 p.2 in absurd (met_or_overflows s.1 s.2 s.3 s.4)
+  same_way n rs f g (inr (inl p)) (inr (inr q)) = let s = stuck_same one_swap SomeMeet SwapIsTooLong met_excludes overflows_excludes n q.0 p.1 rs q.2 p.2 in absurd (met_or_overflows s.1 s.2 s.3 s.4)
   same_way n rs f g (inr (inr p)) (inl q) = absurd (there_is n rs p.2.nth q.1)
-  same_way n rs f g (inr (inr p)) (inr (inl q)) = let s = stuck_same SomeMeet SwapIsTooLong met_excludes overflows_excludes n p.0 q.1 rs p.2 q.2 in absurd (met_or_overflows s.1 s.2 s.3 s.4)
-  same_way n rs f g (inr (inr p)) (inr (inr q)) = let s = stuck_same SomeMeet SomeMeet met_excludes met_excludes n p.0 q.0 rs p.2 q.2 in p.1 ∙ ap (λ (k : ℕ). Blocked (n + k + 1)) s.0 ∙ sym q.1
+  same_way n rs f g (inr (inr p)) (inr (inl q)) = let s = stuck_same one_swap SomeMeet SwapIsTooLong met_excludes overflows_excludes n p.0 q.1 rs p.2 q.2 in absurd (met_or_overflows s.1 s.2 s.3 s.4)
+  same_way n rs f g (inr (inr p)) (inr (inr q)) = let s = stuck_same one_swap SomeMeet SomeMeet met_excludes met_excludes n p.0 q.0 rs p.2 q.2 in p.1 ∙ ap (λ (k : ℕ). Blocked (n + k + 1)) s.0 ∙ sym q.1
 
   out_or_way : (n : ℕ) (old new : History) (d : Done) (f : Fault) → RemovesLayer n old d new → Ways n (records_in old.layers) f → ⊥
   out_or_way n old new d f p (inl q) = there_is n (records_in old.layers) (record_nth n old.layers p.nth) q.1

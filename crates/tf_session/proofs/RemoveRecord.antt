@@ -1,5 +1,5 @@
 -- One record taken out of a journal.
-use Rattle.std.proofs.Common.{◌≡◌, ◌∙◌, ◌↔◌, ◌≤◌, ◌<◌, ◌+◌, ◌-◌, ℕ, zero, suc, List, [], ◌∷◌, ◌++◌, length, take, drop, get_or, Result, Ok, Err, IfOk, IfErr, refl, sym, ap, subst, arith, append_assoc, inl, inr}
+use Rattle.std.proofs.Common.{◌≡◌, ◌∙◌, ◌↔◌, ◌≤◌, ◌<◌, ◌+◌, ◌-◌, ℕ, zero, suc, List, [], ◌∷◌, ◌++◌, length, take, drop, get_or, Result, Ok, Err, IfOk, refl, sym, ap, subst, arith, append_assoc, inl, inr}
 use Rattle.std.proofs.lemmas.List.{take_more, take-append-drop, length-take-le, length-map, length-drop, take_all}
 use Rattle.std.specs.Global.{Vec}
 use Rattle.edit_record.specs.Lists.Journal.{JournalEntry, edits_of, words_of}
@@ -17,7 +17,8 @@ use Rattle.tf_session.specs.Faults.{fault_of_refused}
 use Rattle.tf_lint.specs.Steps.{texts_differ}
 use Rattle.tf_session.specs.Machine.{done}
 use Rattle.tf_session.specs.NthItem.{Nth}
-use Rattle.tf_session.specs.RemovingRecord.{RemovesRecord, RefusesRemoval, CannotUndo, removal_fault, counted_records}
+use Rattle.tf_session.specs.RemovingRecord.{RemovesRecord, RefusesRemoval, removal_fault, counted_records}
+use Rattle.tf_session.specs.RemovingRecord.RefusesRemoval.{not_undone, lengths_differ, blocked, too_long, memory}
 
 -- what undoing edits answers, by the laws of edits
 abbrev pub Undoes : EditList → Type 0
@@ -27,19 +28,6 @@ Undoes e = (t u : List ℕ) → (apply_edits Backward e u ≡ Ok t) ↔ Transfor
 pub only_old : (e : EditList) (u : List ℕ) (result : Result (Vec ℕ) Refused) → Undoes e → AgreesWith result (apply_edits Backward e u) → IfOk result (λ old. (v : List ℕ) → Transforms e v u → v ≡ old.items)
 only_old e u (Ok old) exact is = λ v turns. let other : apply_edits Backward e u ≡ Ok v = (exact v u).1 turns in cc
 only_old e u (Err refused) exact is = tt
-
-no_old : (e : EditList) (u v : List ℕ) (refused : Refused) → Undoes e → apply_edits Backward e u ≡ Err refused → ¬ (Transforms e v u)
-no_old e u v refused exact is turns = let other : apply_edits Backward e u ≡ Ok v = (exact v u).1 turns in absurd cc
-
--- why undoing is refused
-pub cannot : (e : EditList) (u : List ℕ) (result : Result (Vec ℕ) Refused) → Undoes e → AgreesWith result (apply_edits Backward e u)
-    → IsChangeCallResult Backward e u result → IfErr result (λ refused. CannotUndo e u refused)
-cannot e u (Ok old) exact is pieces = tt
-cannot e u (Err (Refused.Length expected found)) exact is pieces =
-    (pieces, λ v. no_old e u v (Refused.Length expected found) exact is)
-cannot e u (Err (Refused.Differs step edit)) exact is pieces =
-    (pieces, λ v. no_old e u v (Refused.Differs step edit) exact is)
-cannot e u (Err Refused.Memory) exact is pieces = pieces
 
 -- the slice behind record n
 abbrev pub rest_of : ℕ → List JournalEntry → List JournalEntry
@@ -81,16 +69,16 @@ module _ (n : ℕ) (rs : List JournalEntry) (r : JournalEntry) (pos : 1 ≤ n) (
     done_is = refl;
   }
 
-  pub not_back : (t : List ℕ) (others : List EditList) (gone : EditList) (refused : Refused) → IsMovedToEnd r.edits (edits_of (rest_of n rs)) others gone → CannotUndo gone t refused → RefusesRemoval n t rs (fault_of_refused refused)
-  not_back t others gone (Refused.Length expected found) taken not = inr (record { nth = nth_of; new_records = others; moved_edits = gone; is_moved = taken; refuses = not.0; none = not.1 })
-  not_back t others gone (Refused.Differs step edit) taken not = inr (record { nth = nth_of; new_records = others; moved_edits = gone; is_moved = taken; refuses = not.0; none = not.1 })
-  not_back t others gone Refused.Memory taken len = (nth_of, inr (others, gone, taken, len))
+  pub not_back : (t : List ℕ) (others : List EditList) (gone : EditList) (refused : Refused) → IsMovedToEnd r.edits (edits_of (rest_of n rs)) others gone → IsChangeCallResult Backward gone t (Err refused) → RefusesRemoval n t rs (fault_of_refused refused)
+  not_back t others gone (Refused.Length expected found) taken not = not_undone (record { nth = nth_of; new_lists = others; moved_edits = gone; is_moved = taken; refuses = not })
+  not_back t others gone (Refused.Differs step edit) taken not = not_undone (record { nth = nth_of; new_lists = others; moved_edits = gone; is_moved = taken; refuses = not })
+  not_back t others gone Refused.Memory taken len = memory (nth_of, inr (others, gone, taken, len))
 
   pub refuses : (t : List ℕ) (e : MoveFault) → IsMoveToEndResult r.edits (rest_of n rs) (Err e) → RefusesRemoval n t rs (removal_fault n e)
-  refuses t (Length expected found) h = inl (h.0, record { nth = nth_of; fails = h.1 })
-  refuses t (Blocked k) h = (k, record { nth = nth_of; fails = h }, refl)
-  refuses t TooLong h = (h.0, record { nth = nth_of; fails = h.1 })
-  refuses t Memory h = (nth_of, inl h)
+  refuses t (Length expected found) h = lengths_differ {k = h.0} (record { nth = nth_of; fails = h.1 })
+  refuses t (Blocked k) h = blocked {k = k} (record { nth = nth_of; fails = h })
+  refuses t TooLong h = too_long {k = h.0} (record { nth = nth_of; fails = h.1 })
+  refuses t Memory h = memory (nth_of, inl h)
 
 at_short : {X : Type 0} (i : ℕ) (x : X) (xs : List X) → IsItem i x xs → i < length xs
 at_short i x [] h = absurd h

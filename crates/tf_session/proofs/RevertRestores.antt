@@ -13,22 +13,7 @@ use Rattle.tf_session.specs.Machine.{done}
 use Rattle.tf_session.specs.Records.{AddsRecordOf, DoesStep, ReplacesText}
 use Rattle.tf_session.specs.Journals.{Saves}
 use Rattle.tf_session.specs.RevertRestores.{ReadsBack, AddsOneRecord, RevertRestores}
-
-pub not_nil : {X : Type 0} (xs : List X) (x : X) → xs ++ x ∷ [] ≡ [] → ⊥
-not_nil [] x e = cc
-not_nil (y ∷ ys) x e = cc
-
--- lists that are one, with a last member each, have the same members before it, and the same last one
-pub same_last : {X : Type 0} (xs ys : List X) (x y : X) → xs ++ x ∷ [] ≡ ys ++ y ∷ [] → (xs ≡ ys) × (x ≡ y)
-same_last [] [] x y e = (refl, cc)
-same_last [] (b ∷ ys) x y e = let t : ys ++ y ∷ [] ≡ [] = cc in absurd (not_nil ys y t)
-same_last (a ∷ xs) [] x y e = let t : xs ++ x ∷ [] ≡ [] = cc in absurd (not_nil xs x t)
-same_last (a ∷ xs) (b ∷ ys) x y e =
-    let t : xs ++ x ∷ [] ≡ ys ++ y ∷ [] = cc in
-    let h = same_last xs ys x y t in
-    let same : xs ≡ ys = h.0 in
-    let head : a ≡ b = cc in
-    (cc, h.1)
+use Rattle.tf_session.proofs.Lists.{same_last}
 
 no_more : (xs : List ℕ) → xs ++ [] ≡ xs
 no_more [] = refl

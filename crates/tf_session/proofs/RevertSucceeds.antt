@@ -3,6 +3,7 @@ use Rattle.std.proofs.Common.{◌≡◌, ◌∙◌, ◌+◌, ◌≤◌, ℕ, Lis
 use Rattle.std.specs.Io.KnownBytes.{Consumes}
 use Rattle.hcl_scan.specs.Tokenization.{MAX_TEXT}
 use Rattle.edit_record.specs.Lists.Journal.{JournalEntry, record_transforms}
+use Rattle.edit_record.specs.Lists.ChangeResults.{ChangeResultIsUnique}
 use Rattle.edit_record.specs.Text.{record_text, journal_text, IsCurrentText, IsJournalText}
 use Rattle.edit_record.specs.Decoding.{IsDecodeResult}
 use Rattle.edit_record.specs.declared.fault.RecordFault.{RecordFault}
@@ -21,7 +22,9 @@ use Rattle.tf_session.specs.Records.{RefusesStep}
 use Rattle.tf_session.specs.Streams.{IsWriteFault}
 use Rattle.tf_session.specs.Journals.{MAX_JOURNAL, Loads, JournalTextFault, LoadReadFault, LoadDecodeFault, SaveFault, JournaledStreamFault}
 use Rattle.tf_session.specs.RevertRestores.{ReadsBack, AddsOneRecord, StreamsCommandAt, ReadsWhatWasWritten, Endpoints, is_from_outside, RevertSucceeds}
-use Rattle.tf_session.proofs.RevertRestores.{not_nil, same_last, held, same_bytes, put}
+use Rattle.tf_session.proofs.Lists.{not_nil, same_last}
+use Rattle.tf_session.proofs.Stacks.{undone_or_refused}
+use Rattle.tf_session.proofs.RevertRestores.{held, same_bytes, put}
 
 abbrev TextIsOne : Type 0
 TextIsOne = (text : List ℕ) (rs ss : List JournalEntry) → IsJournalText text rs → IsJournalText text ss → rs ≡ ss
@@ -60,18 +63,18 @@ decoding (BadSteps at) bytes records is d = absurd (d.0 records is)
 
 -- ---- the last record stands
 
-refusing : (refusal : Fault) (text new : List ℕ) (records earlier : List JournalEntry) (r : JournalEntry) → records ≡ earlier ++ r ∷ [] → record_transforms r text new
+refusing : ChangeResultIsUnique → (refusal : Fault) (text new : List ℕ) (records earlier : List JournalEntry) (r : JournalEntry) → records ≡ earlier ++ r ∷ [] → record_transforms r text new
     → RefusesStep Revert new records refusal → is_from_outside (run_fault_of refusal) ≡ true
-refusing (Fault.Scan fault) text new records earlier r is turns p = absurd p
-refusing (Fault.Parse fault) text new records earlier r is turns p = absurd p
-refusing (Fault.FixBroken rule) text new records earlier r is turns p = absurd p
-refusing Fault.TooLong text new records earlier r is turns p = absurd p
-refusing (Fault.Blocked number) text new records earlier r is turns p = absurd p
-refusing Fault.NoRecord text new records earlier r is turns p = absurd (not_nil earlier r (sym is ∙ p))
-refusing (Fault.Refused refused) text new records earlier r is turns p =
+refusing unique (Fault.Scan fault) text new records earlier r is turns p = absurd p
+refusing unique (Fault.Parse fault) text new records earlier r is turns p = absurd p
+refusing unique (Fault.FixBroken rule) text new records earlier r is turns p = absurd p
+refusing unique Fault.TooLong text new records earlier r is turns p = absurd p
+refusing unique (Fault.Blocked number) text new records earlier r is turns p = absurd p
+refusing unique Fault.NoRecord text new records earlier r is turns p = absurd (not_nil earlier r (sym is ∙ p))
+refusing unique (Fault.Refused refused) text new records earlier r is turns p =
     let lasts = same_last earlier p.1.0 r p.0 (sym is ∙ p.1.1) in
-    absurd (p.3 text (subst (λ (x : JournalEntry). record_transforms x text new) lasts.1 turns))
-refusing Fault.Memory text new records earlier r is turns p = refl
+    absurd (undone_or_refused unique p.0.edits new text refused p.2 (subst (λ (x : JournalEntry). record_transforms x text new) lasts.1 turns))
+refusing unique Fault.Memory text new records earlier r is turns p = refl
 
 -- ---- what is left is not too long
 
@@ -182,20 +185,20 @@ kept_short first w =
 outside : (fault given : RunFault) → fault ≡ given → is_from_outside given ≡ true → is_from_outside fault ≡ true
 outside fault given e o = ap is_from_outside e ∙ o
 
-fault_of : TextIsOne → (first second : Endpoints) (w : Wrote first) → ReadsWhatWasWritten first second → (fault : RunFault)
+fault_of : ChangeResultIsUnique → TextIsOne → (first second : Endpoints) (w : Wrote first) → ReadsWhatWasWritten first second → (fault : RunFault)
     → JournaledStreamFault Revert fault second.text_in second.journal_in second.journal_out second.text_out → is_from_outside fault ≡ true
-fault_of one first second w goes fault (inl (inl (taken, is, p), u, v)) = outside fault _ is (read_fault taken (not_taken taken first second w goes p))
-fault_of one first second w goes fault (inl (inr (reading, is, p), u, v)) = outside fault _ is (not_decoded reading first second w goes p)
-fault_of one first second w goes fault (inr (inl ((text, records, loads, refusal, is, p), u, v))) =
+fault_of unique one first second w goes fault (inl (inl (taken, is, p), u, v)) = outside fault _ is (read_fault taken (not_taken taken first second w goes p))
+fault_of unique one first second w goes fault (inl (inr (reading, is, p), u, v)) = outside fault _ is (not_decoded reading first second w goes p)
+fault_of unique one first second w goes fault (inr (inl ((text, records, loads, refusal, is, p), u, v))) =
     let (same_text, same_records) = loaded one first second w goes text records loads in
     let turns : record_transforms w.r w.text text = subst (λ (x : List ℕ). record_transforms w.r w.text x) (sym same_text) w.transforms in
-    outside fault _ is (refusing refusal w.text text records w.earlier w.r same_records turns p)
-fault_of one first second w goes fault (inr (inr (text, records, loads, d, u, us, takes, p))) =
+    outside fault _ is (refusing unique refusal w.text text records w.earlier w.r same_records turns p)
+fault_of unique one first second w goes fault (inr (inr (text, records, loads, d, u, us, takes, p))) =
     let (same_text, same_records) = loaded one first second w goes text records loads in
     let lasts = same_last us w.earlier takes.0 w.r (sym takes.1 ∙ same_records) in
     let short : length (journal_text us) ≤ MAX_JOURNAL = subst (λ (rs : List JournalEntry). length (journal_text rs) ≤ MAX_JOURNAL) (sym lasts.0) (kept_short first w) in
     saving fault u us second.journal_out second.text_out short p
 
-pub command_can_be_taken_back : TextIsOne → RevertSucceeds
-command_can_be_taken_back one command d first second other s changed goes fault p =
-    fault_of one first second (wrote command d first other s changed) goes fault p
+pub command_can_be_taken_back : ChangeResultIsUnique → TextIsOne → RevertSucceeds
+command_can_be_taken_back unique one command d first second other s changed goes fault p =
+    fault_of unique one first second (wrote command d first other s changed) goes fault p

@@ -1,26 +1,16 @@
 -- By induction on the run, on the number of reverts, and on the commands.
-use Rattle.std.proofs.Common.{◌≡◌, ◌∙◌, ◌≤◌, ℕ, zero, suc, List, [], ◌∷◌, length, drop, replicate, map, Bool, true, false, MatchBool, Result, Ok, Err, refl, ap, subst, arith}
+use Rattle.std.proofs.Common.{◌≡◌, ◌∙◌, ◌≤◌, ℕ, zero, suc, List, [], ◌∷◌, length, drop, replicate, map, Bool, true, false, Result, Ok, Err, refl, ap, subst, arith}
 use Rattle.tf_session.specs.declared.command.Command.{Command}
 use Rattle.tf_session.specs.declared.command.Command.TheVariants.{Fmt, Fix, Revert, Take}
 use Rattle.tf_session.specs.declared.command.Done.{Done}
 use Rattle.tf_session.specs.declared.command.Fault.{Fault}
 use Rattle.tf_lint.specs.Steps.{Rewrite, texts_differ}
-use Rattle.tf_session.specs.Machine.{StackEntry, Stack, initial_stack, push_text, PushesText, PopsText, is_memory, StackMayAllocate, StackStep}
-use Rattle.tf_session.specs.RunLaws.{completed_commands, completed_replies, StackRunWithMemory, OutOfMemoryChangesNothing, texts_of, revert_reply, RevertsPop, RevertsRestoreTheFirst}
-
-by_memory : (b : Bool) (old mid new : Stack) (command : Command) (commands : List Command) (reply : Result Done Fault) (replies : List (Result Done Fault)) → is_memory reply ≡ b
-    → MatchBool b (StackMayAllocate command old × (mid ≡ old)) (StackStep command old reply mid) → StackRunWithMemory mid (completed_commands commands replies) (completed_replies replies) new
-    → StackRunWithMemory old (completed_commands (command ∷ commands) (reply ∷ replies)) (completed_replies (reply ∷ replies)) new
-by_memory true old mid new command commands reply replies e step h =
-    rw e (subst (λ (s : Stack). StackRunWithMemory s (completed_commands commands replies) (completed_replies replies) new) step.1 h)
-by_memory false old mid new command commands reply replies e step h = rw e (mid, step, h)
+use Rattle.tf_session.specs.Machine.{StackEntry, Stack, initial_stack, push_text, PushesText, PopsText, StackMayAllocate, StackStep}
+use Rattle.tf_session.specs.RunLaws.{StackRunWithMemory, OutOfMemoryChangesNothing, texts_of, revert_reply, RevertsPop, RevertsRestoreTheFirst}
+use Rattle.tf_session.proofs.Runs.{memory_does_not_count}
 
 pub refused_do_not_count : OutOfMemoryChangesNothing
-refused_do_not_count old new [] [] run = run
-refused_do_not_count old new [] (reply ∷ replies) run = absurd run
-refused_do_not_count old new (command ∷ commands) [] run = absurd run
-refused_do_not_count old new (command ∷ commands) (reply ∷ replies) run =
-    by_memory (is_memory reply) old run.0 new command commands reply replies refl run.1 (refused_do_not_count run.0 new commands replies run.2)
+refused_do_not_count = memory_does_not_count StackMayAllocate StackStep
 
 -- a revert, from a stack in its parts
 reverts_from : (k : ℕ) (top : List ℕ) (below : List StackEntry) (new : Stack) (replies : List (Result Done Fault)) → k ≤ length below

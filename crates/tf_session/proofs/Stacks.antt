@@ -3,17 +3,22 @@ use Rattle.std.proofs.Common.{◌≡◌, ◌∙◌, ℕ, List, [], ◌∷◌, �
 use Rattle.std.proofs.lemmas.Slice.Eq.{bytes_eq-Decides}
 use Rattle.std.proofs.lemmas.Bool.{not-false}
 use Rattle.edit_record.specs.Lists.Journal.{JournalEntry, record_transforms}
+use Rattle.edit_record.specs.Lists.Pieces.{EditList, Transforms}
+use Rattle.edit_record.specs.Lists.ChangeResults.{IsChangeResult, ChangeResultIsUnique}
+use Rattle.edit_record.specs.declared.lists.change.Refused.{Refused}
+use Rattle.edit_record.specs.declared.lists.direction.Direction.TheVariants.{Backward}
 use Rattle.tf_session.specs.declared.command.Command.{Command}
 use Rattle.tf_session.specs.declared.command.Command.TheVariants.{Fmt, Fix, Revert, Take}
 use Rattle.tf_session.specs.declared.command.Done.{Done}
 use Rattle.tf_session.specs.declared.command.Fault.{Fault}
-use Rattle.tf_session.specs.declared.command.Fault.TheVariants.{Scan, Parse, FixBroken, TooLong, NoRecord, Refused, Memory, Blocked}
+use Rattle.tf_session.specs.declared.command.Fault.TheVariants.{Scan, Parse, FixBroken, TooLong, NoRecord, Memory, Blocked}
 use Rattle.tf_lint.specs.Steps.{Rewrite, texts_differ}
 use Rattle.tf_session.specs.Rewrites.{Rewrites, is_memory_fault}
 use Rattle.tf_lint.specs.ParseFaults.{IsUtf8WithinLimit}
 use Rattle.tf_session.specs.Machine.{StackEntry, Stack, done, PushesText, StackStep, StackStepOrMemory, StackRun, IsNotTake, WithoutTake}
 use Rattle.tf_session.specs.Records.{IsJournalOfStack, AddsRecordOf, RevertsLast, DoesStep, RefusesRevert, RefusesStep}
 use Rattle.tf_session.proofs.Lists.{not_nil, same_last}
+use Rattle.tf_session.proofs.Runs.{run_more}
 
 abbrev stack : List ℕ → List StackEntry → Stack
 stack t below = record { top = t; below = below }
@@ -73,20 +78,11 @@ did (Fix rules) _ t below js d u ks p st =
 did Revert _ t below js d u ks p st = removed t below js d u ks p st
 did (Take n) untaken t below js d u ks p st = absurd untaken
 
-refused_take : (t : List ℕ) (below : List StackEntry) (js : List JournalEntry) (e : Fault) → RefusesRevert t js e → IsJournalOfStack js t below → StackStepOrMemory Revert (stack t below) (Err e) (stack t below)
-refused_take t below js (Scan fault) p st = absurd p
-refused_take t below js (Parse fault) p st = absurd p
-refused_take t below js (FixBroken rule) p st = absurd p
-refused_take t below js TooLong p st = absurd p
-refused_take t [] js NoRecord p st = (refl, refl)
-refused_take t (under ∷ rest) js NoRecord p st = absurd (not_nil st.0 st.1 (sym st.2 ∙ p))
-refused_take t [] js (Refused refused) p st = absurd (not_nil p.1.0 p.0 (sym p.1.1 ∙ st))
-refused_take t (under ∷ rest) js (Refused refused) p st =
-    let lasts = same_last p.1.0 st.0 p.0 st.1 (sym p.1.1 ∙ st.2) in
-    absurd (p.3 under.text (subst (λ (r : JournalEntry). record_transforms r under.text t) (sym lasts.1) st.3.transforms))
-refused_take t [] js Memory p st = absurd (not_nil p.1.0 p.0 (sym p.1.1 ∙ st))
-refused_take t (under ∷ rest) js Memory p st = (λ e. cc, refl)
-refused_take t below js (Blocked number) p st = absurd p
+-- edits that a text refuses turn no text into it
+pub undone_or_refused : ChangeResultIsUnique → (e : EditList) (t u : List ℕ) (refused : Refused) → IsChangeResult Backward e t (Err refused) → Transforms e u t → ⊥
+undone_or_refused unique e t u refused why turns =
+    let same = unique Backward e t (Err refused) (Ok u) why turns in
+    cc
 
 refused_text : (command : Command) (s : Stack) (e : Fault) → (Rewrites command s.top (Err e) → StackStep command s (Err e) s) → MatchBool (is_memory_fault e) (IsUtf8WithinLimit s.top) (Rewrites command s.top (Err e)) → MatchBool (is_memory_fault e) (IsUtf8WithinLimit s.top × (s ≡ s)) (StackStep command s (Err e) s)
 refused_text command s (Scan fault) f h = f h
@@ -94,33 +90,43 @@ refused_text command s (Parse fault) f h = f h
 refused_text command s (FixBroken rule) f h = f h
 refused_text command s TooLong f h = f h
 refused_text command s NoRecord f h = f h
-refused_text command s (Refused refused) f h = f h
+refused_text command s (Fault.Refused refused) f h = f h
 refused_text command s Memory f h = (h, refl)
 refused_text command s (Blocked number) f h = f h
 
-pub refused : (command : Command) → IsNotTake command → (t : List ℕ) (below : List StackEntry) (js : List JournalEntry) (e : Fault) → RefusesStep command t js e → IsJournalOfStack js t below → StackStepOrMemory command (stack t below) (Err e) (stack t below)
-refused Fmt _ t below js e p st = refused_text Fmt (stack t below) e (λ h. (Err e, h, (refl, refl))) p
-refused (Fix rules) _ t below js e p st = refused_text (Fix rules) (stack t below) e (λ h. (Err e, h, (refl, refl))) p
-refused Revert _ t below js e p st = refused_take t below js e p st
-refused (Take n) untaken t below js e p st = absurd untaken
+module _ (unique : ChangeResultIsUnique) where
+  refused_take : (t : List ℕ) (below : List StackEntry) (js : List JournalEntry) (e : Fault) → RefusesRevert t js e → IsJournalOfStack js t below → StackStepOrMemory Revert (stack t below) (Err e) (stack t below)
+  refused_take t below js (Scan fault) p st = absurd p
+  refused_take t below js (Parse fault) p st = absurd p
+  refused_take t below js (FixBroken rule) p st = absurd p
+  refused_take t below js TooLong p st = absurd p
+  refused_take t [] js NoRecord p st = (refl, refl)
+  refused_take t (under ∷ rest) js NoRecord p st = absurd (not_nil st.0 st.1 (sym st.2 ∙ p))
+  refused_take t [] js (Fault.Refused refused) p st = absurd (not_nil p.1.0 p.0 (sym p.1.1 ∙ st))
+  refused_take t (under ∷ rest) js (Fault.Refused refused) p st =
+      let lasts = same_last p.1.0 st.0 p.0 st.1 (sym p.1.1 ∙ st.2) in
+      let turns = subst (λ (r : JournalEntry). record_transforms r under.text t) (sym lasts.1) st.3.transforms in
+      absurd (undone_or_refused unique p.0.edits t under.text refused p.2 turns)
+  refused_take t [] js Memory p st = absurd (not_nil p.1.0 p.0 (sym p.1.1 ∙ st))
+  refused_take t (under ∷ rest) js Memory p st = (λ e. cc, refl)
+  refused_take t below js (Blocked number) p st = absurd p
 
--- a run goes on by one command
-pub run_more : (old mid new : Stack) (cs : List Command) (rs : List (Result Done Fault)) (c : Command) (r : Result Done Fault) → StackRun old cs rs mid → StackStepOrMemory c mid r new → StackRun old (cs ++ c ∷ []) (rs ++ r ∷ []) new
-run_more old mid new [] [] c r h st = (new, subst (λ (x : Stack). StackStepOrMemory c x r new) h st, refl)
-run_more old mid new [] (x ∷ rs) c r h st = absurd h
-run_more old mid new (x ∷ cs) [] c r h st = absurd h
-run_more old mid new (x ∷ cs) (y ∷ rs) c r h st = (h.0, h.1, run_more h.0 mid new cs rs c r h.2 st)
+  pub refused : (command : Command) → IsNotTake command → (t : List ℕ) (below : List StackEntry) (js : List JournalEntry) (e : Fault) → RefusesStep command t js e → IsJournalOfStack js t below → StackStepOrMemory command (stack t below) (Err e) (stack t below)
+  refused Fmt _ t below js e p st = refused_text Fmt (stack t below) e (λ h. (Err e, h, (refl, refl))) p
+  refused (Fix rules) _ t below js e p st = refused_text (Fix rules) (stack t below) e (λ h. (Err e, h, (refl, refl))) p
+  refused Revert _ t below js e p st = refused_take t below js e p st
+  refused (Take n) untaken t below js e p st = absurd untaken
 
--- What a session's step ensures takes a run, and the records that stand for its stack, one command further.
-pub stepped : (first mid : Stack) (cs : List Command) (rs : List (Result Done Fault)) (command : Command) (reply : Result Done Fault) (t : List ℕ) (js : List JournalEntry) (u : List ℕ) (ks : List JournalEntry)
-    → IsNotTake command → StackRun first cs rs mid → t ≡ mid.top → IsJournalOfStack js mid.top mid.below
-    → IfOk reply (λ d. DoesStep command t js d u ks) → IfErr reply (RefusesStep command t js) → OnErr reply (u ≡ t) → OnErr reply (ks ≡ js)
-    → (n : Stack) × StackRun first (cs ++ command ∷ []) (rs ++ reply ∷ []) n × (u ≡ n.top) × IsJournalOfStack ks n.top n.below
-stepped first mid cs rs command (Ok d) t js u ks untaken run top st does _ _ _ =
-    let h = did command untaken mid.top mid.below js d u ks (subst (λ (x : List ℕ). DoesStep command x js d u ks) top does) st in
-    (h.0, run_more first mid h.0 cs rs command (Ok d) run h.1, h.2, h.3)
-stepped first mid cs rs command (Err e) t js u ks untaken run top st _ why ut kj =
-    (mid, run_more first mid mid cs rs command (Err e) run (refused command untaken mid.top mid.below js e (subst (λ (x : List ℕ). RefusesStep command x js e) top why) st), ut ∙ top, subst (λ (x : List JournalEntry). IsJournalOfStack x mid.top mid.below) (sym kj) st)
+  -- What a session's step ensures takes a run, and the records that stand for its stack, one command further.
+  pub stepped : (first mid : Stack) (cs : List Command) (rs : List (Result Done Fault)) (command : Command) (reply : Result Done Fault) (t : List ℕ) (js : List JournalEntry) (u : List ℕ) (ks : List JournalEntry)
+      → IsNotTake command → StackRun first cs rs mid → t ≡ mid.top → IsJournalOfStack js mid.top mid.below
+      → IfOk reply (λ d. DoesStep command t js d u ks) → IfErr reply (RefusesStep command t js) → OnErr reply (u ≡ t) → OnErr reply (ks ≡ js)
+      → (n : Stack) × StackRun first (cs ++ command ∷ []) (rs ++ reply ∷ []) n × (u ≡ n.top) × IsJournalOfStack ks n.top n.below
+  stepped first mid cs rs command (Ok d) t js u ks untaken run top st does _ _ _ =
+      let h = did command untaken mid.top mid.below js d u ks (subst (λ (x : List ℕ). DoesStep command x js d u ks) top does) st in
+      (h.0, run_more StackStepOrMemory first mid h.0 cs rs command (Ok d) run h.1, h.2, h.3)
+  stepped first mid cs rs command (Err e) t js u ks untaken run top st _ why ut kj =
+      (mid, run_more StackStepOrMemory first mid mid cs rs command (Err e) run (refused command untaken mid.top mid.below js e (subst (λ (x : List ℕ). RefusesStep command x js e) top why) st), ut ∙ top, subst (λ (x : List JournalEntry). IsJournalOfStack x mid.top mid.below) (sym kj) st)
 
 -- no take among some commands and one more
 pub without_before : (cs : List Command) (c : Command) → WithoutTake (cs ++ c ∷ []) → WithoutTake cs

@@ -4,6 +4,7 @@ use Rattle.std.proofs.lemmas.List.{length-map, nil_from_length}
 use Rattle.edit_record.specs.Lists.Journal.{JournalEntry, edits_of}
 use Rattle.edit_record.specs.Lists.Validity.{ApplyIsDeterministic}
 use Rattle.edit_record.specs.Lists.Sequence.{TransformsInOrder}
+use Rattle.edit_record.specs.Squashes.Squash.{ComposableListsSquash}
 use Rattle.edit_record.specs.Lists.Pieces.{EditList, Transforms}
 use Rattle.edit_record.specs.declared.lists.record.Word.{Word}
 use Rattle.edit_record.specs.Swaps.MoveToEnd.{IsMovedToEnd, MoveToEndIsUnique}
@@ -12,7 +13,7 @@ use Rattle.tf_session.specs.declared.command.Command.TheVariants.{Fmt, Fix, Reve
 use Rattle.tf_session.specs.declared.command.Done.{Done}
 use Rattle.tf_session.specs.declared.command.Fault.{Fault}
 use Rattle.tf_lint.specs.Steps.{Rewrite, texts_differ}
-use Rattle.tf_session.specs.Machine.{is_memory}
+use Rattle.tf_session.specs.Runs.{is_memory}
 use Rattle.tf_session.specs.Layers.{Layer, History, initial_history, last_text, top_text, record_of, records_in, LayersAreConsistent, IsHistory, push_layer, PushesLayer, PopsLayer, TakeStep, HistoryStep, HistoryMayAllocate, HistoryRun}
 use Rattle.tf_session.specs.TakeLaws.{HistoryRunWithMemory, TakePreservesHistory, RevertsRestoreTheFirstAfterTakes, JournalSquashesToOneAfterTakes}
 use Rattle.tf_session.proofs.JournalOne.{TurnLengths, SquashesAreOne, become_one}
@@ -54,11 +55,11 @@ run_first old new (command ∷ commands) (reply ∷ replies) h = run_first h.0 n
 
 -- ---- the laws
 
-pub journal_is_one_again : TurnLengths → SquashesAreOne → JournalSquashesToOneAfterTakes
-journal_is_one_again lengths squash_as_one text commands replies end run is_history first others same =
+pub journal_is_one_again : TurnLengths → ComposableListsSquash → SquashesAreOne → JournalSquashesToOneAfterTakes
+journal_is_one_again lengths squashes squash_as_one text commands replies end run is_history first others same =
     let from_text : TransformsInOrder Transforms (edits_of (records_in end.layers)) text (top_text end) =
     subst (λ (t : List ℕ). TransformsInOrder Transforms (edits_of (records_in end.layers)) t (top_text end)) (run_first (initial_history text) end commands replies run) (rise_turns end.first end.layers is_history) in
-    become_one lengths squash_as_one text (top_text end) first others (subst (λ (cs : List EditList). TransformsInOrder Transforms cs text (top_text end)) same from_text)
+    become_one lengths squashes squash_as_one text (top_text end) first others (subst (λ (cs : List EditList). TransformsInOrder Transforms cs text (top_text end)) same from_text)
 
 all_off : (n : ℕ) (p new : History) (answers : List (Result Done Fault)) → length p.layers ≡ n → HistoryRunWithMemory p (replicate n Revert) answers new → new ≡ initial_history p.first
 all_off zero p new (answer ∷ answers) len h = absurd h

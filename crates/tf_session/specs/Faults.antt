@@ -1,5 +1,5 @@
--- Faults of the layers below as those of a command and of a stream: want of memory is always one of
--- their own.
+-- Errors of the crates below as those of a command and of a stream: out of memory is `Memory` in
+-- each of them, and no other error is.
 use Rattle.hcl_layout.specs.declared.gaps.fault.LayoutFault.{LayoutFault}
 use Rattle.edit_record.specs.declared.lists.change.Refused.{Refused}
 use Rattle.edit_record.specs.declared.fault.RecordFault.{RecordFault}

@@ -1,7 +1,8 @@
 -- The records of a journal as one list of edits.
 use Rattle.std.specs.Prelude.{◌≡◌, ℕ, List, ◌∷◌, ◌++◌, Result}
 use Rattle.edit_record.specs.Lists.Journal.{JournalEntry, edits_of}
-use Rattle.edit_record.specs.Lists.Validity.{new_len}
+use Rattle.std.specs.List.{AllByRecursion}
+use Rattle.edit_record.specs.Lists.Validity.{IsValidList, new_len}
 use Rattle.edit_record.specs.Lists.Pieces.{EditList, Transforms}
 use Rattle.edit_record.specs.Squashes.SquashLists.{SquashAll}
 use Rattle.edit_record.specs.Squashes.Squash.{AreComposable}
@@ -11,13 +12,16 @@ use Rattle.tf_session.specs.declared.command.Fault.{Fault}
 use Rattle.tf_session.specs.Machine.{Stack, initial_stack, StackRun}
 use Rattle.tf_session.specs.Records.{IsJournalOfStack}
 
--- The lists, squashed from the first on, each into the result so far, become one that turns the one
--- text into the other. On the way each goes on from those before it, so squashing it is refused for
--- want of memory alone.
+-- The lists, squashed from the first on, each into the result up to there, become one that turns
+-- the one text into the other. On the way each can follow those before it, so squashing it fails
+-- only if memory runs out. There is such a list, as those of a journal's records are valid (law
+-- `edits_are_valid` of edit_record).
 pub record SquashToOne (text top : List ℕ) (first : EditList) (others : List EditList) : Type 0 where
   pub composable : (before : List EditList) (next : EditList) (after : List EditList)
       (so_far : EditList) → others ≡ before ++ next ∷ after
       → SquashAll first before so_far → (new_len so_far ≡ next.old_len) × AreComposable so_far next
+  pub exists : AllByRecursion IsValidList (first ∷ others)
+      → (one : EditList) × SquashAll first others one
   pub transforms : (one : EditList) → SquashAll first others one → Transforms one text top
 
 -- The records of the journal of any run, if it has any, become one list that turns the first text

@@ -1,5 +1,5 @@
--- A text and the text of its journal: what is taken of two sources for them, and what is put to two
--- targets.
+-- A text and the text of its journal: what is read of two sources for them, and what is written to
+-- two targets.
 use Rattle.std.specs.Prelude.{◌≡◌, ◌≤◌, ◌<◌, ◌⊎◌, ℕ, List, length, Err}
 use Rattle.std.specs.Io.KnownBytes.{Keeps}
 use Rattle.hcl_scan.specs.Tokenization.{MAX_TEXT}
@@ -43,7 +43,7 @@ LoadReadFault fault text_in journal_in =
     (ReadAtFault MAX_TEXT fault text_in × Unread journal_in)
     ⊎ ((text : List ℕ) × ReadsText text_in text × ReadAtFault MAX_JOURNAL fault journal_in)
 
--- Both are whole, and what there is for the journal is refused with this fault.
+-- Both are whole, and `decode` refuses what there is for the journal with this error.
 abbrev pub LoadDecodeFault : RecordFault → Source → Source → Type 0
 LoadDecodeFault fault text_in journal_in =
     (text : List ℕ) × (bytes : List ℕ) × ReadsText text_in text
@@ -62,8 +62,7 @@ LoadFault fault text_in journal_in =
 abbrev pub IsSavedText : List JournalEntry → List ℕ → Type 0
 IsSavedText records bytes = IsCurrentText bytes records × (length bytes ≤ MAX_JOURNAL)
 
--- It would be too long; or it would not be, and a growth was refused, but never for an empty
--- journal.
+-- It would be too long; or it would not be, and memory ran out, but never for an empty journal.
 abbrev pub JournalTextFault : List JournalEntry → RunFault → Type 0
 JournalTextFault records Endless = MAX_JOURNAL < length (journal_text records)
 JournalTextFault records Memory = (length (journal_text records) ≤ MAX_JOURNAL) × (0 < length records)
@@ -91,7 +90,7 @@ IsWriteOf part _ = ⊥
 
 -- ---- one command between the two
 
--- From the sources came a text and a journal; the command made this of them, and that went to the
+-- The sources had a text and a journal; the command made this of them, and that was written to the
 -- targets.
 abbrev pub StreamsCommand : Command → Done → Source → Source → Target → Target → Type 0
 StreamsCommand command d text_in journal_in journal_out text_out =

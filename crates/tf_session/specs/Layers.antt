@@ -1,7 +1,7 @@
--- The machine that keeps the edits between its texts: fmt and fix put a layer on, revert takes the
--- last one off, and take takes any one out, as if the command that put it on had not been given.
--- Without take it is the machine of whole texts.
-use Rattle.std.specs.Prelude.{◌≡◌, ◌≢◌, ℕ, List, [], ◌∷◌, ◌++◌, map, Result, Ok, Err, if◌then◌else◌, MatchBool}
+-- The machine that keeps the edits between its texts: fmt and fix push a layer, revert pops the
+-- last one, and take removes any one, as if the command that pushed it had not been given. Without
+-- take it is the machine of whole texts.
+use Rattle.std.specs.Prelude.{◌≡◌, ◌≢◌, ℕ, List, [], ◌∷◌, ◌++◌, map, Result, Ok, Err, if◌then◌else◌}
 use Rattle.edit_record.specs.declared.lists.record.Word.{Word}
 use Rattle.edit_record.specs.Lists.Pieces.{EditList, Transforms}
 use Rattle.edit_record.specs.Lists.Journal.{JournalEntry, edits_of, words_of}
@@ -14,11 +14,12 @@ use Rattle.tf_session.specs.declared.command.Fault.TheVariants.{NoRecord}
 use Rattle.tf_lint.specs.Steps.{Rewrite, texts_differ}
 use Rattle.tf_session.specs.Rewrites.{Rewrites}
 use Rattle.tf_lint.specs.ParseFaults.{IsUtf8WithinLimit}
-use Rattle.tf_session.specs.Machine.{done, is_memory}
+use Rattle.tf_session.specs.Machine.{done}
+use Rattle.tf_session.specs.Runs.{StepOrMemory, RunBy}
 use Rattle.tf_session.specs.NthItem.{Nth}
 use Rattle.tf_session.specs.RemovingRecord.{CannotRemove, RemovalMayAllocate}
 
--- one text on another: the word of the command that put it on, the edits between the two, and the
+-- one text on another: the word of the command that pushed it, the edits between the two, and the
 -- upper text
 pub record Layer : Type 0 where
   pub word : Word
@@ -58,7 +59,7 @@ IsHistory h = LayersAreConsistent h.first h.layers
 
 -- ---- fmt and fix
 
--- a layer with these edits goes on, if the text differs
+-- a layer with these edits is pushed, if the text differs
 abbrev pub push_layer : Word → Rewrite → History → History
 push_layer word made h =
     if texts_differ (top_text h) made.text
@@ -76,7 +77,7 @@ PushesLayer word (Err fault) old reply new = (reply ≡ Err fault) × (new ≡ o
 
 -- ---- revert
 
--- The last layer is taken off. The reply says whether the two texts differ.
+-- The last layer is popped. The reply says whether the two texts differ.
 pub record PopsLast (old : History) (d : Done) (new : History) : Type 0 where
   pub rest : List Layer
   pub last : Layer
@@ -90,9 +91,9 @@ PopsLayer old (Err fault) new = (fault ≡ NoRecord) × (old.layers ≡ []) × (
 
 -- ---- take
 
--- Layer n goes. Its edits change places with those of each later layer in turn; what these become
--- are the edits of the new layers, which keep their words, and the new texts are what these edits
--- make one after another of the text below layer n.
+-- Layer n is removed. Its edits are swapped with those of each later layer in turn; what these
+-- become are the edits of the new layers, which keep their words, and the new texts are what these
+-- edits make in order of the text below layer n.
 pub record RemovesLayer (n : ℕ) (old : History) (d : Done) (new : History) : Type 0 where
   pub nth : Nth n old.layers
   pub new_records : List Layer
@@ -121,24 +122,18 @@ HistoryStep (Fix rules) old reply new =
 HistoryStep Revert old reply new = PopsLayer old reply new
 HistoryStep (Take n) old reply new = TakeStep n old reply new
 
--- A fmt or a fix takes memory only for a text that it looks into, a revert only where there is a
--- layer, and a take as is said of records.
+-- A fmt or a fix allocates only for a text that it reads, a revert only if there is a layer, and a
+-- take as `RemovalMayAllocate` says of records.
 abbrev pub HistoryMayAllocate : Command → History → Type 0
 HistoryMayAllocate Fmt h = IsUtf8WithinLimit (top_text h)
 HistoryMayAllocate (Fix rules) h = IsUtf8WithinLimit (top_text h)
 HistoryMayAllocate Revert h = h.layers ≢ []
 HistoryMayAllocate (Take n) h = RemovalMayAllocate n (top_text h) (records_in h.layers)
 
--- One command where growths may be refused: then its reply is Memory, and it changes nothing.
+-- one command where memory may run out
 abbrev pub HistoryStepOrMemory : Command → History → Result Done Fault → History → Type 0
-HistoryStepOrMemory command old reply new =
-    MatchBool (is_memory reply) (HistoryMayAllocate command old × (new ≡ old))
-    (HistoryStep command old reply new)
+HistoryStepOrMemory = StepOrMemory HistoryMayAllocate HistoryStep
 
 -- Each command has its reply, in order. One whose reply is Memory might as well not be in the list.
 abbrev pub HistoryRun : History → List Command → List (Result Done Fault) → History → Type 0
-HistoryRun old [] [] new = new ≡ old
-HistoryRun old [] (reply ∷ replies) new = ⊥
-HistoryRun old (command ∷ commands) [] new = ⊥
-HistoryRun old (command ∷ commands) (reply ∷ replies) new =
-    (mid : History) × HistoryStepOrMemory command old reply mid × HistoryRun mid commands replies new
+HistoryRun = RunBy HistoryStepOrMemory

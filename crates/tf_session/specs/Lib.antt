@@ -5,6 +5,7 @@ pub mod Parsing
 pub mod Fixing
 pub mod Formatting
 pub mod Rewrites
+pub mod Runs
 pub mod Machine
 pub mod NthItem
 pub mod RemovingRecord
@@ -15,6 +16,7 @@ pub mod ResultIsUnique
 pub mod FmtLaws
 pub mod JournalLaws
 pub mod TakeLaws
+pub mod RemovalLaws
 pub mod MachinesAgree
 pub mod Session
 pub mod Streaming

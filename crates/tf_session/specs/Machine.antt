@@ -1,7 +1,6 @@
--- The machine: a stack of whole texts. A fmt puts the layout on top and a fix the stated
--- replacement, where it differs, and a revert takes the top off. There is no record and no place in
--- it.
-use Rattle.std.specs.Prelude.{◌≡◌, ◌≢◌, ℕ, Bool, true, false, List, [], ◌∷◌, Result, Ok, Err, if◌then◌else◌, MatchBool}
+-- The machine: a stack of whole texts. A fmt pushes the layout and a fix the stated replacement, if
+-- it differs, and a revert pops the top. There is no record and no place in it.
+use Rattle.std.specs.Prelude.{◌≡◌, ◌≢◌, ℕ, Bool, true, List, [], ◌∷◌, Result, Ok, Err, if◌then◌else◌}
 use Rattle.std.specs.List.{AllByRecursion}
 use Rattle.tf_session.specs.declared.command.Command.{Command}
 use Rattle.tf_session.specs.declared.command.Command.TheVariants.{Fmt, Fix, Revert, Take}
@@ -9,15 +8,16 @@ use Rattle.tf_session.specs.declared.command.Done.{Done}
 use Rattle.tf_session.specs.declared.command.Fault.{Fault}
 use Rattle.tf_session.specs.declared.command.Fault.TheVariants.{NoRecord}
 use Rattle.tf_lint.specs.Steps.{Rewrite, texts_differ}
-use Rattle.tf_session.specs.Rewrites.{Rewrites, is_memory_fault}
+use Rattle.tf_session.specs.Rewrites.{Rewrites}
+use Rattle.tf_session.specs.Runs.{StepOrMemory, RunBy}
 use Rattle.tf_lint.specs.ParseFaults.{IsUtf8WithinLimit}
 
--- a text, and the command that put the next one on it
+-- a text, and the command that pushed the next one
 pub record StackEntry : Type 0 where
   pub text : List ℕ
   pub command : Command
 
--- whole texts, never none: the top, which was put on last, and those below it, the nearest first
+-- whole texts, never none: the top, which was pushed last, and those below it, the nearest first
 pub record Stack : Type 0 where
   pub top : List ℕ
   pub below : List StackEntry
@@ -25,7 +25,7 @@ pub record Stack : Type 0 where
 abbrev pub initial_stack : List ℕ → Stack
 initial_stack text = record { top = text; below = [] }
 
--- the text goes on top, if it differs
+-- the text is pushed, if it differs
 abbrev pub push_text : Command → List ℕ → Stack → Stack
 push_text command text s =
     if texts_differ s.top text
@@ -35,21 +35,21 @@ push_text command text s =
 abbrev pub done : Bool → ℕ → ℕ → Done
 done changed fixed left = record { changed = changed; fixed = fixed; left = left }
 
--- A command that makes a text puts it on, and one that refuses the top changes nothing.
+-- A command that makes a text pushes it, and one that refuses the top changes nothing.
 abbrev pub PushesText : Command → Result Rewrite Fault → Stack → Result Done Fault → Stack → Type 0
 PushesText command (Ok made) old reply new =
     (reply ≡ Ok (done (texts_differ old.top made.text) made.fixed made.left))
     × (new ≡ push_text command made.text old)
 PushesText command (Err fault) old reply new = (reply ≡ Err fault) × (new ≡ old)
 
--- The top is taken off, unless it is the only text.
+-- The top is popped, unless it is the only text.
 abbrev pub PopsText : List ℕ → List StackEntry → Result Done Fault → Stack → Type 0
 PopsText top [] reply new = (reply ≡ Err NoRecord) × (new ≡ initial_stack top)
 PopsText top (under ∷ rest) reply new =
     (reply ≡ Ok (done true 0 0)) × (new ≡ record { top = under.text; below = rest })
 
 -- One command over a stack, its reply, and the stack that it leaves. Take needs the edits between
--- the texts: it is none of this machine.
+-- the texts, so this machine does not have it.
 abbrev pub StackStep : Command → Stack → Result Done Fault → Stack → Type 0
 StackStep Fmt old reply new =
     (answer : Result Rewrite Fault) × Rewrites Fmt old.top answer × PushesText Fmt answer old reply new
@@ -59,33 +59,23 @@ StackStep (Fix rules) old reply new =
 StackStep Revert old reply new = PopsText old.top old.below reply new
 StackStep (Take n) old reply new = ⊥
 
--- whether a growth was refused inside the command
-abbrev pub is_memory : Result Done Fault → Bool
-is_memory (Ok d) = false
-is_memory (Err fault) = is_memory_fault fault
-
--- A fmt or a fix takes memory only for a text that it looks into, and a revert only where there is
--- something below.
+-- A fmt or a fix allocates only for a text that it reads, and a revert only if there is something
+-- below.
 abbrev pub StackMayAllocate : Command → Stack → Type 0
 StackMayAllocate Fmt s = IsUtf8WithinLimit s.top
 StackMayAllocate (Fix rules) s = IsUtf8WithinLimit s.top
 StackMayAllocate Revert s = s.below ≢ []
 StackMayAllocate (Take n) s = ⊥
 
--- One command where growths may be refused: then its reply is Memory, and it changes nothing.
+-- one command where memory may run out
 abbrev pub StackStepOrMemory : Command → Stack → Result Done Fault → Stack → Type 0
-StackStepOrMemory command old reply new =
-    MatchBool (is_memory reply) (StackMayAllocate command old × (new ≡ old)) (StackStep command old reply new)
+StackStepOrMemory = StepOrMemory StackMayAllocate StackStep
 
 -- Each command has its reply, in order. One whose reply is Memory might as well not be in the list.
 abbrev pub StackRun : Stack → List Command → List (Result Done Fault) → Stack → Type 0
-StackRun old [] [] new = new ≡ old
-StackRun old [] (reply ∷ replies) new = ⊥
-StackRun old (command ∷ commands) [] new = ⊥
-StackRun old (command ∷ commands) (reply ∷ replies) new =
-    (mid : Stack) × StackStepOrMemory command old reply mid × StackRun mid commands replies new
+StackRun = RunBy StackStepOrMemory
 
--- ---- the lists of commands that are this machine's
+-- ---- the commands that this machine has
 
 abbrev pub IsNotTake : Command → Type 0
 IsNotTake (Take n) = ⊥

@@ -17,7 +17,7 @@ LayersMatchStack first layers top (under ∷ rest) =
 abbrev pub SameTexts : History → Stack → Type 0
 SameTexts h s = LayersMatchStack h.first h.layers s.top s.below
 
--- Where there is no take among the commands, each run of the one machine is one of the other, with
+-- If there is no take among the commands, each run of the one machine is one of the other, with
 -- the same replies and texts.
 pub record MachinesAgree (text : List ℕ) (commands : List Command)
     (replies : List (Result Done Fault)) : Type 0 where

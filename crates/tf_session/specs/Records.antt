@@ -2,14 +2,14 @@
 use Rattle.std.specs.Prelude.{◌≡◌, ℕ, Bool, true, false, List, [], ◌∷◌, ◌++◌, Ok, Err}
 use Rattle.edit_record.specs.declared.lists.record.Word.{Word}
 use Rattle.edit_record.specs.Lists.Pieces.{EditList}
-use Rattle.edit_record.specs.Lists.ChangeResults.{HasExpectedLen}
+use Rattle.edit_record.specs.Lists.ChangeResults.{IsChangeResult, HasExpectedLen}
 use Rattle.edit_record.specs.declared.lists.direction.Direction.TheVariants.{Backward}
-use Rattle.edit_record.specs.Lists.Journal.{JournalEntry, record_transforms, record_backward}
+use Rattle.edit_record.specs.Lists.Journal.{JournalEntry, record_transforms}
 use Rattle.tf_session.specs.declared.command.Command.{Command}
 use Rattle.tf_session.specs.declared.command.Command.TheVariants.{Fmt, Fix, Revert, Take}
 use Rattle.tf_session.specs.declared.command.Done.{Done}
 use Rattle.tf_session.specs.declared.command.Fault.{Fault}
-use Rattle.tf_session.specs.declared.command.Fault.TheVariants.{Scan, Parse, FixBroken, TooLong, NoRecord, Refused, Memory, Blocked}
+use Rattle.tf_session.specs.declared.command.Fault.TheVariants.{NoRecord, Refused, Memory}
 use Rattle.tf_lint.specs.Steps.{Rewrite, texts_differ}
 use Rattle.tf_session.specs.Rewrites.{Rewrites, RefusesText}
 use Rattle.tf_session.specs.Machine.{StackEntry, done}
@@ -22,8 +22,8 @@ HasWord (Fix rules) word = word ≡ Word.Fix
 HasWord Revert word = ⊥
 HasWord (Take n) word = ⊥
 
--- the record of a command that put the upper text on the lower: its word, the stated edits, and it
--- turns the one into the other
+-- the record of a command that pushed the upper text on the lower: its word, the stated edits, and
+-- it turns the one into the other
 pub record IsRecordOf (command : Command) (lower upper : List ℕ) (r : JournalEntry) : Type 0 where
   pub made : Rewrite
   pub makes : Rewrites command lower (Ok made)
@@ -48,8 +48,8 @@ abbrev pub AddsRecord : Bool → Word → EditList → List JournalEntry → Lis
 AddsRecord true word edits js ks = ks ≡ js ++ (record { word = word; edits = edits }) ∷ []
 AddsRecord false word edits js ks = ks ≡ js
 
--- a text that differs is put on with one record more, of just these edits, and one that doesn't
--- with none
+-- a text that differs is the new one, with one record more, of just these edits; one that doesn't
+-- adds none
 abbrev pub AddsRecordOf : Bool → Command → List ℕ → Rewrite → List JournalEntry → List JournalEntry → Type 0
 AddsRecordOf true command t made js ks =
     (r : JournalEntry) × (ks ≡ js ++ r ∷ []) × IsRecordOf command t made.text r × (r.edits ≡ made.edits)
@@ -65,7 +65,7 @@ ReplacesText command made t js d u ks =
 abbrev pub IsUniqueOld : JournalEntry → List ℕ → List ℕ → Type 0
 IsUniqueOld r u t = record_transforms r u t × ((v : List ℕ) → record_transforms r v t → v ≡ u)
 
--- the last record is undone and taken off
+-- the last record is undone and removed
 abbrev pub RevertsLast : List ℕ → List JournalEntry → Done → List ℕ → List JournalEntry → Type 0
 RevertsLast t js d u ks =
     (r : JournalEntry) × (js ≡ ks ++ r ∷ []) × IsUniqueOld r u t × (d ≡ done (texts_differ u t) 0 0)
@@ -78,7 +78,7 @@ DoesStep (Fix rules) t js d u ks =
 DoesStep Revert t js d u ks = RevertsLast t js d u ks
 DoesStep (Take n) t js d u ks = RemovesRecord n t js d u ks
 
--- what a command makes of a text that has no record before it, whatever it answers and records
+-- what a command makes of a text that has no record before it, whatever it returns and records
 abbrev pub StepsTo : Command → List ℕ → List ℕ → Type 0
 StepsTo command text new =
     (d : Done) × (records : List JournalEntry) × DoesStep command text [] d new records
@@ -87,20 +87,15 @@ StepsTo command text new =
 abbrev pub IsLast : List JournalEntry → JournalEntry → Type 0
 IsLast js r = (earlier : List JournalEntry) × (js ≡ earlier ++ r ∷ [])
 
--- Why a revert is refused: there is no record, or the last one does not stand in the text, so that
--- it turns no text into this one.
--- Memory is taken only where the text has the length that the last record asks for.
+-- Why a revert is refused: there is no record; or the edits of the last record can't be undone in
+-- the text, for this reason; or memory ran out, which can only be for a text of the length that
+-- these edits make.
 abbrev pub RefusesRevert : List ℕ → List JournalEntry → Fault → Type 0
-RefusesRevert t js (Scan fault) = ⊥
-RefusesRevert t js (Parse fault) = ⊥
-RefusesRevert t js (FixBroken rule) = ⊥
-RefusesRevert t js TooLong = ⊥
 RefusesRevert t js NoRecord = js ≡ []
 RefusesRevert t js (Refused refused) =
-    (r : JournalEntry) × IsLast js r × (record_backward r t ≡ Err refused)
-    × ((v : List ℕ) → ¬ (record_transforms r v t))
+    (r : JournalEntry) × IsLast js r × IsChangeResult Backward r.edits t (Err refused)
 RefusesRevert t js Memory = (r : JournalEntry) × IsLast js r × HasExpectedLen Backward r.edits t
-RefusesRevert t js (Blocked number) = ⊥
+RefusesRevert t js _ = ⊥
 
 -- why a command is refused
 abbrev pub RefusesStep : Command → List ℕ → List JournalEntry → Fault → Type 0
@@ -108,3 +103,7 @@ RefusesStep Fmt t js fault = RefusesText Fmt t fault
 RefusesStep (Fix rules) t js fault = RefusesText (Fix rules) t fault
 RefusesStep Revert t js fault = RefusesRevert t js fault
 RefusesStep (Take n) t js fault = RefusesRemoval n t js fault
+
+-- why a command refuses a text that has no record before it
+abbrev pub RefusesAlone : Command → List ℕ → Fault → Type 0
+RefusesAlone command text fault = RefusesStep command text [] fault

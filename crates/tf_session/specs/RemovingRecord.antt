@@ -1,6 +1,6 @@
--- Taking one record out of any journal, from outside too: the text t and the records js before, u
--- and ks after. What it means to take one change out of a row of exact changes is this project's
--- own, and is defined here and in edit_swap.
+-- Reverting one record of any journal out of order, from outside too: the text t and the records js
+-- before, u and ks after. What it means to remove one change from a list of exact changes is this
+-- project's own, and is defined here and in swaps of edit_record.
 use Rattle.std.specs.Prelude.{◌≡◌, ◌+◌, ◌<◌, ◌⊎◌, ℕ, List, ◌++◌, length, Err}
 use Rattle.edit_record.specs.Lists.Pieces.{EditList, Transforms}
 use Rattle.edit_record.specs.Lists.ChangeResults.{IsChangeResult, HasExpectedLen}
@@ -16,9 +16,9 @@ use Rattle.tf_lint.specs.Steps.{texts_differ}
 use Rattle.tf_session.specs.Machine.{done}
 use Rattle.tf_session.specs.NthItem.{Nth}
 
--- Record n goes. Its edits change places with those of each later record in turn; what these become
--- stands in the journal, each with the word of its record. The new text is the only one that the
--- edits of record n, as they are behind all others, turn into the old.
+-- Record n is removed. Its edits are swapped with those of each later record in turn; what these
+-- become is in the journal, each with the word of its record. The new text is the only one that the
+-- edits of record n, as they are after all others, turn into the old.
 pub record RemovesRecord (n : ℕ) (t : List ℕ) (js : List JournalEntry) (d : Done) (u : List ℕ)
     (ks : List JournalEntry) : Type 0 where
   pub nth : Nth n js
@@ -31,17 +31,18 @@ pub record RemovesRecord (n : ℕ) (t : List ℕ) (js : List JournalEntry) (d : 
   pub records : ks ≡ nth.before ++ new_records
   pub done_is : d ≡ done (texts_differ u t) 0 0
 
--- ---- why record n is not taken out
+-- ---- why record n is not removed
 
--- among what is behind record n its edits change places with the first k lists, and not with the
--- next one
+-- the edits of record n can be swapped with those of the first k records after it, and not with
+-- those of the next
 pub record FailsAfter (n : ℕ) (records : List JournalEntry) (k : ℕ)
     (Refuses : EditList → EditList → Type 0) : Type 0 where
   pub nth : Nth n records
   pub fails : FailsAt nth.item.edits (edits_of nth.after) k Refuses
 
--- There is none of this number; or the first record behind it that refuses has an edit that meets
--- one of record n; or the text without the one and with the other would be too long.
+-- The errors of a take over a history: there is none of this number; or the first record after it
+-- that can't be swapped has an edit that meets one of record n; or the text without the one and with
+-- the other would be too long.
 abbrev pub CannotRemove : ℕ → List JournalEntry → Fault → Type 0
 CannotRemove n records Fault.NoRecord = (n ≡ 0) ⊎ (length records < n)
 CannotRemove n records (Fault.Blocked number) =
@@ -49,51 +50,45 @@ CannotRemove n records (Fault.Blocked number) =
 CannotRemove n records Fault.TooLong = (k : ℕ) × FailsAfter n records k SwapIsTooLong
 CannotRemove n records _ = ⊥
 
--- Of two neighbours from record n on, the second applies to texts of another length than the first
--- makes.
-abbrev pub LengthsBreak : ℕ → List JournalEntry → Refused → Type 0
-LengthsBreak n js (Refused.Length expected found) =
-    (k : ℕ) × FailsAfter n js k (λ a b. LengthMismatch a b expected found)
-LengthsBreak n js _ = ⊥
-
--- all later records change places with record n, but its edits, as they are behind them, turn no
--- text into this one
+-- record n can be swapped with all later records, but its edits, as they are after them, can't be
+-- undone in this text
 pub record UndoFails (n : ℕ) (t : List ℕ) (js : List JournalEntry) (refused : Refused) : Type 0 where
   pub nth : Nth n js
-  pub new_records : List EditList
+  pub new_lists : List EditList
   pub moved_edits : EditList
-  pub is_moved : IsMovedToEnd nth.item.edits (edits_of nth.after) new_records moved_edits
+  pub is_moved : IsMovedToEnd nth.item.edits (edits_of nth.after) new_lists moved_edits
   pub refuses : IsChangeResult Backward moved_edits t (Err refused)
-  pub none : (v : List ℕ) → ¬ (Transforms moved_edits v t)
 
--- Memory is taken where the next record goes on from record n and their first edits do not meet,
--- and to undo the edits of record n as they are behind all others, in a text of the length that
--- they ask.
+-- Memory is allocated if the next record can be swapped with record n, and to undo the edits of
+-- record n as they are after all others, in a text of the length that they make.
 abbrev pub RemovalMayAllocate : ℕ → List ℕ → List JournalEntry → Type 0
 RemovalMayAllocate n t js =
     (nth : Nth n js) × (MoveMayAllocate nth.item.edits nth.after
     ⊎ ((others : List EditList) × (moved_edits : EditList)
     × IsMovedToEnd nth.item.edits (edits_of nth.after) others moved_edits × HasExpectedLen Backward moved_edits t))
 
-abbrev pub RefusesRemoval : ℕ → List ℕ → List JournalEntry → Fault → Type 0
-RefusesRemoval n t js (Fault.Refused refused) = LengthsBreak n js refused ⊎ UndoFails n t js refused
-RefusesRemoval n t js Fault.Memory = RemovalMayAllocate n t js
-RefusesRemoval n t js fault = CannotRemove n js fault
+-- Why record n is not removed, an error a row: there is none of this number. Or the first record
+-- after it that can't be swapped has an edit that meets one of record n; or the text without the one
+-- and with the other would be too long; or that record is for texts of another length. Or the edits
+-- of record n can't be undone in the text. Or memory ran out.
+pub data RefusesRemoval (n : ℕ) (t : List ℕ) (js : List JournalEntry) : Fault → Type 0 where
+  no_record : (n ≡ 0) ⊎ (length js < n) → RefusesRemoval n t js Fault.NoRecord
+  blocked : {k : ℕ} → FailsAfter n js k SomeMeet → RefusesRemoval n t js (Fault.Blocked (n + k + 1))
+  too_long : {k : ℕ} → FailsAfter n js k SwapIsTooLong → RefusesRemoval n t js Fault.TooLong
+  lengths_differ : {k expected found : ℕ} → FailsAfter n js k (λ a b. LengthMismatch a b expected found)
+      → RefusesRemoval n t js (Fault.Refused (Refused.Length expected found))
+  not_undone : {refused : Refused} → UndoFails n t js refused
+      → RefusesRemoval n t js (Fault.Refused refused)
+  memory : RemovalMayAllocate n t js → RefusesRemoval n t js Fault.Memory
 
--- what take_out answers of the records behind record n, of which it counts the first as 0
+-- what `move_to_end` returns of the records after record n, of which it counts the first as 0
 abbrev pub removal_fault : ℕ → MoveFault → Fault
 removal_fault n (MoveFault.Length expected found) = Fault.Refused (Refused.Length expected found)
 removal_fault n (MoveFault.Blocked passed) = Fault.Blocked (n + passed + 1)
 removal_fault n MoveFault.TooLong = Fault.TooLong
 removal_fault n MoveFault.Memory = Fault.Memory
 
--- how many records, from record n on, are counted for this answer
+-- how many records, from record n on, are counted for this result
 abbrev pub counted_records : MoveFault → ℕ
 counted_records (MoveFault.Blocked passed) = passed + 1
 counted_records _ = 0
-
--- no text becomes this one by these edits, and why; or a growth was refused, for a text of the
--- length that they ask
-abbrev pub CannotUndo : EditList → List ℕ → Refused → Type 0
-CannotUndo e t Refused.Memory = HasExpectedLen Backward e t
-CannotUndo e t refused = IsChangeResult Backward e t (Err refused) × ((v : List ℕ) → ¬ (Transforms e v t))

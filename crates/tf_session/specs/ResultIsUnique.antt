@@ -1,4 +1,4 @@
--- The machine has one answer to each command, and leaves one stack.
+-- The machine has one reply to each command, and leaves one stack.
 use Rattle.std.specs.Prelude.{◌≡◌, ◌⊎◌, Result, Err}
 use Rattle.hcl_text_laws.specs.declared.fault.ParseFault.{ParseFault}
 use Rattle.tf_session.specs.declared.command.Command.{Command}
@@ -7,8 +7,8 @@ use Rattle.tf_session.specs.declared.command.Fault.{Fault}
 use Rattle.tf_session.specs.declared.command.Fault.TheVariants.{Parse}
 use Rattle.tf_session.specs.Machine.{Stack, StackStep}
 
--- Two answers are one; but where the text does not parse, all that is fixed of the fault is what it
--- says of the text.
+-- Two results are one; but if the text does not parse, the error is one only in what it says of the
+-- text.
 abbrev pub AreSameUpToParseFault : {X : Type 0} → Result X Fault → Result X Fault → Type 0
 AreSameUpToParseFault a b = (a ≡ b)
     ⊎ ((fault : ParseFault) × (other : ParseFault) × (a ≡ Err (Parse fault))

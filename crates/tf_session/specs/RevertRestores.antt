@@ -1,4 +1,4 @@
--- A command is taken back over what it wrote.
+-- A command is reverted over what it wrote.
 use Rattle.std.specs.Prelude.{◌≡◌, ℕ, Bool, true, false, List, [], Some}
 use Rattle.edit_record.specs.Lists.Journal.{JournalEntry}
 use Rattle.tf_stream.specs.Streams.{Source, Target}
@@ -10,7 +10,7 @@ use Rattle.tf_session.specs.declared.fault.RunFault.TheVariants.{Memory, Read, W
 use Rattle.tf_session.specs.Machine.{done}
 use Rattle.tf_session.specs.Journals.{Loads, Saves, StreamsCommand, JournaledStreamFault}
 
--- the source has just what went to the target, which held nothing before
+-- the source has just what was written to the target, which held nothing before
 pub record ReadsBack (target : Target) (source : Source) : Type 0 where
   pub bytes : List ℕ
   pub empty : target.before ≡ Some []
@@ -36,7 +36,7 @@ pub record ReadsWhatWasWritten (first second : Endpoints) : Type 0 where
   pub text : ReadsBack first.text_out second.text_in
   pub journal : ReadsBack first.journal_out second.journal_in
 
--- fmt and fix put a record on, where the text changes
+-- fmt and fix add a record, if the text changes
 abbrev pub AddsOneRecord : Command → Type 0
 AddsOneRecord Fmt = Unit {0}
 AddsOneRecord (Fix rules) = Unit {0}
@@ -51,7 +51,7 @@ RevertRestores = (command : Command) (d again : Done) (first second : Endpoints)
     → (text : List ℕ) × (records : List JournalEntry) × Loads text records first.text_in first.journal_in
     × Saves text records second.journal_out second.text_out × (again ≡ done true 0 0)
 
--- a growth, a read or a write was refused
+-- memory ran out, or a read or a write failed
 abbrev pub is_from_outside : RunFault → Bool
 is_from_outside Memory = true
 is_from_outside Read = true

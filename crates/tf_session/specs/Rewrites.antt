@@ -17,7 +17,7 @@ Rewrites (Fix rules) text answer = FixRewrites rules text answer
 Rewrites Revert text answer = ⊥
 Rewrites (Take n) text answer = ⊥
 
--- whether a growth was refused inside the command
+-- whether memory ran out inside the command
 abbrev pub is_memory_fault : Fault → Bool
 is_memory_fault (Scan fault) = false
 is_memory_fault (Parse fault) = false
@@ -28,8 +28,7 @@ is_memory_fault (Refused refused) = false
 is_memory_fault Memory = true
 is_memory_fault (Blocked number) = false
 
--- why a text is not read: it has no tokens, it does not parse, or a growth was refused while it was
--- looked into
+-- why a text is not read: it has no tokens, it does not parse, or memory ran out while it was read
 abbrev pub IsReadFault : List ℕ → Fault → Type 0
 IsReadFault text (Scan fault) = IsFault text fault
 IsReadFault text (Parse fault) = IsParseFault text fault
@@ -40,8 +39,7 @@ IsReadFault text (Refused refused) = ⊥
 IsReadFault text Memory = IsUtf8WithinLimit text
 IsReadFault text (Blocked number) = ⊥
 
--- why a command refuses a text: it can't make another of it, or a growth was refused while it
--- looked into it
+-- why a command refuses a text: it can't make another of it, or memory ran out while it read it
 abbrev pub RefusesText : Command → List ℕ → Fault → Type 0
 RefusesText command text fault =
     MatchBool (is_memory_fault fault) (IsUtf8WithinLimit text) (Rewrites command text (Err fault))

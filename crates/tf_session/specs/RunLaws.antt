@@ -4,7 +4,8 @@ use Rattle.tf_session.specs.declared.command.Command.{Command}
 use Rattle.tf_session.specs.declared.command.Command.TheVariants.{Revert}
 use Rattle.tf_session.specs.declared.command.Done.{Done}
 use Rattle.tf_session.specs.declared.command.Fault.{Fault}
-use Rattle.tf_session.specs.Machine.{StackEntry, Stack, initial_stack, done, is_memory, StackStep, StackRun}
+use Rattle.tf_session.specs.Machine.{StackEntry, Stack, initial_stack, done, StackStep, StackRun}
+use Rattle.tf_session.specs.Runs.{is_memory, RunBy}
 
 -- the commands whose reply is not Memory
 abbrev pub completed_commands : List Command → List (Result Done Fault) → List Command
@@ -18,13 +19,9 @@ abbrev pub completed_replies : List (Result Done Fault) → List (Result Done Fa
 completed_replies [] = []
 completed_replies (reply ∷ replies) = if is_memory reply then completed_replies replies else reply ∷ completed_replies replies
 
--- the machine over a list of commands, where no growth is refused
+-- the machine over a list of commands, if memory does not run out
 abbrev pub StackRunWithMemory : Stack → List Command → List (Result Done Fault) → Stack → Type 0
-StackRunWithMemory old [] [] new = new ≡ old
-StackRunWithMemory old [] (reply ∷ replies) new = ⊥
-StackRunWithMemory old (command ∷ commands) [] new = ⊥
-StackRunWithMemory old (command ∷ commands) (reply ∷ replies) new =
-    (mid : Stack) × StackStep command old reply mid × StackRunWithMemory mid commands replies new
+StackRunWithMemory = RunBy StackStep
 
 -- In any run, replies and stack are those of the machine over the commands that had memory.
 abbrev pub OutOfMemoryChangesNothing : Type 0
@@ -40,8 +37,8 @@ texts_of s = s.top ∷ map (λ (u : StackEntry). u.text) s.below
 abbrev pub revert_reply : Result Done Fault
 revert_reply = Ok (done true 0 0)
 
--- As many reverts as there are texts below, or fewer, take just so many off and leave the rest byte
--- for byte.
+-- As many reverts as there are texts below, or fewer, pop one text each and leave the rest byte for
+-- byte.
 abbrev pub RevertsPop : Type 0
 RevertsPop = (k : ℕ) (old new : Stack) (replies : List (Result Done Fault))
     → k ≤ length old.below → StackRunWithMemory old (replicate k Revert) replies new

@@ -10,35 +10,34 @@ use Rattle.tf_session.specs.declared.command.Done.{Done}
 use Rattle.tf_session.specs.declared.fault.RunFault.{RunFault}
 use Rattle.tf_session.specs.Parsing.{DoesParse}
 use Rattle.tf_session.specs.Rewrites.{RefusesText}
-use Rattle.tf_session.specs.Records.{DoesStep, RefusesStep, StepsTo}
+use Rattle.tf_session.specs.Records.{DoesStep, StepsTo, RefusesAlone}
 use Rattle.tf_session.specs.Streams.{ReadsText, IsReadStreamFault, RefusesInput, StreamFault}
 
--- From the source came a whole text; the command made this new text of it, with these records, and
--- that went to the target.
+-- The source had a whole text; the command made this new text of it, with these records, and that
+-- was written to the target.
 abbrev pub StepsStream : Command → Done → List ℕ → List JournalEntry → Source → Target → Type 0
 StepsStream command d new records source target =
     (text : List ℕ) × ReadsText source text × DoesStep command text [] d new records
     × WritesBytes target new
 
--- No text came, or the command refused it, or not all of the new text went out.
+-- There is no whole text, or the command refuses it, or not all of the new text was written.
 abbrev pub StepStreamFault : Command → RunFault → Source → Target → Type 0
 StepStreamFault command fault source target =
-    StreamFault (λ text refusal. RefusesStep command text [] refusal)
-    (StepsTo command) fault source target
+    StreamFault (RefusesAlone command) (StepsTo command) fault source target
 
--- From the source came a whole text, and what a fmt makes of it went to the target.
+-- The source had a whole text, and what a fmt makes of it was written to the target.
 abbrev pub FormatsStream : Source → Target → Type 0
 FormatsStream source target =
     (d : Done) × (new : List ℕ) × (records : List JournalEntry)
     × StepsStream Fmt d new records source target
 
--- From the source came a text that parses, with a layout within the limit, and the answer is true
--- exactly where it is its own layout.
+-- The source had a text that parses, with a layout within the limit, and the answer is true if and
+-- only if it is its own layout.
 abbrev pub ChecksStream : Bool → Source → Type 0
 ChecksStream answer source =
     (text : List ℕ) × ReadsText source text × DoesParse text × ¬ (IsTooLong text)
     × (IsTrue answer ↔ IsLayout text text)
 
--- No text came, or a fmt refuses it.
+-- There is no whole text, or a fmt refuses it.
 abbrev pub CheckStreamFault : RunFault → Source → Type 0
 CheckStreamFault fault source = IsReadStreamFault fault source ⊎ RefusesInput (RefusesText Fmt) fault source

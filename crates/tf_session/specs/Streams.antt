@@ -1,4 +1,4 @@
--- Whole texts from a source and to a target, and what was taken and put at each fault.
+-- Whole texts from a source and to a target, and what was read and written at each error.
 use Rattle.std.specs.Prelude.{◌≡◌, ◌⊎◌, ℕ, Bool, true, false, List}
 use Rattle.hcl_scan.specs.Tokenization.{MAX_TEXT}
 use Rattle.tf_stream.specs.Streams.{Source, Target, ReadsAll, ReadAtFault, WritesPrefix, Untouched}
@@ -13,14 +13,14 @@ use Rattle.tf_session.specs.Faults.{run_fault_of}
 abbrev pub ReadsText : Source → List ℕ → Type 0
 ReadsText source text = ReadsAll MAX_TEXT source text
 
--- why there is no text, and what was taken of the source
+-- why there is no text, and what was read of the source
 abbrev pub IsReadStreamFault : RunFault → Source → Type 0
 IsReadStreamFault Memory source = ReadAtFault MAX_TEXT ReadFault.Memory source
 IsReadStreamFault Read source = ReadAtFault MAX_TEXT ReadFault.Read source
 IsReadStreamFault Endless source = ReadAtFault MAX_TEXT ReadFault.Endless source
 IsReadStreamFault _ source = ⊥
 
--- the fault is Write at this part, and just the bytes that it says were sent went to the target
+-- the error is Write of this part, and just the bytes that it says were sent are in the target
 abbrev pub IsWriteFault : Part → RunFault → Target → List ℕ → Type 0
 IsWriteFault part (Write named sent) target bytes = (named ≡ part) × WritesPrefix sent target bytes
 IsWriteFault part _ target bytes = ⊥
@@ -30,18 +30,31 @@ abbrev pub is_write : RunFault → Bool
 is_write (Write part sent) = true
 is_write _ = false
 
--- The whole text is refused, for one of these reasons.
+-- the whole text is refused, for one of these reasons
 abbrev pub RefusesInput : (List ℕ → Fault → Type 0) → RunFault → Source → Type 0
-RefusesInput Why fault source =
+RefusesInput Refuses fault source =
     (text : List ℕ) × ReadsText source text × (refusal : Fault) × (fault ≡ run_fault_of refusal)
-    × Why text refusal
+    × Refuses text refusal
 
--- There is no whole text, and nothing was put; or it is refused, and nothing was put; or not all
--- that was made of it was.
-abbrev pub StreamFault : (List ℕ → Fault → Type 0) → (List ℕ → List ℕ → Type 0) → RunFault → Source
-    → Target → Type 0
-StreamFault Why Made fault source target =
-    (IsReadStreamFault fault source × Untouched target)
-    ⊎ (RefusesInput Why fault source × Untouched target)
-    ⊎ ((text : List ℕ) × (made : List ℕ) × ReadsText source text × Made text made
-    × IsWriteFault Part.Text fault target made)
+-- ---- how a call from a source to a target fails
+
+-- there is no whole text, and nothing was written
+abbrev pub FailsToRead : RunFault → Source → Target → Type 0
+FailsToRead fault source target = IsReadStreamFault fault source × Untouched target
+
+-- the whole text is refused, and nothing was written
+abbrev pub FailsToMake : (List ℕ → Fault → Type 0) → RunFault → Source → Target → Type 0
+FailsToMake Refuses fault source target = RefusesInput Refuses fault source × Untouched target
+
+-- not all that was made of the whole text was written
+abbrev pub FailsToWrite : (List ℕ → List ℕ → Type 0) → RunFault → Source → Target → Type 0
+FailsToWrite Makes fault source target =
+    (text : List ℕ) × (made : List ℕ) × ReadsText source text × Makes text made
+    × IsWriteFault Part.Text fault target made
+
+abbrev pub StreamFault : (List ℕ → Fault → Type 0) → (List ℕ → List ℕ → Type 0) → RunFault
+    → Source → Target → Type 0
+StreamFault Refuses Makes fault source target =
+    FailsToRead fault source target
+    ⊎ FailsToMake Refuses fault source target
+    ⊎ FailsToWrite Makes fault source target

@@ -1,5 +1,5 @@
 -- Laws of the machine with take, over lists of commands.
-use Rattle.std.specs.Prelude.{◌≡◌, ◌+◌, ℕ, List, [], ◌∷◌, length, replicate, Result}
+use Rattle.std.specs.Prelude.{◌≡◌, ◌+◌, ℕ, List, ◌∷◌, length, replicate, Result}
 use Rattle.edit_record.specs.Lists.Pieces.{EditList, Transforms}
 use Rattle.edit_record.specs.Lists.Journal.{edits_of}
 use Rattle.tf_session.specs.declared.command.Command.{Command}
@@ -9,15 +9,12 @@ use Rattle.tf_session.specs.declared.command.Fault.{Fault}
 use Rattle.tf_session.specs.JournalLaws.{SquashToOne}
 use Rattle.tf_session.specs.ResultIsUnique.{AreSameUpToParseFault}
 use Rattle.tf_session.specs.RunLaws.{completed_commands, completed_replies}
+use Rattle.tf_session.specs.Runs.{RunBy}
 use Rattle.tf_session.specs.Layers.{History, initial_history, top_text, records_in, IsHistory, RemovesLayer, TakeStep, HistoryStep, HistoryRun}
 
--- the machine over a list of commands, where no growth is refused
+-- the machine over a list of commands, if memory does not run out
 abbrev pub HistoryRunWithMemory : History → List Command → List (Result Done Fault) → History → Type 0
-HistoryRunWithMemory old [] [] new = new ≡ old
-HistoryRunWithMemory old [] (reply ∷ replies) new = ⊥
-HistoryRunWithMemory old (command ∷ commands) [] new = ⊥
-HistoryRunWithMemory old (command ∷ commands) (reply ∷ replies) new =
-    (mid : History) × HistoryStep command old reply mid × HistoryRunWithMemory mid commands replies new
+HistoryRunWithMemory = RunBy HistoryStep
 
 -- In any run, takes among its commands, replies and history are those of the machine over the
 -- commands that had memory.
@@ -35,8 +32,8 @@ CommandResultIsUniqueOverLayers =
     → AreSameUpToParseFault reply other × (new ≡ another)
 
 -- What a take leaves is a history again, on the same first text and with one layer less. The edits
--- of the layer that is gone, as they are behind all others, turn its text into the one before the
--- take: so it is that text without what the command did.
+-- of the removed layer, as they are after all others, turn its text into the one before the take:
+-- so it is that text without what the command did.
 pub record PreservesHistory (n : ℕ) (old : History) (d : Done) (new : History)
     (out : RemovesLayer n old d new) : Type 0 where
   pub first : new.first ≡ old.first
@@ -66,7 +63,7 @@ JournalSquashesToOneAfterTakes =
     → edits_of (records_in end.layers) ≡ first ∷ others → SquashToOne text (top_text end) first others
 
 -- A take has one reply and leaves one history. So Blocked, TooLong, NoRecord and Done exclude each
--- other, and each is told exactly where it is so.
+-- other, and each is the reply if and only if it holds.
 abbrev pub TakeResultIsUnique : Type 0
 TakeResultIsUnique = (n : ℕ) (old : History) (reply other : Result Done Fault)
     (new another : History) → TakeStep n old reply new → TakeStep n old other another

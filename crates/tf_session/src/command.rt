@@ -1,4 +1,4 @@
-//! What a session is asked, and what it answers.
+//! The commands of a session, and its replies.
 
 ghost use Rattle.std.specs.Prelude.{◌≡◌};
 
@@ -10,17 +10,17 @@ use std::fmt;
 use tf_lint::{FixFault, LintFault, Rule, RuleSet};
 use thiserror::Error;
 
-/// What a session is asked to do.
+/// A command of a session.
 #[derive(Clone, Copy, Debug, PartialEq, Eq)]
 pub enum Command {
-    /// Lays the text out.
+    /// Formats the text.
     Fmt,
     /// Fixes what the rules of the set find, as far as it can be fixed.
     Fix(RuleSet),
-    /// Takes back the last command that changed the text.
+    /// Reverts the last command that changed the text.
     Revert,
-    /// Takes back the command whose record has this number, the oldest being 1, and leaves the
-    /// later ones as if it had not been given.
+    /// Reverts the command whose record has this number, the oldest being 1, and keeps what the
+    /// later ones did.
     Take(u32),
 }
 
@@ -38,10 +38,10 @@ pub struct Done {
 /// Why a command was refused.
 #[derive(Clone, Copy, PartialEq, Eq, Error)]
 pub enum Fault {
-    /// The text can't be cut into tokens.
+    /// The text has no tokens: it is too long, not UTF-8, or breaks a rule of the scanner.
     #[error(transparent)]
     Scan(ScanFault),
-    /// The tokens do not follow the grammar, or more than 100 constructs stand in one another.
+    /// The tokens do not follow the grammar, or more than `MAX_NESTING` constructs are nested.
     #[error(transparent)]
     Parse(ParseFault),
     /// What the fix of the rule makes of the text does not parse.
@@ -50,13 +50,13 @@ pub enum Fault {
     /// The new text would have more than 16,777,216 bytes.
     #[error("the text has more than 16777216 bytes")]
     TooLong,
-    /// There is no command to take back.
+    /// There is no command to revert.
     #[error("nothing to revert")]
     NoRecord,
-    /// The record does not stand in the text, or two records do not follow each other.
+    /// The text does not have what the record added, or two records do not follow each other.
     #[error(transparent)]
     Refused(Refused),
-    /// A growth was refused.
+    /// Memory ran out.
     #[error("out of memory")]
     Memory,
     /// What the command did overlaps or touches what the command of this record did, the oldest
@@ -127,5 +127,5 @@ impl From<Refused> for Fault {
     }
 }
 
-/// The answer to one command.
+/// The reply to one command.
 pub type Reply = Result<Done, Fault>;

@@ -25,10 +25,10 @@ pub enum Part {
 /// Why a call over readers and writers was refused.
 #[derive(Clone, Copy, PartialEq, Eq, Error)]
 pub enum RunFault {
-    /// The text can't be cut into tokens.
+    /// The text has no tokens: it is too long, not UTF-8, or breaks a rule of the scanner.
     #[error(transparent)]
     Scan(ScanFault),
-    /// The tokens do not follow the grammar, or more than 100 constructs stand in one another.
+    /// The tokens do not follow the grammar, or more than `MAX_NESTING` constructs are nested.
     #[error(transparent)]
     Parse(ParseFault),
     /// What the fix of the rule makes of the text does not parse.
@@ -37,13 +37,13 @@ pub enum RunFault {
     /// The new text would have more than 16,777,216 bytes.
     #[error("the text has more than 16777216 bytes")]
     TooLong,
-    /// There is no command to take back.
+    /// There is no command to revert.
     #[error("nothing to revert")]
     NoRecord,
-    /// The record does not stand in the text, or two records do not follow each other.
+    /// The text does not have what the record added, or two records do not follow each other.
     #[error(transparent)]
     Refused(Refused),
-    /// A growth was refused.
+    /// Memory ran out.
     #[error("out of memory")]
     Memory,
     /// What the command did overlaps or touches what the command of this record did, the oldest

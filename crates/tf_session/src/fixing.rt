@@ -15,7 +15,7 @@ use std::alloc::Global;
 use tf_lint::{FixResult, FixedText, Remaining};
 use tf_rules::RuleSet;
 
-/// The text fixed by the rules of the set.
+/// Fixes a text by the rules of the set.
 pub fn fix_text(alloc: Global, text: &[u8], rules: RuleSet) -> Result<FixResult, Fault>
     ensures rewrites { IfOk result (λ fixed. Rewrites (Fix rules) text.now (Ok (rewrite_of text.now fixed))) }
     ensures change { IfOk result
@@ -30,7 +30,7 @@ pub fn fix_text(alloc: Global, text: &[u8], rules: RuleSet) -> Result<FixResult,
     }
 }
 
-/// The same where nobody asks by which edits.
+/// Fixes a text by the rules of the set, and keeps no edits.
 fn fix_without_edits(alloc: Global, text: &[u8], rules: RuleSet) -> Result<FixedText, Fault>
     ensures rewrites { IfOk result (FixesTo rules text.now) }
     ensures left { IfOk result
@@ -43,8 +43,9 @@ fn fix_without_edits(alloc: Global, text: &[u8], rules: RuleSet) -> Result<Fixed
     }
 }
 
-/// A text fixed by the rules of the set, what that did, and what the rules find in the new text:
-/// what a session with no journal has behind a fix. No session is made, and no edits are kept.
+/// Fixes a text by the rules of the set, as a session with no journal does, but makes no session
+/// and keeps no edits. Returns the new text, what the fix did, and what the rules find in the new
+/// text.
 pub fn fix_without_session(
     alloc: Global,
     text: Vec<u8>,

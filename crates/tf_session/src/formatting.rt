@@ -64,7 +64,7 @@ fn layout_change(alloc: Global, scanned: &Scanned<'_>) -> Result<Option<NewText>
     }
 }
 
-/// The text laid out, with no edits made: what a session with no journal has behind a fmt.
+/// Formats a text as a session with no journal does, but makes no edits.
 pub fn format_without_session(alloc: Global, text: &[u8]) -> Result<Vec<u8>, Fault>
     ensures rewrites { IfOk result (λ new. StepsTo Fmt text.now new.items) }
     ensures fault { IfErr result (λ fault. RefusesText Fmt text.now fault) }

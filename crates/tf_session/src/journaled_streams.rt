@@ -13,11 +13,9 @@ use crate::{Command, Done, Part, RuleSet, RunFault, Told};
 use std::alloc::Global;
 use std::io::{Read, Write};
 
-/// Lays out the text of a reader, and writes the journal with the record of that, then the new
-/// text.
+/// Formats the text of a reader, and writes the journal with the record of that, then the new text.
 ///
-/// What comes of it is written where nothing changed, too. Nothing is written at any fault but
-/// `Write`.
+/// Both are written if nothing changed, too. Nothing is written at any error but `Write`.
 pub fn fmt_stream<R: Read, J: Read, K: Write, W: Write>(
     alloc: Global,
     text: &mut Told<R>,
@@ -56,8 +54,7 @@ pub fn fmt_stream<R: Read, J: Read, K: Write, W: Write>(
 /// Fixes what the rules find in the text of a reader, and writes the journal with the record of
 /// that, then the new text.
 ///
-/// What comes of it is written where nothing changed, too. Nothing is written at any fault but
-/// `Write`.
+/// Both are written if nothing changed, too. Nothing is written at any error but `Write`.
 pub fn fix_stream<R: Read, J: Read, K: Write, W: Write>(
     alloc: Global,
     text: &mut Told<R>,
@@ -101,10 +98,10 @@ pub fn fix_stream<R: Read, J: Read, K: Write, W: Write>(
     )
 }
 
-/// Takes back the last command on the text of a reader, and writes the journal without its record,
-/// then the text that there was before it.
+/// Reverts the last command on the text of a reader, and writes the journal without its record,
+/// then the text before it.
 ///
-/// Nothing is written at any fault but `Write`.
+/// Nothing is written at any error but `Write`.
 pub fn revert_stream<R: Read, J: Read, K: Write, W: Write>(
     alloc: Global,
     text: &mut Told<R>,

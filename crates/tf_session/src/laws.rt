@@ -1,26 +1,31 @@
-//! Laws of the machine that `run` stands for: functions that do nothing, for callers whose proofs
-//! want what their clauses say.
+//! Laws of the machines that `run` is proved to be. The functions do nothing: a call makes a law's
+//! clause available to the proof of its caller.
 
+ghost use Rattle.std.specs.Prelude.{List, ℕ};
+ghost use Rattle.edit_record.specs.Lists.Journal.{JournalEntry};
 ghost use Rattle.tf_session.specs.ResultIsUnique.{CommandResultIsUnique};
 ghost use Rattle.tf_session.specs.FmtLaws.{FmtKeepsTokens, FmtIsIdempotent};
 ghost use Rattle.tf_session.specs.JournalLaws.{JournalSquashesToOne};
 ghost use Rattle.tf_session.specs.TakeLaws.{CommandResultIsUniqueOverLayers, TakeResultIsUnique, TakePreservesHistory, OutOfMemoryChangesNothingOverLayers, RevertsRestoreTheFirstAfterTakes, JournalSquashesToOneAfterTakes};
+ghost use Rattle.tf_session.specs.RemovalLaws.{RemovalIsUnique};
 ghost use Rattle.tf_session.specs.MachinesAgree.{MachinesAgreeWithoutTake};
 ghost use Rattle.tf_session.specs.RunLaws.{OutOfMemoryChangesNothing, RevertsPop, RevertsRestoreTheFirst};
 
-use edit_record::lists::laws::{apply_is_deterministic, transformed_lengths_match};
-use edit_record::squashes::laws::squash_all_is_unique;
+use edit_record::lists::laws::{
+    apply_is_deterministic, change_result_is_unique, transformed_lengths_match,
+};
+use edit_record::squashes::laws::{composable_lists_squash, squash_all_is_unique};
 use edit_record::swaps::laws::{move_to_end_is_unique, swap_is_unique};
 use hcl_layout::laws::{layout_keeps_tokens, layout_of_layout, one_layout};
 use hcl_scan::laws::{no_tokenization_with_fault, one_fault, one_tokenization};
 use tf_lint::laws::fix_is_unique;
 
-/// A command that met a refused growth might as well not be in the list.
+/// A command that ran out of memory might as well not be in the list.
 pub fn out_of_memory_changes_nothing()
     ensures { OutOfMemoryChangesNothing }
 {}
 
-/// Reverts take exactly the last texts off, one each, byte for byte.
+/// Reverts pop exactly the last texts, one each, byte for byte.
 pub fn reverts_pop_the_last()
     ensures { RevertsPop }
 {}
@@ -41,7 +46,7 @@ pub fn command_result_is_unique()
     fix_is_unique();
 }
 
-/// Where a fmt answers `Done`, the new text has the tokens of the old one, comments and line ends
+/// If a fmt returns `Done`, the new text has the tokens of the old one, comments and line ends
 /// among them.
 pub fn fmt_keeps_tokens()
     ensures { FmtKeepsTokens }
@@ -57,11 +62,12 @@ pub fn fmt_is_idempotent()
 }
 
 /// The records of the journal of any run, squashed from the first on, are one list of edits, which
-/// turns the first text into the last: on the way no list is refused but for want of memory.
+/// turns the first text into the last. On the way squashing fails only if memory runs out.
 pub fn journal_squashes_to_one()
     ensures { JournalSquashesToOne }
 {
     transformed_lengths_match();
+    composable_lists_squash();
     squash_all_is_unique();
 }
 
@@ -88,6 +94,16 @@ pub fn take_result_is_unique()
     apply_is_deterministic();
 }
 
+/// A take over any text and journal, from outside too, has one result, memory aside: it is not both
+/// done and refused, and it is refused for one reason.
+pub fn removal_is_unique()
+    ensures { (n : ℕ) (text : List ℕ) (records : List JournalEntry) → RemovalIsUnique n text records }
+{
+    swap_is_unique();
+    move_to_end_is_unique();
+    change_result_is_unique();
+}
+
 /// A command over a first text with its layers of edits has one reply, and leaves one history.
 pub fn command_result_is_unique_over_layers()
     ensures { CommandResultIsUniqueOverLayers }
@@ -102,8 +118,7 @@ pub fn command_result_is_unique_over_layers()
     apply_is_deterministic();
 }
 
-/// A command that met a refused growth might as well not be in the list, takes among its commands
-/// too.
+/// A command that ran out of memory might as well not be in the list, with takes in the list too.
 pub fn out_of_memory_changes_nothing_over_layers()
     ensures { OutOfMemoryChangesNothingOverLayers }
 {}
@@ -119,5 +134,6 @@ pub fn journal_squashes_to_one_after_takes()
     ensures { JournalSquashesToOneAfterTakes }
 {
     transformed_lengths_match();
+    composable_lists_squash();
     squash_all_is_unique();
 }

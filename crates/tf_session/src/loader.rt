@@ -16,12 +16,12 @@ use tf_stream::read_to_limit;
 /// The most bytes of a journal's text, read or written.
 pub const MAX_JOURNAL: usize = 268_435_456;
 
-/// The session of a text and the text of its journal, each read up to its end. The text is read
-/// first, then the journal, and then that is decoded; the first fault is answered.
+/// Returns the session of a text and the text of its journal, each read up to its end. The text is
+/// read first, then the journal, and then that is decoded; the first error is returned.
 ///
-/// `Read` where a read failed, whatever its error; `Endless` where the text has more than
-/// 16,777,216 bytes or the journal more than [`MAX_JOURNAL`], of which one byte more is taken;
-/// `BadJournal` where the journal's bytes are the text of none.
+/// `Read` if a read failed, whatever its error; `Endless` if the text has more than 16,777,216
+/// bytes or the journal more than [`MAX_JOURNAL`], of which one byte more is read; `BadJournal` if
+/// the journal's bytes are the text of none.
 pub fn load<R: Read, J: Read>(
     alloc: Global,
     text: &mut Told<R>,

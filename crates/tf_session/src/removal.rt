@@ -1,11 +1,13 @@
 //! A text and its records without one of the records.
 
 ghost use Rattle.std.specs.Prelude.{◌≡◌, ◌≤◌, ◌<◌, ◌+◌, ◌^◌, ◌++◌, List, ℕ, length, take, IfOk, IfErr};
+ghost use Rattle.edit_record.specs.Lists.ChangeResults.{IsChangeCallResult};
 ghost use Rattle.edit_record.specs.Lists.Pieces.{Transforms};
+ghost use Rattle.edit_record.specs.declared.lists.direction.Direction.TheVariants.{Backward};
 ghost use Rattle.edit_record.specs.Swaps.MoveToEndResult.{moved_or};
 ghost use Rattle.tf_lint.specs.Steps.{texts_differ};
 ghost use Rattle.tf_session.specs.Machine.{done};
-ghost use Rattle.tf_session.specs.RemovingRecord.{RemovesRecord, RefusesRemoval, CannotUndo, removal_fault, counted_records};
+ghost use Rattle.tf_session.specs.RemovingRecord.{RemovesRecord, RefusesRemoval, removal_fault, counted_records};
 
 use crate::command::Fault;
 use edit_record::lists::laws::undo_is_exact;
@@ -13,8 +15,8 @@ use edit_record::lists::{Change as _, Edits, Record, Refused};
 use edit_record::swaps::{MoveFault, move_to_end};
 use std::alloc::Global;
 
-/// The text without a record, and the records that come in the place of those from number `from`
-/// on, counted from 0.
+/// The text without a record, and the records that replace those from number `from` on, counted
+/// from 0.
 #[derive(Drop)]
 pub struct Removal {
     pub text: Vec<u8>,
@@ -22,7 +24,7 @@ pub struct Removal {
     pub new_records: Vec<Record>,
 }
 
-/// The text and its records without the record of this number, the oldest being 1.
+/// Returns the text and its records without the record of this number, the oldest being 1.
 pub fn without_record(
     alloc: Global,
     text: &[u8],
@@ -42,7 +44,7 @@ pub fn without_record(
     without_existing_record(alloc, text, records, number)
 }
 
-/// The same, where there is one of this number.
+/// Returns them if there is a record of this number.
 fn without_existing_record(
     alloc: Global,
     text: &[u8],
@@ -73,7 +75,7 @@ fn without_existing_record(
     }
 }
 
-/// What the edits have become behind all records that follow.
+/// Returns the edits as they are after all records that follow.
 fn edits_at_end<'a>(first: &'a Edits, moved: &'a Option<Edits>) -> &'a Edits
     ensures { result.now ≡ moved_or first.now moved.now }
 {
@@ -83,18 +85,17 @@ fn edits_at_end<'a>(first: &'a Edits, moved: &'a Option<Edits>) -> &'a Edits
     }
 }
 
-/// The text before the edits.
+/// Returns the text before the edits.
 fn undo_edits(alloc: Global, edits: &Edits, text: &[u8]) -> Result<Vec<u8>, Refused>
-    ensures transforms { IfOk result (λ old. Transforms edits.now old.items text.now) }
+    ensures pieces { IsChangeCallResult Backward edits.now text.now result }
     ensures only { IfOk result (λ old. (v : List ℕ) → Transforms edits.now v text.now → v ≡ old.items) }
-    ensures refused { IfErr result (λ refused. CannotUndo edits.now text.now refused) }
 {
     undo_is_exact(edits);
     edits.undo(alloc, text)
 }
 
-/// Converts a fault of `move_to_end`, which counts the records after number `number` from 0, to a
-/// fault of the command.
+/// Converts an error of `move_to_end`, which counts the records after number `number` from 0, to
+/// one of the command.
 fn removal_fault(fault: MoveFault, number: usize) -> Fault
     requires { number + counted_records fault < 2 ^ 64 }
     ensures { result ≡ removal_fault number fault }

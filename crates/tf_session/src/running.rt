@@ -1,4 +1,4 @@
-//! Commands one after another.
+//! Several commands in order.
 
 ghost use Rattle.std.specs.Prelude.{◌≡◌, ◌<◌, IfOk, IfErr, length};
 ghost use Rattle.tf_session.specs.Session.{text_of, records_of};
@@ -9,17 +9,17 @@ ghost use Rattle.tf_session.specs.Records.{IsJournalOfStack};
 use crate::command::{Command, Reply};
 use crate::session::Session;
 use edit_record::lists::Journal;
-use edit_record::lists::laws::transformed_lengths_match;
+use edit_record::lists::laws::{change_result_is_unique, transformed_lengths_match};
 use edit_record::swaps::laws::move_to_end_is_unique;
 use std::alloc::{AllocError, Global};
 
-/// The commands in order, over a text with no journal, with one reply for each.
+/// Does the commands in order, over a text with no journal, and returns one reply for each.
 ///
-/// Text and replies are those of a stack of whole texts, on which a fmt puts the layout, a fix the
-/// stated replacement, and from which a revert takes exactly the last; the journal has one record
-/// for each two neighbours. With takes among the commands they are those of the first text and the
-/// layers of edits on it, out of which a take gets any one. A command that met a refused growth
-/// answers `Memory` and might as well not be in the list.
+/// Text and replies are those of a stack of whole texts, on which a fmt pushes the layout, a fix
+/// the stated replacement, and from which a revert pops exactly the last; the journal has one
+/// record for each two neighbors. With takes among the commands they are those of the first text
+/// and the layers of edits on it, of which a take removes any one. A command that runs out of
+/// memory has the reply `Memory` and might as well not be in the list.
 pub fn run(
     alloc: Global,
     text: Vec<u8>,
@@ -34,6 +34,7 @@ pub fn run(
         × IsHistory end) }
     ensures allocates { IfErr result (λ _. 0 < length commands.now) }
 {
+    change_result_is_unique();
     move_to_end_is_unique();
     transformed_lengths_match();
     let mut session = Session::start(text, Journal::empty(alloc));

@@ -13,10 +13,10 @@ use edit_record::{encode, encoded_len};
 use std::alloc::Global;
 use std::io::Write;
 
-/// The text of the session's journal, as it is written.
+/// Returns the text of the session's journal, as it is written.
 ///
-/// `Endless` where it would have more than [`MAX_JOURNAL`] bytes: then no memory is taken. An empty
-/// journal takes none either.
+/// `Endless` if it would have more than [`MAX_JOURNAL`] bytes: then nothing is allocated. An empty
+/// journal allocates nothing either.
 pub fn journal_text(alloc: Global, session: &Session) -> Result<Vec<u8>, RunFault>
     ensures text { IfOk result (λ text. IsSavedText (records_of session.now) text.items) }
     ensures fault { IfErr result (λ fault. JournalTextFault (records_of session.now) fault) }
@@ -33,7 +33,7 @@ pub fn journal_text(alloc: Global, session: &Session) -> Result<Vec<u8>, RunFaul
 
 /// Writes the text of the session's journal, and then its text.
 ///
-/// Nothing is written at any fault but `Write`. At `Write` of the journal nothing of the text was
+/// Nothing is written at any error but `Write`. At `Write` of the journal nothing of the text was
 /// written, and at `Write` of the text the whole journal was.
 pub fn save<J: Write, W: Write>(
     alloc: Global,

@@ -27,7 +27,7 @@ pub struct Session {
 }
 
 impl Session {
-    /// A session over this text. The journal may come from outside: nothing is tested.
+    /// Makes a session over this text. The journal may come from outside: nothing is tested.
     pub fn start(text: Vec<u8>, journal: Journal) -> Session
         ensures text { text_of result ≡ text.items }
         ensures journal { records_of result ≡ journal }
@@ -35,21 +35,21 @@ impl Session {
         Session { text, journal }
     }
 
-    /// The text.
+    /// Returns the text.
     pub fn text(&self) -> &[u8]
         ensures { result.now ≡ text_of self.now }
     {
         self.text.as_slice()
     }
 
-    /// The journal, the oldest record first.
+    /// Returns the journal, the oldest record first.
     pub fn journal(&self) -> &Journal
         ensures { result.now ≡ records_of self.now }
     {
         &self.journal
     }
 
-    /// One command. A refused one changes nothing.
+    /// Does one command. A refused one changes nothing.
     pub fn step(&mut self, alloc: Global, command: Command) -> Reply
         ensures done { IfOk result
             (λ d. DoesStep command (text_of self.old) (records_of self.old) d (text_of self.new)
@@ -73,8 +73,8 @@ impl Session {
         }
     }
 
-    /// A fix by the rules of the set, and what they find in the text behind it. A refused one
-    /// changes nothing.
+    /// Fixes the text by the rules of the set, and returns what they find in the new one too. A
+    /// refused fix changes nothing.
     pub fn fix(&mut self, alloc: Global, rules: RuleSet) -> Result<(Done, Remaining), Fault>
         ensures done { IfOk result
             (λ r. DoesStep (Fix rules) (text_of self.old) (records_of self.old) r.0
@@ -96,7 +96,7 @@ impl Session {
         }
     }
 
-    /// Puts the new text in the place of the old, with a record, if it changed.
+    /// Replaces the text and adds a record, if the text changed.
     fn push_change(
         &mut self,
         word: Word,
@@ -142,7 +142,7 @@ impl Session {
         })
     }
 
-    /// Undoes the last record and takes it off. Nothing can fail once the record is undone.
+    /// Undoes the last record and removes it. Nothing can fail once the record is undone.
     fn revert_last(&mut self, alloc: Global) -> Reply
         ensures done { IfOk result
             (λ d. RevertsLast (text_of self.old) (records_of self.old) d (text_of self.new)
@@ -171,8 +171,8 @@ impl Session {
         }
     }
 
-    /// Takes the record of this number out from before the later ones. Nothing can fail once all
-    /// new records are made.
+    /// Removes the record of this number and keeps the later ones. Nothing can fail once all new
+    /// records are made.
     fn remove_record(&mut self, alloc: Global, number: u32) -> Reply
         ensures done { IfOk result
             (λ d. RemovesRecord number (text_of self.old) (records_of self.old) d (text_of self.new)

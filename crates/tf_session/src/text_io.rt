@@ -1,4 +1,4 @@
-//! Whole texts, taken from readers and put to writers.
+//! Whole texts from readers and to writers.
 
 ghost use Rattle.std.specs.Prelude.{◌≡◌, ◌↔◌, true, false, OnOk, IfOk, IfErr, IsErrOf, is_ok};
 ghost use Rattle.tf_stream.specs.Told.{has_failed};
@@ -11,10 +11,10 @@ use std::alloc::Global;
 use std::io::{Read, Write};
 use tf_stream::{Told, read_to_limit, write_and_flush};
 
-/// All the bytes that the reader has left, up to its end.
+/// Reads all the bytes that the reader has left, up to its end.
 ///
-/// At most one byte over 16,777,216 is taken, and where there is one the answer is `Endless`. A
-/// read that fails is `Read`, whatever its error, and is not tried again.
+/// At most one byte over 16,777,216 is read, and if there is one the error is `Endless`. A read
+/// that fails is `Read`, whatever its error, and is not tried again.
 pub fn take_text<R: Read>(alloc: Global, reader: &mut Told<R>) -> Result<Vec<u8>, RunFault>
     requires { has_failed reader.old ≡ false }
     ensures text { IfOk result
@@ -31,8 +31,8 @@ pub fn take_text<R: Read>(alloc: Global, reader: &mut Told<R>) -> Result<Vec<u8>
 
 /// Writes all the bytes of a text and flushes.
 ///
-/// A write that fails or takes nothing is `Write` with the number of bytes that went out before it,
-/// and is not tried again; a refused flush is `Write` with all bytes sent.
+/// A write that fails or takes nothing is `Write` with the number of bytes that were sent before
+/// it, and is not tried again; a flush that fails is `Write` with all bytes sent.
 pub fn put_text<W: Write>(bytes: &[u8], writer: &mut Told<W>) -> Result<(), RunFault>
     requires { has_failed writer.old ≡ false }
     ensures text { OnOk result (WritesBytes (target_of W.contents writer.old writer.new) bytes.now) }

@@ -1,4 +1,4 @@
--- What a call has taken from a reader, or put to a writer. The words `Consumes` and `Appends` of
+-- What a call has read from a reader, or written to a writer. The words `Consumes` and `Appends` of
 -- the standard library speak of the bytes that a reader has left and a writer holds, where these
 -- are known.
 use Rattle.std.specs.Prelude.{◌≡◌, ◌≤◌, ◌<◌, ◌+◌, ℕ, List, length, take, Option}
@@ -27,7 +27,7 @@ source_of remaining old new =
 abbrev pub target_of : {W : Type 0} → (W → Option (List ℕ)) → Told W → Told W → Target
 target_of contents old new = record { before = contents (inner_of old); after = contents (inner_of new) }
 
--- these bytes were taken from the front of the source
+-- these bytes were read from the start of the source
 abbrev pub ReadsBytes : Source → List ℕ → Type 0
 ReadsBytes source bytes = Consumes source.before source.after bytes
 
@@ -35,9 +35,9 @@ ReadsBytes source bytes = Consumes source.before source.after bytes
 abbrev pub ReadsAll : ℕ → Source → List ℕ → Type 0
 ReadsAll limit source bytes = ReadsBytes source bytes × IsAtEnd source.after × (length bytes ≤ limit)
 
--- What was taken at each fault. A read fails before more than the limit is taken. Endless comes
--- past the limit alone, after just one byte more. Memory is wanted only for what was read, and only
--- within the limit.
+-- What was read at each error. A read fails before more than the limit is read. Endless is over the
+-- limit alone, after just one byte more. Memory runs out only for what was read, and only within
+-- the limit.
 abbrev pub ReadAtFault : ℕ → ReadFault → Source → Type 0
 ReadAtFault limit Read source = (bytes : List ℕ) × ReadsBytes source bytes × (length bytes ≤ limit)
 ReadAtFault limit Endless source =
@@ -45,14 +45,14 @@ ReadAtFault limit Endless source =
 ReadAtFault limit Memory source =
     (bytes : List ℕ) × ReadsBytes source bytes × (0 < length bytes) × (length bytes ≤ limit)
 
--- these bytes went to the target, behind what it held
+-- these bytes were written to the target, after what it held
 abbrev pub WritesBytes : Target → List ℕ → Type 0
 WritesBytes target bytes = Appends target.before target.after bytes
 
--- so many of these bytes went to the target, from the front
+-- the first `sent` of these bytes were written to the target
 abbrev pub WritesPrefix : ℕ → Target → List ℕ → Type 0
 WritesPrefix sent target bytes = (sent ≤ length bytes) × WritesBytes target (take sent bytes)
 
--- nothing went to the target
+-- nothing was written to the target
 abbrev pub Untouched : Target → Type 0
 Untouched target = Keeps target.before target.after

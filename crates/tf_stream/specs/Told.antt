@@ -1,5 +1,5 @@
 -- What a clause reads of a `Told`, and what a call through it leaves.
-use Rattle.std.specs.Prelude.{◌≡◌, ◌<◌, ℕ, Bool, true, List, length, Result, MatchResult}
+use Rattle.std.specs.Prelude.{◌≡◌, ◌==◌, ◌||◌, ◌&&◌, ℕ, Bool, true, List, length, Result, Ok, Err, MatchResult, nat_lt}
 use Rattle.tf_stream.specs.declared.told.Told.{Told}
 
 -- the reader or writer inside
@@ -14,8 +14,7 @@ has_failed t = t.failed
 abbrev pub RecordsFailure : {X : Type 0} {E : Type 0} → Bool → Bool → Result X E → Type 0
 RecordsFailure old new r = MatchResult r (λ _. new ≡ old) (λ _. new ≡ true)
 
--- the same, and a write that took none of some bytes is kept too
+-- the same of a write, which has failed too if it took none of some bytes
 abbrev pub RecordsWriteFailure : {E : Type 0} → Bool → Bool → Result ℕ E → List ℕ → Type 0
-RecordsWriteFailure old new r buf =
-    MatchResult r (λ n. (0 < n → new ≡ old) × (length buf ≡ 0 → new ≡ old)
-    × (n ≡ 0 → 0 < length buf → new ≡ true)) (λ _. new ≡ true)
+RecordsWriteFailure old new (Ok n) buf = new ≡ (old || ((n == 0) && nat_lt 0 (length buf)))
+RecordsWriteFailure old new (Err e) buf = new ≡ true

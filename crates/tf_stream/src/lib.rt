@@ -1,4 +1,4 @@
-//! Whole texts from readers and to writers, and what a failed read or write has cost.
+//! Whole texts from readers and to writers, and what was read or sent when a call failed.
 #![tactic(auto)]
 
 mod fault;

@@ -9,14 +9,14 @@ use crate::told::Told;
 use std::alloc::Global;
 use std::io::Read;
 
-/// The most bytes that one read may give. The buffer is set to zero for each reader, so that a large
-/// one costs small files more than the reads that it spares large ones.
+/// The most bytes that one read may give. The buffer is set to zero for each reader, so that a
+/// large one costs small files more than the reads that it spares large ones.
 const CHUNK_LEN: usize = 16_384;
 
-/// All the bytes that the reader has left, up to its end, if they are no more than the limit.
+/// Reads all the bytes that the reader has left, up to its end, if they are no more than the limit.
 ///
-/// At most one byte over the limit is taken, and where there is one the answer is `Endless`. A read
-/// that fails is `Read`, whatever its error, and is not tried again.
+/// At most one byte over the limit is read, and if there is one the error is `Endless`. A read that
+/// fails is `Read`, whatever its error, and is not tried again.
 pub fn read_to_limit<R: Read>(
     alloc: Global,
     limit: usize,

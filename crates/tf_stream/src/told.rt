@@ -1,4 +1,4 @@
-//! A reader or writer that tells whether a call of it failed.
+//! A reader or writer that records whether a call of it failed.
 
 ghost use Rattle.std.specs.Prelude.{◌≡◌, false};
 ghost use Rattle.std.specs.Io.{ReadsAtMost, WritesAtMost};
@@ -8,7 +8,7 @@ ghost use Rattle.tf_stream.specs.Told.{inner_of, has_failed, RecordsFailure, Rec
 use std::io;
 use std::io::{Read, Write};
 
-/// A reader or writer that passes each call on, and keeps whether one failed or a write took
+/// A reader or writer that passes each call on, and records whether one failed or a write took
 /// nothing.
 #[derive(Drop)]
 pub struct Told<T> {
@@ -17,7 +17,7 @@ pub struct Told<T> {
 }
 
 impl<T> Told<T> {
-    /// Over this reader or writer no call has failed yet.
+    /// Wraps a reader or writer of which no call has failed yet.
     pub fn new(inner: T) -> Told<T>
         ensures inner { inner_of result ≡ inner }
         ensures not_failed { has_failed result ≡ false }
@@ -28,7 +28,7 @@ impl<T> Told<T> {
         }
     }
 
-    /// Whether a call failed, or a write took none of the bytes that it was handed.
+    /// Returns whether a call failed, or a write took none of the bytes that it was given.
     pub fn failed(&self) -> bool
         ensures { result ≡ has_failed self.now }
     {
@@ -36,7 +36,7 @@ impl<T> Told<T> {
         *failed
     }
 
-    /// The reader or writer itself.
+    /// Returns the reader or writer itself.
     pub fn into_inner(self) -> T
         ensures { result ≡ inner_of self }
     {
@@ -83,7 +83,7 @@ impl<W: Write> Write for Told<W> {
     }
 }
 
-/// The answer of an inner call; that it failed is kept.
+/// Returns the answer of an inner call, and records that it failed.
 fn record_failure<X>(failed: &mut bool, answer: io::Result<X>) -> io::Result<X>
     ensures same { result ≡ answer }
     ensures failed { RecordsFailure failed.old failed.new result }

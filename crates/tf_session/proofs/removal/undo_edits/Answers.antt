@@ -1,10 +1,6 @@
 -- By the laws of edits.
-use Rattle.tf_session.proofs.RemoveRecord.{only_old, cannot}
+use Rattle.tf_session.proofs.RemoveRecord.{only_old}
 use Rattle.tf_session.proofs.removal.undo_edits.Goals as goal
 
 pub returns-clause-only : goal.returns-clause-only
 returns-clause-only c = only_old c.args.edits.now c.args.text.now c.undo.result c.undo_is_exact.ensures c.undo.ensures.agrees
-
-pub returns-clause-refused : goal.returns-clause-refused
-returns-clause-refused c =
-    cannot c.args.edits.now c.args.text.now c.undo.result c.undo_is_exact.ensures c.undo.ensures.agrees c.undo.ensures.pieces

@@ -1,6 +1,8 @@
 -- The record is the one of this number, and the slice behind it are the records behind it.
 use Rattle.std.proofs.Common.{arith, subst, Err}
 use Rattle.edit_record.specs.Lists.Pieces.{EditList}
+use Rattle.edit_record.specs.Lists.ChangeResults.{IsChangeCallResult}
+use Rattle.edit_record.specs.declared.lists.direction.Direction.TheVariants.{Backward}
 use Rattle.edit_record.specs.Swaps.MoveToEndResult.{IsMoveToEndResult}
 use Rattle.edit_record.specs.Lists.Journal.{edits_of}
 use Rattle.tf_session.proofs.RemoveRecord.{rest_of, made, not_back, refuses, short}
@@ -10,12 +12,14 @@ pub returns-in-Ok-undo_edits-clause-rewrites : goal.returns-in-Ok-undo_edits-cla
 returns-in-Ok-undo_edits-clause-rewrites c =
     made c.args.number c.args.records.now c.index-records-number.result c.requires.some c.requires.there c.index-records-number.is
     c.args.text.now c.in-Ok-undo_edits.text.items c.in-Ok.others.items _ (rw c.edits.ensures at c.in-Ok.ensures.0) c.in-Ok.ensures.1
-    (rw (c.edits_at_end.ensures, c.edits-in-Ok.ensures) at c.in-Ok-undo_edits.ensures.transforms) (rw (c.edits_at_end.ensures, c.edits-in-Ok.ensures) at c.in-Ok-undo_edits.ensures.only)
+    (rw (c.edits_at_end.ensures, c.edits-in-Ok.ensures) at c.in-Ok-undo_edits.ensures.pieces) (rw (c.edits_at_end.ensures, c.edits-in-Ok.ensures) at c.in-Ok-undo_edits.ensures.only)
 
 pub returns-in-Err-undo_edits-clause-refused : goal.returns-in-Err-undo_edits-clause-refused
 returns-in-Err-undo_edits-clause-refused c =
+    let at_end = rw c.edits-in-Ok.ensures at c.edits_at_end.ensures in
+    let refused = subst (λ (e : EditList). IsChangeCallResult Backward e c.args.text.now (Err c.in-Err-undo_edits.refused)) at_end c.in-Err-undo_edits.ensures.pieces in
     rw c.from.ensures (not_back c.args.number c.args.records.now c.index-records-number.result c.requires.some c.requires.there c.index-records-number.is
-    c.args.text.now (edits_of c.in-Ok.others.items) _ _ (rw c.edits.ensures at c.in-Ok.ensures.0) (rw (c.edits_at_end.ensures, c.edits-in-Ok.ensures) at c.in-Err-undo_edits.ensures.refused))
+    c.args.text.now (edits_of c.in-Ok.others.items) _ c.in-Err-undo_edits.refused (rw c.edits.ensures at c.in-Ok.ensures.0) refused)
 
 pub removal_fault-requires : goal.removal_fault-requires
 removal_fault-requires c =

@@ -4,6 +4,7 @@ use Rattle.std.proofs.Math.Seq.{take-add}
 use Rattle.std.proofs.lemmas.List.{take_rest}
 use Rattle.std.proofs.KnownBytes.{Appends-trans}
 use Rattle.std.proofs.lemmas.Grind.{common_steps}
+use Rattle.tf_stream.proofs.Failures.{some_taken}
 use Rattle.tf_stream.proofs.writing.write_and_flush.Goals as goal
 
 pub loop-sent-preserved : goal.loop-sent-preserved
@@ -14,7 +15,7 @@ loop-sent-preserved g c =
     record {
       within = omega (arith, bound, length-drop c.loop-sent.sent c.args.bytes.now);
       held = rw take-add (Appends-trans _ _ _ _ _ c.loop-sent.invariant.held bytes);
-      fresh = c.in-Ok.ensures.failed.0 some ∙ c.loop-sent.invariant.fresh;
+      fresh = some_taken _ _ c.in-Ok.n _ c.in-Ok.ensures.failed some ∙ c.loop-sent.invariant.fresh;
     }
 
 -- what the check tries anyway: with an answer here, a mutant is refused without a second search

@@ -1,8 +1,8 @@
 -- What `last` lent is what `pop` takes, and it turns just one text into this one, or none.
-use Rattle.std.proofs.Common.{◌≡◌, ◌-◌, ◌↔◌, List, ℕ, length, take, slice_get, Some, Ok, Err, refl, rules, arith, subst, sym}
+use Rattle.std.proofs.Common.{◌≡◌, ◌-◌, List, ℕ, length, take, slice_get, Some, Ok, Err, refl, rules, arith, subst, sym}
 use Rattle.std.proofs.lemmas.Grind.{common_steps}
-use Rattle.edit_record.specs.Lists.Journal.{JournalEntry, record_backward, record_transforms}
-use Rattle.edit_record.specs.Lists.ChangeResults.{AgreesWith, IsChangeCallResult}
+use Rattle.edit_record.specs.Lists.Journal.{JournalEntry, record_backward}
+use Rattle.edit_record.specs.Lists.ChangeResults.{IsChangeCallResult}
 use Rattle.edit_record.specs.declared.lists.change.Refused.{Refused}
 use Rattle.edit_record.specs.declared.lists.change.Refused.TheVariants.{Length, Differs, Memory}
 use Rattle.edit_record.specs.declared.lists.direction.Direction.TheVariants.{Backward}
@@ -28,12 +28,11 @@ returns-in-Ok-clause-done c =
     )
 
 -- a last record that is not undone
-not_undone : (js : List JournalEntry) (r : JournalEntry) (t : List ℕ) (refused : Refused) → IsLast js r → AgreesWith (Err refused) (record_backward r t)
-    → IsChangeCallResult Backward r.edits t (Err refused) → ((v u : List ℕ) → (record_backward r u ≡ Ok v) ↔ record_transforms r v u)
+not_undone : (js : List JournalEntry) (r : JournalEntry) (t : List ℕ) (refused : Refused) → IsLast js r → IsChangeCallResult Backward r.edits t (Err refused)
     → RefusesRevert t js (fault_of_refused refused)
-not_undone js r t (Length expected found) last gives pieces exact = (r, last, gives, λ v turns. let back = (exact v t).1 turns in cc)
-not_undone js r t (Differs step edit) last gives pieces exact = (r, last, gives, λ v turns. let back = (exact v t).1 turns in cc)
-not_undone js r t Memory last gives pieces exact = (r, last, pieces)
+not_undone js r t (Length expected found) last pieces = (r, last, pieces)
+not_undone js r t (Differs step edit) last pieces = (r, last, pieces)
+not_undone js r t Memory last pieces = (r, last, pieces)
 
 pub returns-in-Err-clause-refused : goal.returns-in-Err-clause-refused
 returns-in-Err-clause-refused c =
@@ -41,7 +40,7 @@ returns-in-Err-clause-refused c =
     let text = c.as_slice.result.now in
     let at_end : slice_get (records_of c.args.self.now) (length (records_of c.args.self.now) - 1) ≡ Some c.in-Some.record.now = search rules in
     let refuses = not_undone records c.in-Some.record.now text c.in-Err.refused (take (length records - 1) records, ends_with_last records c.in-Some.record.now at_end)
-    c.in-Err.ensures.agrees c.in-Err.ensures.pieces c.undo_is_exact.ensures in
+    c.in-Err.ensures.pieces in
     subst (λ (fault : Fault). RefusesRevert (text_of c.args.self.now) records fault) (sym c.from.ensures)
     (subst (λ (t : List ℕ). RefusesRevert t records (fault_of_refused c.in-Err.refused)) c.as_slice.ensures.value refuses)
 
