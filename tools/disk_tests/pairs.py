@@ -1,13 +1,16 @@
 """A second command runs at each call of a first: whole, killed at each of its own calls, or held
-there until the first has ended. Then two run at once."""
+there until the first has ended. Then two take turns, and run at once: there the journal has to fit,
+unless one of them came between a last look of the other and what that did then, and one of them has
+told an error."""
 import os
 import random
 import subprocess
 import time
 
 import images
+import order
 from program import Check
-from scenes import RENAME, Scene, read, write
+from scenes import RENAME, TEXT, Scene, read, write
 
 # The second rename of a save.
 JOURNAL_RENAME = "rename main.tf.tfundo.new"
@@ -22,10 +25,14 @@ PAIRS = [
     ("fix", "revert", "fmt"),
     ("fix fmt", "revert", "revert"),
 ]
+# A file that is saved in company with FILE: what is refused then is tried again.
+BESIDE = "../beside.tf"
+COMPANY = [("", f"fmt {BESIDE}", "fmt"), ("fix", f"fmt {BESIDE}", "revert")]
 WAIT = "do sleep 0.0005; done"
-# How often two commands run at once, of which one in 200 may meet the last instant of the other,
-# and by how many seconds the second may be later.
+# How often two commands run at once, and by how many seconds the second may be later.
 RACES, LONGEST_DELAY = 400, 0.003
+# Where a turn ends: before or after one of the next calls that change a name.
+ENDS = [f"{where}{count}" for count in range(1, 7) for where in "ba"]
 
 
 class Pair:
@@ -35,11 +42,20 @@ class Pair:
         self.check, self.scene, self.first, self.second = check, scene, first, second
         self.program, self.disk = scene.program, os.path.dirname(scene.folder)
         self.log = f"{self.disk}/second"
-        scene.begin()
+        self.begin()
         self.calls = self.program.calls(scene.folder, first)
         self.instant = self.last_instant()
         orders = [(), (first,), (second,), (first, second), (second, first)]
         self.whole = {self.after(*order) for order in orders}
+
+    def begin(self):
+        """Makes all as it is before both."""
+        self.scene.begin()
+        if BESIDE in self.first:
+            path = os.path.normpath(f"{self.scene.folder}/{BESIDE}")
+            self.scene.place(path, TEXT, 0o640)
+            if os.path.exists(path + ".tfundo"):
+                os.unlink(path + ".tfundo")
 
     def last_instant(self):
         """Returns the numbers of the calls that follow the last look at the new journal, up to the
@@ -53,7 +69,7 @@ class Pair:
 
     def after(self, *commands):
         """Returns FILE and journal after commands that run one after the other."""
-        self.scene.begin()
+        self.begin()
         for command in commands:
             self.program.run(self.scene.folder, command)
         return self.scene.state()
@@ -66,7 +82,7 @@ class Pair:
     def meet(self, at, how, number):
         """Runs the second at call `at` of the first, with its own call met; judges what is there.
         Returns whether the second had such a call."""
-        self.scene.begin()
+        self.begin()
         write(self.log, b"")
         if how == "held":
             ran = self.hold(at, number)
@@ -115,9 +131,43 @@ class Pair:
             return "FILE is torn"
         return "whole" if state in self.whole else "the journal does not fit"
 
+    def follow(self, when):
+        """Runs both, and follows them; judges what they leave. Returns the calls."""
+        scene = self.scene
+        self.begin()
+        names = scene.names()
+        calls, statuses = order.calls_of(
+            self.program.both(scene.folder, when, self.first, self.second)
+        )
+        text = scene.state()[0]
+        self.program.recover(scene.folder)
+        name, overtaken = self.name(text), order.overtaken(calls)
+        self.check.see(name + (", a last look overtaken" if overtaken else ""))
+        told = " ".join(f"{call.command}:{call.what}:{call.name}:{call.error}" for call in calls)
+        where = (self.first, "and", self.second, "of", scene, when, *statuses, told)
+        misplaced = order.misplaced(calls, names)
+        self.check.require(not misplaced, "the log is no order", misplaced, *where)
+        self.check.require(name != "FILE is torn", name, *where)
+        self.check.require(name == "whole" or overtaken, f"{name}, no look overtaken", *where)
+        self.check.require(name == "whole" or any(statuses), f"{name}, no error told", *where)
+        self.check.require(not scene.leftovers(), "left", scene.leftovers(), *where)
+        return calls
+
+    def turns(self, at, end):
+        """Runs the first up to call `at`, the second up to `end`, and then the first to each end.
+        Returns the calls of each."""
+        made = []
+        for next_end in ENDS:
+            made.append(self.follow(f"turns:{at},{end},{next_end}"))
+            # one of them ended in its turn: to later ends all would be the same
+            if order.is_at_once(made[-1], 2) or made[-1][-1].command == 2:
+                break
+        return made
+
     def race(self, chance):
-        """Runs both at once, the second a moment later; judges what they leave."""
-        self.scene.begin()
+        """Runs both at once, the second a moment later; judges what they leave. Whether one came
+        between a last look of the other and what that did then is not known here."""
+        self.begin()
         quiet = {"stdout": subprocess.DEVNULL, "stderr": subprocess.DEVNULL}
         running = []
         for command in (self.first, self.second):
@@ -130,6 +180,7 @@ class Pair:
         name = self.name(text)
         self.check.see(name)
         self.check.require(name != "FILE is torn", name, *statuses)
+        self.check.require(name == "whole" or any(statuses), f"{name}, no error told", *statuses)
         self.check.require(not self.scene.leftovers(), "left", *statuses)
 
 
@@ -141,8 +192,37 @@ def race(program, history, first, second):
         both = Pair(check, Scene(program, f"{disk}/s", "name", history), first, second)
         for _ in range(RACES):
             both.race(chance)
-    unfit = check.outcomes["the journal does not fit"]
-    check.require(unfit <= RACES // 200, f"the journal does not fit, {unfit} times")
+    return check
+
+
+def followed_race(program, history, first, second):
+    """Runs two commands at once and follows them, again and again."""
+    check = Check(f"pairs, {first} and {second} at once, followed", "races", RACES)
+    chance = random.Random(f"{first} {second} followed")
+    with images.new_disk(program, f"followed-{first}-{second}", KIND) as disk:
+        both = Pair(check, Scene(program, f"{disk}/s", "name", history), first, second)
+        for _ in range(RACES):
+            both.follow(f"after:{chance.random() * LONGEST_DELAY * 1e6:.0f}")
+    return check
+
+
+def turns(program, history, first, second):
+    """Runs two commands in turns: the first up to each of its calls on names of FILE's, then the
+    second to right before or after each change of a name, then the first to each, then both on."""
+    after = f" after {history}" if history else ""
+    check = Check(f"pairs, {first} and {second} in turns{after}", "orders", 400)
+    seen = set()
+    disk_name = f"turns-{history}-{first}-{second}".replace(" ", "-").replace("/", "-")
+    with images.new_disk(program, disk_name, KIND) as disk:
+        both = Pair(check, Scene(program, f"{disk}/s", "name", history), first, second)
+        alone = [call for call in both.follow("turns:9999") if call.command == 1 and call.name]
+        for at in (at for at, call in enumerate(alone) if call.name.startswith("main.tf")):
+            for end in ENDS:
+                made = both.turns(at, end)
+                seen.update(map(tuple, made))
+                if order.is_at_once(made[-1], 2):
+                    break
+    check.name += f", {len(seen)} of them different"
     return check
 
 
@@ -163,4 +243,6 @@ def pair(program, history, first, second):
 
 
 JOBS = [(pair, *both) for both in PAIRS]
-JOBS += [(race, "fix", "fmt", "fmt"), (race, "fix", "fmt", "revert")]
+JOBS += [(turns, *both) for both in PAIRS + COMPANY]
+RACING = [("fix", "fmt", "fmt"), ("fix", "fmt", "revert")]
+JOBS += [(which, *both) for which in (race, followed_race) for both in RACING]

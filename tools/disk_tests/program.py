@@ -14,10 +14,11 @@ class Missing(Exception):
 
 
 class Program:
-    """The built program, the one that meets its calls (tools/ptrace.c), and a folder for tests."""
+    """The built program, the one that meets its calls (tools/ptrace.c), the one that runs two of it
+    (tools/pair.c), and a folder for tests."""
 
-    def __init__(self, path, tracer, room):
-        self.path, self.tracer, self.room = path, tracer, room
+    def __init__(self, path, tracer, pair, room):
+        self.path, self.tracer, self.pair, self.room = path, tracer, pair, room
 
     def folder(self, name):
         """Makes a folder in the folder for tests."""
@@ -47,6 +48,14 @@ class Program:
             ran.calls = lines.read().split("\n")[:-1]
         ran.is_met = 0 < number <= len(ran.calls)
         return ran
+
+    def both(self, folder, when, first, second, file="main.tf"):
+        """Runs two commands on FILE of a folder; `when` is as in tools/pair.c. Returns the log."""
+        log = f"{self.room}/both.{os.getpid()}"
+        words = [self.pair, log, when, *self.words(first, file), "--", *self.words(second, file)]
+        subprocess.run(words, cwd=folder, capture_output=True, check=True, timeout=60)
+        with open(log, encoding="utf-8", errors="replace") as lines:
+            return lines.read().split("\n")[:-1]
 
     def calls(self, folder, command):
         """Returns the calls that a command makes, one line for each."""

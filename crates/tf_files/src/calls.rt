@@ -3,8 +3,10 @@
 use crate::adoption::can_adopt;
 use crate::file_part::{session_part, write_part};
 use crate::file_paths::{FilePaths, is_not_found};
-use crate::new_file::{copy_attributes, create_new, find_own_new, start_writing, truncate};
-use crate::snapshot::Snapshot;
+use crate::new_file::{
+    copy_attributes, create_new, find_new, find_own_new, start_writing, truncate,
+};
+use crate::snapshot::Snapshots;
 use std::alloc::Global;
 use std::fs::{self, OpenFile, OpenOptions};
 use std::io::{self, ErrorKind};
@@ -35,25 +37,24 @@ pub struct PartFile<'a, F: Drop> {
     pub own: &'a str,
     /// The name of the new file.
     pub new: &'a str,
-    /// The name of the text's file.
-    pub text: &'a str,
+    pub paths: &'a FilePaths,
     pub new_file: NewFile<F>,
     bytes: &'a [u8],
     /// How many bytes were written.
     pub sent: usize,
-    /// The file from before it was read.
-    read: Option<Snapshot>,
+    /// Both files from before they were read.
+    read: Option<Snapshots>,
     pub is_out_of_memory: bool,
     /// Whether the system is to start writing the new file before anything waits for it.
     starts_early: bool,
 }
 
 impl<'a, F: Drop> PartFile<'a, F> {
-    /// Returns the text's file. `read` is the file from before it was read.
+    /// Returns the text's file. `read` is what both files were before they were read.
     pub fn text(
         paths: &'a FilePaths,
         bytes: &'a [u8],
-        read: Option<Snapshot>,
+        read: Option<Snapshots>,
         new_file: NewFile<F>,
         starts_early: bool,
     ) -> PartFile<'a, F> {
@@ -61,7 +62,7 @@ impl<'a, F: Drop> PartFile<'a, F> {
             given: paths.text.as_str(),
             own: paths.real_text.as_str(),
             new: paths.new_text.as_str(),
-            text: paths.text.as_str(),
+            paths,
             new_file,
             bytes,
             sent: 0,
@@ -82,7 +83,7 @@ impl<'a, F: Drop> PartFile<'a, F> {
             given: paths.journal.as_str(),
             own: paths.journal.as_str(),
             new: paths.new_journal.as_str(),
-            text: paths.text.as_str(),
+            paths,
             new_file,
             bytes,
             sent: 0,
@@ -102,7 +103,7 @@ pub fn make<R: Files>(
 ) -> Reply {
     match call {
         Call::Open(_) => open(rt, file.given),
-        Call::FindNew(_) => reply_to(fs::symlink_metadata(rt, file.new)),
+        Call::FindNew(_) => find_new(rt, file),
         Call::CreateNew(_) => create_new(rt, file),
         Call::CopyAttributes(_) => copy_attributes(rt, file),
         Call::Write(part) => write(rt, part, file),
@@ -117,7 +118,7 @@ pub fn make<R: Files>(
     }
 }
 
-fn reply_to<T: Drop>(answer: io::Result<T>) -> Reply {
+pub fn reply_to<T: Drop>(answer: io::Result<T>) -> Reply {
     match answer {
         Ok(_) => Reply::Done,
         Err(error) if is_not_found(&error) => Reply::NotFound,
@@ -207,7 +208,7 @@ fn compare_new<R: Files>(rt: &R, file: &mut PartFile<'_, R::File>) -> Reply {
 }
 
 fn compare<R: Files>(rt: &R, file: &mut PartFile<'_, R::File>) -> Reply {
-    let now = Snapshot::of(rt, file.given);
+    let now = Snapshots::of(rt, file.paths);
     if now.is_some() && now == file.read {
         Reply::Done
     } else {
@@ -217,7 +218,7 @@ fn compare<R: Files>(rt: &R, file: &mut PartFile<'_, R::File>) -> Reply {
 }
 
 fn adopt<R: Files>(rt: &R, alloc: Global, journal: &mut PartFile<'_, R::File>) -> Reply {
-    match can_adopt(rt, alloc, journal.text, journal.own, journal.new) {
+    match can_adopt(rt, alloc, &journal.paths.text, journal.own, journal.new) {
         Ok(true) => Reply::Done,
         Ok(false) => Reply::NotFound,
         Err(fault) => {

@@ -3,8 +3,8 @@
 use crate::file_paths::FilePaths;
 use crate::found_files::FoundFiles;
 use crate::overwrite_files::overwrite;
-use crate::saves::{Attempt, NewContents, Save, recover, save_in_rows};
-use crate::snapshot::Snapshot;
+use crate::saves::{Attempt, NewContents, Save, save_in_rows};
+use crate::snapshot::Snapshots;
 use std::alloc::{AllocError, Global};
 use std::rt::Files;
 use tf_session::RunFault;
@@ -13,8 +13,8 @@ use tf_session::RunFault;
 #[derive(Drop)]
 pub struct ChangedFile {
     pub paths: FilePaths,
-    /// The file from before it was read.
-    pub read: Option<Snapshot>,
+    /// Both files from before they were read.
+    pub read: Option<Snapshots>,
     pub text: Vec<u8>,
     pub journal: Vec<u8>,
     /// None where it may have files in common with any other.
@@ -63,7 +63,8 @@ impl ChangedFile {
     }
 
     /// Does what an attempt to save it in company has left to be done. A file that was refused is
-    /// saved alone: there is more space then, and more files may be opened.
+    /// saved alone: there is more space then, and more files may be opened. It is not recovered
+    /// first: a new journal that is there now is another command's, on its way.
     ///
     /// # Errors
     /// As those of `save`.
@@ -76,18 +77,13 @@ impl ChangedFile {
         match attempt {
             Attempt::Replaced => Ok(()),
             Attempt::InPlace => self.overwrite(rt, alloc),
-            Attempt::Refused => self.recover_and_save(rt, alloc),
+            Attempt::Refused => self.save(rt, alloc),
             Attempt::Fault(fault) => Err(fault),
         }
     }
 
     fn overwrite<R: Files>(&self, rt: &R, alloc: Global) -> Result<(), RunFault> {
         overwrite(rt, alloc, &self.paths, self.contents(), self.read)
-    }
-
-    fn recover_and_save<R: Files>(&self, rt: &R, alloc: Global) -> Result<(), RunFault> {
-        recover(rt, alloc, &self.paths)?;
-        self.save(rt, alloc)
     }
 }
 

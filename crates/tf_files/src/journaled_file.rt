@@ -4,7 +4,7 @@ use crate::changed_file::ChangedFile;
 use crate::file_paths::{FilePaths, is_absent, is_not_found};
 use crate::found_files::FoundFiles;
 use crate::saves::recover;
-use crate::snapshot::Snapshot;
+use crate::snapshot::Snapshots;
 use std::alloc::Global;
 use std::io::{ErrorKind, Read};
 use std::rt::Files;
@@ -15,8 +15,8 @@ use tf_session::{RunFault, Session, Told, journal_text, load};
 #[derive(Drop)]
 pub struct JournaledFile {
     paths: FilePaths,
-    /// The file from before it was read.
-    read: Option<Snapshot>,
+    /// Both files from before they were read.
+    read: Option<Snapshots>,
     pub session: Session,
 }
 
@@ -26,11 +26,11 @@ impl JournaledFile {
     pub fn open<R: Files>(rt: &R, alloc: Global, name: &str) -> Result<JournaledFile, RunFault> {
         let paths = FilePaths::of(rt, alloc, name)?;
         recover(rt, alloc, &paths)?;
-        let snapshot = Snapshot::of(rt, &paths.text);
+        let snapshots = Snapshots::of(rt, &paths);
         let session = read(rt, alloc, &paths.text, &paths.journal)?;
         Ok(JournaledFile {
             paths,
-            read: snapshot,
+            read: snapshots,
             session,
         })
     }

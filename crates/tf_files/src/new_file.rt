@@ -1,6 +1,6 @@
 //! The new file that is to replace an old one.
 
-use crate::calls::{NewFile, PartFile};
+use crate::calls::{NewFile, PartFile, reply_to};
 use crate::file_paths::is_not_found;
 use std::fs::{self, Metadata, OpenFile, OpenOptions};
 use std::io::{self, ErrorKind, Seek, Write};
@@ -72,7 +72,7 @@ fn is_ruled_out(error: &io::Error) -> bool {
 /// text's file.
 pub fn copy_attributes<R: Files>(rt: &R, file: &PartFile<'_, R::File>) -> Reply {
     let old = match fs::symlink_metadata(rt, file.own) {
-        Err(error) if is_not_found(&error) => fs::metadata(rt, file.text),
+        Err(error) if is_not_found(&error) => fs::metadata(rt, &file.paths.text),
         found => found,
     };
     match (old, &file.new_file) {
@@ -114,6 +114,19 @@ pub fn truncate<F: Write + Seek + OpenFile>(file: &mut F) -> io::Result<()> {
 pub fn start_writing<R: Files>(rt: &R, file: &PartFile<'_, R::File>) {
     if matches!(find_own_new(rt, file), Reply::Done) {
         let _ = fs::open(rt, file.new);
+    }
+}
+
+/// Looks whether there is a new file. That of this command is there until it has become the part: if
+/// another command has removed it, it was not renamed either.
+pub fn find_new<R: Files>(rt: &R, file: &PartFile<'_, R::File>) -> Reply {
+    match &file.new_file {
+        NewFile::Created(created) => match find_created(rt, created, file.own) {
+            Reply::Done => Reply::NotFound,
+            Reply::NotFound => Reply::Done,
+            reply => reply,
+        },
+        _ => reply_to(fs::symlink_metadata(rt, file.new)),
     }
 }
 

@@ -4,7 +4,7 @@ use crate::calls::sync_directory;
 use crate::file_part::{write_fault, write_part};
 use crate::file_paths::{FilePaths, is_absent};
 use crate::saves::NewContents;
-use crate::snapshot::Snapshot;
+use crate::snapshot::Snapshots;
 use std::alloc::Global;
 use std::fs::{self, OpenFile, OpenOptions};
 use std::io::{ErrorKind, Read, Write};
@@ -15,7 +15,7 @@ use tf_session::{Part, RunFault};
 
 /// Writes both files over the old ones, the journal first, and waits until both are durable. After
 /// an error the old bytes are put back, as far as the system lets it; a crash in the middle loses
-/// them. `read` is the text's file from before it was read.
+/// them. `read` is what both were before they were read.
 ///
 /// # Errors
 /// `Write` with the part and the number of its bytes that were written, 0 where another program has
@@ -25,7 +25,7 @@ pub fn overwrite<R: Files>(
     alloc: Global,
     paths: &FilePaths,
     contents: NewContents<'_>,
-    read: Option<Snapshot>,
+    read: Option<Snapshots>,
 ) -> Result<(), RunFault> {
     let old_journal = Backup::of(rt, alloc, &paths.journal)?;
     let old_text = Backup::of(rt, alloc, &paths.text)?;
@@ -43,12 +43,11 @@ pub fn overwrite<R: Files>(
 
 /// Creates the journal where there is none. The text is compared once more after it: the bytes to put
 /// back are those that were read.
-fn prepare<R: Files>(rt: &R, paths: &FilePaths, read: Option<Snapshot>) -> Result<(), RunFault> {
+fn prepare<R: Files>(rt: &R, paths: &FilePaths, read: Option<Snapshots>) -> Result<(), RunFault> {
     create_journal(rt, paths)?;
-    if Snapshot::of(rt, &paths.text) == read {
-        Ok(())
-    } else {
-        Err(write_fault(Part::Text, 0))
+    match read {
+        Some(read) if read.has_same_text(rt, paths) => Ok(()),
+        _ => Err(write_fault(Part::Text, 0)),
     }
 }
 

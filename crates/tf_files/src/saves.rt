@@ -4,7 +4,7 @@ use crate::calls::{NewFile, PartFile, make, open_directory, sync_opened};
 use crate::file_part::{session_part, write_fault};
 use crate::file_paths::FilePaths;
 use crate::found_files::FileId;
-use crate::snapshot::Snapshot;
+use crate::snapshot::Snapshots;
 use std::alloc::Global;
 use std::fs::OpenFile;
 use std::io::{Read, Seek, Write};
@@ -95,12 +95,12 @@ pub fn recover<R: Files>(rt: &R, alloc: Global, paths: &FilePaths) -> Result<(),
 }
 
 impl<'a, F: Drop> Save<'a, F> {
-    /// The save of a text and a journal, before its first call. `read` is the text's file from before
-    /// it was read; in company the system is to start writing early.
+    /// The save of a text and a journal, before its first call. `read` is what both files were
+    /// before they were read; in company the system is to start writing early.
     pub fn new(
         paths: &'a FilePaths,
         contents: NewContents<'a>,
-        read: Option<Snapshot>,
+        read: Option<Snapshots>,
         is_in_company: bool,
     ) -> Save<'a, F> {
         let new_file = NewFile::NotCreated;

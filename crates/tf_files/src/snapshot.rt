@@ -1,5 +1,6 @@
-//! Tells whether a file has changed.
+//! Tells whether a file or its journal has changed.
 
+use crate::file_paths::{FilePaths, is_not_found};
 use std::fs::{self, Metadata};
 use std::os::unix::fs::MetadataExt;
 use std::rt::Files;
@@ -17,19 +18,51 @@ struct State {
 
 /// A file at a moment. All devices and pipes are alike, since reading changes their times.
 #[derive(Clone, Copy, PartialEq, Eq)]
-pub struct Snapshot {
+struct Snapshot {
     regular: Option<State>,
 }
 
 impl Snapshot {
     /// Returns the snapshot of the file that this name leads to; none if the system does not say.
-    pub fn of<R: Files>(rt: &R, name: &str) -> Option<Snapshot> {
+    fn of<R: Files>(rt: &R, name: &str) -> Option<Snapshot> {
         match fs::metadata(rt, name) {
-            Ok(found) => Some(Snapshot {
-                regular: found.is_file().then_some(State::of(&found)),
-            }),
+            Ok(found) => Some(Snapshot::of_found(&found)),
             Err(_) => None,
         }
+    }
+
+    fn of_found(found: &Metadata) -> Snapshot {
+        Snapshot {
+            regular: found.is_file().then_some(State::of(found)),
+        }
+    }
+}
+
+/// A file and its journal at a moment. Both are compared: the text may be another command's and the
+/// journal not yet, if both are read between its two renames.
+#[derive(Clone, Copy, PartialEq, Eq)]
+pub struct Snapshots {
+    text: Snapshot,
+    /// None where there is no journal.
+    journal: Option<Snapshot>,
+}
+
+impl Snapshots {
+    /// Returns the snapshots of both; none if the system does not say. The text comes last, since it
+    /// is renamed right after it was compared.
+    pub fn of<R: Files>(rt: &R, paths: &FilePaths) -> Option<Snapshots> {
+        let journal = match fs::symlink_metadata(rt, &paths.journal) {
+            Ok(found) => Some(Snapshot::of_found(&found)),
+            Err(error) if is_not_found(&error) => None,
+            Err(_) => return None,
+        };
+        let text = Snapshot::of(rt, &paths.text)?;
+        Some(Snapshots { text, journal })
+    }
+
+    /// Returns whether the text is the same now.
+    pub fn has_same_text<R: Files>(&self, rt: &R, paths: &FilePaths) -> bool {
+        Snapshot::of(rt, &paths.text) == Some(self.text)
     }
 }
 

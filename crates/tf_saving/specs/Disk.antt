@@ -38,7 +38,7 @@ pub record Directory : Type 0 where
 
 -- what a command finds out by comparing files and by reading them; another program may change it
 pub record Checks : Type 0 where
-  -- the text is still the file that the command read
+  -- text and journal are still the files that the command read
   pub is_unchanged : Bool
   -- the part's new file is still the one that the command created
   pub is_ours : Part → Bool

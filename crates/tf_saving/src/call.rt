@@ -16,7 +16,8 @@ pub enum Part {
 pub enum Call {
     /// Opens the part for writing, and changes nothing.
     Open(Part),
-    /// Looks whether the part's new file exists.
+    /// Looks whether the part's new file exists; one that this command created, whether it is not
+    /// the part yet.
     FindNew(Part),
     /// Creates the part's new file, empty. It fails if the file exists.
     CreateNew(Part),
@@ -33,9 +34,9 @@ pub enum Call {
     /// Compares the file under the new file's name with the one that this command created: device
     /// and inode. Any reply but `Done` means that it is another, or that the system doesn't say.
     CompareNew(Part),
-    /// Compares the text's file with the one that this command read: device, inode, size and time
-    /// of modification, from before the first read. Any reply but `Done` means that it has changed,
-    /// or that the system doesn't say.
+    /// Compares text and journal with the files that this command read: device, inode, size and
+    /// time of modification, from before the first read, the text last. Any reply but `Done` means
+    /// that one has changed, or that the system doesn't say.
     Compare,
     /// Reads the new journal that was found alone. The reply is `Done` if it may replace the
     /// journal, `NotFound` if it may not: it can't be decoded, or the journal's last record can be
