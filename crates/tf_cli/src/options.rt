@@ -41,6 +41,7 @@ pub enum Flag {
     DisableRule,
     Take,
     List,
+    Locate,
 }
 
 /// The row of an option.
@@ -69,6 +70,7 @@ pub enum FlagValue {
 pub enum Commands {
     Fmt,
     LintAndFix,
+    AllButRevert,
     Revert,
 }
 
@@ -125,7 +127,7 @@ impl Subcommand {
 }
 
 impl Flag {
-    const COUNT: usize = 5;
+    const COUNT: usize = 6;
 
     /// The options, in the order of the help of each command.
     pub const ALL: [Flag; Flag::COUNT] = [
@@ -134,6 +136,7 @@ impl Flag {
         Flag::DisableRule,
         Flag::Take,
         Flag::List,
+        Flag::Locate,
     ];
 
     /// Returns the row of the option.
@@ -174,6 +177,13 @@ impl Flag {
                 conflict: Some(Flag::Take),
                 commands: Commands::Revert,
             },
+            Flag::Locate => FlagInfo {
+                name: "locate",
+                help: "Also report errors as FILE:LINE:COLUMN: error: TEXT",
+                value: FlagValue::Nothing,
+                conflict: None,
+                commands: Commands::AllButRevert,
+            },
         }
     }
 
@@ -187,6 +197,7 @@ impl Flag {
         match self.info().commands {
             Commands::Fmt => matches!(subcommand, Subcommand::Fmt),
             Commands::LintAndFix => matches!(subcommand, Subcommand::Lint | Subcommand::Fix),
+            Commands::AllButRevert => !matches!(subcommand, Subcommand::Revert),
             Commands::Revert => matches!(subcommand, Subcommand::Revert),
         }
     }
