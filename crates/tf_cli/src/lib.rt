@@ -4,6 +4,7 @@
 
 mod command_line;
 mod help;
+mod options;
 mod outcome;
 mod rule_choice;
 

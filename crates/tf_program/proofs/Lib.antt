@@ -1,2 +1,4 @@
 pub mod Checking
 pub mod Fixing
+pub mod Listing
+pub mod Locating

@@ -17,7 +17,7 @@ use Rattle.tf_session.specs.Streaming as streaming
 use Rattle.tf_session.specs.Streams.{ReadsText, IsReadStreamFault, IsWriteFault}
 use Rattle.tf_cli.specs.declared.outcome.FileOutcome.{FileOutcome}
 
--- what so many issues come to
+-- the outcome of a file with `count` issues
 abbrev pub IsOutcomeOf : FileOutcome → ℕ → Type 0
 IsOutcomeOf FileOutcome.Nothing count = count ≡ 0
 IsOutcomeOf FileOutcome.Issue count = 0 < count
@@ -52,7 +52,7 @@ FixesText name rules t js d left u ks =
     DoesStep (Fix rules) t js d u ks
     × (told : List Report) × IsReport rules u told × (left ≡ lines_of name told)
 
--- The fix refused them; or it was done, and a growth was refused for those lines.
+-- The fix refused them; or it was done, and there was no memory for those lines.
 abbrev pub NotFixed : RuleSet → List ℕ → List JournalEntry → RunFault → Type 0
 NotFixed rules t js fault =
     ((refusal : Fault) × (fault ≡ run_fault_of refusal) × RefusesStep (Fix rules) t js refusal)

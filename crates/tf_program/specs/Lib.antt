@@ -1,2 +1,3 @@
 pub mod Inputs
 pub mod Lines
+pub mod Location

@@ -1,8 +1,9 @@
 -- The lines of a journal's records.
-use Rattle.std.specs.Prelude.{ℕ, List, ◌++◌, ◌==◌, if◌then◌else◌, codes}
+use Rattle.std.specs.Prelude.{ℕ, ◌+◌, List, [], ◌∷◌, ◌++◌, ◌==◌, if◌then◌else◌, length, codes}
 use Rattle.std.specs.Fmt.{decimal}
 use Rattle.edit_record.specs.declared.lists.record.Word.{Word}
 use Rattle.edit_record.specs.declared.lists.record.Word.TheVariants.{Fmt, Fix}
+use Rattle.edit_record.specs.Lists.Journal.{JournalEntry}
 
 abbrev pub command_name : Word → List ℕ
 command_name Fmt = codes "fmt"
@@ -17,3 +18,9 @@ line_of number word count =
     decimal number ++ (codes " "
     ++ (command_name word ++
     (codes " " ++ (decimal count ++ (codes " " ++ (edit_unit count ++ codes "\n"))))))
+
+-- a line for each record, of which the first has this number
+abbrev pub lines_of : ℕ → List JournalEntry → List ℕ
+lines_of number [] = []
+lines_of number (r ∷ rs) =
+    line_of number r.word (length r.edits.entries) ++ lines_of (number + 1) rs

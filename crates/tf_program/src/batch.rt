@@ -1,13 +1,13 @@
 //! Files that a command changes: many are saved at once, and all are reported in the order in which
 //! they were given.
 
-use crate::faults::report_fault;
+use crate::file_error::FileError;
 use crate::files::{Made, change_file};
 use std::alloc::{AllocError, Global};
 use std::io::Write;
 use std::mem;
 use std::rt::Files;
-use tf_cli::{FileOutcome, RunOutcome};
+use tf_cli::{FileOutcome, RunOutcome, Task};
 use tf_files::{Attempt, ChangedFile, FoundFiles, save_together};
 use tf_session::{Command, RunFault};
 
@@ -23,7 +23,7 @@ const MOST_BYTES: usize = 12 << 20;
 #[derive(Drop)]
 struct Entry<'a> {
     name: &'a str,
-    made: Result<Made, RunFault>,
+    made: Result<Made, FileError>,
 }
 
 /// Files that are not saved yet, and what all those before them have met. No two of them have
@@ -35,17 +35,20 @@ pub struct Batch<'a> {
     bytes: usize,
     /// How many files are still to be changed.
     left: usize,
+    /// Whether errors are located.
+    locate: bool,
     pub outcome: RunOutcome,
 }
 
 impl<'a> Batch<'a> {
-    /// A batch of no file, for a run over so many.
-    pub fn new(alloc: Global, files: usize) -> Batch<'a> {
+    /// Returns a batch of no file, for the files of a task.
+    pub fn new(alloc: Global, task: &Task<'_>) -> Batch<'a> {
         Batch {
             alloc,
             entries: Vec::new(alloc),
             bytes: 0,
-            left: files,
+            left: task.files.len(),
+            locate: task.locate,
             outcome: RunOutcome::default(),
         }
     }
@@ -63,11 +66,11 @@ impl<'a> Batch<'a> {
         if !self.admits(rt, name) {
             self.finish(rt, output, faults);
         }
-        let mut made = change_file(rt, self.alloc, command, name);
-        if matches!(made, Err(RunFault::Memory)) && !self.entries.is_empty() {
+        let mut made = change_file(rt, self.alloc, command, name, self.locate);
+        if is_out_of_memory(&made) && !self.entries.is_empty() {
             // once those are saved there is more memory
             self.finish(rt, output, faults);
-            made = change_file(rt, self.alloc, command, name);
+            made = change_file(rt, self.alloc, command, name, self.locate);
         }
         self.add(rt, Entry { name, made }, output, faults);
     }
@@ -154,24 +157,25 @@ impl<'a> Batch<'a> {
         faults: &mut F,
     ) {
         let met = match &entry.made {
-            Ok(made) => made.finish(rt, self.alloc, attempt, output),
-            Err(fault) => Err(*fault),
+            Ok(made) => made.save_and_report(rt, self.alloc, attempt, output),
+            Err(error) => Err(*error),
         };
         self.note(entry.name, met, faults);
     }
 
-    /// Notes what the work on a file has met. An error is reported, and does not stop the next file.
+    /// Notes the outcome of the work on a file. An error is reported, and does not stop the next
+    /// file.
     pub fn note<F: Write>(
         &mut self,
         name: &str,
-        met: Result<FileOutcome, RunFault>,
+        met: Result<FileOutcome, FileError>,
         faults: &mut F,
     ) {
         match met {
             Ok(file_outcome) => self.outcome = self.outcome.with_file(file_outcome),
-            Err(fault) => {
+            Err(error) => {
                 self.outcome.has_fault = true;
-                report_fault(self.alloc, faults, name, &fault);
+                error.report(self.alloc, faults, name);
             }
         }
     }
@@ -202,7 +206,14 @@ impl<'a> Entry<'a> {
     }
 }
 
-/// Saves the files of entries, and returns how far each has come. None was saved where the answer is
+fn is_out_of_memory(made: &Result<Made, FileError>) -> bool {
+    match made {
+        Ok(_) => false,
+        Err(error) => matches!(error.fault, RunFault::Memory),
+    }
+}
+
+/// Saves the files of entries, and returns how far each has come. None was saved if the answer is
 /// empty: there is only one, or no memory for more.
 fn save_entries<R: Files>(rt: &R, alloc: Global, entries: &[Entry<'_>]) -> Vec<Attempt> {
     match save_several(rt, alloc, entries) {

@@ -1,9 +1,10 @@
-//! The work of the program `tfk`, from the words of its command line to its exit status.
+//! The work of the program `tfk`, from its arguments to its exit status.
 #![tactic(auto)]
 
 mod batch;
-mod faults;
+mod file_error;
 mod files;
+mod location;
 mod record_list;
 mod run;
 

@@ -1,13 +1,15 @@
 //! The lines of a journal's records.
 
 ghost use Rattle.std.specs.Prelude.{◌≡◌, IfOk, string_bytes};
-ghost use Rattle.tf_program.specs.Lines.{line_of, command_name, edit_unit};
+ghost use Rattle.tf_program.specs.Lines.{lines_of, line_of, command_name, edit_unit};
 
 use edit_record::{Record, Word};
 use std::alloc::{AllocError, Global};
 
-/// A line for each record, from the oldest on, which has the number 1: `1 fix 3 edits`.
-pub fn record_lines(alloc: Global, records: &[Record]) -> Result<String, AllocError> {
+/// Returns a line for each record, the oldest first, which has the number 1: `1 fix 3 edits`.
+pub fn record_lines(alloc: Global, records: &[Record]) -> Result<String, AllocError>
+    ensures { IfOk result (λ lines. string_bytes lines ≡ lines_of 1 records.now) }
+{
     let mut lines = String::new(alloc);
     for (before, record) in records.iter().enumerate() {
         let edits = record.edits().edits().len();

@@ -1,21 +1,18 @@
-//! The work that the words ask for.
+//! The work that the arguments ask for.
 
 use crate::batch::Batch;
-use crate::files::{
-    STANDARD_INPUT, check_file, check_input, fix_input, format_input, lint_file, lint_input,
-    list_file,
-};
+use crate::files::{STANDARD_INPUT, run_read_only};
 use std::alloc::Global;
 use std::io::{Read, Write};
 use std::rt::Files;
-use tf_cli::{Action, CommandLine, Exit, FileOutcome, RunOutcome, Task};
+use tf_cli::{Action, CommandLine, Exit, RunOutcome, Task};
 use tf_session::{Command, RunFault, Told, put_text};
 
 const OUT_OF_MEMORY: &str = "tfk: out of memory\n";
 
-/// Does what the words ask (they are those behind the program's name), and answers the exit status:
-/// 1 if there was any fault, else 2 if an issue is left, else 3 if a file is not laid out that was
-/// to be checked, else 0. Reports go to the output, faults to `faults`.
+/// Does what the arguments ask for, without the name of the program, and returns the exit status: 1
+/// after any error, else 2 if an issue is left, else 3 if a file that was to be checked is not
+/// formatted, else 0. Reports are written to the output, errors to `faults`.
 pub fn work<R: Files, I: Read, O: Write, F: Write>(
     rt: &R,
     alloc: Global,
@@ -30,7 +27,7 @@ pub fn work<R: Files, I: Read, O: Write, F: Write>(
     }
 }
 
-/// The same for words as they are read.
+/// For the proof: the command line is lent to a function that has its ways out.
 fn run_command_line<R: Files, I: Read, O: Write, F: Write>(
     rt: &R,
     alloc: Global,
@@ -53,7 +50,7 @@ fn exit_with<O: Write, F: Write>(stop: &Exit, output: &mut O, faults: &mut F) ->
     }
 }
 
-/// Where standard error takes nothing, the status still tells the fault.
+/// If standard error takes nothing, the exit status still reports the error.
 fn exit_with_fault<F: Write>(faults: &mut F, text: &str) -> u8 {
     let _ = put_text(text.as_bytes(), &mut Told::new(faults));
     1
@@ -74,8 +71,8 @@ fn write_help<O: Write>(output: &mut O, text: &str) -> Result<(), RunFault> {
     put_text(line_end.as_bytes(), &mut output)
 }
 
-/// One file after the other, in the order given; an error on one does not stop the next. A file that
-/// changes may be saved after the next is read.
+/// Does a task on one file after another, in the order given; an error on one does not stop the
+/// next. A file that changes may be saved after the next is read.
 fn run_task<R: Files, I: Read, O: Write, F: Write>(
     rt: &R,
     alloc: Global,
@@ -84,62 +81,29 @@ fn run_task<R: Files, I: Read, O: Write, F: Write>(
     output: &mut O,
     faults: &mut F,
 ) -> RunOutcome {
-    let mut batch = Batch::new(alloc, task.files.len());
+    let mut batch = Batch::new(alloc, task);
     for name in &task.files {
-        if *name == STANDARD_INPUT {
-            batch.finish(rt, output, faults);
-            let result = run_on_stdin(alloc, task.action, input, output, faults);
-            batch.note(name, result, faults);
-        } else {
-            run_on_file(rt, alloc, task.action, name, &mut batch, output, faults);
+        match command_of(task.action) {
+            Some(command) if *name != STANDARD_INPUT => {
+                batch.change(rt, command, name, output, faults)
+            }
+            _ => {
+                let met = run_read_only(rt, alloc, task, name, input, output, faults);
+                batch.note(name, met, faults);
+            }
         }
     }
     batch.finish(rt, output, faults);
     batch.outcome
 }
 
-fn run_on_file<'a, R: Files, O: Write, F: Write>(
-    rt: &R,
-    alloc: Global,
-    action: Action,
-    name: &'a str,
-    batch: &mut Batch<'a>,
-    output: &mut O,
-    faults: &mut F,
-) {
+/// Returns the command of an action that changes files.
+fn command_of(action: Action) -> Option<Command> {
     match action {
-        Action::Format => batch.change(rt, Command::Fmt, name, output, faults),
-        Action::Fix(rules) => batch.change(rt, Command::Fix(rules), name, output, faults),
-        Action::Revert(Some(number)) => {
-            batch.change(rt, Command::Take(number), name, output, faults)
-        }
-        Action::Revert(None) => batch.change(rt, Command::Revert, name, output, faults),
-        Action::Check => batch.note(name, check_file(rt, alloc, name, output), faults),
-        Action::Lint(rules) => {
-            batch.note(name, lint_file(rt, alloc, name, output, rules), faults)
-        }
-        Action::List => batch.note(name, list_file(rt, alloc, name, output), faults),
-    }
-}
-
-/// What the work on standard input has met. There is no journal of it that could be reverted.
-fn run_on_stdin<I: Read, O: Write, F: Write>(
-    alloc: Global,
-    action: Action,
-    input: &mut I,
-    output: &mut O,
-    faults: &mut F,
-) -> Result<FileOutcome, RunFault> {
-    let input = &mut Told::new(input);
-    let output = &mut Told::new(output);
-    match action {
-        Action::Format => format_input(alloc, input, output),
-        Action::Check => check_input(alloc, input),
-        Action::Lint(rules) => lint_input(alloc, STANDARD_INPUT, input, output, rules),
-        Action::Fix(rules) => {
-            let left = &mut Told::new(faults);
-            fix_input(alloc, STANDARD_INPUT, input, output, left, rules)
-        }
-        Action::Revert(_) | Action::List => Ok(FileOutcome::Nothing),
+        Action::Format => Some(Command::Fmt),
+        Action::Fix(rules) => Some(Command::Fix(rules)),
+        Action::Revert(Some(number)) => Some(Command::Take(number)),
+        Action::Revert(None) => Some(Command::Revert),
+        Action::Check | Action::Lint(_) | Action::List => None,
     }
 }

@@ -21,14 +21,14 @@ fn main(rt: HostRuntime) -> ExitCode {
                 ErrorKind::OutOfMemory => "out of memory",
                 _ => "the command line is not UTF-8",
             };
-            // where standard error takes nothing, the status still tells
+            // if standard error takes nothing, the exit status still reports it
             let _ = eprintln!(rt; "tfk: {text}");
             ExitCode::FAILURE
         }
     }
 }
 
-/// The words of the command line behind the program's name.
+/// Returns the arguments, without the name of the program.
 fn args_of(rt: &HostRuntime) -> io::Result<Vec<String>> {
     let mut all_args = env::args(rt)?;
     let _program = all_args.next();

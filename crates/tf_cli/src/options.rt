@@ -1,0 +1,226 @@
+//! The tables of the commands and of their options, of which arguments, actions and help are made.
+
+ghost use Rattle.std.specs.Prelude.{◌≡◌, ◌≤◌, ◌↔◌, ◌⊎◌, true, false, length};
+ghost use Rattle.std.specs.List.{list_any};
+ghost use Rattle.tf_cli.specs.Arguments.{is_dash};
+ghost use Rattle.tf_cli.specs.declared.options.FileCount.{FileCount};
+
+/// A command of `tfk`.
+#[derive(Clone, Copy)]
+pub enum Subcommand {
+    Fmt,
+    Lint,
+    Fix,
+    Revert,
+}
+
+/// The row of a command.
+#[derive(Clone, Copy)]
+pub struct SubcommandInfo {
+    pub name: &'static str,
+    pub about: &'static str,
+    /// What the help says of FILE.
+    pub file_help: &'static str,
+    pub file_count: FileCount,
+}
+
+/// Which files a command takes.
+#[derive(Clone, Copy)]
+pub enum FileCount {
+    /// One or more, or `-` alone.
+    Several,
+    /// One, which has a journal: not `-`.
+    One,
+}
+
+/// An option.
+#[derive(Clone, Copy)]
+pub enum Flag {
+    Check,
+    EnableRule,
+    DisableRule,
+    Take,
+    List,
+    Locate,
+}
+
+/// The row of an option.
+#[derive(Clone, Copy)]
+pub struct FlagInfo {
+    /// Its name, without the `--`.
+    pub name: &'static str,
+    pub help: &'static str,
+    pub value: FlagValue,
+    /// The option that it can't be used with.
+    pub conflict: Option<Flag>,
+    pub commands: Commands,
+}
+
+/// What follows an option.
+#[derive(Clone, Copy)]
+pub enum FlagValue {
+    Nothing,
+    /// The name of a rule, or `all`. The option can be used several times.
+    Rule,
+    Number,
+}
+
+/// Which commands have an option.
+#[derive(Clone, Copy)]
+pub enum Commands {
+    Fmt,
+    LintAndFix,
+    AllButRevert,
+    Revert,
+}
+
+impl Subcommand {
+    const COUNT: usize = 4;
+
+    /// The commands, in the order of the help.
+    const ALL: [Subcommand; Subcommand::COUNT] = [
+        Subcommand::Fmt,
+        Subcommand::Lint,
+        Subcommand::Fix,
+        Subcommand::Revert,
+    ];
+
+    /// Returns the row of the command.
+    pub fn info(self) -> SubcommandInfo {
+        match self {
+            Subcommand::Fmt => SubcommandInfo {
+                name: "fmt",
+                about: "Formats files in place",
+                file_help: "A file to format; - alone is standard input",
+                file_count: FileCount::Several,
+            },
+            Subcommand::Lint => SubcommandInfo {
+                name: "lint",
+                about: "Reports the issues in files",
+                file_help: "A file to read; - alone is standard input",
+                file_count: FileCount::Several,
+            },
+            Subcommand::Fix => SubcommandInfo {
+                name: "fix",
+                about: "Fixes issues in files in place",
+                file_help: "A file to fix; - alone is standard input",
+                file_count: FileCount::Several,
+            },
+            Subcommand::Revert => SubcommandInfo {
+                name: "revert",
+                about: "Reverts the last change of a file, or an earlier one",
+                file_help: "The file to revert",
+                file_count: FileCount::One,
+            },
+        }
+    }
+
+    /// Returns the command of a name; none if no command has it.
+    pub fn by_name(name: &str) -> Option<Subcommand> {
+        for subcommand in Subcommand::ALL {
+            if name == subcommand.info().name {
+                return Some(subcommand);
+            }
+        }
+        None
+    }
+}
+
+impl Flag {
+    const COUNT: usize = 6;
+
+    /// The options, in the order of the help of each command.
+    pub const ALL: [Flag; Flag::COUNT] = [
+        Flag::Check,
+        Flag::EnableRule,
+        Flag::DisableRule,
+        Flag::Take,
+        Flag::List,
+        Flag::Locate,
+    ];
+
+    /// Returns the row of the option.
+    pub fn info(self) -> FlagInfo {
+        match self {
+            Flag::Check => FlagInfo {
+                name: "check",
+                help: "Write nothing; print the names of files that are not formatted",
+                value: FlagValue::Nothing,
+                conflict: None,
+                commands: Commands::Fmt,
+            },
+            Flag::EnableRule => FlagInfo {
+                name: "enable-rule",
+                help: "Enable a rule, or `all`; applied last",
+                value: FlagValue::Rule,
+                conflict: None,
+                commands: Commands::LintAndFix,
+            },
+            Flag::DisableRule => FlagInfo {
+                name: "disable-rule",
+                help: "Disable a rule, or `all`; applied first",
+                value: FlagValue::Rule,
+                conflict: None,
+                commands: Commands::LintAndFix,
+            },
+            Flag::Take => FlagInfo {
+                name: "take",
+                help: "Revert change N alone, the oldest being 1",
+                value: FlagValue::Number,
+                conflict: None,
+                commands: Commands::Revert,
+            },
+            Flag::List => FlagInfo {
+                name: "list",
+                help: "Write nothing; list the recorded changes",
+                value: FlagValue::Nothing,
+                conflict: Some(Flag::Take),
+                commands: Commands::Revert,
+            },
+            Flag::Locate => FlagInfo {
+                name: "locate",
+                help: "Also report errors as FILE:LINE:COLUMN: error: TEXT",
+                value: FlagValue::Nothing,
+                conflict: None,
+                commands: Commands::AllButRevert,
+            },
+        }
+    }
+
+    /// Returns the option's name, without the `--`.
+    pub fn name(self) -> &'static str {
+        self.info().name
+    }
+
+    /// Returns whether a command has the option.
+    pub fn is_of(self, subcommand: Subcommand) -> bool {
+        match self.info().commands {
+            Commands::Fmt => matches!(subcommand, Subcommand::Fmt),
+            Commands::LintAndFix => matches!(subcommand, Subcommand::Lint | Subcommand::Fix),
+            Commands::AllButRevert => !matches!(subcommand, Subcommand::Revert),
+            Commands::Revert => matches!(subcommand, Subcommand::Revert),
+        }
+    }
+}
+
+impl FileCount {
+    /// Returns whether these files can be given: `-` is alone, and has no journal.
+    pub fn accepts(self, names: &[&str]) -> bool
+        ensures several { self ≡ FileCount.Several → result ≡ true
+            ↔ (length names.now ≤ 1) ⊎ (list_any (λ name. is_dash name.now) names.now ≡ false) }
+        ensures one { self ≡ FileCount.One → result ≡ true
+            ↔ list_any (λ name. is_dash name.now) names.now ≡ false }
+    {
+        match self {
+            FileCount::Several => names.len() <= 1 || !has_dash(names),
+            FileCount::One => !has_dash(names),
+        }
+    }
+}
+
+/// Returns whether one of the files is standard input.
+fn has_dash(names: &[&str]) -> bool
+    ensures { result ≡ list_any (λ name. is_dash name.now) names.now }
+{
+    names.contains(&"-")
+}

@@ -1,0 +1,56 @@
+-- The line and the column of a byte of a text, counted from 1, and the byte of an error.
+-- Unicode Standard Annex #29, extended grapheme clusters.
+use Rattle.std.specs.Prelude.{◌≡◌, ◌+◌, ℕ, if◌then◌else◌, List, length, take, drop, count_by, Option, Some, None}
+use Rattle.hcl_scan.specs.Characters.{is_prefix_of}
+use Rattle.std.specs.Str.{is_utf8}
+use Rattle.hcl_scan.specs.Tokenization.{byte_order_mark}
+use Rattle.hcl_scan.specs.declared.fault.ScanFault.{ScanFault}
+use Rattle.hcl_scan.specs.declared.fault.ScanFault.TheVariants as scan
+use Rattle.hcl_text_laws.specs.declared.fault.ParseFault.{ParseFault}
+use Rattle.hcl_text_laws.specs.declared.fault.ParseFault.TheVariants as parse
+use Rattle.hcl_token.specs.Place.{is_lf, clusters, last_line}
+use Rattle.tf_session.specs.declared.fault.RunFault.{RunFault}
+use Rattle.tf_session.specs.declared.fault.RunFault.TheVariants as fault
+use Rattle.tf_program.specs.declared.location.Location.{Location}
+
+abbrev pub without_mark : List ℕ → List ℕ
+without_mark text = if is_prefix_of byte_order_mark text then drop 3 text else text
+
+-- the text before a byte, without the byte order mark
+abbrev pub text_before : List ℕ → ℕ → List ℕ
+text_before text at = without_mark (take at text)
+
+-- the columns of a part of a line: its grapheme clusters; its bytes, if it is not UTF-8, as no part
+-- before the byte of an error is
+abbrev pub columns : List ℕ → ℕ
+columns part = if is_utf8 part then clusters part else length part
+
+-- where a byte of a text is
+abbrev pub IsLocation : List ℕ → ℕ → Location → Type 0
+IsLocation text at location =
+    (location.line ≡ 1 + count_by is_lf (text_before text at))
+    × (location.column ≡ 1 + columns (last_line (text_before text at)))
+
+-- ---- the byte of an error
+
+abbrev pub byte_of_scan_fault : ScanFault → Option ℕ
+byte_of_scan_fault scan.TooLong = None
+byte_of_scan_fault (scan.NotUtf8 at) = Some at
+byte_of_scan_fault (scan.BadCharacter at) = Some at
+byte_of_scan_fault (scan.BadEscape at) = Some at
+byte_of_scan_fault (scan.OpenString at) = Some at
+byte_of_scan_fault (scan.OpenTemplate at) = Some at
+byte_of_scan_fault (scan.OpenHeredoc at) = Some at
+byte_of_scan_fault (scan.OpenComment at) = Some at
+byte_of_scan_fault scan.Memory = None
+
+abbrev pub byte_of_parse_fault : ParseFault → Option ℕ
+byte_of_parse_fault (parse.Syntax at) = Some at
+byte_of_parse_fault (parse.TooDeep at) = Some at
+byte_of_parse_fault parse.Memory = None
+
+-- none of the errors of a journal is at a byte of the file
+abbrev pub byte_of : RunFault → Option ℕ
+byte_of (fault.Scan error) = byte_of_scan_fault error
+byte_of (fault.Parse error) = byte_of_parse_fault error
+byte_of _ = None

@@ -1,0 +1,72 @@
+//! Why the work on a file failed, and the lines that say so.
+
+use crate::location::{Location, byte_of, location_of};
+use std::alloc::{AllocError, Global};
+use std::io::Write;
+use tf_session::RunFault;
+
+/// An error of a file.
+#[derive(Clone, Copy)]
+pub struct FileError {
+    pub fault: RunFault,
+    /// Where it is in the file, if that is to be reported.
+    location: Option<Location>,
+}
+
+impl From<RunFault> for FileError {
+    fn from(fault: RunFault) -> FileError {
+        FileError {
+            fault,
+            location: None,
+        }
+    }
+}
+
+impl FileError {
+    /// Returns the error of the file with this text, with its location if it is at a byte.
+    pub fn located(fault: RunFault, text: &[u8]) -> FileError {
+        let location = match byte_of(&fault) {
+            Some(at) => Some(location_of(text, at)),
+            None => None,
+        };
+        FileError { fault, location }
+    }
+
+    /// Writes the lines of the error of a file at once, so that lines of programs that run side by
+    /// side don't mix. Without memory for that, the first is written in pieces, and one that says
+    /// so in place of the line of the location. If standard error takes nothing, the exit status
+    /// still reports the error.
+    pub fn report<F: Write>(&self, alloc: Global, faults: &mut F, name: &str) {
+        match self.lines(alloc, name) {
+            Ok(lines) => {
+                let _ = faults.write_all(lines.as_bytes());
+            }
+            Err(_) => {
+                let _ = writeln!(faults, "tfk: {name}: {}", self.fault);
+                if self.location.is_some() {
+                    let _ = writeln!(faults, "tfk: {name}: {}", RunFault::Memory);
+                }
+            }
+        }
+    }
+
+    fn lines(&self, alloc: Global, name: &str) -> Result<String, AllocError> {
+        let fault = self.fault;
+        match self.location {
+            Some(Location { line, column }) => {
+                let whole = format!(in alloc; "{fault}")?;
+                let text = text_after_byte(whole.as_str());
+                format!(in alloc; "tfk: {name}: {fault}\n{name}:{line}:{column}: error: {text}\n")
+            }
+            None => format!(in alloc; "tfk: {name}: {fault}\n"),
+        }
+    }
+}
+
+/// Returns the text of an error without its byte: `byte 5: not UTF-8` is `not UTF-8`.
+fn text_after_byte(text: &str) -> &str {
+    match text.split_once(": ") {
+        Some((_, after)) => after,
+        None => text,
+    }
+}

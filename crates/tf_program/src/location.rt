@@ -1,0 +1,132 @@
+//! The line and the column of a byte, for errors.
+
+ghost use Rattle.std.specs.Prelude.{◌≡◌, ◌≤◌, count_by, length, take, slice_index};
+ghost use Rattle.hcl_scan.specs.Characters.{is_prefix_of};
+ghost use Rattle.hcl_scan.specs.Tokenization.{byte_order_mark};
+ghost use Rattle.hcl_token.specs.Place.{is_lf, last_line};
+ghost use Rattle.tf_program.specs.Location.{IsLocation, text_before, without_mark, columns};
+ghost use Rattle.tf_program.specs.Location.{byte_of, byte_of_scan_fault, byte_of_parse_fault};
+
+use hcl_token::clusters;
+use memchr::memrchr;
+use tf_session::{ParseFault, RunFault, ScanFault};
+
+/// A line and a column, both counted from 1. A column counts extended grapheme clusters.
+#[derive(Clone, Copy)]
+pub struct Location {
+    pub line: usize,
+    pub column: usize,
+}
+
+/// Returns where a byte of a text is. The byte order mark at the start of a text takes no column.
+/// It is one pass over the text before the byte and another over the line, and takes no memory.
+pub fn location_of(text: &[u8], at: usize) -> Location
+    ensures { IsLocation text.now at result }
+{
+    let before = text_before(text, at);
+    Location {
+        line: 1 + count_line_feeds(before),
+        column: 1 + columns(last_line(before)),
+    }
+}
+
+/// Returns the text before a byte, without a byte order mark.
+fn text_before(text: &[u8], at: usize) -> &[u8]
+    ensures { result.now ≡ text_before text.now at }
+{
+    without_mark(prefix(text, at))
+}
+
+fn prefix(text: &[u8], at: usize) -> &[u8]
+    ensures { result.now ≡ take at text.now }
+{
+    if at < text.len() { &text[..at] } else { text }
+}
+
+fn without_mark(text: &[u8]) -> &[u8]
+    ensures { result.now ≡ without_mark text.now }
+{
+    if has_mark(text) { &text[3..] } else { text }
+}
+
+fn has_mark(text: &[u8]) -> bool
+    ensures { result ≡ is_prefix_of byte_order_mark text.now }
+{
+    byte_at(text, 0) == 0xef && byte_at(text, 1) == 0xbb && byte_at(text, 2) == 0xbf
+}
+
+/// Returns a byte of a text; 0 after its end.
+fn byte_at(text: &[u8], at: usize) -> u8
+    ensures { result ≡ slice_index text.now at }
+{
+    if at < text.len() { text[at] } else { 0 }
+}
+
+fn count_line_feeds(text: &[u8]) -> usize
+    ensures count { result ≡ count_by is_lf text.now }
+    ensures within { result ≤ length text.now }
+{
+    let mut count = 0;
+    for byte in text {
+        if *byte == b'\n' {
+            count += 1;
+        }
+    }
+    count
+}
+
+fn last_line(text: &[u8]) -> &[u8]
+    ensures { result.now ≡ last_line text.now }
+{
+    match memrchr(b'\n', text) {
+        Some(at) => &text[at + 1..],
+        None => text,
+    }
+}
+
+/// Returns how many columns a part of a line takes: its bytes, if it is not UTF-8.
+fn columns(part: &[u8]) -> usize
+    ensures count { result ≡ columns part.now }
+    ensures within { result ≤ length part.now }
+{
+    match str::from_utf8(part) {
+        Ok(_) => clusters(part),
+        Err(_) => part.len(),
+    }
+}
+
+/// Returns the byte of the file at which an error is, if it is at one. The errors of a journal are
+/// at none.
+pub fn byte_of(fault: &RunFault) -> Option<usize>
+    ensures { result ≡ byte_of fault.now }
+{
+    match fault {
+        RunFault::Scan(fault) => byte_of_scan_fault(fault),
+        RunFault::Parse(fault) => byte_of_parse_fault(fault),
+        _ => None,
+    }
+}
+
+fn byte_of_scan_fault(fault: &ScanFault) -> Option<usize>
+    ensures { result ≡ byte_of_scan_fault fault.now }
+{
+    match fault {
+        ScanFault::NotUtf8 { at }
+        | ScanFault::BadCharacter { at }
+        | ScanFault::BadEscape { at }
+        | ScanFault::OpenString { at }
+        | ScanFault::OpenTemplate { at }
+        | ScanFault::OpenHeredoc { at }
+        | ScanFault::OpenComment { at } => Some(*at),
+        ScanFault::TooLong | ScanFault::Memory => None,
+    }
+}
+
+fn byte_of_parse_fault(fault: &ParseFault) -> Option<usize>
+    ensures { result ≡ byte_of_parse_fault fault.now }
+{
+    match fault {
+        ParseFault::Syntax { at } | ParseFault::TooDeep { at } => Some(*at),
+        ParseFault::Memory => None,
+    }
+}
