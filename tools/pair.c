@@ -1,6 +1,6 @@
 /*
- * Runs two programs and writes down in which order they make their calls on names, to see where each
- * stood. Linux on x86-64.
+ * Runs two programs and writes down in which order they make their calls on names, to see where
+ * each stood. Linux on x86-64.
  *
  *   pair LOG WHEN FIRST ARGUMENT.. -- SECOND ARGUMENT..
  *
@@ -16,9 +16,9 @@
  *                  from here that changes a name (creates, renames, removes), a3 after it. Behind
  *                  the last turn the next program goes on to its end, and then the other
  *
- * LOG has a line for each call on a name: the program (1 or 2), the call, the last part of the file's
- * name, and 0 or the error's number; a line "1 fsync" for each wait for the disk; and last the two
- * statuses, as "ended 0 1".
+ * LOG has a line for each call on a name: the program (1 or 2), the call, the last part of the
+ * file's name, and 0 or the error's number; a line "1 fsync" for each wait for the disk; and last
+ * the two statuses, as "ended 0 1".
  *
  * It ends with 0, and with 99 where it can't run them.
  */
