@@ -136,14 +136,14 @@ SHAPES = {
     # issues one behind the other in one expression
     "index-chain": (100000, lambda n: "x = a" + ".0" * n + "\n"),
     # a little longer than where the list of indexes doubles, which leaves the most memory behind
-    "index-chain-past-doubling": (73000, lambda n: "x = a" + ".0" * n + "\n"),
-    "index-behind-splat": (100000, lambda n: "x = a.*" + ".0" * n + "\n"),
+    "index-chain-after-doubling": (73000, lambda n: "x = a" + ".0" * n + "\n"),
+    "index-after-splat": (100000, lambda n: "x = a.*" + ".0" * n + "\n"),
     "equality-chain": (100000, lambda n: "x = a" + " == []" * n + "\n"),
     # the same where a long token stands before the first operand, from which the issues' columns are counted
-    "equality-behind-text": (100000, lambda n: 'x = ["' + "a" * (10 * n) + '", b' + " == []" * n + "]\n"),
-    "equality-behind-wide-text": (100000, lambda n: 'x = ["' + "ä" * (5 * n) + '", b' + " == []" * n + "]\n"),
+    "equality-after-text": (100000, lambda n: 'x = ["' + "a" * (10 * n) + '", b' + " == []" * n + "]\n"),
+    "equality-after-wide-text": (100000, lambda n: 'x = ["' + "ä" * (5 * n) + '", b' + " == []" * n + "]\n"),
     # long tokens of letters with combining marks, each with 60 issues behind it in the same line
-    "issues-behind-marked-text": (190, lambda n: lines(n, lambda i: f'a{i} = ["' + "e\u0301" * 7000 + '", b' + ".0" * 60 + "]\n")),
+    "issues-after-marked-text": (190, lambda n: lines(n, lambda i: f'a{i} = ["' + "e\u0301" * 7000 + '", b' + ".0" * 60 + "]\n")),
     # 70,000 silencing comments, and 280,000; 100,000 on one line, and 400,000; one with very many names
     "silenced": (70000, lambda n: lines(n, lambda i: f"# tflint-ignore: terraform_deprecated_index\na{i} = b.0\n")),
     "silenced-on-a-line": (100000, lambda n: "x = [" + lines(n, lambda i: "/* tflint-ignore: all */ b.0, ") + "]\n"),
