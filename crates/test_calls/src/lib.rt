@@ -1,5 +1,5 @@
-//! Tests of calls of the libraries where what is outside fails: growths of memory that are refused,
-//! readers and writers that fail, journals over their limit.
+//! Tests of library calls whose surroundings fail: allocations, readers and writers that fail,
+//! journals over their limit.
 #![tactic(auto)]
 
 #[cfg(test)]

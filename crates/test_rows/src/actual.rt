@@ -5,9 +5,9 @@ use std::alloc::Global;
 use std::fmt::{self, Display, Write};
 use std::str::from_utf8;
 
-/// Text that grows, and whether it can be the answer to a row. No call here is refused: a call that
-/// wants memory, or finds that something does not hold, makes it a wrong answer, which is told with
-/// all others.
+/// Text that is appended to, and whether it can be the answer to a row. No call here returns an
+/// error: a failed allocation, or a check that does not hold, makes it a wrong answer, which is
+/// printed with all others.
 #[derive(Drop)]
 pub struct Answer {
     pub alloc: Global,

@@ -1,11 +1,11 @@
-//! Edits and records as rows spell them. What is spelled otherwise is told in the answer.
+//! Edits and records as rows spell them. The answer notes what is spelled otherwise.
 
 use crate::actual::Answer;
 use edit_record::{Edit, Edits, Journal, Record, Word};
 use std::alloc::{AllocError, Global};
 use std::fmt::Write;
 
-/// What stands before and behind the first such character.
+/// The text before the first such character, and the text after it.
 fn parted(text: &str, at: char) -> (&str, &str) {
     text.split_once(at).unwrap_or((text, ""))
 }
@@ -21,7 +21,7 @@ fn edit_of(alloc: Global, spelled: &str) -> Result<Edit, AllocError> {
     Edit::new(alloc, number(at), removed.as_bytes(), added.as_bytes())
 }
 
-/// Edits, each with a `,` behind it.
+/// Edits, each followed by `,`.
 pub fn edits_of(spelled: &str, out: &mut Answer) -> Vec<Edit> {
     let mut edits = Vec::new(out.alloc);
     for edit in spelled.split_terminator(',') {
@@ -46,7 +46,7 @@ pub fn list_of(spelled: &str, out: &mut Answer) -> Edits {
     }
 }
 
-/// Records spelled `WORD LIST`, each with a `&` behind it.
+/// Records spelled `WORD LIST`, each followed by `&`.
 pub fn journal_of(spelled: &str, out: &mut Answer) -> Journal {
     let mut journal = Journal::empty(out.alloc);
     for record in spelled.split_terminator('&') {

@@ -43,7 +43,7 @@ fn written(journal: &Journal, out: &mut Answer) {
     }
 }
 
-/// Whether each front of the text but the empty one is cut short, at its end; the places of those
+/// Whether each prefix of the text but the empty one is cut short, at its end; the places of those
 /// that are not.
 fn check_prefixes(text: &[u8], out: &mut Answer) {
     for at in 1..text.len() {

@@ -45,12 +45,12 @@ fn write_layout(call: &str, row: &Row, edits: &Edits, is_laid_out: bool, out: &m
     }
 }
 
-/// The layout of a text, where it goes back to the text, is its own layout, and it is told whether
-/// the text is it.
+/// Writes the layout of a text, which has to undo to the text and be its own layout; and
+/// `is_laid_out` has to say whether the text is its layout.
 fn write_text(text: &[u8], edits: &Edits, is_laid_out: bool, out: &mut Answer) {
     turned(edits, "both", text, out);
-    let is_told = is_laid_out == (out.text() == text);
-    out.hold(is_told, "it is told otherwise whether the text is laid out");
+    let is_said = is_laid_out == (out.text() == text);
+    out.hold(is_said, "`is_laid_out` is wrong");
     let is_own = match &layout_of(out.alloc, out.text()) {
         Some((Ok(edits), Ok(is_laid_out))) => *is_laid_out && edits.edits().is_empty(),
         _ => false,

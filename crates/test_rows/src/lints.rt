@@ -111,18 +111,18 @@ fn write_findings(found: &[Finding], scanned: &Scanned<'_>, out: &mut Answer) {
     }
 }
 
-/// Its place, its rule, its tokens, whether a fix can mend it, what its message names, and its fix.
+/// Its place, its rule, its tokens, whether it is fixable, what its message names, and its fix.
 fn write_finding(found: &Finding, place: Place, out: &mut Answer) {
     let (line, column, rule) = (place.line, place.column, found.rule().name());
     let (first, past, message, fix) = (found.first(), found.past(), found.message(), found.fix());
-    let mends = if found.is_fixable() {
+    let fixable = if found.is_fixable() {
         "fixable"
     } else {
         "not fixable"
     };
     let _ = write!(
         out,
-        "{line}:{column} {rule} {first}..{past} {mends} {message:?} {fix:?}"
+        "{line}:{column} {rule} {first}..{past} {fixable} {message:?} {fix:?}"
     );
 }
 
@@ -147,8 +147,8 @@ fn fix(row: &Row, out: &mut Answer) {
     }
 }
 
-/// The new text, where the old one comes back, or how many issues the fix mends, and how many edits
-/// it makes.
+/// The new text, whose edits have to undo to the old one; or how many issues the fix resolves, and
+/// how many edits it makes.
 fn write_fix_result(row: &Row, fixed: &FixResult, out: &mut Answer) {
     match &fixed.change {
         Some(change) if row.word(0) == "fix" => {
@@ -159,13 +159,13 @@ fn write_fix_result(row: &Row, fixed: &FixResult, out: &mut Answer) {
             );
         }
         Some(change) => {
-            let (mended, count) = (fixed.fixed, change.edits.edits().len());
-            let _ = write!(out, "{mended} {count}");
+            let (issues, count) = (fixed.fixed, change.edits.edits().len());
+            let _ = write!(out, "{issues} {count}");
         }
         None if row.word(0) == "fix" => out.put_bytes(row.text(2)),
         None => {
-            let mended = fixed.fixed;
-            let _ = write!(out, "{mended} 0");
+            let issues = fixed.fixed;
+            let _ = write!(out, "{issues} 0");
         }
     }
 }

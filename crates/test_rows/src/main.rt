@@ -1,6 +1,6 @@
-//! Rows of examples: for each what is asked, of which text, and what is to be answered.
+//! Rows of examples: each has a call, its text, and the expected answer.
 //!
-//! The arguments name subjects; the rows of a subject stand in the file `SUBJECT.rows`. What is
+//! The arguments name subjects; the rows of a subject are in the file `SUBJECT.rows`. What is
 //! printed are the rows with another answer, each with that answer, and the number of rows.
 #![tactic(auto)]
 
@@ -54,7 +54,7 @@ fn try_rows(rt: &HostRuntime, subject: &str, text: &str) -> Result<u64> {
     Ok(count)
 }
 
-/// Tells what is answered in place of what the row says.
+/// Prints the answer if it is not the one of the row.
 fn try_row(rt: &HostRuntime, subject: &str, number: usize, line: &str) -> Result<()> {
     let row = Row::read(rt.alloc(), line);
     let mut out = Answer::new(rt.alloc());

@@ -1,4 +1,4 @@
-//! Texts that parse or not, where they do not, and what is told of their trees.
+//! Texts that parse or not: the place of the error, or the tree's description.
 
 use crate::actual::Answer;
 use crate::lints::searched;
@@ -14,7 +14,7 @@ pub fn answer(row: &Row, out: &mut Answer) {
     read(row, row.text(1), out);
 }
 
-/// What is told of a text that parses, or where it does not.
+/// Writes the tree of a text that parses, or else the place of its error.
 pub fn read(row: &Row, text: &[u8], out: &mut Answer) {
     match scan(out.alloc, text) {
         Ok(scanned) => match parse(out.alloc, &scanned) {
@@ -31,7 +31,7 @@ pub fn read(row: &Row, text: &[u8], out: &mut Answer) {
     }
 }
 
-/// The parser that makes no tree has the same answer, with the same fault at the same byte.
+/// The parser that makes no tree has the same answer, with the same error at the same byte.
 fn check_says(scanned: &Scanned<'_>, fault: Option<ParseFault>, out: &mut Answer) {
     let is_said = hcl_check::check(out.alloc, scanned).err() == fault;
     out.hold(is_said, "the check says otherwise");

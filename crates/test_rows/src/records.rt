@@ -53,8 +53,8 @@ fn change<C: Change>(change: &C, row: &Row, out: &mut Answer) {
     turned(change, row.word(2), row.text(3), out);
 }
 
-/// The text as the change makes it, or as it was before it (`undo`), or as it makes it where the
-/// old one comes back (`both`).
+/// The text as the change makes it, or as it was before it (`undo`), or as the change makes it if
+/// that undoes to the old one (`both`).
 pub fn turned<C: Change>(change: &C, way: &str, text: &[u8], out: &mut Answer) {
     let answer = if way == "undo" {
         change.undo(out.alloc, text)
@@ -93,8 +93,7 @@ fn all(row: &Row, out: &mut Answer) {
     }
 }
 
-/// The old lengths of the records as they are taken off, with what is left of the journal each
-/// time.
+/// The old lengths of the records as they are popped, with what is left of the journal each time.
 fn popped(row: &Row, out: &mut Answer) {
     let mut journal = journal_of(row.word(1), out);
     for _ in 0..journal.records().len() {

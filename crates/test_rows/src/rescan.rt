@@ -2,7 +2,7 @@
 
 use crate::actual::Answer;
 use crate::row::Row;
-use crate::tokens::{cut, yes_or_no};
+use crate::tokens::{write_each_token, yes_or_no};
 use hcl_rescan::{ReplacedRange, rescan};
 use hcl_scan::{Scanned, scan};
 use hcl_text_laws::laws::parsed_tokens_are_apart;
@@ -15,47 +15,47 @@ pub fn answer(row: &Row, out: &mut Answer) {
     }
 }
 
-/// The cut of a text whose tokens were kept without it.
+/// The tokens of a text that were stored without it.
 fn kept(text: &[u8], out: &mut Answer) {
     match scan(out.alloc, text) {
         Ok(scanned) => {
             let list = scanned.detach();
-            cut(&Scanned::attach(text, list), out);
+            write_each_token(&Scanned::attach(text, list), out);
         }
         Err(fault) => out.refuse(&fault),
     }
 }
 
-fn narrow(number: usize) -> u32 {
+fn to_u32(number: usize) -> u32 {
     u32::try_from(number).unwrap_or(u32::MAX)
 }
 
-/// The cut of a text from that of an old one, of which a piece was replaced.
+/// The tokens of a text that are made from those of an old text, of which a piece was replaced.
 fn again(row: &Row, out: &mut Answer) {
     let piece = ReplacedRange {
-        at: narrow(row.number(3)),
-        removed: narrow(row.number(4)),
-        added: narrow(row.number(5)),
+        at: to_u32(row.number(3)),
+        removed: to_u32(row.number(4)),
+        added: to_u32(row.number(5)),
     };
     match scan(out.alloc, row.text(1)) {
-        Ok(old) => cut_again(&old, row.text(2), piece, out),
+        Ok(old) => tokenize_again(&old, row.text(2), piece, out),
         Err(fault) => out.refuse(&fault),
     }
 }
 
-fn cut_again(old: &Scanned<'_>, text: &[u8], piece: ReplacedRange, out: &mut Answer) {
+fn tokenize_again(old: &Scanned<'_>, text: &[u8], piece: ReplacedRange, out: &mut Answer) {
     parsed_tokens_are_apart();
     let _old_text = old.text();
     match hcl_check::check(out.alloc, old) {
         Ok(()) => match rescan(out.alloc, Vec::new(out.alloc), text, old, &[piece]) {
-            Ok(scanned) => cut(&scanned, out),
+            Ok(scanned) => write_each_token(&scanned, out),
             Err(fault) => out.refuse(&fault),
         },
         Err(_) => out.put("the old text does not parse"),
     }
 }
 
-/// Whether so many tokens stand in both texts, with the same gaps between them.
+/// Whether both texts have the given number of equal tokens, with equal gaps between them.
 fn same(row: &Row, out: &mut Answer) {
     match scan(out.alloc, row.text(1)) {
         Ok(one) => same_in(&one, row, out),

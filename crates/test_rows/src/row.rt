@@ -3,14 +3,14 @@
 use std::alloc::Global;
 use std::str::from_utf8;
 
-/// The fields of a row: what is asked, of what, and last what is to be answered.
+/// The fields of a row: the call, its input, and last the expected answer.
 ///
-/// Fields stand between ` | `. In a field `\n`, `\r`, `\t` and `\\` are as in Rust, `\xHH` is a
-/// byte, and `\e` nothing. `\+` stands between pieces of a field; a piece `\*N*PIECE` is the piece,
+/// ` | ` separates fields. In a field `\n`, `\r`, `\t` and `\\` are as in Rust, `\xHH` is a
+/// byte, and `\e` nothing. `\+` separates pieces of a field; a piece `\*N*PIECE` is the piece,
 /// N times, and in it `\(A+B)` is the number A at the first time, and B more each time.
 ///
-/// Fields are counted from 0. One that is not there is empty, and one that is no number is a number
-/// past all others.
+/// Fields are counted from 0. One that is not there is empty, and one that is no number is the
+/// greatest number.
 #[derive(Drop)]
 pub struct Row {
     fields: Vec<Vec<u8>>,
@@ -156,7 +156,7 @@ impl Field {
         self.is_whole = self.is_whole && is_put;
     }
 
-    /// What stands before and behind the first such character.
+    /// The text before the first such character, and the text after it.
     fn parted<'t>(&mut self, text: &'t str, at: char) -> (&'t str, &'t str) {
         let parts = text.split_once(at);
         self.is_whole = self.is_whole && parts.is_some();

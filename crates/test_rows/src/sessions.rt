@@ -1,8 +1,8 @@
-//! Rows of texts and commands, with what comes of each.
+//! Rows of texts and commands, with the outcome of each.
 //!
-//! A row is a command and up to three fields behind ` | `: the reply, the text and the journal's
+//! A row is a command and up to three fields after ` | `: the reply, the text and the journal's
 //! text that there are then. A field that is left out is not compared. `desk` names the commands.
-//! Where a row can't be read, or memory is refused for what is compared, the last line says so.
+//! If a row can't be read, or an allocation fails, the last line says so.
 
 mod expected;
 mod failing_streams;
@@ -11,7 +11,7 @@ mod session_state;
 use anyhow::Result;
 use session_state::Desk;
 
-/// Does the rows, prints those of which something else comes, and answers how many there are.
+/// Does the rows, prints those with another outcome, and returns how many there are.
 pub fn try_rows(rt: &HostRuntime, text: &str) -> Result<u64> {
     let mut desk = Desk::new(rt.alloc());
     let mut count = 0u64;
@@ -29,9 +29,9 @@ pub fn try_rows(rt: &HostRuntime, text: &str) -> Result<u64> {
 
 fn try_row(rt: &HostRuntime, desk: &mut Desk, number: usize, line: &str) -> Result<()> {
     let (command, want) = line.split_once(" | ").unwrap_or((line, ""));
-    let came = desk.do_row(command);
-    if !came.is(&mut desk.row, want) {
-        let (reply, text, journal) = (&came.reply, &came.text, &came.journal);
+    let outcome = desk.do_row(command);
+    if !outcome.is(&mut desk.row, want) {
+        let (reply, text, journal) = (&outcome.reply, &outcome.text, &outcome.journal);
         println!(rt; "sessions.rows:{number}: {reply} | {text:?} | {journal:?}")?;
     }
     Ok(())

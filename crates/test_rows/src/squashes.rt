@@ -53,7 +53,7 @@ fn from_right(alloc: Global, a: &Edits, b: &Edits, c: &Edits) -> Result<Edits, U
     squash(alloc, a, &both)
 }
 
-/// A list and those of the records behind it, as one.
+/// A list and those of the following records, as one.
 fn journal(row: &Row, out: &mut Answer) {
     let first = list_of(row.word(1), out);
     let journal = journal_of(row.word(2), out);

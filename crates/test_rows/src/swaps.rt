@@ -1,4 +1,4 @@
-//! Lists that change places, and records that are taken out.
+//! Lists that change places, and records that are removed.
 
 use crate::actual::Answer;
 use crate::edit_syntax::{journal_of, list_of, name_of, spell};
@@ -33,7 +33,7 @@ fn swapped(row: &Row, out: &mut Answer) {
     }
 }
 
-/// The records without the edits before them, or what the edits are behind the records.
+/// The records without the edits before them, or the edits as they are after the records.
 fn move_to_end_row(row: &Row, out: &mut Answer) {
     let first = list_of(row.word(1), out);
     let journal = journal_of(row.word(2), out);

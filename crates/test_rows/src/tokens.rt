@@ -1,4 +1,4 @@
-//! Tokens: the cuts of texts, places, and what joins.
+//! Tokens of texts, places, and what joins.
 
 use crate::actual::Answer;
 use crate::journals::with_byte;
@@ -37,7 +37,7 @@ pub fn yes_or_no(yes: bool, out: &mut Answer) {
 
 fn write_tokens(row: &Row, scanned: &Scanned<'_>, out: &mut Answer) {
     match row.word(0) {
-        "cut" => cut(scanned, out),
+        "cut" => write_each_token(scanned, out),
         "gaps" => gaps(scanned, out),
         "places" => places(scanned, out),
         "count" => count(scanned, row.text(1), out),
@@ -47,7 +47,7 @@ fn write_tokens(row: &Row, scanned: &Scanned<'_>, out: &mut Answer) {
 }
 
 /// The tokens of a text, each with its kind.
-pub fn cut(scanned: &Scanned<'_>, out: &mut Answer) {
+pub fn write_each_token(scanned: &Scanned<'_>, out: &mut Answer) {
     for i in 0..scanned.len() {
         let kind = scanned.kind(i);
         let _ = write!(out, "{kind:?}(");
@@ -70,7 +70,7 @@ fn gap(gap: &[u8], out: &mut Answer) {
     out.put(")");
 }
 
-/// The line and the column of each token, which are told alike in all ways.
+/// The line and the column of each token, on which all calls have to agree.
 fn places(scanned: &Scanned<'_>, out: &mut Answer) {
     let mut places = scanned.places();
     let mut lines = scanned.lines();
@@ -91,11 +91,11 @@ fn places(scanned: &Scanned<'_>, out: &mut Answer) {
 fn count(scanned: &Scanned<'_>, text: &[u8], out: &mut Answer) {
     out.show(&scanned.len());
     out.hold(scanned.text() == text, "another text");
-    let is_told = scanned.is_empty() == (scanned.len() == 0);
-    out.hold(is_told, "it is told otherwise whether there is a token");
+    let is_said = scanned.is_empty() == (scanned.len() == 0);
+    out.hold(is_said, "`is_empty` is wrong");
 }
 
-/// Where a token stands, how many clusters it has, and its gap.
+/// The place of a token, how many clusters it has, and its gap.
 fn token(scanned: &Scanned<'_>, i: usize, out: &mut Answer) {
     if i >= scanned.len() {
         return out.put("no such token");
@@ -117,8 +117,8 @@ fn joined(scanned: &Scanned<'_>, i: usize, j: usize, out: &mut Answer) {
     yes_or_no(scanned.joins(i, j), out);
 }
 
-/// Whether the text has a cut that gives it back, or a fault, but not for want of memory.
-fn has_cut_or_fault(text: &[u8], out: &Answer) -> bool {
+/// Whether the text has tokens that make it up, or an error other than `Memory`.
+fn has_tokens_or_fault(text: &[u8], out: &Answer) -> bool {
     match scan(out.alloc, text) {
         Ok(scanned) => is_whole(&scanned, text, Answer::new(out.alloc)),
         Err(fault) => fault != ScanFault::Memory,
@@ -136,10 +136,10 @@ fn is_whole(scanned: &Scanned<'_>, text: &[u8], whole: Answer) -> bool {
     whole.text() == text
 }
 
-/// Each front of the text; the lengths of those that have neither.
+/// Tests each prefix of the text, and writes the lengths of those that have neither.
 fn check_prefixes(text: &[u8], out: &mut Answer) {
     for len in 0..=text.len() {
-        if !has_cut_or_fault(&text[..len], out) {
+        if !has_tokens_or_fault(&text[..len], out) {
             let _ = write!(out, "{len} bytes, ");
         }
     }
@@ -151,7 +151,7 @@ fn others(text: &[u8], bytes: &[u8], out: &mut Answer) {
     for at in 0..text.len() {
         for byte in bytes {
             let changed = with_byte(text, at, *byte, out);
-            if !has_cut_or_fault(&changed, out) {
+            if !has_tokens_or_fault(&changed, out) {
                 let _ = write!(out, "{byte} at {at}, ");
             }
         }

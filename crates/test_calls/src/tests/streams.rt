@@ -8,8 +8,8 @@ mod whole_texts;
 use std::io;
 use std::io::{Error, ErrorKind, Read, Write};
 
-/// Gives at most `step` bytes a read, `left` in all; the read of number `fails_at` fails, and those
-/// behind it work.
+/// Gives at most `step` bytes a read, `left` in all; the read of number `fails_at` fails, and the
+/// later ones work.
 #[derive(Drop)]
 pub struct Hashes {
     pub left: usize,
@@ -50,12 +50,12 @@ impl Read for Hashes {
     }
 }
 
-/// Takes `room` bytes in all, at most `step` a write, and then nothing; one write and one flush
-/// fail, and those behind them work.
+/// Takes `capacity` bytes in all, at most `step` a write, and then nothing; one write and one flush
+/// fail, and the later ones work.
 #[derive(Drop)]
 pub struct Narrow {
-    pub held: Vec<u8>,
-    pub room: usize,
+    pub written: Vec<u8>,
+    pub capacity: usize,
     pub step: usize,
     pub writes: u64,
     pub flushes: u64,
@@ -64,10 +64,10 @@ pub struct Narrow {
 }
 
 impl Narrow {
-    pub fn new(held: Vec<u8>, room: usize, step: usize) -> Self {
+    pub fn new(written: Vec<u8>, capacity: usize, step: usize) -> Self {
         Narrow {
-            held,
-            room,
+            written,
+            capacity,
             step,
             writes: 0,
             flushes: 0,
@@ -83,11 +83,11 @@ impl Write for Narrow {
         if self.writes == self.write_fails_at {
             return Err(Error::from(ErrorKind::Interrupted));
         }
-        let n = buf.len().min(self.room).min(self.step);
-        if self.held.extend_from_slice(&buf[..n]).is_err() {
+        let n = buf.len().min(self.capacity).min(self.step);
+        if self.written.extend_from_slice(&buf[..n]).is_err() {
             return Err(Error::from(ErrorKind::OutOfMemory));
         }
-        self.room -= n;
+        self.capacity -= n;
         Ok(n)
     }
 

@@ -1,35 +1,35 @@
-//! What comes of a row, the bytes that a field stands for, and what is told of a command.
+//! The outcome of a row, the bytes of a field, and the reply to a command.
 
 use crate::row::Row;
 use std::alloc::Global;
 use tf_session::{Done, RunFault};
 
-/// What came of a row.
+/// The outcome of a row.
 #[derive(Drop)]
-pub struct Came {
+pub struct Outcome {
     pub reply: String,
     pub text: Vec<u8>,
     pub journal: Vec<u8>,
 }
 
-impl Came {
+impl Outcome {
     /// Whether it is what these fields say, as far as there are any.
     pub fn is(&self, reading: &mut Reading, want: &str) -> bool {
-        let came = [
+        let outcome = [
             self.reply.as_bytes(),
             self.text.as_slice(),
             self.journal.as_slice(),
         ];
         let mut is = true;
-        for (field, bytes) in want.split(" | ").zip(came) {
+        for (field, bytes) in want.split(" | ").zip(outcome) {
             is = is && reading.decoded(field).as_slice() == bytes;
         }
         is
     }
 }
 
-/// How the parts of rows are read. One that can't be read, or has no memory, is lost: something
-/// else stands in its place, and all goes on.
+/// How the parts of rows are read. One that can't be read, or whose allocation fails, is lost:
+/// another value replaces it, and the rows continue.
 #[derive(Drop)]
 pub struct Reading {
     pub alloc: Global,
@@ -37,7 +37,7 @@ pub struct Reading {
 }
 
 impl Reading {
-    /// What was made, or what stands in its place.
+    /// The value, or `other` in its place.
     pub fn kept<T: Drop, E: Drop>(&mut self, made: Result<T, E>, other: T) -> T {
         match made {
             Ok(value) => value,

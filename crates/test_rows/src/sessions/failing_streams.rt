@@ -35,29 +35,29 @@ impl Read for Slow<'_> {
     }
 }
 
-/// Takes so many bytes in all, at most five a write, and then nothing.
+/// Takes `capacity` bytes in all, at most five a write, and then nothing.
 #[derive(Drop)]
-pub struct Narrow {
-    pub held: Vec<u8>,
-    room: usize,
+pub struct Bounded {
+    pub written: Vec<u8>,
+    capacity: usize,
 }
 
-impl Narrow {
-    pub fn new(alloc: Global, room: usize) -> Self {
-        Narrow {
-            held: Vec::new(alloc),
-            room,
+impl Bounded {
+    pub fn new(alloc: Global, capacity: usize) -> Self {
+        Bounded {
+            written: Vec::new(alloc),
+            capacity,
         }
     }
 }
 
-impl Write for Narrow {
+impl Write for Bounded {
     fn write(&mut self, buf: &[u8]) -> io::Result<usize> {
-        let n = buf.len().min(self.room).min(5);
-        if self.held.extend_from_slice(&buf[..n]).is_err() {
+        let n = buf.len().min(self.capacity).min(5);
+        if self.written.extend_from_slice(&buf[..n]).is_err() {
             return Err(Error::from(ErrorKind::OutOfMemory));
         }
-        self.room -= n;
+        self.capacity -= n;
         Ok(n)
     }
 

@@ -1,7 +1,7 @@
 //! The commands of rows, over a session that lies on the desk.
 
-use crate::sessions::expected::{Came, Reading};
-use crate::sessions::failing_streams::{Narrow, Slow};
+use crate::sessions::expected::{Outcome, Reading};
+use crate::sessions::failing_streams::{Bounded, Slow};
 use std::alloc::Global;
 use std::str::from_utf8;
 use tf_session::{
@@ -36,7 +36,7 @@ impl Desk {
     /// leave it: they are done over its text, and its journal; the reads of numbers R and J fail, and
     /// the writers take K and W bytes.
     /// The commands of `run` are written as a field is.
-    pub fn do_row(&mut self, row: &str) -> Came {
+    pub fn do_row(&mut self, row: &str) -> Outcome {
         let (word, rest) = row.split_once(' ').unwrap_or((row, ""));
         match word {
             "text" => {
@@ -88,10 +88,10 @@ impl Desk {
         rules
     }
 
-    /// A text, and as many `x` as make so many bytes.
+    /// A text, and as many `x` as make the given number of bytes.
     fn filled(&mut self, rest: &str) -> Vec<u8> {
-        let (len, front) = rest.split_once(' ').unwrap_or((rest, ""));
-        let mut text = self.row.decoded(front);
+        let (len, prefix) = rest.split_once(' ').unwrap_or((rest, ""));
+        let mut text = self.row.decoded(prefix);
         let len = self.row.number(Some(len));
         for _ in text.len()..len {
             let pushed = text.push(b'x');
@@ -100,18 +100,18 @@ impl Desk {
         text
     }
 
-    fn start(&mut self, text: Vec<u8>) -> Came {
+    fn start(&mut self, text: Vec<u8>) -> Outcome {
         self.session = Session::start(text, Journal::empty(self.row.alloc));
         self.lies(String::new(self.row.alloc))
     }
 
-    fn hand(&mut self, rest: &str) -> Came {
+    fn hand(&mut self, rest: &str) -> Outcome {
         let journal = self.journal_bytes();
         let text = self.row.decoded(rest);
         self.read(text.as_slice(), journal.as_slice())
     }
 
-    fn journal(&mut self, rest: &str) -> Came {
+    fn journal(&mut self, rest: &str) -> Outcome {
         let journal = self.row.decoded(rest);
         let text = self.row.copied(self.session.text());
         self.read(text.as_slice(), journal.as_slice())
@@ -124,22 +124,22 @@ impl Desk {
     }
 
     /// What lies on the desk.
-    fn lies(&mut self, reply: String) -> Came {
-        Came {
+    fn lies(&mut self, reply: String) -> Outcome {
+        Outcome {
             reply,
             text: self.row.copied(self.session.text()),
             journal: self.journal_bytes(),
         }
     }
 
-    fn stepped(&mut self, word: &str) -> Came {
+    fn stepped(&mut self, word: &str) -> Outcome {
         let command = self.command_of(word);
         let answer = self.session.step(self.row.alloc, command);
         let reply = self.row.said(of_run(answer));
         self.lies(reply)
     }
 
-    fn read(&mut self, text: &[u8], journal: &[u8]) -> Came {
+    fn read(&mut self, text: &[u8], journal: &[u8]) -> Outcome {
         let loaded = load(
             self.row.alloc,
             &mut Told::new(Slow::new(text, 0)),
@@ -155,7 +155,7 @@ impl Desk {
         self.lies(reply)
     }
 
-    fn checked(&mut self) -> Came {
+    fn checked(&mut self) -> Outcome {
         let alloc = self.row.alloc;
         let mut text = Told::new(Slow::new(self.session.text(), 0));
         let reply = match check_stream(alloc, &mut text) {
@@ -169,9 +169,9 @@ impl Desk {
     }
 
     /// The lines go where the text would.
-    fn linted(&mut self) -> Came {
+    fn linted(&mut self) -> Outcome {
         let alloc = self.row.alloc;
-        let mut out = Told::new(Narrow::new(alloc, 1 << 30));
+        let mut out = Told::new(Bounded::new(alloc, 1 << 30));
         let mut text = Told::new(Slow::new(self.session.text(), 0));
         let reply = match lint_stream(alloc, "main.tf", &mut text, &mut out, RuleSet::all()) {
             Ok(count) => {
@@ -180,14 +180,14 @@ impl Desk {
             }
             Err(fault) => self.row.told(fault),
         };
-        Came {
+        Outcome {
             reply,
-            text: out.into_inner().held,
+            text: out.into_inner().written,
             journal: Vec::new(alloc),
         }
     }
 
-    fn ran(&mut self, rest: &str) -> Came {
+    fn ran(&mut self, rest: &str) -> Outcome {
         let mut commands = Vec::new(self.row.alloc);
         let words = self.row.decoded(rest);
         for word in from_utf8(words.as_slice()).unwrap_or("").split(' ') {
@@ -203,7 +203,7 @@ impl Desk {
     }
 
     /// Where a run ends: its session lies on the desk no longer than to be seen.
-    fn ended(&mut self, ended: (Session, Vec<Reply>)) -> Came {
+    fn ended(&mut self, ended: (Session, Vec<Reply>)) -> Outcome {
         let alloc = self.row.alloc;
         let (end, replies) = ended;
         let mut all = String::new(alloc);
@@ -216,43 +216,43 @@ impl Desk {
             self.row.kept(pushed, ());
         }
         let journal = journal_text(alloc, &end);
-        Came {
+        Outcome {
             reply: all,
             text: self.row.copied(end.text()),
             journal: self.row.kept(journal, Vec::new(alloc)),
         }
     }
 
-    fn through(&mut self, rest: &str) -> Came {
+    fn through(&mut self, rest: &str) -> Outcome {
         let alloc = self.row.alloc;
         let mut words = rest.split(' ');
         let command = self.command_of(words.next().unwrap_or(""));
         let fails_at = self.row.number(words.next());
-        let room = self.row.number(words.next());
+        let capacity = self.row.number(words.next());
         let mut text = Told::new(Slow::new(self.session.text(), fails_at));
-        let mut out = Told::new(Narrow::new(alloc, room));
+        let mut out = Told::new(Bounded::new(alloc, capacity));
         let answer = match step_text_stream(alloc, command, &mut text, &mut out) {
             Ok((_, done)) => Ok(done),
             Err(fault) => Err(fault),
         };
-        Came {
+        Outcome {
             reply: self.row.said(answer),
-            text: out.into_inner().held,
+            text: out.into_inner().written,
             journal: Vec::new(alloc),
         }
     }
 
-    fn streamed(&mut self, rest: &str) -> Came {
+    fn streamed(&mut self, rest: &str) -> Outcome {
         let alloc = self.row.alloc;
         let mut words = rest.split(' ');
         let command = self.command_of(words.next().unwrap_or(""));
         let bytes = self.journal_bytes();
         let fails_at = [self.row.number(words.next()), self.row.number(words.next())];
-        let room = [self.row.number(words.next()), self.row.number(words.next())];
+        let capacity = [self.row.number(words.next()), self.row.number(words.next())];
         let mut text = Told::new(Slow::new(self.session.text(), fails_at[0]));
         let mut journal = Told::new(Slow::new(bytes.as_slice(), fails_at[1]));
-        let mut journal_out = Told::new(Narrow::new(alloc, room[0]));
-        let mut out = Told::new(Narrow::new(alloc, room[1]));
+        let mut journal_out = Told::new(Bounded::new(alloc, capacity[0]));
+        let mut out = Told::new(Bounded::new(alloc, capacity[1]));
         let answer = match command {
             Command::Fmt => fmt_stream(alloc, &mut text, &mut journal, &mut journal_out, &mut out),
             Command::Fix(rules) => fix_stream(
@@ -265,10 +265,10 @@ impl Desk {
             ),
             _ => revert_stream(alloc, &mut text, &mut journal, &mut journal_out, &mut out),
         };
-        Came {
+        Outcome {
             reply: self.row.said(answer),
-            text: out.into_inner().held,
-            journal: journal_out.into_inner().held,
+            text: out.into_inner().written,
+            journal: journal_out.into_inner().written,
         }
     }
 }

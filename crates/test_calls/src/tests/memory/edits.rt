@@ -69,7 +69,7 @@ fn records(rt: &impl Host) -> Vec<Record> {
     records
 }
 
-/// A refused record comes back, and the journal is as before.
+/// A record that is not pushed is returned, and the journal is as before.
 #[test]
 fn journal_push(rt: HostRuntime) {
     let right = records(&rt);
@@ -127,7 +127,7 @@ fn squash(rt: HostRuntime) {
     assert!(rt; are_same_edits(&edits, &right));
 }
 
-// Between `abcdefghi` and `aBBcegh12` stands `aBBcdeghi`, or `abcefgh12` in the other order.
+// From `abcdefghi` to `aBBcegh12` by way of `aBBcdeghi`, or of `abcefgh12` in the other order.
 
 const SWAP_FIRST: [Row; 2] = [(1, "b", "BB"), (5, "f", "")];
 
@@ -135,24 +135,24 @@ const SWAP_SECOND: [Row; 3] = [(4, "d", ""), (8, "i", "1"), (9, "", "2")];
 
 const SWAP_SECOND_BEFORE: [Row; 3] = [(3, "d", ""), (8, "i", "1"), (9, "", "2")];
 
-const SWAP_FIRST_BEHIND: [Row; 2] = [(1, "b", "BB"), (4, "f", "")];
+const SWAP_FIRST_AFTER: [Row; 2] = [(1, "b", "BB"), (4, "f", "")];
 
 #[test]
 fn swap(rt: HostRuntime) {
     let first = edits_of(&rt, 9, &SWAP_FIRST);
     let second = edits_of(&rt, 9, &SWAP_SECOND);
     let second_before = edits_of(&rt, 9, &SWAP_SECOND_BEFORE);
-    let first_behind = edits_of(&rt, 9, &SWAP_FIRST_BEHIND);
+    let first_after = edits_of(&rt, 9, &SWAP_FIRST_AFTER);
     begin(&rt);
     let answer = edit_record::swap(rt.alloc(), &first, &second);
-    let (before, behind) = answered(&rt, answer, SwapFault::Memory, true);
+    let (before, after) = answered(&rt, answer, SwapFault::Memory, true);
     assert!(rt; are_same_edits(&before, &second_before));
-    assert!(rt; are_same_edits(&behind, &first_behind));
+    assert!(rt; are_same_edits(&after, &first_after));
 }
 
-/// The first record's edits behind the two others.
+/// The first record's edits as they are after the two others.
 #[test]
-fn take_out(rt: HostRuntime) {
+fn move_to_end(rt: HostRuntime) {
     let journal = journal_of(&rt, APART_JOURNAL);
     let others = journal_of(&rt, LEFT_JOURNAL);
     let right = edits_of(&rt, 7, &[(3, "c", "")]);

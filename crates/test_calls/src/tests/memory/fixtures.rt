@@ -54,7 +54,7 @@ resource \"aws_instance\" \"web\" {
 w = a.0
 ";
 
-/// Texts of which one begins with a mark and is too short to have room for it reserved, and one
+/// Two texts: one begins with a mark and is too short to have capacity for it reserved, the other
 /// opens a heredoc first.
 pub const SHORT: [&[u8]; 2] = [b"\xef\xbb\xbfa=1", b"a = <<E\nb\nE\n"];
 
@@ -72,10 +72,10 @@ pub const FIRST: &[u8] = b"x=1\n";
 /// The text before the last of them.
 pub const COMMENTED: &[u8] = b"x = 22 #c\n";
 
-/// The text behind them all.
+/// The text after them all.
 pub const LAST: &[u8] = b"x = 22\n";
 
-/// The journal of version 1 with steps that come to the same: each record has two or three.
+/// The journal of version 1 with equivalent steps: each record has two or three.
 pub const OLD_JOURNAL: &[u8] = b"tfrec 1 fmt 2\nstep 4 1\n1 0 1\n \nstep 5 1\n3 0 1\n \nend\n\
     tfrec 1 fix 3\nstep 6 1\n4 1 2\n122\nstep 7 1\n6 0 3\n #c\nstep 10 1\n6 3 0\n #c\nend\n";
 
@@ -88,7 +88,7 @@ pub const APART_JOURNAL: &[u8] = b"tfrec 2 fix 6 1\n2 1 0\nc\nend\n\
     tfrec 2 fmt 5 1\n0 1 2\naAA\nend\n\
     tfrec 2 fix 6 2\n4 1 0\ne\n6 0 1\n!\nend\n";
 
-/// The text behind them all.
+/// The text after them all.
 pub const APART: &[u8] = b"AAbdf!";
 
 /// The journal without its first record, and the text without what that did.
@@ -98,7 +98,7 @@ pub const LEFT_JOURNAL: &[u8] = b"tfrec 2 fmt 6 1\n0 1 2\naAA\nend\n\
 pub const LEFT: &[u8] = b"AAbcdf!";
 
 /// More bytes than come to any writer here.
-const ROOM: usize = 100_000;
+const CAPACITY: usize = 100_000;
 
 /// All rules.
 pub fn fix_all() -> Command {
@@ -120,7 +120,7 @@ pub fn session_of(rt: &impl Host, text: &[u8], journal: &[u8]) -> Session {
     Session::start(bytes_of(rt, text), journal_of(rt, journal))
 }
 
-/// The session over a text and a journal behind a command that changes the text, and what that did.
+/// The session over a text and a journal after a command that changes the text, and what that did.
 pub fn changed(rt: &impl Host, text: &[u8], journal: &[u8], command: Command) -> (Session, Done) {
     let mut session = session_of(rt, text, journal);
     let done = given(rt, session.step(rt.alloc(), command));
@@ -143,5 +143,5 @@ pub fn edits_of(rt: &impl Host, old_len: usize, rows: &[Row]) -> Edits {
 
 /// A list that takes no memory while it is written to.
 pub fn roomy(rt: &impl Host) -> Vec<u8> {
-    given(rt, Vec::with_capacity(rt.alloc(), ROOM))
+    given(rt, Vec::with_capacity(rt.alloc(), CAPACITY))
 }

@@ -63,7 +63,7 @@ fn load_version_1(rt: HostRuntime) {
     loaded(&rt, OLD_JOURNAL, MIGRATED);
 }
 
-/// Where memory is wanting nothing is written.
+/// If an allocation fails nothing is written.
 #[test]
 fn save(rt: HostRuntime) {
     let session = session_of(&rt, LAST, JOURNAL);

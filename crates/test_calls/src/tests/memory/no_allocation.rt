@@ -1,4 +1,4 @@
-//! Calls that take no memory, and answer what is right where every growth is refused.
+//! Calls that take no memory, and return the right answer where every allocation fails.
 
 use super::begin;
 use super::fixtures::{FIRST, JOURNAL, LAST, LINE, TEXT, bytes_of, edits_of, journal_of, roomy};
@@ -22,8 +22,8 @@ fn no_memory_scanned(rt: HostRuntime) {
     assert!(rt; makes(&all, TEXT));
 }
 
-/// The tokens of the line. The comment is where it is and has its width, and could not stand at
-/// the line end's place with no line end.
+/// The tokens of the line. The comment has its place and its width, and could not be at the line
+/// end's place with no line end.
 fn is_the_line(scanned: &Scanned<'_>) -> bool {
     if scanned.len() != 5 {
         return false;
@@ -55,7 +55,7 @@ fn is_the_comment(item: Item) -> bool {
     item.gap_at == 5 && item.start == 6 && item.stop == 12
 }
 
-/// Whether the gaps and tokens are this text, one behind the other.
+/// Whether the gaps and tokens are this text, in order.
 fn makes(scanned: &Scanned<'_>, text: &[u8]) -> bool {
     let mut left = text;
     for i in 0..scanned.len() {
@@ -192,15 +192,15 @@ fn no_memory_put(rt: HostRuntime) {
 /// Keeps the first bytes that it takes, and then fails.
 #[derive(Drop)]
 struct Full {
-    held: Vec<u8>,
+    buffer: Vec<u8>,
 }
 
 impl Write for Full {
     fn write(&mut self, buf: &[u8]) -> io::Result<usize> {
-        if self.held.capacity() - self.held.len() < buf.len() {
+        if self.buffer.capacity() - self.buffer.len() < buf.len() {
             return Err(Error::from(ErrorKind::WriteZero));
         }
-        self.held.write(buf)
+        self.buffer.write(buf)
     }
 
     fn flush(&mut self) -> io::Result<()> {
@@ -209,17 +209,17 @@ impl Write for Full {
 }
 
 #[test]
-fn no_memory_told(rt: HostRuntime) {
-    let held = given(&rt, Vec::with_capacity(rt.alloc(), 3));
+fn no_memory_read_and_write(rt: HostRuntime) {
+    let buffer = given(&rt, Vec::with_capacity(rt.alloc(), 3));
     begin(&rt);
     let mut reader = Told::new(LAST);
-    let mut front = [0u8; 3];
-    let read = given(&rt, reader.read(&mut front));
-    let mut writer = Told::new(Full { held });
-    let written = given(&rt, writer.write(&front));
+    let mut prefix = [0u8; 3];
+    let read = given(&rt, reader.read(&mut prefix));
+    let mut writer = Told::new(Full { buffer });
+    let written = given(&rt, writer.write(&prefix));
     given(&rt, writer.flush());
     let had_failed = writer.failed();
-    let is_refused = writer.write(&front).is_err();
+    let is_refused = writer.write(&prefix).is_err();
     let seen = [
         read == 3,
         !reader.failed(),
@@ -227,7 +227,7 @@ fn no_memory_told(rt: HostRuntime) {
         !had_failed,
         is_refused,
         writer.failed(),
-        writer.into_inner().held.as_slice() == b"x =".as_slice(),
+        writer.into_inner().buffer.as_slice() == b"x =".as_slice(),
     ];
     assert!(rt; seen == [true; 7]);
 }

@@ -47,7 +47,7 @@ fn layout(rt: HostRuntime) {
 }
 
 #[test]
-fn text_laid_out(rt: HostRuntime) {
+fn formatted_text(rt: HostRuntime) {
     let (session, _) = changed(&rt, TEXT, b"", Command::Fmt);
     let parsed = given(&rt, parse_text(rt.alloc(), TEXT));
     begin(&rt);

@@ -10,7 +10,7 @@ use crate::tests::{Host, given};
 use std::alloc::AllocError;
 use tf_session::{Command, Done, Fault, Reply, RuleSet, Session};
 
-/// The session over this text and journal behind a command, and what that did. Where it wants
+/// The session over this text and journal after a command, and what that did. If it runs out of
 /// memory it does nothing.
 fn stepped(rt: &impl Host, text: &[u8], journal: &[u8], command: Command) -> (Session, Done) {
     let before = session_of(rt, text, journal);
@@ -58,7 +58,7 @@ fn step_revert(rt: HostRuntime) {
     step(&rt, LAST, JOURNAL, Command::Revert);
 }
 
-/// A record is taken out from under others, whose edits change places with its own.
+/// A record below others is removed: their edits change places with its own.
 #[test]
 fn step_take(rt: HostRuntime) {
     let right = session_of(&rt, LEFT, LEFT_JOURNAL);
@@ -95,7 +95,7 @@ fn ran(rt: &impl Host, list: usize) -> Ran {
     )
 }
 
-/// The number of the list of the commands that did not want memory.
+/// The number of the list of the commands that did not run out of memory.
 fn served(replies: &[Reply]) -> usize {
     let mut list = 0usize;
     for reply in replies.iter().rev() {
@@ -115,7 +115,7 @@ fn are_given(replies: &[Reply], right: &[Reply]) -> bool {
         .eq(right.iter())
 }
 
-/// A command that wants memory answers that, and text, journal and all other replies are as if it
+/// A command that runs out of memory says so, and text, journal and all other replies are as if it
 /// were not in the list.
 #[test]
 fn run(rt: HostRuntime) {

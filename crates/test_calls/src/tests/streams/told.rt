@@ -1,5 +1,5 @@
-//! Each call goes on once, with all it was handed, and its answer comes back: no clause can say so
-//! where the bytes are unknown.
+//! `Told` forwards each call once, with its whole argument, and returns its answer: no clause can
+//! say so if the bytes are unknown.
 
 use super::{Hashes, Narrow};
 use crate::tests::given;
@@ -7,7 +7,7 @@ use std::io::{Read, Write};
 use tf_stream::Told;
 
 #[test]
-fn reads_go_on_once(rt: HostRuntime) {
+fn reads_are_forwarded_once(rt: HostRuntime) {
     let mut reader = Hashes::new(20, 8);
     reader.fails_at = 4;
     let mut told = Told::new(reader);
@@ -27,7 +27,7 @@ fn reads_go_on_once(rt: HostRuntime) {
 }
 
 #[test]
-fn writes_and_flushes_go_on_once(rt: HostRuntime) {
+fn writes_and_flushes_are_forwarded_once(rt: HostRuntime) {
     let mut writer = Narrow::new(Vec::new(rt.alloc()), 8, 8);
     writer.write_fails_at = 4;
     writer.flush_fails_at = 2;
@@ -45,7 +45,7 @@ fn writes_and_flushes_go_on_once(rt: HostRuntime) {
     let writer = told.into_inner();
     assert_eq!(rt; writer.writes, 4);
     assert_eq!(rt; writer.flushes, 3);
-    assert!(rt; writer.held.as_slice() == b"abcdefgh".as_slice());
+    assert!(rt; writer.written.as_slice() == b"abcdefgh".as_slice());
 }
 
 #[test]

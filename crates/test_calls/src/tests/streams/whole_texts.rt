@@ -15,7 +15,7 @@ fn a_text_is_put_and_flushed_once(rt: HostRuntime) {
         let mut told = Told::new(Narrow::new(Vec::new(rt.alloc()), 100, step));
         given(&rt, write_and_flush(TEXT, &mut told));
         let writer = told.into_inner();
-        assert!(rt; writer.held.as_slice() == TEXT);
+        assert!(rt; writer.written.as_slice() == TEXT);
         assert_eq!(rt; writer.writes, 16usize.div_ceil(step) as u64);
         assert_eq!(rt; writer.flushes, 1);
     }
@@ -41,7 +41,7 @@ fn a_write_that_fails_or_takes_nothing_is_the_last(rt: HostRuntime) {
                 Err(WriteFault { sent: k })
             );
             let writer = told.into_inner();
-            assert!(rt; writer.held.as_slice() == &TEXT[..k]);
+            assert!(rt; writer.written.as_slice() == &TEXT[..k]);
             assert_eq!(rt; writer.writes, k as u64 + 1);
             assert_eq!(rt; writer.flushes, 0);
         }
