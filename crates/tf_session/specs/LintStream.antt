@@ -1,15 +1,14 @@
 -- The lines of the issues of a text, and what a call that lints a stream read, wrote and returns.
-use Rattle.std.specs.Prelude.{◌≡◌, ◌⊎◌, ℕ, List, length}
+use Rattle.std.specs.Prelude.{◌≡◌, ℕ, List, length}
 use Rattle.tf_rules.specs.declared.rule_set.RuleSet.{RuleSet}
 use Rattle.tf_lint.specs.Issues.{AreReports}
 use Rattle.tf_lint.specs.Reports.{Report, lines_of}
-use Rattle.tf_stream.specs.Streams.{Source, Target, WritesBytes, Untouched}
+use Rattle.tf_stream.specs.Streams.{Source, Target, WritesBytes}
 use Rattle.tf_session.specs.declared.fault.RunFault.{RunFault}
 use Rattle.tf_fix.specs.declared.parsed.Parsed.{Parsed}
 use Rattle.tf_fix.specs.ParsedTexts.{IsParseOf}
 use Rattle.tf_session.specs.Rewrites.{IsReadFault}
-use Rattle.tf_session.specs.declared.fault.Part.{Part}
-use Rattle.tf_session.specs.Streams.{ReadsText, IsWriteFault, StreamFault}
+use Rattle.tf_session.specs.Streams.{ReadsText, StreamFault}
 
 -- the text parses, and these are the issues of the rules in it
 abbrev pub HasIssues : RuleSet → List ℕ → List Report → Type 0
@@ -37,8 +36,3 @@ LintsStream name rules count source target =
 abbrev pub LintStreamFault : List ℕ → RuleSet → RunFault → Source → Target → Type 0
 LintStreamFault name rules fault source target =
     StreamFault IsReadFault (HasLines name rules) fault source target
-
--- Memory ran out, and nothing was written; or not all of these lines were.
-abbrev pub IssueWriteFault : List ℕ → RunFault → Target → Type 0
-IssueWriteFault lines fault target =
-    ((fault ≡ RunFault.Memory) × Untouched target) ⊎ IsWriteFault Part.Text fault target lines

@@ -1,12 +1,9 @@
 //! Whole texts linted from a reader to a writer.
 
-ghost use Rattle.std.specs.Prelude.{◌≡◌, ◌<◌, ◌↔◌, length, true, false, OnOk, IfOk, IfErr, IsErrOf, IsErrAnd};
-ghost use Rattle.tf_lint.specs.Issues.{reports};
-ghost use Rattle.tf_lint.specs.Reports.{lines_of};
+ghost use Rattle.std.specs.Prelude.{◌≡◌, ◌↔◌, true, false, IfOk, IfErr, IsErrOf, IsErrAnd};
 ghost use Rattle.tf_stream.specs.Told.{has_failed};
-ghost use Rattle.tf_stream.specs.Streams.{source_of, target_of, WritesBytes};
-ghost use Rattle.tf_session.specs.declared.fault.RunFault.TheVariants.{Memory};
-ghost use Rattle.tf_session.specs.LintStream.{AreLines, LintsStream, LintStreamFault, IssueWriteFault};
+ghost use Rattle.tf_stream.specs.Streams.{source_of, target_of};
+ghost use Rattle.tf_session.specs.LintStream.{AreLines, LintsStream, LintStreamFault};
 ghost use Rattle.tf_session.specs.Rewrites.{IsReadFault};
 ghost use Rattle.tf_session.specs.Streams.{is_write};
 
@@ -16,7 +13,7 @@ use crate::reading::lint_text;
 use crate::text_io::{put_text, take_text};
 use std::alloc::Global;
 use std::io::{Read, Write};
-use tf_lint::{Issue, RuleSet, lines_of_findings, lines_of_issues};
+use tf_lint::{RuleSet, lines_of_findings};
 use tf_stream::Told;
 
 /// Writes a line for each issue that the rules find in the text of a reader, each followed by LF,
@@ -45,28 +42,6 @@ pub fn lint_stream<R: Read, W: Write>(
     let (lines, count) = issue_lines(alloc, name, bytes.as_slice(), rules)?;
     put_text(lines.as_slice(), out)?;
     Ok(count)
-}
-
-/// Writes a line for each of these issues of a file with this name, each followed by LF.
-///
-/// All lines are made before the first is written, so nothing is written at any fault but `Write`.
-pub fn write_issues<W: Write>(
-    alloc: Global,
-    name: &str,
-    found: &[Issue],
-    out: &mut Told<W>,
-) -> Result<(), RunFault>
-    requires { has_failed out.old ≡ false }
-    ensures lines { OnOk result
-        (WritesBytes (target_of W.contents out.old out.new) (lines_of name.now (reports found.now))) }
-    ensures fault { IfErr result
-        (λ fault. IssueWriteFault (lines_of name.now (reports found.now)) fault
-        (target_of W.contents out.old out.new)) }
-    ensures write { IsErrAnd result (λ fault. is_write fault ≡ true) ↔ has_failed out.new ≡ true }
-    ensures allocates { IfErr result (λ fault. fault ≡ Memory → 0 < length found.now) }
-{
-    let lines = lines_of_issues(alloc, name, found)?;
-    put_text(lines.as_bytes(), out)
 }
 
 /// Returns the lines of the issues of a text, and their number.

@@ -5,8 +5,7 @@ ghost use Rattle.tf_stream.specs.Told.{has_failed};
 ghost use Rattle.tf_stream.specs.Streams.{source_of, target_of};
 ghost use Rattle.tf_session.specs.Session.{text_of, records_of};
 ghost use Rattle.tf_session.specs.Streams.{is_write};
-ghost use Rattle.tf_session.specs.declared.command.Command.TheVariants.{Fmt, Fix};
-ghost use Rattle.tf_lint.specs.Remaining.{IsRemaining};
+ghost use Rattle.tf_session.specs.declared.command.Command.TheVariants.{Fmt};
 ghost use Rattle.tf_session.specs.Streaming.{StepsStream, StepStreamFault, FormatsStream, ChecksStream, CheckStreamFault};
 
 use crate::command::{Command, Done};
@@ -17,7 +16,6 @@ use crate::text_io::{put_text, take_text};
 use edit_record::lists::Journal;
 use std::alloc::Global;
 use std::io::{Read, Write};
-use tf_lint::{Remaining, RuleSet};
 use tf_stream::Told;
 
 /// Does one command over the whole text of a reader, with no journal, and writes the new text,
@@ -47,38 +45,6 @@ pub fn step_text_stream<R: Read, W: Write>(
     let done = session.step(alloc, command)?;
     match put_text(session.text(), out) {
         Ok(()) => Ok((session, done)),
-        Err(fault) => Err(fault),
-    }
-}
-
-/// A fix by the rules of the set over the whole text of a reader, with no journal. The new text,
-/// changed or not, goes to the writer.
-///
-/// Answers the session after it, what it did, and what the rules find in the new text. Nothing is
-/// written at any fault but `Write`.
-pub fn fix_text_stream<R: Read, W: Write>(
-    alloc: Global,
-    rules: RuleSet,
-    text: &mut Told<R>,
-    out: &mut Told<W>,
-) -> Result<(Session, Done, Remaining), RunFault>
-    requires text_not_failed { has_failed text.old ≡ false }
-    requires out_not_failed { has_failed out.old ≡ false }
-    ensures done { IfOk result
-        (λ made. StepsStream (Fix rules) made.1 (text_of made.0) (records_of made.0)
-        (source_of R.remaining text.old text.new) (target_of W.contents out.old out.new)) }
-    ensures left { IfOk result (λ made. IsRemaining rules (text_of made.0) made.2) }
-    ensures fault { IfErr result
-        (λ fault. StepStreamFault (Fix rules) fault (source_of R.remaining text.old text.new)
-        (target_of W.contents out.old out.new)) }
-    ensures read { IsErrOf result RunFault.Read ↔ has_failed text.new ≡ true }
-    ensures write { IsErrAnd result (λ fault. is_write fault ≡ true) ↔ has_failed out.new ≡ true }
-{
-    let bytes = take_text(alloc, text)?;
-    let mut session = Session::start(bytes, Journal::empty(alloc));
-    let (done, left) = session.fix(alloc, rules)?;
-    match put_text(session.text(), out) {
-        Ok(()) => Ok((session, done, left)),
         Err(fault) => Err(fault),
     }
 }

@@ -1,9 +1,12 @@
 //! Calls over readers and writers. Where they want memory they have written nothing.
 
+ghost use Rattle.std.specs.Prelude.{◌≡◌, false};
+ghost use Rattle.tf_stream.specs.Told.{has_failed};
+
 use super::fixtures::{JOURNAL, LAST, TEXT, changed, fix_all, roomy, session_of};
 use super::{answered, begin, gave};
 use crate::tests::{Host, given};
-use tf_session::{Command, Done, RuleSet, RunFault, Told};
+use tf_session::{Command, Done, Remaining, RuleSet, RunFault, Told};
 
 /// A text of several reads, for which the memory grows more than once.
 #[test]
@@ -42,40 +45,50 @@ fn format_stream(rt: HostRuntime) {
     assert!(rt; out.as_slice() == right.text());
 }
 
+/// A fix with no session, from a reader to a writer.
 #[test]
-fn fix_through(rt: HostRuntime) {
-    let (right, done) = changed(&rt, TEXT, b"", fix_all());
+fn fix_to_writer(rt: HostRuntime) {
+    let (right, right_done) = changed(&rt, TEXT, b"", fix_all());
     let mut out = Told::new(roomy(&rt));
     begin(&rt);
-    let answer = tf_session::fix_text_stream(
-        rt.alloc(),
-        RuleSet::all(),
-        &mut Told::new(TEXT),
-        &mut out,
-    );
+    let answer = fixed(&rt, &mut out);
     let out = out.into_inner();
-    let (session, _, left) = answered(&rt, answer, RunFault::Memory, out.is_empty());
-    assert!(rt; session.text() == right.text());
+    let (text, done, left) = answered(&rt, answer, RunFault::Memory, out.is_empty());
+    assert!(rt; text.as_slice() == right.text());
     assert!(rt; out.as_slice() == right.text());
+    assert!(rt; done == right_done);
     assert!(rt; left.len() == done.left);
 }
 
+/// A fixed text, what the fix did, and what it left.
+type Fixed = (Vec<u8>, Done, Remaining);
+
+fn fixed(rt: &impl Host, out: &mut Told<Vec<u8>>) -> Result<Fixed, RunFault>
+    requires { has_failed out.old ≡ false }
+{
+    let bytes = tf_session::take_text(rt.alloc(), &mut Told::new(TEXT))?;
+    let fixed = tf_session::fix_without_session(rt.alloc(), bytes, RuleSet::all())?;
+    tf_session::put_text(&fixed.0, out)?;
+    Ok(fixed)
+}
+
+/// The lines of the issues that a fix leaves, to a writer.
 #[test]
-fn put_issues(rt: HostRuntime) {
+fn remaining_lines_to_writer(rt: HostRuntime) {
     let mut session = session_of(&rt, TEXT, b"");
     let (_, left) = given(&rt, session.fix(rt.alloc(), RuleSet::all()));
-    let left = given(&rt, left.issues(rt.alloc(), session.text()));
-    let mut right = Told::new(roomy(&rt));
-    given(
-        &rt,
-        tf_session::write_issues(rt.alloc(), "main.tf", &left, &mut right),
-    );
+    let right = given(&rt, left.lines(rt.alloc(), "main.tf", session.text()));
+    let mut session = session_of(&rt, TEXT, b"");
+    let (_, left) = given(&rt, session.fix(rt.alloc(), RuleSet::all()));
     let mut out = Told::new(roomy(&rt));
     begin(&rt);
-    let answer = tf_session::write_issues(rt.alloc(), "main.tf", &left, &mut out);
+    let answer = match left.lines(rt.alloc(), "main.tf", session.text()) {
+        Ok(lines) => tf_session::put_text(lines.as_bytes(), &mut out),
+        Err(_) => Err(RunFault::Memory),
+    };
     let out = out.into_inner();
     answered(&rt, answer, RunFault::Memory, out.is_empty());
-    assert!(rt; out.as_slice() == right.into_inner().as_slice());
+    assert!(rt; out.as_slice() == right.as_bytes());
 }
 
 #[test]
