@@ -1,4 +1,4 @@
-//! Journals over the limit of their text.
+//! Journals over the limit of their text, and those with no record.
 
 ghost use Rattle.std.specs.Prelude.{Some};
 
@@ -6,7 +6,7 @@ use super::{Hashes, Narrow};
 use crate::tests::{Host, given};
 use edit_record::{Edit, Edits, Record, Word};
 use std::alloc::Global;
-use tf_session::{Journal, RunFault, Session, Told, load, save};
+use tf_session::{Journal, Part, RunFault, Session, Told, load, revert_stream, save};
 
 #[test]
 fn a_journal_that_does_not_end_is_told(rt: HostRuntime) {
@@ -46,4 +46,45 @@ fn a_journal_over_the_limit_is_not_saved(rt: HostRuntime) {
     assert!(rt; answer == Err(RunFault::Endless));
     assert_eq!(rt; journal_out.into_inner().writes, 0);
     assert_eq!(rt; text_out.into_inner().writes, 0);
+}
+
+/// Nothing is written of a journal with no record, but its writer is flushed.
+#[test]
+fn an_empty_journal_is_flushed(rt: HostRuntime) {
+    let alloc = rt.alloc();
+    let text = given(&rt, Vec::from_slice(alloc, b"a = 1\n"));
+    let session = Session::start(text, Journal::empty(alloc));
+    let mut journal_out = Told::new(Narrow::new(Vec::new(alloc), 1000, 5));
+    let mut text_out = Told::new(Narrow::new(Vec::new(alloc), 1000, 5));
+    given(&rt, save(alloc, &session, &mut journal_out, &mut text_out));
+    let journal = journal_out.into_inner();
+    assert_eq!(rt; journal.writes, 0);
+    assert_eq!(rt; journal.flushes, 1);
+    let text = text_out.into_inner();
+    assert!(rt; text.held.as_slice() == b"a = 1\n".as_slice());
+    assert_eq!(rt; text.flushes, 1);
+}
+
+/// A revert of the only record leaves such a journal. Where its flush fails, nothing is written of
+/// the text.
+#[test]
+fn a_failed_flush_of_an_empty_journal_is_reported(rt: HostRuntime) {
+    let alloc = rt.alloc();
+    let mut writer = Narrow::new(Vec::new(alloc), 1000, 5);
+    writer.flush_fails_at = 1;
+    let mut journal_out = Told::new(writer);
+    let mut text_out = Told::new(Narrow::new(Vec::new(alloc), 1000, 5));
+    let answer = revert_stream(
+        alloc,
+        &mut Told::new(b"x = 1\n".as_slice()),
+        &mut Told::new(b"tfrec 2 fmt 4 2\n1 0 1\n \n2 0 1\n \nend\n".as_slice()),
+        &mut journal_out,
+        &mut text_out,
+    );
+    let part = Part::Journal;
+    assert!(rt; answer == Err(RunFault::Write { part, sent: 0 }));
+    assert_eq!(rt; journal_out.into_inner().writes, 0);
+    let text = text_out.into_inner();
+    assert_eq!(rt; text.writes, 0);
+    assert_eq!(rt; text.flushes, 0);
 }
