@@ -15,9 +15,9 @@ named rule text (Ok x) given cases is read = tt
 named {T} rule text (Err e) given cases (why, is, which) read = elim which [
   | inl memory ↦ inl memory.1
   | inr broken ↦ elim (cases why (subst (λ (g : Result T FixFault). IfErr g (IsReadFault text)) is read)) [
-      | inl memory ↦ absurd (broken.0 memory)
-      | inr not_parsed ↦ inr (broken.1, not_parsed)
-    ]
+    | inl memory ↦ absurd (broken.0 memory)
+    | inr not_parsed ↦ inr (broken.1, not_parsed)
+  ]
 ]
 
 pub returns-clause-fault : goal.returns-clause-fault
