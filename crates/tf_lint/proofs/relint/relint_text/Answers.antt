@@ -19,3 +19,7 @@ pub returns-in_err-scanned-clause-fault : goal.returns-in_err-scanned-clause-fau
 returns-in_err-scanned-clause-fault c =
     let why = c.in_err-scanned.field-0.0 in
     residual c.from_residual.result (fault_of_scan why) (IsReadFault c.args.text.now) c.from_residual.ensures (not_cut c.args.text.now why c.in_err-scanned.ensures.fault)
+
+pub returns-in_err-linted-clause-fault : goal.returns-in_err-linted-clause-fault
+returns-in_err-linted-clause-fault c =
+    residual c.from_residual-in_err-linted.result c.in_err-linted.field-0.0 (IsReadFault c.args.text.now) c.from_residual-in_err-linted.ensures (c.in_err-linted.ensures.fault c.args.text.now c.in_ok-scanned.ensures.text)
