@@ -61,7 +61,7 @@ fn an_empty_journal_is_flushed(rt: HostRuntime) {
     assert_eq!(rt; journal.writes, 0);
     assert_eq!(rt; journal.flushes, 1);
     let text = text_out.into_inner();
-    assert!(rt; text.held.as_slice() == b"a = 1\n".as_slice());
+    assert!(rt; text.written.as_slice() == b"a = 1\n".as_slice());
     assert_eq!(rt; text.flushes, 1);
 }
 
