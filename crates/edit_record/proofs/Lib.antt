@@ -3,6 +3,7 @@ pub mod Many
 pub mod Numbers
 pub mod Heads
 pub mod Fields
+pub mod ShortEdits
 pub mod Making
 pub mod Records
 pub mod Allocating

@@ -14,7 +14,7 @@ pub record Takes (least limit stop value : ℕ) (t : List ℕ) (x : ℕ × List 
   pub least_is : least ≤ x.0
   pub limit_is : x.0 ≤ limit
 
-digit_bounds : (c : ℕ) → is_digit c ≡ true → (48 ≤ c) × (c ≤ 57)
+pub digit_bounds : (c : ℕ) → is_digit c ≡ true → (48 ≤ c) × (c ≤ 57)
 digit_bounds c e = let b = both_true (nat_le 48 c) (nat_le c 57) e in (leb-true 48 c b.0, leb-true c 57 b.1)
 
 more_digits : (value c : ℕ) (t : List ℕ) → with_digit value c < 2 ^ 64 → is_digit c ≡ true → 0 < value → decimal (with_digit value c) ++ t ≡ decimal value ++ c ∷ t

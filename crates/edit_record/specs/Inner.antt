@@ -4,4 +4,5 @@ pub mod Allocating
 pub mod ParseResults
 pub mod Faults
 pub mod OldHead
+pub mod EditLengths
 pub mod PartText

@@ -13,6 +13,7 @@ mod fault;
 pub mod laws;
 pub mod lists;
 mod readers;
+mod short_edits;
 pub mod squashes;
 pub mod swaps;
 mod version_1;

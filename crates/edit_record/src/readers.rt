@@ -1,7 +1,7 @@
 //! Readers of the parts of a record. Each returns the part that a text begins with, and the rest of
 //! the text.
-ghost use Rattle.std.specs.Prelude.{◌≡◌, ◌<◌, ◌^◌, option_map, IfOk, ◌≤◌, is_ok};
-ghost use Rattle.edit_record.specs.Inner.ParseResults.{IsParsed, IsRead};
+ghost use Rattle.std.specs.Prelude.{◌≡◌, ◌<◌, ◌^◌, option_map, IfOk, IfErr, ◌≤◌, is_ok};
+ghost use Rattle.edit_record.specs.Inner.ParseResults.{IsParsed, IsRead, IsStop, IsPushed};
 ghost use Rattle.edit_record.specs.Inner.Allocating.{edits_allocate, edit_list_allocates};
 ghost use Rattle.edit_record.specs.Lists.Validity.{make_edits};
 ghost use Rattle.edit_record.specs.Parsing.{strip, expect, number_at, bytes_at, edit_head_at, edit_at, edits_at, if_valid, list_head_at, edit_list_at, bare_word_at, word_at};
@@ -9,11 +9,12 @@ ghost use Rattle.edit_record.specs.declared.fault.FaultKind.{FaultKind};
 
 use crate::fault::{DecodeStop, FaultKind, TextError};
 use crate::lists::{Edit, Edits, Word};
+use crate::short_edits::short_edit;
 use std::alloc::Global;
 
 /// The greatest number that is read: twice the most bytes of a text, since the edits of a list are
 /// no more than the bytes that they remove and add.
-const MAX_NUMBER: usize = 33_554_432;
+pub(crate) const MAX_NUMBER: usize = 33_554_432;
 
 /// The text ends too early.
 const CUT_SHORT: TextError = TextError {
@@ -120,9 +121,11 @@ fn edit_head(text: &[u8]) -> Result<((usize, usize, usize), &[u8]), TextError>
     Ok(((at, removed, added), rest))
 }
 
-/// Reads an edit. It allocates only after all bytes of the edit, and its line end, are read.
+/// Reads an edit, part by part. It allocates only after all bytes of the edit, and its line end,
+/// are read.
+#[inline(never)]
 #[tactic(auto, unfolding(crate::specs::Parsing::edit_at))]
-fn edit(alloc: Global, text: &[u8]) -> Result<(Edit, &[u8]), DecodeStop>
+fn any_edit(alloc: Global, text: &[u8]) -> Result<(Edit, &[u8]), DecodeStop>
     ensures { IsRead (λ x. (x.0, x.1.now)) (is_ok (edit_at text.now)) result (edit_at text.now) }
 {
     let ((at, removed, added), rest) = edit_head(text)?;
@@ -130,6 +133,27 @@ fn edit(alloc: Global, text: &[u8]) -> Result<(Edit, &[u8]), DecodeStop>
     let (added, rest) = bytes(added, rest)?;
     let rest = expect(b"\n", FaultKind::End, rest)?;
     Ok((Edit::new(alloc, at, removed, added)?, rest))
+}
+
+/// Reads an edit, pushes it, and returns the rest of the text. It allocates only after the edit is
+/// read. A short edit is pushed where it is read, so that it is moved once.
+#[inline(always)]
+fn push_next<'t>(
+    alloc: Global,
+    edits: &mut Vec<Edit>,
+    text: &'t [u8],
+) -> Result<&'t [u8], DecodeStop>
+    ensures pushed { IfOk result (λ rest. IsPushed edits.old.items edits.new.items text.now rest.now) }
+    ensures stops { IfErr result
+        (λ stop. IsStop (is_ok (edit_at text.now)) stop (edit_at text.now)) }
+{
+    if let Some((next, after)) = short_edit(text) {
+        edits.push(next)?;
+        return Ok(after);
+    }
+    let (next, after) = any_edit(alloc, text)?;
+    edits.push(next)?;
+    Ok(after)
 }
 
 /// Reads `count` edits. It allocates only after the first of them is read.
@@ -141,9 +165,7 @@ fn edits(alloc: Global, count: usize, text: &[u8]) -> Result<(Vec<Edit>, &[u8]),
     let mut edits = Vec::new(alloc);
     let mut rest = text;
     for _ in 0..count {
-        let (next, after) = edit(alloc, rest)?;
-        edits.push(next)?;
-        rest = after;
+        rest = push_next(alloc, &mut edits, rest)?;
     }
     Ok((edits, rest))
 }

@@ -1,6 +1,6 @@
 -- What the readers of the code return.
 use Rattle.std.specs.Prelude.{◌≡◌, ℕ, List, [], ◌∷◌, ◌++◌, Result, Ok, Err, Bool, true, false, ⊤}
-use Rattle.edit_record.specs.Lists.Pieces.{EditList}
+use Rattle.edit_record.specs.Lists.Pieces.{EditEntry, EditList}
 use Rattle.edit_record.specs.Lists.Journal.{JournalEntry}
 use Rattle.edit_record.specs.Squashes.Squash.{IsSquash}
 use Rattle.edit_record.specs.Squashes.SquashLists.{SquashAll}
@@ -8,6 +8,7 @@ use Rattle.edit_record.specs.Text.{record_text, OldRecord, old_record_text, Migr
 use Rattle.edit_record.specs.Lists.Validity.{IsValidList}
 use Rattle.edit_record.specs.Decoding.{DecodeMayAllocate, IsTextOf, IsFirstError}
 use Rattle.edit_record.specs.declared.fault.TextError.{TextError}
+use Rattle.edit_record.specs.Parsing.{edit_at}
 use Rattle.edit_record.specs.OldParsing.{old_record_at}
 use Rattle.edit_record.specs.declared.fault.DecodeStop.{DecodeStop}
 use Rattle.edit_record.specs.declared.fault.DecodeStop.TheVariants as stops
@@ -27,6 +28,11 @@ abbrev pub IsRead : {X Y : Type 0} → (X → Y) → Bool → Result X DecodeSto
     → Type 0
 IsRead view takes (Ok x) read = read ≡ Ok (view x)
 IsRead view takes (Err e) read = IsStop takes e read
+
+-- an edit is read from the text, of which these bytes are left, and pushed to the edits
+abbrev pub IsPushed : List EditEntry → List EditEntry → List ℕ → List ℕ → Type 0
+IsPushed old new t rest =
+    (x : EditEntry) × (new ≡ old ++ x ∷ []) × (edit_at t ≡ Ok (x, rest))
 
 -- a reader of what is at the start of a text by a relation stopped
 abbrev pub IsStopFor : {Y : Type 0} → Bool → DecodeStop → (Y → List ℕ → Type 0) → Type 0

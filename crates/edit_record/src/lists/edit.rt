@@ -1,4 +1,4 @@
-ghost use Rattle.std.specs.Prelude.{◌≡◌, ◌+◌, ◌≤◌, ◌<◌, length, IfOk, IfErr};
+ghost use Rattle.std.specs.Prelude.{◌≡◌, ◌+◌, ◌≤◌, ◌<◌, length, take, drop, IfOk, IfErr};
 ghost use Rattle.edit_record.specs.Lists.Inner.Storage.{removed_of, added_of, IsValidStorage};
 ghost use Rattle.edit_record.specs.declared.lists.edit.TheConstants.{INLINE_CAPACITY};
 
@@ -9,7 +9,7 @@ use thiserror::Error;
 
 /// The most bytes, removed and added together, that an edit stores inline. With the two lengths and
 /// the tag they fill 16 bytes.
-const INLINE_CAPACITY: usize = 13;
+pub(crate) const INLINE_CAPACITY: usize = 13;
 
 /// Replaces the bytes `removed` at offset `at` of the old text by `added`.
 ///
@@ -68,6 +68,33 @@ impl Edit {
             store_on_heap(alloc, removed, added)?
         };
         Ok(Edit { at, storage })
+    }
+
+    /// Makes the edit whose two texts stand one behind the other at the start of `texts`. All these
+    /// bytes are copied at once, since that is faster than to copy only those of the edit.
+    #[inline(always)]
+    pub(crate) fn from_adjacent(
+        at: usize,
+        removed: usize,
+        added: usize,
+        texts: &[u8; INLINE_CAPACITY],
+    ) -> Self
+        requires { removed + added ≤ INLINE_CAPACITY }
+        ensures { result
+            ≡ record {
+              at = at;
+              removed = take removed texts.now;
+              added = take added (drop removed texts.now);
+            } }
+    {
+        Edit {
+            at,
+            storage: Storage::Inline {
+                removed_end: removed as u8,
+                len: (removed + added) as u8,
+                bytes: *texts,
+            },
+        }
     }
 
     /// Returns the edit's offset in the old text, in bytes from 0.

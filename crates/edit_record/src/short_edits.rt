@@ -1,0 +1,90 @@
+//! Reading a short edit in one straight pass, for speed alone. What is unusual (an error, a long
+//! edit, the end of the text near) is left to the readers of each part.
+ghost use Rattle.std.specs.Prelude.{◌≡◌, IfSome};
+ghost use Rattle.edit_record.specs.Text.{max_number};
+ghost use Rattle.edit_record.specs.Parsing.{number_at, edit_at};
+ghost use Rattle.edit_record.specs.Inner.EditLengths.{lengths_at};
+
+use crate::lists::{Edit, INLINE_CAPACITY};
+use crate::readers::MAX_NUMBER;
+
+/// Reads a number that does not begin with 0 and that `terminator` follows, and skips both.
+#[inline(always)]
+#[tactic(auto, unfolding(crate::specs::Parsing::number_at))]
+pub(crate) fn plain_number(terminator: u8, text: &[u8]) -> Option<(usize, &[u8])>
+    ensures { IfSome result
+        (λ x. number_at 0 max_number terminator text.now ≡ Ok (x.0, x.1.now)) }
+{
+    let [first, remaining @ ..] = text else {
+        return None;
+    };
+    let first = *first;
+    if !first.is_ascii_digit() || first == b'0' {
+        return None;
+    }
+    let mut value = (first - b'0') as usize;
+    let mut remaining = remaining;
+    while let [digit, rest @ ..] = remaining {
+        let digit = *digit;
+        if !digit.is_ascii_digit() {
+            return if digit == terminator {
+                Some((value, rest))
+            } else {
+                None
+            };
+        }
+        value = value * 10 + (digit - b'0') as usize;
+        if value > MAX_NUMBER {
+            return None;
+        }
+        remaining = rest;
+    }
+    None
+}
+
+/// Reads how many bytes an edit removes and adds, where both numbers have one digit.
+#[inline(always)]
+fn short_lengths(text: &[u8]) -> Option<((usize, usize), &[u8])>
+    ensures { IfSome result (λ x. lengths_at text.now ≡ Ok (x.0, x.1.now)) }
+{
+    let [removed, space, added, end, rest @ ..] = text else {
+        return None;
+    };
+    let (removed, added) = (*removed, *added);
+    if *space != b' ' || *end != b'\n' {
+        return None;
+    }
+    if !removed.is_ascii_digit() || !added.is_ascii_digit() {
+        return None;
+    }
+    let removed = (removed - b'0') as usize;
+    let added = (added - b'0') as usize;
+    Some(((removed, added), rest))
+}
+
+/// Reads an edit that stores its bytes inline, and whose lengths have one digit.
+#[inline(always)]
+pub(crate) fn short_edit(text: &[u8]) -> Option<(Edit, &[u8])>
+    ensures { IfSome result (λ x. edit_at text.now ≡ Ok (x.0, x.1.now)) }
+{
+    let Some((at, rest)) = plain_number(b' ', text) else {
+        return None;
+    };
+    let Some(((removed, added), rest)) = short_lengths(rest) else {
+        return None;
+    };
+    if removed > INLINE_CAPACITY || added > INLINE_CAPACITY - removed {
+        return None;
+    }
+    let Some((texts, _others)) = rest.split_first_chunk::<INLINE_CAPACITY>() else {
+        return None;
+    };
+    let (_texts, line_end) = rest.split_at(removed + added);
+    let [end, after @ ..] = line_end else {
+        return None;
+    };
+    if *end != b'\n' {
+        return None;
+    }
+    Some((Edit::from_adjacent(at, removed, added, texts), after))
+}
