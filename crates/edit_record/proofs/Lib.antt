@@ -4,6 +4,7 @@ pub mod Numbers
 pub mod Heads
 pub mod Fields
 pub mod ShortEdits
+pub mod Pushes
 pub mod Making
 pub mod Records
 pub mod Allocating

@@ -4,5 +4,6 @@ pub mod Allocating
 pub mod ParseResults
 pub mod Faults
 pub mod OldHead
+pub mod Digits
 pub mod EditLengths
 pub mod PartText

@@ -1,11 +1,13 @@
 //! Writing a journal.
-ghost use Rattle.std.specs.Prelude.{◌≡◌, ◌+◌, ◌-◌, ◌^◌, ◌≤◌, ◌++◌, length, min, decimal, OnOk, IfOk, IfErr, ◌<◌};
+ghost use Rattle.std.specs.Prelude.{◌≡◌, ◌+◌, ◌-◌, ◌^◌, ◌≤◌, ◌++◌, length, min, OnOk, IfOk, IfErr, ◌<◌};
 ghost use Rattle.std.specs.List.{flat_map};
 ghost use Rattle.edit_record.specs.Text.{word_text, edit_text, list_head, record_head, record_text, journal_text, IsCurrentText};
 ghost use Rattle.edit_record.specs.Inner.PartText.{part_text};
 ghost use Rattle.edit_record.specs.Lists.Validity.{IsValidList};
 
+use crate::digits::digit_count;
 use crate::lists::{Edit, Journal, Record, Word};
+use crate::short_texts::{MOST_BYTES, is_short, push_edit};
 use itoa::Buffer;
 use std::alloc::{AllocError, Global};
 
@@ -61,14 +63,6 @@ fn edit_parts(edit: &Edit) -> [Part<'_>; 6]
 /// The last part of a record.
 const END: &[u8] = b"end\n";
 
-/// Returns the number of decimal digits.
-fn digit_count(number: usize) -> usize
-    ensures is { result ≡ length (decimal number) }
-    ensures short { result ≤ 40 }
-{
-    Buffer::new().format(number).len()
-}
-
 /// Returns the length of the text of some parts.
 fn parts_len(parts: &[Part]) -> usize
     ensures { result ≡ min (length (flat_map part_text parts.now)) (2 ^ 64 - 1) }
@@ -89,13 +83,24 @@ fn part_len(part: Part) -> usize
     }
 }
 
+/// Returns the length of the text of an edit.
+#[inline(always)]
+fn edit_len(edit: &Edit) -> usize
+    ensures { result ≡ min (length (edit_text edit.now)) (2 ^ 64 - 1) }
+{
+    let removed = edit.removed().len();
+    let added = edit.added().len();
+    let digits = digit_count(edit.at()) + digit_count(removed) + digit_count(added);
+    (digits + 4).saturating_add(removed).saturating_add(added)
+}
+
 /// Returns the length of the text of a record.
 fn record_len(rec: &Record) -> usize
     ensures { result ≡ min (length (record_text rec.now)) (2 ^ 64 - 1) }
 {
     let mut len = parts_len(&head_parts(rec)).saturating_add(END.len());
     for edit in rec.edits().edits() {
-        len = len.saturating_add(parts_len(&edit_parts(edit)));
+        len = len.saturating_add(edit_len(edit));
     }
     len
 }
@@ -134,13 +139,26 @@ fn write_part(out: &mut Vec<u8>, part: Part) -> Result<(), AllocError>
     }
 }
 
+/// Writes an edit: at once if it is short and memory for it is reserved, else part by part.
+#[inline(always)]
+fn write_edit(out: &mut Vec<u8>, edit: &Edit) -> Result<(), AllocError>
+    ensures { OnOk result (out.new.items ≡ out.old.items ++ edit_text edit.now) }
+{
+    let room = out.capacity() - out.len();
+    if room >= MOST_BYTES && is_short(edit) {
+        push_edit(out, edit);
+        return Ok(());
+    }
+    write_parts(out, &edit_parts(edit))
+}
+
 fn write_record(out: &mut Vec<u8>, rec: &Record) -> Result<(), AllocError>
     ensures text { OnOk result (out.new.items ≡ out.old.items ++ record_text rec.now) }
     ensures made { OnOk result (IsValidList rec.now.edits) }
 {
     write_parts(out, &head_parts(rec))?;
     for edit in rec.edits().edits() {
-        write_parts(out, &edit_parts(edit))?;
+        write_edit(out, edit)?;
     }
     out.extend_from_slice(END)?;
     Ok(())

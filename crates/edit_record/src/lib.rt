@@ -8,12 +8,14 @@
 #![tactic(auto)]
 
 mod decoder;
+mod digits;
 mod encoder;
 mod fault;
 pub mod laws;
 pub mod lists;
 mod readers;
 mod short_edits;
+mod short_texts;
 pub mod squashes;
 pub mod swaps;
 mod version_1;

@@ -1,0 +1,114 @@
+//! Numbers in decimal, a few digits at once, for speed alone.
+ghost use Rattle.std.specs.Prelude.{◌≡◌, ◌+◌, ◌++◌, ◌<◌, ◌≤◌, [], ◌∷◌, length, decimal, vec_len, vec_capacity};
+ghost use Rattle.edit_record.specs.Inner.Digits.{two_digits};
+
+use itoa::Buffer;
+
+/// Returns the number of decimal digits.
+#[inline(always)]
+pub(crate) fn digit_count(number: usize) -> usize
+    ensures is { result ≡ length (decimal number) }
+    ensures short { result ≤ 40 }
+{
+    if number < 10_000 {
+        few_digits(number)
+    } else if number < 100_000_000 {
+        few_digits(number / 10_000) + 4
+    } else {
+        Buffer::new().format(number).len()
+    }
+}
+
+/// Returns the number of digits of a number with four of them at most.
+#[inline(always)]
+fn few_digits(number: usize) -> usize
+    requires { number < 10000 }
+    ensures is { result ≡ length (decimal number) }
+    ensures short { result ≤ 4 }
+{
+    if number < 10 {
+        1
+    } else if number < 100 {
+        2
+    } else if number < 1000 {
+        3
+    } else {
+        4
+    }
+}
+
+/// Pushes a digit.
+#[inline(always)]
+fn push_digit(out: &mut Vec<u8>, digit: usize)
+    requires small { digit < 10 }
+    requires room { vec_len out.old < vec_capacity out.old }
+    ensures text { out.new.items ≡ out.old.items ++ (48 + digit) ∷ [] }
+    ensures len { vec_len out.new ≡ vec_len out.old + 1 }
+    ensures capacity { vec_capacity out.new ≡ vec_capacity out.old }
+{
+    out.push_reserved(b'0' + digit as u8);
+}
+
+/// Pushes two digits of a number, the first of which may be 0.
+#[inline(always)]
+fn push_pair(out: &mut Vec<u8>, number: usize)
+    requires small { number < 100 }
+    requires room { vec_len out.old + 2 ≤ vec_capacity out.old }
+    ensures text { out.new.items ≡ out.old.items ++ two_digits number }
+    ensures len { vec_len out.new ≡ vec_len out.old + 2 }
+    ensures capacity { vec_capacity out.new ≡ vec_capacity out.old }
+{
+    push_digit(out, number / 10);
+    push_digit(out, number % 10);
+}
+
+/// Pushes a number with two digits at most.
+#[inline(always)]
+pub(crate) fn push_short(out: &mut Vec<u8>, number: usize)
+    requires small { number < 100 }
+    requires room { vec_len out.old + 2 ≤ vec_capacity out.old }
+    ensures text { out.new.items ≡ out.old.items ++ decimal number }
+    ensures len { vec_len out.new ≤ vec_len out.old + 2 }
+    ensures capacity { vec_capacity out.new ≡ vec_capacity out.old }
+{
+    if number < 10 {
+        push_digit(out, number);
+    } else {
+        push_pair(out, number);
+    }
+}
+
+/// Pushes a number with four digits at most.
+#[inline(always)]
+fn push_few(out: &mut Vec<u8>, number: usize)
+    requires small { number < 10000 }
+    requires room { vec_len out.old + 4 ≤ vec_capacity out.old }
+    ensures text { out.new.items ≡ out.old.items ++ decimal number }
+    ensures len { vec_len out.new ≤ vec_len out.old + 4 }
+    ensures capacity { vec_capacity out.new ≡ vec_capacity out.old }
+{
+    if number < 100 {
+        push_short(out, number);
+    } else {
+        push_short(out, number / 100);
+        push_pair(out, number % 100);
+    }
+}
+
+/// Pushes a number with eight digits at most.
+pub(crate) fn push_number(out: &mut Vec<u8>, number: usize)
+    requires small { number < 100000000 }
+    requires room { vec_len out.old + 8 ≤ vec_capacity out.old }
+    ensures text { out.new.items ≡ out.old.items ++ decimal number }
+    ensures len { vec_len out.new ≤ vec_len out.old + 8 }
+    ensures capacity { vec_capacity out.new ≡ vec_capacity out.old }
+{
+    if number < 10_000 {
+        push_few(out, number);
+    } else {
+        let last = number % 10_000;
+        push_few(out, number / 10_000);
+        push_pair(out, last / 100);
+        push_pair(out, last % 100);
+    }
+}
