@@ -112,6 +112,17 @@ impl Edit {
         self.at = at;
     }
 
+    /// Returns a copy of the edit at another offset. What is stored inline is copied as it is.
+    #[inline]
+    pub(crate) fn copy_at(&self, at: usize) -> Result<Edit, AllocError>
+        ensures { IfOk result
+            (λ e. e ≡ record { at = at; removed = self.now.removed; added = self.now.added }) }
+    {
+        let mut copy = self.clone()?;
+        copy.set_at(at);
+        Ok(copy)
+    }
+
     /// Returns the bytes that the edit removes.
     pub fn removed(&self) -> &[u8]
         ensures { result.now ≡ self.now.removed }

@@ -120,7 +120,7 @@ impl MovingEdits {
             let more = edit.added().len();
             let less = edit.removed().len();
             let place = last.old + (at - last.new) + removed - added;
-            seconds.push(Edit::new(alloc, place, edit.removed(), edit.added())?)?;
+            seconds.push(edit.copy_at(place)?)?;
             let later = EndOffset {
                 old: more,
                 new: more,

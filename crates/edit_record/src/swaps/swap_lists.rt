@@ -145,9 +145,9 @@ fn swap_edits<'a>(
     let mut ys = seconds;
     'edits: while has_more(xs, ys) {
         if state.first_is_next(xs, ys) {
-            xs = state.take_first(alloc, xs, ys)?;
+            xs = state.take_first(xs, ys)?;
         } else {
-            ys = state.take_second(alloc, xs, ys)?;
+            ys = state.take_second(xs, ys)?;
         }
     }
     Ok(state)

@@ -17,13 +17,12 @@ pub(crate) struct SwapState {
 }
 
 /// Returns the edit as far after `to` as it was after `from`.
-fn relocate(alloc: Global, edit: &Edit, from: usize, to: usize) -> Result<Edit, AllocError>
+fn relocate(edit: &Edit, from: usize, to: usize) -> Result<Edit, AllocError>
     requires later { from ≤ edit.now.at }
     requires fits { to + (edit.now.at - from) < 2 ^ 64 }
     ensures { IfOk result (λ e. e ≡ relocate from edit.now to) }
 {
-    let at = to + (edit.at() - from);
-    Edit::new(alloc, at, edit.removed(), edit.added())
+    edit.copy_at(to + (edit.at() - from))
 }
 
 impl SwapState {
@@ -72,7 +71,6 @@ impl SwapState {
     /// Takes the next edit of the first list, and returns the edits after it.
     pub(crate) fn take_first<'a>(
         &mut self,
-        alloc: Global,
         xs: &'a [Edit],
         ys: &[Edit],
     ) -> Result<&'a [Edit], AllocError>
@@ -84,7 +82,7 @@ impl SwapState {
         match xs {
             [] => Ok(xs),
             [x, ..] => {
-                let edit = relocate(alloc, x, self.old_at, self.other_at)?;
+                let edit = relocate(x, self.old_at, self.other_at)?;
                 self.firsts.push(edit)?;
                 Ok(self.skip_first(xs, ys))
             }
@@ -94,7 +92,6 @@ impl SwapState {
     /// Takes the next edit of the second list, and returns the edits after it.
     pub(crate) fn take_second<'a>(
         &mut self,
-        alloc: Global,
         xs: &[Edit],
         ys: &'a [Edit],
     ) -> Result<&'a [Edit], AllocError>
@@ -106,7 +103,7 @@ impl SwapState {
         match ys {
             [] => Ok(ys),
             [y, ..] => {
-                let edit = relocate(alloc, y, self.mid_at, self.old_at)?;
+                let edit = relocate(y, self.mid_at, self.old_at)?;
                 self.seconds.push(edit)?;
                 Ok(self.skip_second(xs, ys))
             }

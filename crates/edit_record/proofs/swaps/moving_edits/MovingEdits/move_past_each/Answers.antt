@@ -159,13 +159,12 @@ loop-edit-preserved c =
     let added_is = ap length c.added-more.ensures in
     let rest = drop (c.loop-edit.edit-index + 1) b.entries in
     let more = c.push.new.self.items in
-    let moved_is = c.in_ok-new.ensures.edit ∙ (λ i. record { at = (place.last.old + (at - place.last.new) + gone) - come; removed = c.removed.ensures i; added = c.added.ensures i }) in
     let value = c.deref_mut.ensures.value in
     let ends_now = c.shift_from.ensures ∙ (λ i. shifted_from place.count (record { old = added_is i; new = added_is i }) (removed_is i) (ends_of (value i))) in
     let written : (with_items n.ends c.shift_from.new.run).items ≡ c.shift_from.new.run = with_items_is n.ends c.shift_from.new.run (c.shift_from.auto.run ∙ c.deref_mut.ensures.len) in
     let k : MovingEdits = record { old_len = n.old_len; new_len = n.new_len; edits = n.edits; ends = with_items n.ends c.shift_from.new.run } in
     let next =
-    turned m n b c.loop-edit.seconds.items y rest come gone t at place.count place.last place.next c.deref.result.now (omega (arith, t.gone_le, y_at)) c.deref.ensures.value c.partition_before-count.ensures c.requires.apart k more c.in_ok-new.field-0 c.in_ok-push.ensures.items moved_is (ap ends_of written ∙ ends_now) refl (ap length written ∙ c.shift_from.auto.run ∙ ap length value) refl refl in
+    turned m n b c.loop-edit.seconds.items y rest come gone t at place.count place.last place.next c.deref.result.now (omega (arith, t.gone_le, y_at)) c.deref.ensures.value c.partition_before-count.ensures c.requires.apart k more c.in_ok-copy_at.field-0 c.in_ok-push.ensures.items c.in_ok-copy_at.ensures (ap ends_of written ∙ ends_now) refl (ap length written ∙ c.shift_from.auto.run ∙ ap length value) refl refl in
     subst (λ (z : ℕ). PassingEach (edits_now m) b m k more rest (come + z) (gone + length c.removed-less.result.now)) (sym added_is)
     (subst (λ (z : ℕ). PassingEach (edits_now m) b m k more rest (come + length y.added) (gone + z)) (sym removed_is) next)
 
