@@ -9,7 +9,7 @@ ghost use Rattle.edit_record.specs.declared.fault.FaultKind.{FaultKind};
 
 use crate::fault::{DecodeStop, FaultKind, TextError};
 use crate::lists::{Edit, Edits, Word};
-use crate::short_edits::short_edit;
+use crate::short_edits::{plain_list_head, short_edit};
 use std::alloc::Global;
 
 /// The greatest number that is read: twice the most bytes of a text, since the edits of a list are
@@ -191,6 +191,9 @@ fn checked_list(old_len: usize, edits: Vec<Edit>, left: usize) -> Result<Edits, 
 fn list_head(text: &[u8]) -> Result<((usize, usize), &[u8]), TextError>
     ensures { IsParsed (λ x. (x.0, x.1.now)) result (list_head_at text.now) }
 {
+    if let Some(head) = plain_list_head(text) {
+        return Ok(head);
+    }
     let (old_len, rest) = number(0, MAX_NUMBER, b' ', text)?;
     let (count, rest) = number(0, MAX_NUMBER, b'\n', rest)?;
     Ok(((old_len, count), rest))

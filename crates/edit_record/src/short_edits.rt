@@ -1,8 +1,8 @@
 //! Reading a short edit in one straight pass, for speed alone. What is unusual (an error, a long
 //! edit, the end of the text near) is left to the readers of each part.
-ghost use Rattle.std.specs.Prelude.{◌≡◌, IfSome};
+ghost use Rattle.std.specs.Prelude.{◌≡◌, ◌+◌, length, IfSome};
 ghost use Rattle.edit_record.specs.Text.{max_number};
-ghost use Rattle.edit_record.specs.Parsing.{number_at, edit_at};
+ghost use Rattle.edit_record.specs.Parsing.{number_at, list_head_at, edit_at};
 ghost use Rattle.edit_record.specs.Inner.EditLengths.{lengths_at};
 
 use crate::lists::{Edit, INLINE_CAPACITY};
@@ -11,7 +11,7 @@ use crate::readers::MAX_NUMBER;
 /// Reads a number that does not begin with 0 and that `terminator` follows, and skips both.
 #[inline(always)]
 #[tactic(auto, unfolding(crate::specs::Parsing::number_at))]
-pub(crate) fn plain_number(terminator: u8, text: &[u8]) -> Option<(usize, &[u8])>
+fn plain_number(terminator: u8, text: &[u8]) -> Option<(usize, &[u8])>
     ensures { IfSome result
         (λ x. number_at 0 max_number terminator text.now ≡ Ok (x.0, x.1.now)) }
 {
@@ -42,10 +42,26 @@ pub(crate) fn plain_number(terminator: u8, text: &[u8]) -> Option<(usize, &[u8])
     None
 }
 
+/// Reads the head of a list of edits.
+#[inline(always)]
+#[tactic(auto, unfolding(crate::specs::Parsing::list_head_at))]
+pub(crate) fn plain_list_head(text: &[u8]) -> Option<((usize, usize), &[u8])>
+    ensures { IfSome result (λ x. list_head_at text.now ≡ Ok (x.0, x.1.now)) }
+{
+    let Some((old_len, rest)) = plain_number(b' ', text) else {
+        return None;
+    };
+    let Some((count, rest)) = plain_number(b'\n', rest) else {
+        return None;
+    };
+    Some(((old_len, count), rest))
+}
+
 /// Reads how many bytes an edit removes and adds, where both numbers have one digit.
 #[inline(always)]
 fn short_lengths(text: &[u8]) -> Option<((usize, usize), &[u8])>
-    ensures { IfSome result (λ x. lengths_at text.now ≡ Ok (x.0, x.1.now)) }
+    ensures lengths { IfSome result (λ x. lengths_at text.now ≡ Ok (x.0, x.1.now)) }
+    ensures rest { IfSome result (λ x. length x.1.now + 4 ≡ length text.now) }
 {
     let [removed, space, added, end, rest @ ..] = text else {
         return None;
@@ -62,6 +78,9 @@ fn short_lengths(text: &[u8]) -> Option<((usize, usize), &[u8])>
     Some(((removed, added), rest))
 }
 
+/// The bytes of an edit behind its place, where it has the most inline.
+const MOST_LEFT: usize = INLINE_CAPACITY + 5;
+
 /// Reads an edit that stores its bytes inline, and whose lengths have one digit.
 #[inline(always)]
 pub(crate) fn short_edit(text: &[u8]) -> Option<(Edit, &[u8])>
@@ -70,6 +89,9 @@ pub(crate) fn short_edit(text: &[u8]) -> Option<(Edit, &[u8])>
     let Some((at, rest)) = plain_number(b' ', text) else {
         return None;
     };
+    if rest.len() < MOST_LEFT {
+        return None;
+    }
     let Some(((removed, added), rest)) = short_lengths(rest) else {
         return None;
     };
@@ -79,12 +101,10 @@ pub(crate) fn short_edit(text: &[u8]) -> Option<(Edit, &[u8])>
     let Some((texts, _others)) = rest.split_first_chunk::<INLINE_CAPACITY>() else {
         return None;
     };
-    let (_texts, line_end) = rest.split_at(removed + added);
-    let [end, after @ ..] = line_end else {
-        return None;
-    };
-    if *end != b'\n' {
+    let len = removed + added;
+    if rest[len] != b'\n' {
         return None;
     }
+    let after = &rest[len + 1..];
     Some((Edit::from_adjacent(at, removed, added, texts), after))
 }

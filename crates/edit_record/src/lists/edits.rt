@@ -49,18 +49,20 @@ impl Edits {
         let mut removed = 0;
         let mut added = 0usize;
         for (i, edit) in edits.iter().enumerate() {
-            if edit.removed().is_empty() && edit.added().is_empty() {
+            let removes = edit.removed().len();
+            let adds = edit.added().len();
+            if removes == 0 && adds == 0 {
                 return Err(BadEdits::EmptyEdit(i));
             }
             if edit.at() < from {
                 return Err(BadEdits::OutOfOrder(i));
             }
-            if edit.at() > old_len || edit.removed().len() > old_len - edit.at() {
+            if edit.at() > old_len || removes > old_len - edit.at() {
                 return Err(BadEdits::PastEnd(i));
             }
-            from = edit.at() + edit.removed().len();
-            removed += edit.removed().len();
-            added = added.saturating_add(edit.added().len());
+            from = edit.at() + removes;
+            removed += removes;
+            added = added.saturating_add(adds);
         }
         if added > MAX_TEXT - (old_len - removed) {
             return Err(BadEdits::TooLong);

@@ -18,8 +18,8 @@ ends t le e f =
     ∙ ap (λ k. get_or t 0 0 ∷ k ∷ get_or t 2 0 ∷ get_or t 3 0 ∷ take (length t - 4) (drop 4 t)) e
     ∙ ap (λ k. get_or t 0 0 ∷ space ∷ get_or t 2 0 ∷ k ∷ take (length t - 4) (drop 4 t)) f
 
-pub returns : goal.returns
-returns c =
+pub returns-clause-lengths : goal.returns-clause-lengths
+returns-clause-lengths c =
     let t = c.args.text.now in
     let r = digit_bounds (get_or t 0 0) (sym c.is_ascii_digit.ensures.value ∙ c.if-not-is_ascii_digit.false) in
     let a = digit_bounds (get_or t 2 0) (sym c.is_ascii_digit-else-not-is_ascii_digit.ensures.value ∙ c.if-not-is_ascii_digit-2.false) in
