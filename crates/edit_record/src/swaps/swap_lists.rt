@@ -138,9 +138,9 @@ fn swap_edits<'a>(
     ensures done { IfOk result (λ e. IsSwapDone first.now second.now (state e)) }
     ensures memory { IfErr result (λ _. 0 < length first.now.entries + length second.now.entries) }
 {
-    let mut state = SwapState::new(alloc);
     let firsts = first.edits();
     let seconds = second.edits();
+    let mut state = SwapState::with_capacity(alloc, firsts.len(), seconds.len())?;
     let mut xs = firsts;
     let mut ys = seconds;
     'edits: while has_more(xs, ys) {

@@ -1,5 +1,5 @@
 //! Swapping two lists of edits: the state between two steps, and the steps.
-ghost use Rattle.std.specs.Prelude.{◌≡◌, ◌+◌, ◌-◌, ◌^◌, ◌<◌, ◌≤◌, length, IfOk};
+ghost use Rattle.std.specs.Prelude.{◌≡◌, ◌+◌, ◌-◌, ◌^◌, ◌<◌, ◌≤◌, length, IfOk, IfErr};
 ghost use Rattle.edit_record.specs.Swaps.Inner.SwapState.{relocate, first_is_next, second_is_next, take_first, take_second, skip_first, skip_second, HoldsInvariant, initial};
 ghost use Rattle.edit_record.specs.Swaps.Inner.SwapStateView.{state};
 
@@ -36,6 +36,26 @@ impl SwapState {
             seconds: Vec::new(alloc),
             firsts: Vec::new(alloc),
         }
+    }
+
+    /// The same, with memory for all edits of both lists.
+    pub(crate) fn with_capacity(
+        alloc: Global,
+        firsts: usize,
+        seconds: usize,
+    ) -> Result<Self, AllocError>
+        ensures starts { IfOk result (λ s. state s ≡ initial) }
+        ensures memory { IfErr result (λ _. 0 < firsts + seconds) }
+    {
+        let seconds = Vec::with_capacity(alloc, seconds)?;
+        let firsts = Vec::with_capacity(alloc, firsts)?;
+        Ok(SwapState {
+            old_at: 0,
+            mid_at: 0,
+            other_at: 0,
+            seconds,
+            firsts,
+        })
     }
 
     /// Returns whether the next edit of the first list ends before the next one of the second

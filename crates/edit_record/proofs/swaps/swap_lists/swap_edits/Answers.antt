@@ -12,7 +12,7 @@ edits-init c =
     let a = c.args.first.now in let b = c.args.second.now in
     let p = made_as a c.edits-firsts.result.now b.old_len c.edits-firsts.ensures.same c.requires.lengths_match c.edits-firsts.ensures.disjoint in
     let q = made_as b c.edits-seconds.result.now (new_len b) c.edits-seconds.ensures.same refl c.edits-seconds.ensures.disjoint in
-    rw (c.edits-firsts.ensures.same, c.edits-seconds.ensures.same) (under_start a.old_len b.old_len (added_len b.entries) (removed_len b.entries) a.entries b.entries (state c.new-state.result) (new_len b) p q refl refl c.new-state.ensures)
+    rw (c.edits-firsts.ensures.same, c.edits-seconds.ensures.same) (under_start a.old_len b.old_len (added_len b.entries) (removed_len b.entries) a.entries b.entries (state c.in_ok-state.state) (new_len b) p q refl refl c.in_ok-state.ensures.starts)
 
 pub edits-preserved-then-first_is_next : goal.edits-preserved-then-first_is_next
 edits-preserved-then-first_is_next c =
@@ -28,7 +28,7 @@ edits-preserved c =
 pub returns-in_err-xs-clause-memory : goal.returns-in_err-xs-clause-memory
 returns-in_err-xs-clause-memory c =
     let a = c.args.first.now in let b = c.args.second.now in
-    any_fault c.from_residual.result (some_edit a.old_len b.old_len (added_len b.entries) (removed_len b.entries) a.entries b.entries (state c.edits.state) c.edits.xs.now c.edits.ys.now c.edits.invariant (c.has_more.ensures.0 c.edits-test.true))
+    any_fault c.from_residual-in_err-xs.result (some_edit a.old_len b.old_len (added_len b.entries) (removed_len b.entries) a.entries b.entries (state c.edits.state) c.edits.xs.now c.edits.ys.now c.edits.invariant (c.has_more.ensures.0 c.edits-test.true))
 
 pub returns-in_err-ys-clause-memory : goal.returns-in_err-ys-clause-memory
 returns-in_err-ys-clause-memory c =
