@@ -3,13 +3,14 @@
 ghost use Rattle.std.specs.Prelude.{◌≡◌, ◌<◌, ◌^◌, option_map, IfOk, IfErr, ◌≤◌, is_ok};
 ghost use Rattle.edit_record.specs.Inner.ParseResults.{IsParsed, IsRead, IsStop, IsPushed};
 ghost use Rattle.edit_record.specs.Inner.Allocating.{edits_allocate, edit_list_allocates};
+ghost use Rattle.edit_record.specs.Inner.EditLengths.{behind_at};
 ghost use Rattle.edit_record.specs.Lists.Validity.{make_edits};
 ghost use Rattle.edit_record.specs.Parsing.{strip, expect, number_at, bytes_at, edit_head_at, edit_at, edits_at, if_valid, list_head_at, edit_list_at, bare_word_at, word_at};
 ghost use Rattle.edit_record.specs.declared.fault.FaultKind.{FaultKind};
 
 use crate::fault::{DecodeStop, FaultKind, TextError};
 use crate::lists::{Edit, Edits, Word};
-use crate::short_edits::{plain_list_head, short_edit};
+use crate::short_edits::{plain_head, plain_list_head, short_edit};
 use std::alloc::Global;
 
 /// The greatest number that is read: twice the most bytes of a text, since the edits of a list are
@@ -121,18 +122,34 @@ fn edit_head(text: &[u8]) -> Result<((usize, usize, usize), &[u8]), TextError>
     Ok(((at, removed, added), rest))
 }
 
-/// Reads an edit, part by part. It allocates only after all bytes of the edit, and its line end,
-/// are read.
+/// Reads what follows the head of an edit. It allocates only after all bytes of the edit, and its
+/// line end, are read.
+#[inline(always)]
+#[tactic(auto, unfolding(crate::specs::Inner::EditLengths::behind_at))]
+fn behind_head(
+    alloc: Global,
+    at: usize,
+    removed: usize,
+    added: usize,
+    text: &[u8],
+) -> Result<(Edit, &[u8]), DecodeStop>
+    ensures { IsRead (λ x. (x.0, x.1.now)) (is_ok (behind_at at removed added text.now)) result
+        (behind_at at removed added text.now) }
+{
+    let (removed, rest) = bytes(removed, text)?;
+    let (added, rest) = bytes(added, rest)?;
+    let rest = expect(b"\n", FaultKind::End, rest)?;
+    Ok((Edit::new(alloc, at, removed, added)?, rest))
+}
+
+/// Reads an edit, part by part. It allocates as `behind_head` does.
 #[inline(never)]
-#[tactic(auto, unfolding(crate::specs::Parsing::edit_at))]
+#[tactic(auto, unfolding(crate::specs::Parsing::edit_at, crate::specs::Inner::EditLengths::behind_at))]
 fn any_edit(alloc: Global, text: &[u8]) -> Result<(Edit, &[u8]), DecodeStop>
     ensures { IsRead (λ x. (x.0, x.1.now)) (is_ok (edit_at text.now)) result (edit_at text.now) }
 {
     let ((at, removed, added), rest) = edit_head(text)?;
-    let (removed, rest) = bytes(removed, rest)?;
-    let (added, rest) = bytes(added, rest)?;
-    let rest = expect(b"\n", FaultKind::End, rest)?;
-    Ok((Edit::new(alloc, at, removed, added)?, rest))
+    behind_head(alloc, at, removed, added, rest)
 }
 
 /// Reads an edit, pushes it, and returns the rest of the text. It allocates only after the edit is
@@ -147,11 +164,16 @@ fn push_next<'t>(
     ensures stops { IfErr result
         (λ stop. IsStop (is_ok (edit_at text.now)) stop (edit_at text.now)) }
 {
-    if let Some((next, after)) = short_edit(text) {
+    let Some(((at, removed, added), rest)) = plain_head(text) else {
+        let (next, after) = any_edit(alloc, text)?;
+        edits.push(next)?;
+        return Ok(after);
+    };
+    if let Some((next, after)) = short_edit(at, removed, added, rest) {
         edits.push(next)?;
         return Ok(after);
     }
-    let (next, after) = any_edit(alloc, text)?;
+    let (next, after) = behind_head(alloc, at, removed, added, rest)?;
     edits.push(next)?;
     Ok(after)
 }

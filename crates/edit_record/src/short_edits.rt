@@ -1,14 +1,14 @@
-//! Reading a short edit in one straight pass, for speed alone. What is unusual (an error, a long
-//! edit, the end of the text near) is left to the readers of each part.
-ghost use Rattle.std.specs.Prelude.{◌≡◌, ◌+◌, length, IfSome};
+//! Reading numbers and short edits in one straight pass, for speed alone. What is unusual (an error,
+//! a long edit, the end of the text near) is left to the readers of each part.
+ghost use Rattle.std.specs.Prelude.{◌≡◌, ◌+◌, ◌∷◌, false, length, IfSome};
 ghost use Rattle.edit_record.specs.Text.{max_number};
-ghost use Rattle.edit_record.specs.Parsing.{number_at, list_head_at, edit_at};
-ghost use Rattle.edit_record.specs.Inner.EditLengths.{lengths_at};
+ghost use Rattle.edit_record.specs.Parsing.{is_digit, number_at, list_head_at, edit_at};
+ghost use Rattle.edit_record.specs.Inner.EditLengths.{lengths_at, behind_at};
 
 use crate::lists::{Edit, INLINE_CAPACITY};
 use crate::readers::MAX_NUMBER;
 
-/// Reads a number that does not begin with 0 and that `terminator` follows, and skips both.
+/// Reads a number that `terminator` follows, and skips both.
 #[inline(always)]
 #[tactic(auto, unfolding(crate::specs::Parsing::number_at))]
 fn plain_number(terminator: u8, text: &[u8]) -> Option<(usize, &[u8])>
@@ -19,8 +19,11 @@ fn plain_number(terminator: u8, text: &[u8]) -> Option<(usize, &[u8])>
         return None;
     };
     let first = *first;
-    if !first.is_ascii_digit() || first == b'0' {
+    if !first.is_ascii_digit() {
         return None;
+    }
+    if first == b'0' {
+        return zero_end(terminator, remaining);
     }
     let mut value = (first - b'0') as usize;
     let mut remaining = remaining;
@@ -40,6 +43,21 @@ fn plain_number(terminator: u8, text: &[u8]) -> Option<(usize, &[u8])>
         remaining = rest;
     }
     None
+}
+
+/// Skips the end of the number 0.
+#[inline(always)]
+fn zero_end(terminator: u8, text: &[u8]) -> Option<(usize, &[u8])>
+    ensures { IfSome result (λ x. (x.0 ≡ 0) × (is_digit terminator ≡ false)
+        × (text.now ≡ terminator ∷ x.1.now)) }
+{
+    let [end, rest @ ..] = text else {
+        return None;
+    };
+    if *end != terminator || terminator.is_ascii_digit() {
+        return None;
+    }
+    Some((0, rest))
 }
 
 /// Reads the head of a list of edits.
@@ -78,33 +96,61 @@ fn short_lengths(text: &[u8]) -> Option<((usize, usize), &[u8])>
     Some(((removed, added), rest))
 }
 
-/// The bytes of an edit behind its place, where it has the most inline.
-const MOST_LEFT: usize = INLINE_CAPACITY + 5;
-
-/// Reads an edit that stores its bytes inline, and whose lengths have one digit.
+/// Reads how many bytes an edit removes and adds.
 #[inline(always)]
-pub(crate) fn short_edit(text: &[u8]) -> Option<(Edit, &[u8])>
-    ensures { IfSome result (λ x. edit_at text.now ≡ Ok (x.0, x.1.now)) }
+fn plain_lengths(text: &[u8]) -> Option<((usize, usize), &[u8])>
+    ensures { IfSome result (λ x. lengths_at text.now ≡ Ok (x.0, x.1.now)) }
+{
+    if let Some(short) = short_lengths(text) {
+        return Some(short);
+    }
+    let Some((removed, rest)) = plain_number(b' ', text) else {
+        return None;
+    };
+    let Some((added, rest)) = plain_number(b'\n', rest) else {
+        return None;
+    };
+    Some(((removed, added), rest))
+}
+
+/// Reads the head of an edit: its place, how many bytes it removes, and how many it adds.
+#[inline(always)]
+pub(crate) fn plain_head(text: &[u8]) -> Option<((usize, usize, usize), &[u8])>
+    ensures { IfSome result
+        (λ x. edit_at text.now ≡ behind_at x.0.0 x.0.1 x.0.2 x.1.now) }
 {
     let Some((at, rest)) = plain_number(b' ', text) else {
         return None;
     };
-    if rest.len() < MOST_LEFT {
-        return None;
-    }
-    let Some(((removed, added), rest)) = short_lengths(rest) else {
+    let Some(((removed, added), rest)) = plain_lengths(rest) else {
         return None;
     };
+    Some(((at, removed, added), rest))
+}
+
+/// Reads what follows the head of an edit that stores its bytes inline.
+#[inline(always)]
+pub(crate) fn short_edit(
+    at: usize,
+    removed: usize,
+    added: usize,
+    text: &[u8],
+) -> Option<(Edit, &[u8])>
+    ensures { IfSome result (λ x. behind_at at removed added text.now ≡ Ok (x.0, x.1.now)) }
+{
     if removed > INLINE_CAPACITY || added > INLINE_CAPACITY - removed {
         return None;
     }
-    let Some((texts, _others)) = rest.split_first_chunk::<INLINE_CAPACITY>() else {
+    if text.len() <= INLINE_CAPACITY {
+        return None;
+    }
+    let Some((texts, _others)) = text.split_first_chunk::<INLINE_CAPACITY>() else {
         return None;
     };
     let len = removed + added;
-    if rest[len] != b'\n' {
+    if text[len] != b'\n' {
         return None;
     }
-    let after = &rest[len + 1..];
+    let after = &text[len + 1..];
     Some((Edit::from_adjacent(at, removed, added, texts), after))
 }

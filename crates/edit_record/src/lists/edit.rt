@@ -172,6 +172,7 @@ fn store_inline(removed: &[u8], added: &[u8]) -> Storage
 }
 
 /// Stores both texts on the heap.
+#[inline(always)]
 fn store_on_heap(alloc: Global, removed: &[u8], added: &[u8]) -> Result<Storage, AllocError>
     ensures removed { IfOk result (λ storage. removed_of storage ≡ removed.now) }
     ensures added { IfOk result (λ storage. added_of storage ≡ added.now) }

@@ -13,14 +13,13 @@ from_end s n lt e =
 
 pub returns : goal.returns
 returns c =
-    let removed = c.in-Some-short_lengths.removed in
-    let added = c.in-Some-short_lengths.added in
-    let rest = c.in-Some-short_lengths.rest.now in
-    let after = take (length rest - (removed + added + 1)) (drop (removed + added + 1) rest) in
-    let left = c.in-Some-short_lengths.ensures.rest in
+    let removed = c.args.removed in
+    let added = c.args.added in
+    let text = c.args.text.now in
+    let after = take (length text - (removed + added + 1)) (drop (removed + added + 1) text) in
     let few : removed + added ≤ 13 = omega arith in
-    let room : removed + added < length rest = omega (arith, left) in
-    let end : drop (removed + added) rest ≡ newline ∷ after = from_end rest (removed + added) room c.if-rest-len-ne10.false in
-    let read = edit_read c.args.text.now c.in-Some.at removed added c.in-Some.rest.now rest after c.in-Some.ensures c.in-Some-short_lengths.ensures.lengths (omega arith) end in
-    let p = in_first removed added 13 rest c.in-Some-split_first_chunk.texts.now c.in-Some-split_first_chunk.ensures.cases.0 few in
+    let room : removed + added < length text = omega arith in
+    let end : drop (removed + added) text ≡ newline ∷ after = from_end text (removed + added) room c.if-text-len-ne10.false in
+    let read = edit_read c.args.at removed added text after (omega arith) end in
+    let p = in_first removed added 13 text c.in-Some.texts.now c.in-Some.ensures.cases.0 few in
     rw (c.from_adjacent.ensures, p.0, p.1) read
