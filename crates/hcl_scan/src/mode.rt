@@ -8,7 +8,7 @@ ghost use Rattle.hcl_scan.specs.Modes.Mode.{Sequence, Heredoc};
 ghost use Rattle.hcl_scan.specs.Runs.{is_line_start_after};
 ghost use Rattle.hcl_token.specs.declared.kind.Kind.TheVariants.{HereLit};
 ghost use Rattle.hcl_scan.specs.Inner.OpeningPlaces.{opening_places_after, innermost_place};
-ghost use Rattle.hcl_scan.specs.Inner.Openings.{mode_view, modes_of, places_of, with_line_start, with_line_start_in, is_not_line_break};
+ghost use Rattle.hcl_scan.specs.Inner.Openings.{mode_view, region_of, modes_of, places_of, with_line_start, with_line_start_in, is_not_line_break};
 
 use crate::bytes::{byte_at, slice};
 use hcl_token::Kind;
@@ -38,6 +38,57 @@ pub enum Mode<'t> {
 pub struct Opening<'t> {
     pub at: usize,
     pub mode: Mode<'t>,
+}
+
+/// A mode without the marker of its heredoc: one byte, which the loop over tokens keeps.
+#[derive(Clone, Copy)]
+pub enum Region {
+    Expression,
+    Sequence,
+    Braces,
+    Quoted,
+    Heredoc,
+}
+
+/// Returns the mode without its marker.
+fn region_of(mode: Mode<'_>) -> Region
+    ensures { result ≡ region_of (mode_view mode.entry) }
+{
+    match mode {
+        Mode::Expression => Region::Expression,
+        Mode::Sequence => Region::Sequence,
+        Mode::Braces => Region::Braces,
+        Mode::Quoted => Region::Quoted,
+        Mode::Heredoc {
+            marker: _,
+            at_line_start: _,
+        } => Region::Heredoc,
+    }
+}
+
+/// Returns the region after the last of the openings.
+fn region_after(openings: &[Opening<'_>]) -> Region
+    ensures { result ≡ region_of (mode_of (modes_of openings.now)) }
+{
+    match openings.last() {
+        Some(opening) => region_of(opening.mode),
+        None => Region::Expression,
+    }
+}
+
+/// Returns how the text after the last of the openings is read, which is in this region. Only a
+/// heredoc is looked up.
+pub fn mode_in<'t>(region: Region, openings: &Vec<Opening<'t>>) -> Mode<'t>
+    requires { region ≡ region_of (mode_of (modes_of openings.now.items)) }
+    ensures { mode_view result ≡ mode_of (modes_of openings.now.items) }
+{
+    match region {
+        Region::Expression => Mode::Expression,
+        Region::Sequence => Mode::Sequence,
+        Region::Braces => Mode::Braces,
+        Region::Quoted => Mode::Quoted,
+        Region::Heredoc => mode_of(openings),
+    }
 }
 
 /// Returns how the text after the last of the openings is read.
@@ -184,9 +235,31 @@ fn set_line_start<'t>(
     }
 }
 
-/// Opens a template sequence: in a heredoc no line begins after it.
+/// Opens a template sequence.
 #[inline(never)]
-fn open_sequence<'t>(openings: &mut Vec<Opening<'t>>, at: usize) -> Result<(), AllocError>
+fn open_sequence<'t>(
+    openings: &mut Vec<Opening<'t>>,
+    region: Region,
+    at: usize,
+) -> Result<(), AllocError>
+    requires { region ≡ region_of (mode_of (modes_of openings.old.items)) }
+    ensures modes { OnOk result
+        (modes_of openings.new.items ≡ Sequence ∷ with_line_start_in false (modes_of openings.old.items)) }
+    ensures places { OnOk result
+        (places_of openings.new.items ≡ at ∷ places_of openings.old.items) }
+{
+    match region {
+        Region::Heredoc => open_sequence_in_heredoc(openings, at),
+        _ => push(openings, at, Mode::Sequence),
+    }
+}
+
+/// `open_sequence` in a heredoc: no line begins after it.
+#[inline(never)]
+fn open_sequence_in_heredoc<'t>(
+    openings: &mut Vec<Opening<'t>>,
+    at: usize,
+) -> Result<(), AllocError>
     ensures modes { OnOk result
         (modes_of openings.new.items ≡ Sequence ∷ with_line_start_in false (modes_of openings.old.items)) }
     ensures places { OnOk result
@@ -254,38 +327,57 @@ pub fn can_change_openings(kind: Kind) -> bool
     )
 }
 
-/// Updates the openings for a token of this kind and spelling that begins at a place.
+/// Updates the openings for a token of this kind and spelling that begins at a place, and the
+/// region.
 pub fn update_openings<'t>(
     openings: &mut Vec<Opening<'t>>,
+    region: &mut Region,
     kind: Kind,
     spelling: &'t [u8],
     at: usize,
 ) -> Result<(), AllocError>
+    requires { region.old ≡ region_of (mode_of (modes_of openings.old.items)) }
     ensures modes { OnOk result
         (modes_of openings.new.items ≡ modes_after kind spelling.now (modes_of openings.old.items)) }
     ensures places { OnOk result
         (places_of openings.new.items
         ≡ opening_places_after kind at (modes_of openings.old.items) (places_of openings.old.items)) }
+    ensures region { OnOk result
+        (region.new ≡ region_of (mode_of (modes_of openings.new.items))) }
 {
-    if !can_change_openings(kind) {
-        return Ok(());
-    }
     match kind {
-        Kind::QuoteOpen => push(openings, at, Mode::Quoted)?,
-        Kind::HereOpen => open_heredoc(openings, spelling, at)?,
-        Kind::InterpOpen | Kind::DirectiveOpen => open_sequence(openings, at)?,
-        Kind::QuoteClose | Kind::HereClose | Kind::SeqClose => pop(openings),
+        Kind::QuoteOpen => {
+            push(openings, at, Mode::Quoted)?;
+            *region = Region::Quoted;
+        }
+        Kind::HereOpen => {
+            open_heredoc(openings, spelling, at)?;
+            *region = Region::Heredoc;
+        }
+        Kind::InterpOpen | Kind::DirectiveOpen => {
+            open_sequence(openings, *region, at)?;
+            *region = Region::Sequence;
+        }
+        Kind::QuoteClose | Kind::HereClose | Kind::SeqClose => {
+            pop(openings);
+            *region = region_after(openings);
+        }
         Kind::OpenBrace => {
-            if is_in_sequence(mode_of(openings)) {
+            if is_in_sequence(mode_in(*region, openings)) {
                 push(openings, at, Mode::Braces)?;
+                *region = Region::Braces;
             }
         }
         Kind::CloseBrace => {
-            if is_braces(mode_of(openings)) {
+            if is_braces(mode_in(*region, openings)) {
                 pop(openings);
+                *region = region_after(openings);
             }
         }
-        Kind::HereLit => continue_heredoc(openings, spelling)?,
+        Kind::HereLit => {
+            continue_heredoc(openings, spelling)?;
+            *region = region_after(openings);
+        }
         _ => {}
     }
     Ok(())

@@ -13,7 +13,7 @@ ghost use Rattle.hcl_scan.specs.Inner.MarkToken.{mark_tokens, mark_length, token
 use crate::bytes::{byte_at, slice};
 use crate::fault::ScanFault;
 use crate::mode::{
-    Mode, Opening, can_change_openings, innermost_template_start, mode_of, update_openings,
+    Mode, Opening, Region, can_change_openings, innermost_template_start, mode_in, update_openings,
 };
 use crate::token::next_token;
 use hcl_token::{Kind, MAX_TEXT, Span};
@@ -120,8 +120,9 @@ fn tokenize_str(
     tokens.reserve(text.len() / 8)?;
     let mut openings: Vec<Opening<'_>> = Vec::new(alloc);
     let mut at = push_mark(&mut tokens, bytes)?;
-    let mut mode = Mode::Expression;
+    let mut region = Region::Expression;
     'scan: loop {
+        let mode = mode_in(region, &openings);
         let next = next_token(text, at, mode);
         let start = next.start;
         match next.token {
@@ -136,8 +137,8 @@ fn tokenize_str(
                 let stop = start + len;
                 push_token(&mut tokens, start, stop, kind)?;
                 if can_change_openings(kind) {
-                    update_openings(&mut openings, kind, slice(bytes, start, stop), start)?;
-                    mode = mode_of(&openings);
+                    let spelling = slice(bytes, start, stop);
+                    update_openings(&mut openings, &mut region, kind, spelling, start)?;
                 }
                 at = stop;
             }

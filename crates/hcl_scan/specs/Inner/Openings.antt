@@ -2,6 +2,8 @@
 use Rattle.std.specs.Prelude.{ℕ, Bool, not, ◌||◌, ◌==◌, List, [], ◌∷◌, map, reverse}
 use Rattle.hcl_scan.specs.declared.mode.Mode.{Mode as Reading}
 use Rattle.hcl_scan.specs.declared.mode.Mode.TheVariants.{Expression as InExpression, Sequence as InSequence, Braces as InBraces, Quoted as InQuoted, Heredoc as InHeredoc}
+use Rattle.hcl_scan.specs.declared.mode.Region.{Region}
+use Rattle.hcl_scan.specs.declared.mode.Region.TheVariants.{Expression as ExpressionRegion, Sequence as SequenceRegion, Braces as BracesRegion, Quoted as QuotedRegion, Heredoc as HeredocRegion}
 use Rattle.hcl_scan.specs.declared.mode.Opening.{Opening}
 use Rattle.hcl_scan.specs.Modes.{Mode}
 use Rattle.hcl_scan.specs.Modes.Mode.{Expression, Sequence, Braces, Quoted, Heredoc}
@@ -12,6 +14,14 @@ mode_view InSequence = Sequence
 mode_view InBraces = Braces
 mode_view InQuoted = Quoted
 mode_view (InHeredoc name at_line_start) = Heredoc name.now at_line_start
+
+-- the mode without its marker
+abbrev pub region_of : Mode → Region
+region_of Expression = ExpressionRegion
+region_of Sequence = SequenceRegion
+region_of Braces = BracesRegion
+region_of Quoted = QuotedRegion
+region_of (Heredoc name at_line_start) = HeredocRegion
 
 -- innermost first
 abbrev pub modes_of : List Opening → List Mode

@@ -7,7 +7,7 @@ use Rattle.hcl_scan.specs.Modes.Mode.{Expression}
 use Rattle.hcl_scan.specs.Fault.{EndsInFault}
 use Rattle.hcl_scan.specs.Inner.OpeningPlaces.{innermost_place}
 use Rattle.hcl_scan.specs.Inner.Markers.{HasMarker}
-use Rattle.hcl_scan.specs.Inner.Openings.{mode_view, modes_of, places_of}
+use Rattle.hcl_scan.specs.Inner.Openings.{mode_view, region_of, modes_of, places_of}
 use Rattle.hcl_scan.specs.Inner.MarkToken.{mark_tokens}
 use Rattle.hcl_scan.proofs.TokenizedTo.{IsTokenizedTo}
 use Rattle.hcl_scan.proofs.MarkLemmas.{started}
@@ -23,7 +23,7 @@ scan-init c =
     let begun = subst₂ (λ (x : List Span) n. IsTokenizedTo text x n [] []) (sym tokens) (sym c.in_ok-at.ensures.length) (started text c.as_bytes-bytes.ensures.utf8) in
     record {
       tokenization = subst (λ (o : List Opening). IsTokenizedTo text c.push_mark.new.tokens.items c.in_ok-at.at (modes_of o) (places_of o)) (sym none) begun;
-      mode = sym (ap (λ (o : List Opening). mode_of (modes_of o)) none);
+      region = sym (ap (λ (o : List Opening). region_of (mode_of (modes_of o))) none);
     }
 
 pub returns-then-is_done-clause-tokenization : goal.returns-then-is_done-clause-tokenization
@@ -33,7 +33,7 @@ returns-then-is_done-clause-tokenization c =
     let none = sym c.deref.ensures.value ∙ done.1 in
     let places = places_of c.scan.openings.items in
     let state = subst (λ (m : List Mode). IsTokenizedTo c.args.text.now c.scan.tokens.items c.scan.at m places) (ap modes_of none) (rw same at c.scan.invariant.tokenization) in
-    let mode : mode_view c.scan.mode ≡ Expression = c.scan.invariant.mode ∙ ap (λ x. mode_of (modes_of x)) none in
+    let mode : mode_view c.mode_in-mode.result ≡ Expression = c.mode_in-mode.ensures ∙ ap (λ x. mode_of (modes_of x)) none in
     let start = rw mode at c.next_token-next.ensures.gap in
     finished c.args.text.now c.scan.tokens.items c.scan.at c.next_token-next.result.start places c.requires c.utf8.text state start (rw same at done.0)
 
@@ -41,7 +41,7 @@ pub next_token-next-requires-clause-marker : goal.next_token-next-requires-claus
 next_token-next-requires-clause-marker c =
     let modes = modes_of c.scan.openings.items in
     let marked = marker_tokenized c.as_bytes-bytes.result.now c.scan.tokens.items c.scan.at modes (places_of c.scan.openings.items) c.scan.invariant.tokenization in
-    subst HasMarker (sym c.scan.invariant.mode) marked
+    subst HasMarker (sym c.mode_in-mode.ensures) marked
 
 pub returns-in-None-clause-fault : goal.returns-in-None-clause-fault
 returns-in-None-clause-fault c =
@@ -52,7 +52,7 @@ returns-in-None-clause-fault c =
     let modes = modes_of c.scan.openings.items in
     let places = places_of c.scan.openings.items in
     let state = rw same at c.scan.invariant.tokenization in
-    let mode = c.scan.invariant.mode in
+    let mode = c.mode_in-mode.ensures in
     let start_is = rw mode at c.next_token-next.ensures.gap in
     let none = rw mode at (sym c.next_token-next.ensures.token ∙ c.in-None.is) in
     let opened = c.innermost_template_start-opened.ensures ∙ ap (λ x. innermost_place (modes_of x) (places_of x)) c.deref-in-None.ensures.value in
@@ -73,7 +73,7 @@ scan-preserved c =
     let modes = modes_of c.scan.openings.items in
     let places = places_of c.scan.openings.items in
     let state = rw same at c.scan.invariant.tokenization in
-    let mode = c.scan.invariant.mode in
+    let mode = c.mode_in-mode.ensures in
     let start_is = rw mode at c.next_token-next.ensures.gap in
     let found = rw mode at (sym c.next_token-next.ensures.token ∙ c.in-Some.is) in
     let more = one_more text c.scan.tokens.items at modes places start kind c.in-Some.len state start_is found in
@@ -85,7 +85,7 @@ scan-preserved c =
     let next = subst₂ (λ (m : List Mode) (o : List ℕ). IsTokenizedTo text tokens stop m o) shifted placed more.1 in
     record {
       tokenization = subst₂ (λ (x : List ℕ) (xs : List Span). IsTokenizedTo x xs stop modes places) (sym same) (sym pushed) next;
-      mode = mode;
+      region = c.scan.invariant.region;
     }
 
 pub scan-preserved-in_ok-update_openings-in-Some : goal.scan-preserved-in_ok-update_openings-in-Some
@@ -99,18 +99,18 @@ scan-preserved-in_ok-update_openings-in-Some c =
     let modes = modes_of c.scan.openings.items in
     let places = places_of c.scan.openings.items in
     let state = rw same at c.scan.invariant.tokenization in
-    let mode = c.scan.invariant.mode in
+    let mode = c.mode_in-mode.ensures in
     let start_is = rw mode at c.next_token-next.ensures.gap in
     let found = rw mode at (sym c.next_token-next.ensures.token ∙ c.in-Some.is) in
     let more = one_more text c.scan.tokens.items at modes places start kind c.in-Some.len state start_is found in
     let item : Span = record { start = start; stop = stop; kind = kind } in
     let pushed = c.in_ok-push_token-in-Some.ensures in
-    let spelling = rw same at c.slice.ensures in
+    let spelling = rw same at c.slice-spelling.ensures in
     let shifted = c.in_ok-update_openings-in-Some.ensures.modes ∙ ap (λ (s : List ℕ). modes_after kind s modes) spelling in
     let placed = c.in_ok-update_openings-in-Some.ensures.places in
     let tokens = c.scan.tokens.items ++ item ∷ [] in
     let next = subst₂ (λ (m : List Mode) (o : List ℕ). IsTokenizedTo text tokens stop m o) (sym shifted) (sym placed) more.1 in
     record {
       tokenization = subst₂ (λ (x : List ℕ) (xs : List Span). IsTokenizedTo x xs stop (modes_of c.update_openings.new.openings.items) (places_of c.update_openings.new.openings.items)) (sym same) (sym pushed) next;
-      mode = c.mode_of-mode.ensures ∙ ap (λ x. mode_of (modes_of x)) c.deref-then-can_change_openings.ensures.value;
+      region = c.in_ok-update_openings-in-Some.ensures.region;
     }

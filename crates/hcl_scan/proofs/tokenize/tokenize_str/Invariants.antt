@@ -1,14 +1,14 @@
 use Rattle.std.proofs.Common.{◌≡◌, ◌-◌, length}
 use Rattle.hcl_scan.specs.Modes.{mode_of}
-use Rattle.hcl_scan.specs.Inner.Openings.{mode_view, modes_of, places_of}
+use Rattle.hcl_scan.specs.Inner.Openings.{region_of, modes_of, places_of}
 use Rattle.hcl_scan.proofs.TokenizedTo.{IsTokenizedTo}
 use Rattle.hcl_scan.proofs.tokenize.tokenize_str.Given as goal
 
--- the text up to the place is cut, and the mode is that of the innermost opening
+-- the text up to the place is cut, and the region is that of the innermost opening
 abbrev pub invariant-scan : goal.invariant-scan
 invariant-scan l = record {
   tokenization : IsTokenizedTo l.bytes l.tokens.items l.at (modes_of l.openings.items) (places_of l.openings.items);
-  mode : mode_view l.mode ≡ mode_of (modes_of l.openings.items);
+  region : l.region ≡ region_of (mode_of (modes_of l.openings.items));
 }
 
 abbrev pub decreases-scan : goal.decreases-scan
