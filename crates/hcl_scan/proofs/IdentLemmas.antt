@@ -1,5 +1,5 @@
 -- A character at a place, and what follows it.
-use Rattle.std.proofs.Common.{◌≡◌, ◌==◌, ◌||◌, true, false, inl, inr, Some, None, Bool, ℕ, ◌+◌, ◌-◌, ◌<◌, ◌≤◌, List, [], ◌∷◌, ◌++◌, slice_index, if◌then◌else◌, length, drop, IsUtf8, encode_utf8, refl, sym, ap, subst, ◌∙◌, arith, length-append, length-drop}
+use Rattle.std.proofs.Common.{◌≡◌, ◌==◌, ◌||◌, true, false, inl, inr, Some, None, Bool, ℕ, zero, suc, ◌+◌, ◌-◌, ◌<◌, ◌≤◌, List, [], ◌∷◌, ◌++◌, slice_index, if◌then◌else◌, length, drop, IsUtf8, encode_utf8, sym, ap, subst, ◌∙◌, arith, length-append, length-drop}
 use Rattle.std.proofs.lemmas.Str.{chars_past_char, drop_past_char, IsUtf8-past_char, length-encode, encode_ascii, chars-nil, len_utf8_ascii}
 use Rattle.std.proofs.lemmas.List.{drop_more, drop_all}
 use Rattle.std.specs.Char.{len_utf8}
@@ -71,22 +71,13 @@ id_continue_more text at n m next h on so_far =
     let rest = ap (λ k. id_continue_length (chars (drop k text))) place in
     (omega (arith, so_far.0, step.0, rest), subst (λ k. IsUtf8 (drop k text)) place step.1)
 
-module _ (text : List ℕ) (at : ℕ) (u : IsUtf8 (drop at text)) (h : at + 4 ≤ length text) (on : is_ascii_id_continue (slice_index text at) ≡ true) where
-  pub goes_on_1 : GoesOn text at 1
-  goes_on_1 =
-      let step = id_continue_at text at u (omega arith) on in
-      (sym step.0, step.1)
-
-  module _ (on_1 : is_ascii_id_continue (slice_index text (at + 1)) ≡ true) where
-    pub goes_on_2 : GoesOn text at 2
-    goes_on_2 = id_continue_more text at 1 2 refl (omega arith) on_1 goes_on_1
-
-    module _ (on_2 : is_ascii_id_continue (slice_index text (at + 2)) ≡ true) where
-      pub goes_on_3 : GoesOn text at 3
-      goes_on_3 = id_continue_more text at 2 3 refl (omega arith) on_2 goes_on_2
-
-      pub goes_on_4 : is_ascii_id_continue (slice_index text (at + 3)) ≡ true → GoesOn text at 4
-      goes_on_4 on_3 = id_continue_more text at 3 4 refl (omega arith) on_3 goes_on_3
+pub goes_on : (text : List ℕ) (at n : ℕ) → IsUtf8 (drop at text) → at + n ≤ length text → ((k : ℕ) → at ≤ k → k < at + n → is_ascii_id_continue (slice_index text k) ≡ true) → GoesOn text at n
+goes_on text at zero u h on =
+    let place : at ≡ at + 0 = omega arith in
+    let same = ap (λ k. id_continue_length (chars (drop k text))) (sym place) in
+    (omega (arith, same), subst (λ k. IsUtf8 (drop k text)) place u)
+goes_on text at (suc n) u h on =
+    id_continue_more text at n (suc n) (omega arith) (omega arith) (on (at + n) (omega arith) (omega arith)) (goes_on text at n u (omega arith) (λ k from to. on k from (omega arith)))
 
 -- the run ends
 pub continue_none : (text : List ℕ) (at : ℕ) → IsUtf8 (drop at text) → slice_index text at < 128 → is_ascii_id_continue (slice_index text at) ≡ false

@@ -9,6 +9,7 @@ pub mod Ends
 pub mod Exact
 pub mod ExactNumbers
 pub mod ExactPlain
+pub mod FlagLemmas
 pub mod Found
 pub mod MarkLemmas
 pub mod Heads

@@ -1,5 +1,5 @@
 -- Units: each fits into its text, and none begins only at the end or at an ASCII byte.
-use Rattle.std.proofs.Common.{◌≡◌, ℕ, suc, ◌+◌, ◌-◌, ◌<◌, ◌≤◌, Bool, true, false, not, ◌&&◌, ◌==◌, if◌then◌else◌, List, [], ◌∷◌, length, drop, slice_index, refl, sym, ap, ◌∙◌, arith, length-drop, drop-drop, get_or-drop}
+use Rattle.std.proofs.Common.{rules, ◌≡◌, ℕ, suc, ◌+◌, ◌-◌, ◌<◌, ◌≤◌, Bool, true, false, not, ◌&&◌, ◌==◌, if◌then◌else◌, List, [], ◌∷◌, length, drop, slice_index, refl, sym, ap, ◌∙◌, arith, length-drop, drop-drop, get_or-drop}
 use Rattle.std.proofs.lemmas.Bool.{cond_both, eqb-true, and_parts}
 use Rattle.std.proofs.lemmas.Bool.Decides.{nat_tests}
 use Rattle.std.proofs.lemmas.List.{at_drop_more}
@@ -8,6 +8,8 @@ use Rattle.hcl_scan.specs.Runs.{byte_unit}
 use Rattle.hcl_scan.specs.Characters.{is_at_line_end, is_sigil, sigil_length}
 use Rattle.hcl_scan.specs.Closing.{is_closing_line, heredoc_unit}
 use Rattle.hcl_scan.specs.Lexeme.{comment_unit, inline_unit, quote_unit, is_simple_escape, has_four_hex, escape_length}
+use Rattle.hcl_scan.specs.Inner.Openings.{is_not_line_break}
+use Rattle.hcl_scan.specs.Inner.RunLength.{is_ordinary_inline, is_ordinary_quoted, is_ordinary_heredoc, IsOrdinary}
 use Rattle.hcl_scan.proofs.TextLemmas.{in_text}
 
 -- ---- a unit fits into its text
@@ -135,3 +137,17 @@ pub quote_unit_escape : (text : List ℕ) (at n : ℕ) (at_line_start : Bool) �
 quote_unit_escape text at n at_line_start h is len some =
     let test : (n == 0) ≡ false = grind (arith, nat_tests) in
     rw (quote_unit_at text at at_line_start h, is, ← len, test) (omega arith)
+
+-- ---- bytes that are a unit whatever follows them, and end no line
+
+pub comment_ordinary : (b : ℕ) → is_not_line_break b ≡ true → IsOrdinary comment_unit b
+comment_ordinary b is = (λ t. search rules, grind (arith, nat_tests))
+
+pub inline_ordinary : (b : ℕ) → is_ordinary_inline b ≡ true → IsOrdinary inline_unit b
+inline_ordinary b is = (λ t. search rules, grind (arith, nat_tests))
+
+pub quote_ordinary : (b : ℕ) → is_ordinary_quoted b ≡ true → IsOrdinary quote_unit b
+quote_ordinary b is = (λ t. search rules, grind (arith, nat_tests))
+
+pub heredoc_ordinary : (marker : List ℕ) (b : ℕ) → is_ordinary_heredoc b ≡ true → IsOrdinary (heredoc_unit marker) b
+heredoc_ordinary marker b is = (λ t. search rules, grind (arith, nat_tests))

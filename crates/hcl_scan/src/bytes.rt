@@ -7,6 +7,8 @@ ghost use Rattle.hcl_scan.specs.Characters.{is_whitespace, is_at_line_end};
 ghost use Rattle.hcl_scan.specs.Inner.LexemeStarts.{is_letter, is_ascii_id_continue};
 ghost use Rattle.hcl_scan.specs.Inner.RunLength.{is_ordinary_quoted};
 
+use crate::sixteen::count_spaces;
+
 /// Flag of a byte that continues an identifier.
 const ID_CONTINUE: u8 = 1;
 
@@ -111,8 +113,54 @@ pub fn skip_whitespace(text: &[u8], from: usize) -> (usize, u8)
     }
 }
 
-/// `skip_whitespace` after the first space or tab.
+/// `skip_whitespace` after the first space or tab. Most often there is one alone.
 fn skip_more_whitespace(text: &[u8], from: usize) -> (usize, u8)
+    requires { from ≤ length text.now }
+    ensures value { result.0 ≡ from + prefix_len is_whitespace (drop from text.now) }
+    ensures within { result.0 ≤ length text.now }
+    ensures byte { result.1 ≡ slice_index text.now result.0 }
+    ensures byte_within { 0 < result.1 → result.0 < length text.now }
+{
+    let first = byte_at(text, from);
+    if is_whitespace(first) {
+        skip_indentation(text, from + 1)
+    } else {
+        (from, first)
+    }
+}
+
+/// `skip_whitespace` after two spaces or tabs, of which many lines have no more.
+fn skip_indentation(text: &[u8], from: usize) -> (usize, u8)
+    requires { from ≤ length text.now }
+    ensures value { result.0 ≡ from + prefix_len is_whitespace (drop from text.now) }
+    ensures within { result.0 ≤ length text.now }
+    ensures byte { result.1 ≡ slice_index text.now result.0 }
+    ensures byte_within { 0 < result.1 → result.0 < length text.now }
+{
+    let first = byte_at(text, from);
+    if is_whitespace(first) {
+        skip_whitespace_bytewise(text, skip_spaces(text, from))
+    } else {
+        (from, first)
+    }
+}
+
+/// Skips spaces from a place on, up to 16.
+fn skip_spaces(text: &[u8], from: usize) -> usize
+    requires { from ≤ length text.now }
+    ensures value { result + prefix_len is_whitespace (drop result text.now)
+        ≡ from + prefix_len is_whitespace (drop from text.now) }
+    ensures within { result ≤ length text.now }
+{
+    if from + 16 <= text.len() {
+        from + count_spaces(text, from)
+    } else {
+        from
+    }
+}
+
+/// `skip_whitespace`, byte by byte.
+fn skip_whitespace_bytewise(text: &[u8], from: usize) -> (usize, u8)
     requires { from ≤ length text.now }
     ensures value { result.0 ≡ from + prefix_len is_whitespace (drop from text.now) }
     ensures within { result.0 ≤ length text.now }

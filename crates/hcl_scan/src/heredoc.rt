@@ -9,6 +9,7 @@ ghost use Rattle.hcl_scan.specs.Inner.HeredocToken.{line_end_length, heredoc_sta
 use crate::bytes::{byte_at, is_at_line_end, slice, whitespace_end};
 use crate::ident::{identifier, is_word_start};
 use crate::runs::{Unit, is_sigil, run_end, sigil_len};
+use crate::sixteen::count_heredoc_bytes;
 use hcl_token::Kind;
 
 /// Whether a line ends at the place.
@@ -29,6 +30,7 @@ fn is_marker_at(text: &[u8], at: usize, marker: &[u8]) -> bool
 }
 
 /// Returns how many bytes the closing line has that begins at the place.
+#[inline(never)]
 fn closing_line_len(text: &[u8], at: usize, marker: &[u8]) -> Option<usize>
     requires { at ≤ length text.now }
     ensures { result ≡ (if is_closing_line marker.now (drop at text.now)
@@ -47,6 +49,7 @@ fn closing_line_len(text: &[u8], at: usize, marker: &[u8]) -> Option<usize>
 }
 
 /// `closing_line_len` if a line of the heredoc begins at the place.
+#[inline(always)]
 fn closing_token_len(text: &[u8], at: usize, marker: &[u8], at_line_start: bool) -> Option<usize>
     requires { at ≤ length text.now }
     ensures { result ≡ (if at_line_start && is_closing_line marker.now (drop at text.now)
@@ -83,6 +86,11 @@ impl<'t> Unit for HeredocUnit<'t> {
 
     fn is_ordinary(&self, b: u8) -> bool {
         !(is_sigil(b) | (b == b'\n'))
+    }
+
+    #[inline(always)]
+    fn count_ordinary_of_16(&self, text: &[u8], at: usize) -> usize {
+        count_heredoc_bytes(text, at)
     }
 }
 

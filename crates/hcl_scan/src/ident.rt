@@ -8,6 +8,7 @@ ghost use Rattle.hcl_scan.specs.Characters.{is_id_start, is_id_continue};
 ghost use Rattle.hcl_scan.specs.Inner.LexemeStarts.{is_letter, is_ascii_id_continue, is_word_start, id_continue_length, identifier};
 
 use crate::bytes::{byte_at, is_ascii_id_continue};
+use crate::sixteen::count_id_bytes;
 use hcl_token::Kind;
 use unicode_ident::{is_xid_continue, is_xid_start};
 
@@ -43,28 +44,18 @@ pub fn is_word_start(b: u8) -> bool
     b.is_ascii_alphabetic() | (b == b'_') | (128 <= b)
 }
 
-/// How many of the four bytes at a place continue an identifier, up to the first that does not.
-fn count_id_bytes_of_4(text: &str, at: usize) -> usize
-    requires within { at + 4 ≤ length text.now }
+/// How many of the 16 bytes at a place continue an identifier, up to the first that does not.
+#[inline(always)]
+fn count_id_bytes_of_16(text: &str, at: usize) -> usize
+    requires within { at + 16 ≤ length text.now }
     requires utf8 { IsUtf8 (drop at text.now) }
     ensures value { result + id_continue_length (chars (drop (at + result) text.now))
         ≡ id_continue_length (chars (drop at text.now)) }
-    ensures within { result ≤ 4 }
+    ensures within { result ≤ 16 }
     ensures rest { IsUtf8 (drop (at + result) text.now) }
-    ensures stops { result < 4 → is_ascii_id_continue (slice_index text.now (at + result)) ≡ false }
+    ensures stops { result < 16 → is_ascii_id_continue (slice_index text.now (at + result)) ≡ false }
 {
-    let bytes = text.as_bytes();
-    if !is_ascii_id_continue(bytes[at]) {
-        0
-    } else if !is_ascii_id_continue(bytes[at + 1]) {
-        1
-    } else if !is_ascii_id_continue(bytes[at + 2]) {
-        2
-    } else if !is_ascii_id_continue(bytes[at + 3]) {
-        3
-    } else {
-        4
-    }
+    count_id_bytes(text.as_bytes(), at)
 }
 
 /// The end of the ASCII characters from a place on that continue an identifier.
@@ -78,10 +69,10 @@ fn ascii_id_end(text: &str, from: usize) -> usize
     ensures stops { is_ascii_id_continue (slice_index text.now result) ≡ false }
 {
     let mut at = from;
-    while at + 4 <= text.len() {
-        let count = count_id_bytes_of_4(text, at);
+    while at + 16 <= text.len() {
+        let count = count_id_bytes_of_16(text, at);
         at += count;
-        if count < 4 {
+        if count < 16 {
             return at;
         }
     }

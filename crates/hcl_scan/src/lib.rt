@@ -15,6 +15,7 @@ mod number;
 mod operator;
 mod runs;
 mod scanned;
+mod sixteen;
 mod token;
 mod tokenize;
 

@@ -5,9 +5,10 @@ ghost use Rattle.std.specs.Char.{is_ascii_hexdigit};
 ghost use Rattle.hcl_scan.specs.Characters.{is_at_line_end, is_sigil, sigil_length};
 ghost use Rattle.hcl_scan.specs.Lexeme.{comment_unit, inline_unit, quote_unit, is_simple_escape, has_four_hex, escape_length};
 ghost use Rattle.hcl_scan.specs.Runs.{UnitLength};
-ghost use Rattle.hcl_scan.specs.Inner.RunLength.{run_length};
+ghost use Rattle.hcl_scan.specs.Inner.RunLength.{run_length, IsOrdinary};
 
 use crate::bytes::{byte_at, is_at_line_end, is_ordinary_quoted};
+use crate::sixteen::{count_comment_bytes, count_inline_bytes, count_quoted_bytes};
 
 /// A unit, given by its length.
 pub trait Unit {
@@ -25,27 +26,13 @@ pub trait Unit {
     fn is_ordinary(&self, b: u8) -> bool
         ensures unit { result ≡ true → (t : List ℕ) → len self.now false (b ∷ t) ≡ 1 }
         ensures line { result ≡ true → (b == 10) ≡ false };
-}
 
-/// Returns how many of the four bytes at a place are ordinary, up to the first that is not; no line
-/// begins there.
-fn count_ordinary_of_4<U: Unit>(unit: &U, text: &[u8], at: usize) -> usize
-    requires { at + 4 ≤ length text.now }
-    ensures run { result + run_length (U.len unit.now) false (drop (at + result) text.now)
-        ≡ run_length (U.len unit.now) false (drop at text.now) }
-    ensures within { result ≤ 4 }
-{
-    if !unit.is_ordinary(text[at]) {
-        0
-    } else if !unit.is_ordinary(text[at + 1]) {
-        1
-    } else if !unit.is_ordinary(text[at + 2]) {
-        2
-    } else if !unit.is_ordinary(text[at + 3]) {
-        3
-    } else {
-        4
-    }
+    /// Returns how many of the 16 bytes at a place are ordinary, up to one that need not be.
+    fn count_ordinary_of_16(&self, text: &[u8], at: usize) -> usize
+        requires { at + 16 ≤ length text.now }
+        ensures within { result ≤ 16 }
+        ensures ordinary { (k : ℕ) → at ≤ k → k < at + result
+            → IsOrdinary (len self.now) (slice_index text.now k) };
 }
 
 /// Returns the end of the ordinary bytes from a place on, at which no line begins.
@@ -57,10 +44,10 @@ fn ordinary_end<U: Unit>(unit: &U, text: &[u8], from: usize) -> usize
     ensures onward { from ≤ result }
 {
     let mut at = from;
-    while at + 4 <= text.len() {
-        let count = count_ordinary_of_4(unit, text, at);
+    while at + 16 <= text.len() {
+        let count = unit.count_ordinary_of_16(text, at);
         at += count;
-        if count < 4 {
+        if count < 16 {
             return at;
         }
     }
@@ -133,6 +120,11 @@ impl Unit for CommentUnit {
     fn is_ordinary(&self, b: u8) -> bool {
         !((b == b'\n') | (b == b'\r'))
     }
+
+    #[inline(always)]
+    fn count_ordinary_of_16(&self, text: &[u8], at: usize) -> usize {
+        count_comment_bytes(text, at)
+    }
 }
 
 /// Text of a comment that ends at `*/`.
@@ -151,6 +143,11 @@ impl Unit for InlineUnit {
 
     fn is_ordinary(&self, b: u8) -> bool {
         !((b == b'*') | (b == b'\n'))
+    }
+
+    #[inline(always)]
+    fn count_ordinary_of_16(&self, text: &[u8], at: usize) -> usize {
+        count_inline_bytes(text, at)
     }
 }
 
@@ -250,5 +247,10 @@ impl Unit for QuoteUnit {
 
     fn is_ordinary(&self, b: u8) -> bool {
         is_ordinary_quoted(b)
+    }
+
+    #[inline(always)]
+    fn count_ordinary_of_16(&self, text: &[u8], at: usize) -> usize {
+        count_quoted_bytes(text, at)
     }
 }

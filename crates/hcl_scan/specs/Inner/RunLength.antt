@@ -1,6 +1,6 @@
 -- The number of bytes of the longest run with which a text begins. `RunLemmas` of proofs/ shows
 -- that it is that.
-use Rattle.std.specs.Prelude.{ℕ, zero, suc, ◌-◌, ◌==◌, Bool, not, ◌||◌, List, [], ◌∷◌, if◌then◌else◌}
+use Rattle.std.specs.Prelude.{◌≡◌, false, ℕ, zero, suc, ◌-◌, ◌==◌, Bool, not, ◌||◌, List, [], ◌∷◌, if◌then◌else◌}
 use Rattle.hcl_scan.specs.Runs.{UnitLength}
 
 -- where the first `skip` bytes belong to a unit already
@@ -16,3 +16,14 @@ run_length unit at_line_start t = run_from unit at_line_start 0 t
 -- a byte that is a unit of quoted text whatever follows it
 abbrev pub is_ordinary_quoted : ℕ → Bool
 is_ordinary_quoted b = not (b == 34 || b == 36 || b == 37 || b == 92 || b == 10 || b == 13)
+
+-- the same of the text of a comment that ends at `*/`, and of a heredoc where no line begins
+abbrev pub is_ordinary_inline : ℕ → Bool
+is_ordinary_inline b = not (b == 42 || b == 10)
+
+abbrev pub is_ordinary_heredoc : ℕ → Bool
+is_ordinary_heredoc b = not (b == 36 || b == 37 || b == 10)
+
+-- the byte is a unit wherever no line begins, and ends no line
+abbrev pub IsOrdinary : UnitLength → ℕ → Type 0
+IsOrdinary unit b = ((t : List ℕ) → unit false (b ∷ t) ≡ 1) × ((b == 10) ≡ false)

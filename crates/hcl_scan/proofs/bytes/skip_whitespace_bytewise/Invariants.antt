@@ -1,7 +1,7 @@
 use Rattle.std.proofs.Common.{length, slice_index, ◌-◌, ◌≡◌, ◌+◌, ◌<◌, ◌≤◌, drop}
 use Rattle.std.specs.List.{prefix_len}
 use Rattle.hcl_scan.specs.Characters.{is_whitespace}
-use Rattle.hcl_scan.proofs.bytes.skip_more_whitespace.Given as goal
+use Rattle.hcl_scan.proofs.bytes.skip_whitespace_bytewise.Given as goal
 
 abbrev pub invariant-loop-first : goal.invariant-loop-first
 invariant-loop-first l = record {

@@ -1,0 +1,6 @@
+-- The bits that two tables of 16 numbers have in common at a byte: one by its low four bits, one by
+-- its high four bits.
+use Rattle.std.specs.Prelude.{ℕ, ◌/◌, List, slice_index, bit_and}
+
+abbrev pub flags_of : List ℕ → List ℕ → ℕ → ℕ
+flags_of low high b = bit_and (slice_index low (bit_and b 15)) (slice_index high (b / 16))
