@@ -8,3 +8,4 @@ pub mod PlaceLemmas
 pub mod TokenRangeLemmas
 pub mod TokensLemmas
 pub mod SameTokensLemmas
+pub mod TokenWordLemmas

@@ -1,11 +1,11 @@
 -- Tokens in order, and the parts of a text that they stand for.
-use Rattle.std.proofs.Common.{◌≡◌, ℕ, zero, suc, ◌+◌, ◌-◌, ◌<◌, ◌≤◌, List, [], ◌∷◌, ◌++◌, length, take, drop, get_or, slice_range, slice_get, Some, IsUtf8, refl, sym, ap, subst, ◌∙◌, arith, append_assoc, length-append, length-drop}
+use Rattle.std.proofs.Common.{◌≡◌, ℕ, zero, suc, ◌+◌, ◌-◌, ◌<◌, ◌≤◌, List, [], ◌∷◌, ◌++◌, length, take, drop, get_or, slice_range, slice_get, Some, IsUtf8, refl, sym, ap, ap₂, subst, ◌∙◌, arith, append_assoc, length-append, length-drop}
 use Rattle.std.proofs.lemmas.List.{append_cancel_right, length-take-le, get_or_default}
 use Rattle.std.proofs.lemmas.List.Folds.{drop_split}
 use Rattle.hcl_token.specs.declared.item.Item.{Item}
 use Rattle.hcl_token.specs.declared.span.Span.{Span}
 use Rattle.hcl_token.specs.Tokens.{Pair, whole_text}
-use Rattle.hcl_token.specs.Pairs.{pair_at, pairs_from, pairs_of, InOrder}
+use Rattle.hcl_token.specs.Pairs.{pair_at, pairs_from, pairs_of, spans_from, InOrder}
 use Rattle.hcl_token.specs.TokenizedText.{AreUtf8, item_after}
 use Rattle.hcl_token.specs.Inner.LineColumn.{gap_at, gap_from, IsWellFormed}
 
@@ -189,3 +189,24 @@ item_is text tokens last i at token o begins k =
     ∙ omega (arith, front, gap_len, spelling_len, k.gap, k.spelling, length-append gap spelling) in
     let item : Item = record { gap_at = at; start = token.start; stop = token.stop; kind = token.kind } in
     same_item item _ _ _ (begins ∙ sym front) (sym with_gap) (sym with_token)
+
+-- ---- tokens by the lengths of their pairs
+
+same_span : (token : Span) (start stop : ℕ) → token.start ≡ start → token.stop ≡ stop → ◌≡◌ {A = Span} token (record { start = start; stop = stop; kind = token.kind })
+same_span token start stop e f =
+    let with_start : ℕ → Span = λ n. record { start = n; stop = token.stop; kind = token.kind } in
+    let with_stop : ℕ → Span = λ n. record { start = start; stop = n; kind = token.kind } in
+    ap with_start e ∙ ap with_stop f
+
+pub spans_again : (text : List ℕ) (tokens : List Span) (from last : ℕ) → InOrder from tokens last → last ≤ length text → tokens ≡ spans_from from (pairs_from text from tokens)
+spans_again text [] from last o within = refl
+spans_again text (x ∷ tokens) from last o within =
+    let end : x.stop ≤ last = order-le tokens x.stop last o.2 in
+    let gap : List ℕ = slice_range text from x.start in
+    let spelling : List ℕ = slice_range text x.start x.stop in
+    let gap_len : length gap ≡ x.start - from = length-range text from x.start o.0 (omega (arith, o.1)) in
+    let spelling_len : length spelling ≡ x.stop - x.start = length-range text x.start x.stop o.1 (omega arith) in
+    let start : x.start ≡ from + length gap = omega (arith, o.0) in
+    let stop : x.stop ≡ from + length gap + length spelling = omega (arith, o.0, o.1) in
+    ap₂ (λ (t : Span) (l : List Span). t ∷ l) (same_span x _ _ start stop)
+    (spans_again text tokens x.stop last o.2 within ∙ ap (λ n. spans_from n (pairs_from text x.stop tokens)) stop)

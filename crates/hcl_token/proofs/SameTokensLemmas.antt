@@ -1,5 +1,5 @@
 -- Tokens of two texts that lie alike, and the bytes that they take.
-use Rattle.std.proofs.Common.{◌≡◌, ℕ, zero, suc, ◌+◌, ◌-◌, ◌%◌, ◌^◌, ◌<◌, ◌≤◌, List, [], ◌∷◌, length, take, drop, get_or, slice_range, refl, sym, ap, subst, ◌∙◌, arith, length-drop}
+use Rattle.std.proofs.Common.{◌≡◌, ℕ, zero, suc, ◌+◌, ◌-◌, ◌*◌, ◌%◌, ◌^◌, ◌<◌, ◌≤◌, List, [], ◌∷◌, length, take, drop, get_or, slice_range, ◌↔◌, ◌&&◌, Bool, true, false, IsTrue, below_more, refl, sym, ap, subst, ◌∙◌, arith, length-drop}
 use Rattle.std.proofs.lemmas.List.{get_or_default, take-take, drop-take, drop-drop, length-take-le}
 use Rattle.hcl_token.specs.declared.kind.Kind.{Kind}
 use Rattle.hcl_token.specs.declared.span.Span.{Span}
@@ -7,7 +7,9 @@ use Rattle.hcl_token.specs.Tokens.{Pair, whole_text}
 use Rattle.hcl_token.specs.Pairs.{pair_at, pairs_from, InOrder}
 use Rattle.hcl_token.specs.TokenizedText.{TokenizedText, pairs_in_range, without_first_gap}
 use Rattle.hcl_token.specs.Inner.LineColumn.{IsWellFormed, gap_at}
-use Rattle.hcl_token.specs.Inner.SameTokens.{none, IsShiftedBy, AreShiftedBy, IsTokenRun, token_run}
+use Rattle.hcl_token.specs.Inner.SameTokens.{none, IsShiftedBy, AreShiftedBy, AreWordsShiftedBy, IsTokenRun, token_run}
+use Rattle.hcl_token.specs.Inner.TokenWord.{number_of}
+use Rattle.hcl_token.proofs.TokenWordLemmas.{kind_same, number_below, words_alike, words_apart}
 use Rattle.hcl_token.proofs.OrderLemmas.{order-le, order-slice, gap-le, pairs-take, pairs-drop, length-range, text_is-slice}
 use Rattle.hcl_token.proofs.TokensLemmas.{IsViewOf}
 
@@ -151,22 +153,90 @@ run_text text tokens r =
     ∙ text_is-slice text tokens (begin_of tokens) r.order.1 (order-here tokens r.order.0 r.order.1 r.order.2 r.some)
     ∙ ap (slice_range text (begin_of tokens)) (sym (end_is text tokens r))
 
-pub same_places : (a b : List ℕ) (xs ys : List Span) (apart : ℕ) → IsTokenRun a xs → IsTokenRun b ys → (apart + begin_of ys) % 2 ^ 32 ≡ begin_of xs → token_run a xs ≡ token_run b ys → AreShiftedBy apart xs ys
-same_places a b xs ys apart r s base e =
-    let o = order-here xs r.order.0 r.order.1 r.order.2 r.some in
-    let u = order-here ys s.order.0 s.order.1 s.order.2 s.some in
-    lie_of a b apart (begin_of xs) (begin_of ys) r.order.1 s.order.1 (begin_of xs) (begin_of ys) xs ys base r.order.3 s.order.3 (omega (arith, r.order.3, r.short)) (omega arith) (omega arith) (omega arith) o u
-    (sym (run_is a xs r.some) ∙ e ∙ run_is b ys s.some)
+-- ---- words so far apart
 
-pub same_pairs : (a b : List ℕ) (xs ys : List Span) (apart : ℕ) → IsTokenRun a xs → IsTokenRun b ys → length xs ≡ length ys → (apart + begin_of ys) % 2 ^ 32 ≡ begin_of xs
-    → whole_text (token_run a xs) [] ≡ whole_text (token_run b ys) [] → AreShiftedBy apart xs ys → token_run a xs ≡ token_run b ys
-same_pairs a b xs ys apart r s number base same lie =
+pub and_more : (P : ℕ → Type 0) (k : ℕ) (a b : Bool) → IsTrue a ↔ ((m : ℕ) → m < k → P m) → IsTrue b ↔ P k → IsTrue (a && b) ↔ ((m : ℕ) → m < k + 1 → P m)
+and_more P k true true f g = (λ _. below_more P k (f.0 refl) (g.0 refl), λ _. refl)
+and_more P k true false f g = (λ h. absurd (cc), λ all. g.1 (all k (omega arith)))
+and_more P k false b f g = (λ h. absurd (cc), λ all. f.1 (λ m h. all m (omega arith)))
+
+token_within : (tokens : List Span) (at last k : ℕ) → InOrder at tokens last → k < length tokens
+    → (at ≤ (get_or tokens k none).start) × ((get_or tokens k none).start ≤ (get_or tokens k none).stop) × ((get_or tokens k none).stop ≤ last)
+token_within [] at last k o h = absurd (omega arith)
+token_within (x ∷ tokens) at last zero o h = (o.0, o.1, order-le tokens x.stop last o.2)
+token_within (x ∷ tokens) at last (suc k) o h =
+    let rest = token_within tokens x.stop last k o.2 (omega arith) in
+    (omega (arith, o.0, o.1, rest.0), rest.1, rest.2)
+
+-- the token of a run, at most MAX_TEXT
+within_run : (text : List ℕ) (tokens : List Span) (k : ℕ) → IsTokenRun text tokens → k < length tokens
+    → (begin_of tokens ≤ (get_or tokens k none).start) × ((get_or tokens k none).start ≤ (get_or tokens k none).stop) × ((get_or tokens k none).stop ≤ 16777216)
+within_run text tokens k r h =
+    let is = token_within tokens (begin_of tokens) r.order.1 k (order-here tokens r.order.0 r.order.1 r.order.2 r.some) h in
+    (is.0, is.1, omega (arith, is.2, r.order.3, r.short))
+
+abbrev pub shift_between : ℕ → ℕ → ℕ
+shift_between i j = (4294967552 * i + 2 ^ 64 - 4294967552 * j) % 2 ^ 64
+
+abbrev apart_between : ℕ → ℕ → ℕ
+apart_between i j = (i + 2 ^ 32 - j) % 2 ^ 32
+
+lies_apart : (i j : ℕ) → i < 2 ^ 32 → j < 2 ^ 32 → (apart_between i j + j) % 2 ^ 32 ≡ i
+lies_apart i j a b = omega arith
+
+lie_by_words : (a b : List ℕ) (xs ys : List Span) → IsTokenRun a xs → IsTokenRun b ys → length xs ≡ length ys → AreWordsShiftedBy (shift_between (begin_of xs) (begin_of ys)) xs ys
+    → AreShiftedBy (apart_between (begin_of xs) (begin_of ys)) xs ys
+lie_by_words a b xs ys r s number words = λ k h.
+    let x : Span = get_or xs k none in
+    let y : Span = get_or ys k none in
+    let xk = within_run a xs k r h in
+    let yk = within_run b ys k s (omega arith) in
+    let base = lies_apart (begin_of xs) (begin_of ys) (omega (arith, xk)) (omega (arith, yk)) in
+    let alike = words_alike (number_of x.kind) (number_of y.kind) x.start y.start x.stop y.stop (begin_of xs) (begin_of ys) (omega (arith, number_below x.kind)) (omega (arith, number_below y.kind))
+    xk.0 xk.1 xk.2 yk.0 yk.1 yk.2 (words k h) in
+    record {
+      kind = kind_same x.kind y.kind alike.0;
+      start = apart_from (apart_between (begin_of xs) (begin_of ys)) (begin_of xs) (begin_of ys) x.start y.start base alike.1 xk.0 (omega (arith, xk));
+      stop = apart_from (apart_between (begin_of xs) (begin_of ys)) (begin_of xs) (begin_of ys) x.stop y.stop base alike.2 (omega (arith, xk)) (omega (arith, xk));
+    }
+
+words_lie : (a b : List ℕ) (xs ys : List Span) → IsTokenRun a xs → IsTokenRun b ys → length xs ≡ length ys → AreShiftedBy (apart_between (begin_of xs) (begin_of ys)) xs ys
+    → AreWordsShiftedBy (shift_between (begin_of xs) (begin_of ys)) xs ys
+words_lie a b xs ys r s number lie = λ k h.
+    let x : Span = get_or xs k none in
+    let y : Span = get_or ys k none in
+    let one = lie k h in
+    let xk = within_run a xs k r h in
+    let yk = within_run b ys k s (omega arith) in
+    let base = lies_apart (begin_of xs) (begin_of ys) (omega (arith, xk)) (omega (arith, yk)) in
+    let start : x.start + begin_of ys ≡ y.start + begin_of xs = even_from (apart_between (begin_of xs) (begin_of ys)) (begin_of xs) (begin_of ys) x.start y.start base one.start xk.0 yk.0 (omega (arith, yk)) in
+    let stop : x.stop + begin_of ys ≡ y.stop + begin_of xs = even_from (apart_between (begin_of xs) (begin_of ys)) (begin_of xs) (begin_of ys) x.stop y.stop base one.stop (omega (arith, xk)) (omega (arith, yk)) (omega (arith, yk)) in
+    ap (λ n. (n + 256 * x.start + 4294967296 * x.stop + 2 ^ 64 - (number_of y.kind + 256 * y.start + 4294967296 * y.stop)) % 2 ^ 64) (ap number_of one.kind)
+    ∙ words_apart (number_of y.kind) x.start y.start x.stop y.stop (begin_of xs) (begin_of ys) (omega (arith, number_below y.kind)) xk.0 xk.1 xk.2 yk.0 yk.1 yk.2 start stop
+
+pub same_places : (a b : List ℕ) (xs ys : List Span) → IsTokenRun a xs → IsTokenRun b ys → length xs ≡ length ys → token_run a xs ≡ token_run b ys → AreWordsShiftedBy (shift_between (begin_of xs) (begin_of ys)) xs ys
+same_places a b xs ys r s number e =
     let o = order-here xs r.order.0 r.order.1 r.order.2 r.some in
     let u = order-here ys s.order.0 s.order.1 s.order.2 s.some in
+    let base = base_of a b xs ys r s in
+    words_lie a b xs ys r s number
+    (lie_of a b (apart_between (begin_of xs) (begin_of ys)) (begin_of xs) (begin_of ys) r.order.1 s.order.1 (begin_of xs) (begin_of ys) xs ys base r.order.3 s.order.3 (omega (arith, r.order.3, r.short)) (omega arith) (omega arith) (omega arith) o u
+    (sym (run_is a xs r.some) ∙ e ∙ run_is b ys s.some))
+  where
+    base_of : (a b : List ℕ) (xs ys : List Span) → IsTokenRun a xs → IsTokenRun b ys → (apart_between (begin_of xs) (begin_of ys) + begin_of ys) % 2 ^ 32 ≡ begin_of xs
+    base_of a b xs ys r s = lies_apart (begin_of xs) (begin_of ys) (omega (arith, within_run a xs 0 r r.some)) (omega (arith, within_run b ys 0 s s.some))
+
+pub same_pairs : (a b : List ℕ) (xs ys : List Span) → IsTokenRun a xs → IsTokenRun b ys → length xs ≡ length ys
+    → whole_text (token_run a xs) [] ≡ whole_text (token_run b ys) [] → AreWordsShiftedBy (shift_between (begin_of xs) (begin_of ys)) xs ys → token_run a xs ≡ token_run b ys
+same_pairs a b xs ys r s number same words =
+    let o = order-here xs r.order.0 r.order.1 r.order.2 r.some in
+    let u = order-here ys s.order.0 s.order.1 s.order.2 s.some in
+    let lie = lie_by_words a b xs ys r s number words in
+    let base = lies_apart (begin_of xs) (begin_of ys) (omega (arith, within_run a xs 0 r r.some)) (omega (arith, within_run b ys 0 s s.some)) in
     let bytes : slice_range a (begin_of xs) r.order.1 ≡ slice_range b (begin_of ys) s.order.1 =
     ap (slice_range a (begin_of xs)) (sym (end_is a xs r)) ∙ sym (run_text a xs r) ∙ same ∙ run_text b ys s ∙ ap (slice_range b (begin_of ys)) (end_is b ys s) in
     run_is a xs r.some
-    ∙ runs_same a b apart (begin_of xs) (begin_of ys) r.order.1 s.order.1 (begin_of xs) (begin_of ys) xs ys base (omega (arith, r.order.3, r.short)) (omega (arith, s.order.3, s.short)) (omega arith) (omega arith) (omega arith) o u number lie bytes
+    ∙ runs_same a b (apart_between (begin_of xs) (begin_of ys)) (begin_of xs) (begin_of ys) r.order.1 s.order.1 (begin_of xs) (begin_of ys) xs ys base (omega (arith, r.order.3, r.short)) (omega (arith, s.order.3, s.short)) (omega arith) (omega arith) (omega arith) o u number lie bytes
     ∙ sym (run_is b ys s.some)
 
 without_is : (text : List ℕ) (tokens : List Span) (from : ℕ) → without_first_gap (pairs_from text from tokens) ≡ token_run text tokens

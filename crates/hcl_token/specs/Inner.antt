@@ -4,3 +4,4 @@
 pub mod LineColumn
 pub mod AsciiText
 pub mod SameTokens
+pub mod TokenWord

@@ -1,5 +1,5 @@
 -- Which gaps and tokens are meant by a text and by where its tokens start and stop.
-use Rattle.std.specs.Prelude.{◌≡◌, ℕ, ◌≤◌, List, [], ◌∷◌, length, drop, slice_range}
+use Rattle.std.specs.Prelude.{◌≡◌, ℕ, ◌+◌, ◌≤◌, List, [], ◌∷◌, length, drop, slice_range}
 use Rattle.hcl_token.specs.declared.span.Span.{Span}
 use Rattle.hcl_token.specs.declared.tokens.TheConstants.{MAX_TEXT}
 use Rattle.hcl_token.specs.TokenizedText.{TokenizedText, AreUtf8}
@@ -22,6 +22,17 @@ pairs_from text at (token ∷ tokens) = pair_at text at token ∷ pairs_from tex
 
 abbrev pub pairs_of : List ℕ → List Span → List Pair
 pairs_of text tokens = pairs_from text 0 tokens
+
+-- the tokens of pairs that are in a text from this place on
+abbrev pub spans_from : ℕ → List Pair → List Span
+spans_from at [] = []
+spans_from at (p ∷ ps) =
+    record {
+      start = at + length p.gap;
+      stop = at + length p.gap + length p.spelling;
+      kind = p.kind;
+    }
+    ∷ spans_from (at + length p.gap + length p.spelling) ps
 
 -- the text with its tokens, and with what follows the last of them
 abbrev pub tokenized_text : List ℕ → List Span → ℕ → TokenizedText

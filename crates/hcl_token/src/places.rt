@@ -2,7 +2,7 @@
 
 ghost use Rattle.std.specs.Prelude.{◌≡◌, ◌<◌, ℕ, List, length};
 ghost use Rattle.hcl_token.specs.Tokens.{Pair};
-ghost use Rattle.hcl_token.specs.Pairs.{IsWellFormed, pairs_of};
+ghost use Rattle.hcl_token.specs.Pairs.{IsWellFormed, pairs_of, spans_from};
 ghost use Rattle.hcl_token.specs.Inner.LineColumn.{IsGapPlace};
 ghost use Rattle.hcl_token.specs.Place.{place_of};
 
@@ -41,6 +41,13 @@ impl<'s> Places<'s> {
             from: 0,
             at: FIRST_PLACE,
         }
+    }
+
+    /// Returns the tokens, each with its place in bytes.
+    pub fn spans(&self) -> &'s [Span]
+        ensures { result.now ≡ spans_from 0 self.now }
+    {
+        self.tokens
     }
 
     /// The line and the column of token `i`, from 1.

@@ -1,39 +1,39 @@
 //! Whether tokens of two texts are the same, by their bytes and their places.
 
-ghost use Rattle.std.specs.Prelude.{◌≡◌, ◌+◌, ◌%◌, ◌^◌, ◌↔◌, [], IsTrue, length};
-ghost use Rattle.hcl_token.specs.Inner.SameTokens.{IsTokenRun, AreShiftedBy, IsShiftedBy, token_run};
+ghost use Rattle.std.specs.Prelude.{◌≡◌, ◌≤◌, ◌+◌, ◌-◌, ◌*◌, ◌%◌, ◌^◌, ◌↔◌, [], IsTrue, length};
+ghost use Rattle.hcl_token.specs.declared.tokens.TheConstants.{MAX_TEXT};
+ghost use Rattle.hcl_token.specs.Inner.SameTokens.{AreWordsShiftedBy, IsTokenRun, IsWordShiftedBy, token_run};
 ghost use Rattle.hcl_token.specs.Tokens.{whole_text};
 
 use crate::line_column::slice;
-use crate::span::Span;
+use crate::span::{STEP, Span};
 
-/// Returns the distance from `other` to `one`, modulo 2^32.
-fn distance(one: u32, other: u32) -> u32
-    ensures { (result + other) % 2 ^ 32 ≡ one }
+/// Returns how far the words of two tokens lie apart, modulo 2^64, if they are of one kind and lie so
+/// far apart as places `to` and `from`.
+fn shift_of(to: u32, from: u32) -> u64
+    requires to { to ≤ MAX_TEXT }
+    requires from { from ≤ MAX_TEXT }
+    ensures { result ≡ (4294967552 * to + 2 ^ 64 - 4294967552 * from) % 2 ^ 64 }
 {
-    one.wrapping_sub(other)
+    (STEP * u64::from(to)).wrapping_sub(STEP * u64::from(from))
 }
 
-/// Whether a token is of the kind of another, and begins and ends `distance` bytes after it, modulo
-/// 2^32.
-fn is_shifted_by(one: Span, other: Span, distance: u32) -> bool
-    ensures { IsTrue result ↔ IsShiftedBy distance one other }
+fn is_shifted_by(one: Span, other: Span, shift: u64) -> bool
+    ensures { IsTrue result ↔ IsWordShiftedBy shift one other }
 {
-    one.kind() == other.kind()
-        && one.start().wrapping_sub(other.start()) == distance
-        && one.stop().wrapping_sub(other.stop()) == distance
+    one.word_distance(other) == shift
 }
 
-fn are_shifted_by(tokens: &[Span], others: &[Span], distance: u32) -> bool
+fn are_shifted_by(tokens: &[Span], others: &[Span], shift: u64) -> bool
     requires { length tokens.now ≡ length others.now }
-    ensures { IsTrue result ↔ AreShiftedBy distance tokens.now others.now }
+    ensures { IsTrue result ↔ AreWordsShiftedBy shift tokens.now others.now }
 {
+    // no early end: the processor does several tokens at once
+    let mut are_shifted = true;
     for k in 0..tokens.len() {
-        if !is_shifted_by(tokens[k], others[k], distance) {
-            return false;
-        }
+        are_shifted &= is_shifted_by(tokens[k], others[k], shift);
     }
-    true
+    are_shifted
 }
 
 /// The bytes of tokens and of the gaps between them.
@@ -51,7 +51,7 @@ fn same_bytes(bytes: &[u8], others: &[u8]) -> bool
 }
 
 /// Whether tokens are the same, with the same gaps between them. All their bytes are compared at
-/// once: then kinds and places are left.
+/// once: then kinds and places are left, which are in one word for each token.
 pub(crate) fn are_same_tokens(text: &[u8], tokens: &[Span], other: &[u8], others: &[Span]) -> bool
     requires self_run { IsTokenRun text.now tokens.now }
     requires other_run { IsTokenRun other.now others.now }
@@ -64,6 +64,6 @@ pub(crate) fn are_same_tokens(text: &[u8], tokens: &[Span], other: &[u8], others
     are_shifted_by(
         tokens,
         others,
-        distance(tokens[0].start(), others[0].start()),
+        shift_of(tokens[0].start(), others[0].start()),
     )
 }

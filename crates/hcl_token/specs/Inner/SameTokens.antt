@@ -1,10 +1,11 @@
 -- Tokens that lie alike in two texts.
-use Rattle.std.specs.Prelude.{◌≡◌, ℕ, ◌+◌, ◌%◌, ◌^◌, ◌<◌, ◌≤◌, List, [], ◌∷◌, length, slice_index_or}
+use Rattle.std.specs.Prelude.{◌≡◌, ℕ, ◌+◌, ◌-◌, ◌%◌, ◌^◌, ◌<◌, ◌≤◌, List, [], ◌∷◌, length, slice_index_or}
 use Rattle.hcl_token.specs.declared.kind.Kind.TheVariants.{Mark}
 use Rattle.hcl_token.specs.declared.span.Span.{Span}
 use Rattle.hcl_token.specs.declared.tokens.TheConstants.{MAX_TEXT}
 use Rattle.hcl_token.specs.Tokens.{Pair}
 use Rattle.hcl_token.specs.Pairs.{pairs_from, InOrder}
+use Rattle.hcl_token.specs.Inner.TokenWord.{word_of}
 
 -- what a look-up names where there is no token
 abbrev pub none : Span
@@ -20,6 +21,14 @@ pub record IsShiftedBy (distance : ℕ) (x y : Span) : Type 0 where
 abbrev pub AreShiftedBy : ℕ → List Span → List Span → Type 0
 AreShiftedBy distance xs ys =
     (k : ℕ) → k < length xs → IsShiftedBy distance (slice_index_or xs k none) (slice_index_or ys k none)
+
+-- the word of a token lies so far from that of another, modulo 2 ^ 64
+abbrev pub IsWordShiftedBy : ℕ → Span → Span → Type 0
+IsWordShiftedBy shift x y = (word_of x + 2 ^ 64 - word_of y) % 2 ^ 64 ≡ shift
+
+abbrev pub AreWordsShiftedBy : ℕ → List Span → List Span → Type 0
+AreWordsShiftedBy shift xs ys =
+    (k : ℕ) → k < length xs → IsWordShiftedBy shift (slice_index_or xs k none) (slice_index_or ys k none)
 
 -- consecutive tokens of a text, at least one
 pub record IsTokenRun (text : List ℕ) (tokens : List Span) : Type 0 where
