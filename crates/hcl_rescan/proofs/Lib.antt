@@ -1,2 +1,3 @@
 pub mod DepthLemmas
 pub mod LineLemmas
+pub mod MovedLemmas

@@ -17,9 +17,6 @@ use Rattle.hcl_scan.specs.Lexeme.{IsLexeme}
 use Rattle.hcl_scan.specs.Tokenization.{IsTokenization, MAX_TEXT}
 use Rattle.hcl_scan.specs.Follows.{following_text, AllowsNext, FollowsFrom, Follows, IsApart, AreApart, mark}
 use Rattle.hcl_rescan.specs.Inner.WholeLines.{EndsWithLineEnd, AreWholeLines, AreSelfContained, IsLineStart, IsLineRange, IsRescannedTo, IsRescanned, tokens_at}
-use Rattle.hcl_scan.proofs.MarkerLemmas.{markers_after, marker_of_mode}
-use Rattle.hcl_scan.proofs.FollowingText.{lexeme_filled}
-use Rattle.hcl_scan.proofs.OpenMarkers.{HaveMarkers}
 use Rattle.hcl_scan.proofs.PairLemmas.{modes_after_pairs, joining_rest}
 use Rattle.hcl_scan.proofs.WritesBack.{writes_back}
 
@@ -257,15 +254,6 @@ pair_there (q ∷ ps) (suc i) h = pair_there ps i (omega arith)
 
 -- ---- the text begun
 
-pub items_more : (ps : List Pair) (p : Pair) (at : ℕ) → tokens_at at (ps ++ p ∷ []) ≡ tokens_at at ps ++ tokens_at (at + length (whole_text ps [])) (p ∷ [])
-items_more [] p at = ap (λ n. tokens_at n (p ∷ [])) (omega arith)
-items_more (q ∷ ps) p at =
-    let next : ℕ = at + length q.gap + length q.spelling in
-    let far : next + length (whole_text ps []) ≡ at + length (whole_text (q ∷ ps) []) =
-    omega (arith, length-append q.gap (q.spelling ++ whole_text ps []), length-append q.spelling (whole_text ps [])) in
-    ap (λ (x : List Span). record { start = at + length q.gap; stop = next; kind = q.kind } ∷ x)
-    (items_more ps p next ∙ ap (λ n. tokens_at next ps ++ tokens_at n (p ∷ [])) far)
-
 range_at : (text a b rest : List ℕ) (at : ℕ) → drop at text ≡ a ++ (b ++ rest) → slice_range text (at + length a) (at + length a + length b) ≡ b
 range_at text a b rest at e =
     let width : at + length a + length b - (at + length a) ≡ length b = omega arith in
@@ -397,90 +385,12 @@ range_text cut from at to end whole f g le =
     front_end : end ≡ 0 + length (whole_text (take from cut.pairs) []) + length (whole_text (slice_range cut.pairs from to) [])
     front_end = g.place ∙ ap (λ (x : List Pair). length (whole_text x [])) (take_range cut.pairs from to le) ∙ length_both (take from cut.pairs) (slice_range cut.pairs from to) ∙ omega arith
 
--- ---- an item moved
+-- ---- where a pair begins
 
--- what is known of an item of a stretch that begins at this front
-pub record IsWithin (cut : TokenizedText) (from at i : ℕ) (item : Item) : Type 0 where
-  pub prefix : at ≤ MAX_TEXT
-  pub start : at ≤ item.start
-  pub stop : item.start ≤ item.stop
-  pub short : item.stop ≤ MAX_TEXT
-
-place_more : (cut : TokenizedText) (from at i : ℕ) → IsLineStart cut from at → from ≤ i → length (whole_text (take i cut.pairs) []) ≡ at + length (whole_text (slice_range cut.pairs from i) [])
-place_more cut from at i f le =
-    ap (λ (x : List Pair). length (whole_text x [])) (take_range cut.pairs from i le)
-    ∙ length_both (take from cut.pairs) (slice_range cut.pairs from i)
-    ∙ omega (arith, f.place)
-
-place_in : (cut : TokenizedText) (i : ℕ) → cut.text ≡ whole_text cut.pairs cut.last → length (whole_text (take i cut.pairs) []) ≤ length cut.text
+pub place_in : (cut : TokenizedText) (i : ℕ) → cut.text ≡ whole_text cut.pairs cut.last → length (whole_text (take i cut.pairs) []) ≤ length cut.text
 place_in cut i whole =
     let split : whole_text cut.pairs [] ≡ whole_text (take i cut.pairs ++ drop i cut.pairs) [] = ap (λ (x : List Pair). whole_text x []) (sym (take-append-drop i cut.pairs)) in
     omega (arith, ap length whole, joining_rest cut.pairs cut.last, ap length split, length_both (take i cut.pairs) (drop i cut.pairs))
-
-pub within_text : (cut : TokenizedText) (from at i : ℕ) (item : Item) → IsTokenization cut.text cut.pairs cut.last → IsLineStart cut from at → from ≤ i → i < length cut.pairs → Some item ≡ item_of cut.pairs i → IsWithin cut from at i item
-within_text cut from at i item c f le within e =
-    let there = pair_there cut.pairs i within in
-    let known : Placed cut.pairs i there.0 item = placed cut.pairs i there.0 item there.1 e in
-    let front : length (whole_text (take i cut.pairs) []) ≡ at + length (whole_text (slice_range cut.pairs from i) []) = place_more cut from at i f le in
-    let stop : length (whole_text (take (i + 1) cut.pairs) []) ≤ length cut.text = place_in cut (i + 1) c.tokenizes.text_is in
-    record {
-      prefix = omega (arith, front, stop, known.gap_at, known.stop, known.next, c.short);
-      start = omega (arith, front, known.start);
-      stop = omega (arith, known.start, known.stop);
-      short = omega (arith, stop, known.next, c.short);
-    }
-
--- a token behind others has a byte
-follow_filled : (ps rest : List Pair) (p : Pair) (modes : List Mode) (last : List ℕ) → HaveMarkers modes → FollowsFrom modes (ps ++ p ∷ rest) last [] → 0 < length p.spelling
-follow_filled [] rest p modes last m f = lexeme_filled (mode_of modes) p.kind p.spelling (following_text rest last) (marker_of_mode modes m) f.2
-follow_filled (q ∷ ps) rest p modes last m f =
-    follow_filled ps rest p (modes_after q.kind q.spelling modes) last (markers_after q.kind q.spelling (following_text (ps ++ p ∷ rest) last) modes f.2.1 m) f.4
-
--- an item of a stretch that fits from another place on begins before the end
-pub moved_fits : (cut : TokenizedText) (from at i end to : ℕ) (item : Item) → IsLineStart cut from at → from ≤ i → i < end → end ≤ length cut.pairs → Some item ≡ item_of cut.pairs i
-    → to + length (whole_text (slice_range cut.pairs from end) []) ≤ MAX_TEXT → to + (item.start - at) < MAX_TEXT
-moved_fits cut from at i end to item f le inside within e fits =
-    let ps : List Pair = cut.pairs in
-    let there = pair_there ps i (omega arith) in
-    let p : Pair = there.0 in
-    let before : List Pair = slice_range ps from i in
-    let known : Placed ps i p item = placed ps i p item there.1 e in
-    let front : length (whole_text (take i ps) []) ≡ at + length (whole_text before []) = place_more cut from at i f le in
-    let split : drop from ps ≡ before ++ p ∷ drop (suc i) ps = drop_split ps from i le ∙ ap (λ (x : List Pair). before ++ x) (one_at ps i p there.1) in
-    let some : 0 < length p.spelling =
-    follow_filled before (drop (suc i) ps) p [] cut.last tt (subst (λ (x : List Pair). FollowsFrom [] x cut.last []) split f.rest.follow) in
-    let here : length (whole_text (slice_range ps from (i + 1)) []) ≡ length (whole_text before []) + length (whole_text (p ∷ []) []) =
-    ap (λ (x : List Pair). length (whole_text x [])) (range_more ps from i p le there.1) ∙ length_both before (p ∷ []) in
-    let all : length (whole_text (slice_range ps from end) []) ≡ length (whole_text (slice_range ps from (i + 1)) []) + length (whole_text (slice_range ps (i + 1) end) []) =
-    ap (λ (x : List Pair). length (whole_text x [])) (range_split ps from (i + 1) end (omega arith) (omega arith))
-    ∙ length_both (slice_range ps from (i + 1)) (slice_range ps (i + 1) end) in
-    omega (arith, front, known.start, some, here, all, length_one p, fits)
-
-same_token : (token : Span) (start stop : ℕ) (kind : Kind) → token.start ≡ start → token.stop ≡ stop → token.kind ≡ kind
-    → ◌≡◌ {A = Span} token (record { start = start; stop = stop; kind = kind })
-same_token token start stop kind e f g =
-    let with_start : ℕ → Span = λ n. record { start = n; stop = token.stop; kind = token.kind } in
-    let with_stop : ℕ → Span = λ n. record { start = start; stop = n; kind = token.kind } in
-    let with_kind : Kind → Span = λ k. record { start = start; stop = stop; kind = k } in
-    ap with_start e ∙ ap with_stop f ∙ ap with_kind g
-
--- one item more of the stretch, as it stands from another place on
-pub moved_more : (cut : TokenizedText) (from at i to : ℕ) (item : Item) (other : Span) → IsLineStart cut from at → from ≤ i → i < length cut.pairs → Some item ≡ item_of cut.pairs i
-    → other.start ≡ to + (item.start - at) → other.stop ≡ to + (item.stop - at) → other.kind ≡ item.kind
-    → tokens_at to (slice_range cut.pairs from (i + 1)) ≡ tokens_at to (slice_range cut.pairs from i) ++ other ∷ []
-moved_more cut from at i to item other f le within e start stop kind =
-    let there = pair_there cut.pairs i within in
-    let p : Pair = there.0 in
-    let before : List Pair = slice_range cut.pairs from i in
-    let known : Placed cut.pairs i p item = placed cut.pairs i p item there.1 e in
-    let front : length (whole_text (take i cut.pairs) []) ≡ at + length (whole_text before []) = place_more cut from at i f le in
-    let far : ℕ = to + length (whole_text before []) in
-    let is : other ≡ record { start = far + length p.gap; stop = far + length p.gap + length p.spelling; kind = p.kind } =
-    same_token other (far + length p.gap) (far + length p.gap + length p.spelling) p.kind
-    (omega (arith, start, front, known.start)) (omega (arith, stop, front, known.stop)) (kind ∙ known.kind) in
-    ap (tokens_at to) (range_more cut.pairs from i p le there.1)
-    ∙ items_more before p to
-    ∙ ap (λ (x : Span). tokens_at to before ++ x ∷ []) (sym is)
 
 -- ---- from token to token
 

@@ -14,7 +14,8 @@ ghost use Rattle.hcl_scan.specs.ScanResult.{IsScanFault, IsScanResult};
 ghost use Rattle.hcl_scan.specs.Follows.{AreApart, FollowsFrom, IsApart};
 ghost use Rattle.hcl_rescan.specs.Inner.WholeLines.{AreSelfContained, EndsWithLineEnd, IsRescannedTo, IsLineStart, IsLineRange, IsRescanned, depth_after, tokens_at};
 
-use hcl_scan::{Item, Kind, MAX_TEXT, ScanFault, Scanned, Span, scan_in};
+use crate::moved::move_spans;
+use hcl_scan::{Kind, MAX_TEXT, ScanFault, Scanned, Span, scan_in};
 use std::alloc::{AllocError, Global};
 
 /// Bytes of an old text that were replaced: where they begin in the old text, in bytes from 0, how
@@ -149,20 +150,13 @@ fn next_line_start(
     Err(RescanFault::Mismatch)
 }
 
-/// Returns a token as it is if the bytes from place `from` on move to place `to`.
-fn relocate(item: Item, from: usize, to: usize) -> Span
-    requires start { from ≤ item.start }
-    requires stop { item.start ≤ item.stop }
-    requires from { from ≤ MAX_TEXT }
-    requires fits { to + (item.start - from) < MAX_TEXT }
-    requires short { item.stop ≤ MAX_TEXT }
-    ensures start { result.start ≡ to + (item.start - from) }
-    ensures stop { result.stop ≡ to + (item.stop - from) }
-    ensures kind { result.kind ≡ item.kind }
+/// Returns the tokens from one number on, up to another.
+fn span_range(spans: &[Span], from: usize, to: usize) -> &[Span]
+    requires ordered { from ≤ to }
+    requires within { to ≤ length spans.now }
+    ensures { result.now ≡ slice_range spans.now from to }
 {
-    let from = from as u32;
-    let to = to as u32;
-    Span::new(to + (item.start - from), to + (item.stop - from), item.kind)
+    &spans[from..to]
 }
 
 /// Adds tokens of a text, with their places in another one, where they begin at byte `at`.
@@ -182,9 +176,9 @@ fn push_relocated(
         ≡ tokens.old.items ++ tokens_at at (slice_range old.now.pairs from.index to)) }
 {
     let _text = old.text();
-    for i in from.index..to {
-        tokens.push(relocate(old.item(i), from.at, at))?;
-    }
+    let begin = tokens.len();
+    tokens.extend_from_slice(span_range(old.places().spans(), from.index, to))?;
+    move_spans(tokens.slice_mut(begin..), from.at as u32, at as u32);
     Ok(())
 }
 

@@ -2,5 +2,6 @@
 #![tactic(auto)]
 
 mod incremental;
+mod moved;
 
 pub use incremental::{ReplacedRange, rescan};

@@ -1,41 +1,49 @@
-use Rattle.std.proofs.Common.{◌++◌, List, ap, ◌∙◌, sym, append_assoc, arith, ◌≤◌, ◌<◌, length, [], ◌∷◌}
+use Rattle.std.proofs.Common.{◌≡◌, ◌++◌, ◌+◌, List, length, ap, sym, subst, ◌∙◌, arith, length-append}
+use Rattle.std.proofs.lemmas.List.{with_items_is}
 use Rattle.hcl_token.specs.declared.span.Span.{Span}
-use Rattle.hcl_rescan.specs.Inner.WholeLines.{tokens_at}
-use Rattle.std.specs.List.{slice_range}
-use Rattle.hcl_rescan.proofs.LineLemmas.{IsWithin, within_text, moved_fits, moved_more}
+use Rattle.hcl_token.specs.Pairs.{spans_from}
+use Rattle.hcl_rescan.specs.Inner.MovedSpans.{AreMovable, moved_spans}
+use Rattle.hcl_rescan.proofs.MovedLemmas.{behind_at, moved_length, spans_length, start_short, stretch_movable, stretch_moved, written}
 use Rattle.hcl_rescan.proofs.incremental.push_relocated.Goals as goal
 
-known : (c : goal.After-item) → IsWithin c.args.old.now c.args.from.index c.args.from.at c.loop-i.i c.item.result
-known c =
-    within_text c.args.old.now c.args.from.index c.args.from.at c.loop-i.i c.item.result c.text-text.ensures.tokenization c.requires.line_start (omega arith) (omega arith) c.item.ensures
+pub span_range-requires-clause-within : goal.span_range-requires-clause-within
+span_range-requires-clause-within c =
+    let known = c.spans.ensures ∙ ap (spans_from 0) c.places.ensures in
+    omega (arith, ap length known, spans_length 0 c.args.old.now.pairs, c.requires.within)
 
-pub relocate-requires-clause-start : goal.relocate-requires-clause-start
-relocate-requires-clause-start c = (known c).start
+pub overflow_cast-from : goal.overflow_cast-from
+overflow_cast-from c = record { fits = omega (arith, start_short c.args.old.now c.args.from.index c.args.from.at c.text-text.ensures.tokenization c.requires.line_start) }
 
-pub relocate-requires-clause-stop : goal.relocate-requires-clause-stop
-relocate-requires-clause-stop c = (known c).stop
-
-pub relocate-requires-clause-from : goal.relocate-requires-clause-from
-relocate-requires-clause-from c = (known c).prefix
-
-pub relocate-requires-clause-short : goal.relocate-requires-clause-short
-relocate-requires-clause-short c = (known c).short
-
-pub relocate-requires-clause-fits : goal.relocate-requires-clause-fits
-relocate-requires-clause-fits c =
-    moved_fits c.args.old.now c.args.from.index c.args.from.at c.loop-i.i c.args.to c.args.at c.item.result c.requires.line_start (omega arith) (omega arith) c.requires.within c.item.ensures c.requires.fits
-
-pub loop-i-preserved : goal.loop-i-preserved
-loop-i-preserved c =
+pub move_spans-requires : goal.move_spans-requires
+move_spans-requires c =
     let old = c.args.old.now in
-    let from = c.args.from.index in
-    let i = c.loop-i.i in
+    let from = c.args.from in
+    let known = c.spans.ensures ∙ ap (spans_from 0) c.places.ensures in
+    let is = c.slice_mut.ensures.value
+    ∙ behind_at c.extend_from_slice.new.self.items c.args.tokens.now.items c.span_range.result.now c.len-begin.result _ c.in_ok-extend_from_slice.ensures.items
+    (c.len-begin.ensures ∙ c.args.tokens.now.ok.0) c.extend_from_slice.new.self.ok.0
+    ∙ c.span_range.ensures in
+    subst (AreMovable from.at c.args.at) (sym is) (stretch_movable old from.index from.at c.args.to c.args.at c.spans.result.now c.requires.line_start known c.requires.ordered c.requires.fits)
+
+pub returns : goal.returns
+returns c =
+    let old = c.args.old.now in
+    let from = c.args.from in
+    let at = c.args.at in
     let first = c.args.tokens.now.items in
-    let so_far = tokens_at c.args.at (slice_range old.pairs from i) in
-    let ordered : from ≤ i = omega arith in
-    let within : i < length old.pairs = omega arith in
-    let more = moved_more old from c.args.from.at i c.args.at c.item.result c.relocate.result c.requires.line_start ordered within c.item.ensures c.relocate.ensures.start c.relocate.ensures.stop c.relocate.ensures.kind in
-    c.in_ok-push.ensures.items
-    ∙ ap (λ (x : List Span). x ++ c.relocate.result ∷ []) c.loop-i.invariant
-    ∙ append_assoc first so_far (c.relocate.result ∷ [])
-    ∙ ap (λ (x : List Span). first ++ x) (sym more)
+    let items = c.extend_from_slice.new.self.items in
+    let more = c.span_range.result.now in
+    let new = c.move_spans.new.spans in
+    let begin = c.len-begin.result in
+    let known = c.spans.ensures ∙ ap (spans_from 0) c.places.ensures in
+    let all = c.in_ok-extend_from_slice.ensures.items in
+    let begins = c.len-begin.ensures ∙ c.args.tokens.now.ok.0 in
+    let is = c.slice_mut.ensures.value ∙ behind_at items first more begin _ all begins c.extend_from_slice.new.self.ok.0 in
+    let moved = c.move_spans.ensures ∙ ap (moved_spans from.at at) is in
+    let same : length new ≡ length more = ap length moved ∙ moved_length from.at at more in
+    let put = written items first more new begin all begins same in
+    let size = ap length put ∙ length-append first new ∙ ap (λ n. length first + n) same ∙ sym (length-append first more) ∙ sym (ap length all) ∙ sym c.extend_from_slice.new.self.ok.0 in
+    with_items_is c.extend_from_slice.new.self _ size
+    ∙ put
+    ∙ ap (λ (x : List Span). first ++ x)
+    (moved ∙ ap (moved_spans from.at at) c.span_range.ensures ∙ stretch_moved old from.index from.at c.args.to at c.spans.result.now c.requires.line_start known)
