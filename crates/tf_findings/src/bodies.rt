@@ -3,25 +3,28 @@
 ghost use Rattle.std.specs.Prelude.{◌≡◌, ◌∷◌, [], map, OnOk, IfOk};
 ghost use Rattle.hcl_grammar.specs.declared.tree.Content.{out-Content};
 ghost use Rattle.hcl_grammar.specs.declared.tree.Member.{out-Member};
+ghost use Rattle.tf_rules.specs.Unbroken.{AreUnbroken};
 ghost use Rattle.tf_findings.specs.Inner.Collects.{Collects};
 ghost use Rattle.tf_findings.specs.TreeFindings.{AreAddedFindings, AreTreeFindings};
 ghost use Rattle.tf_rules.specs.Preorder.{member, member_children, content_children, option_children};
 
 use crate::expressions::walk_expr;
+use crate::walk::WalkContext;
 use hcl_grammar::tree::{Attribute, Content, Member, Tree};
 use hcl_grammar::{Boxed, Items};
 use hcl_scan::Scanned;
 use std::alloc::{AllocError, Global};
-use tf_rules::{Finding, LintContext, Role, RuleSet};
+use tf_rules::{Finding, LintContext, Role, RuleSet, Unbroken};
 
 #[cycle(bodies)]
 fn walk_members(
-    cx: &LintContext<'_, '_>,
+    cx: &WalkContext<'_, '_>,
     members: &Items<Member>,
     found: &mut Vec<Finding>,
 ) -> Result<(), AllocError>
+    requires { AreUnbroken cx.now.lint.scanned.now.pairs cx.now.unbroken.first cx.now.unbroken.past }
     ensures { OnOk result
-        (Collects cx.now.rules cx.now.scanned.now.pairs
+        (Collects cx.now.lint.rules cx.now.lint.scanned.now.pairs
         (map member members.now) found.old.items found.new.items) }
 {
     for x in members.as_slice() {
@@ -32,12 +35,13 @@ fn walk_members(
 
 #[cycle(bodies)]
 fn walk_member(
-    cx: &LintContext<'_, '_>,
+    cx: &WalkContext<'_, '_>,
     x: &Member,
     found: &mut Vec<Finding>,
 ) -> Result<(), AllocError>
+    requires { AreUnbroken cx.now.lint.scanned.now.pairs cx.now.unbroken.first cx.now.unbroken.past }
     ensures { OnOk result
-        (Collects cx.now.rules cx.now.scanned.now.pairs
+        (Collects cx.now.lint.rules cx.now.lint.scanned.now.pairs
         (member_children (out-Member x.now)) found.old.items found.new.items) }
 {
     match x {
@@ -48,12 +52,13 @@ fn walk_member(
 
 #[cycle(bodies)]
 fn walk_content(
-    cx: &LintContext<'_, '_>,
+    cx: &WalkContext<'_, '_>,
     content: &Content,
     found: &mut Vec<Finding>,
 ) -> Result<(), AllocError>
+    requires { AreUnbroken cx.now.lint.scanned.now.pairs cx.now.unbroken.first cx.now.unbroken.past }
     ensures { OnOk result
-        (Collects cx.now.rules cx.now.scanned.now.pairs
+        (Collects cx.now.lint.rules cx.now.lint.scanned.now.pairs
         (content_children (out-Content content.now)) found.old.items found.new.items) }
 {
     match content {
@@ -63,12 +68,13 @@ fn walk_content(
 }
 
 fn walk_optional_attribute(
-    cx: &LintContext<'_, '_>,
+    cx: &WalkContext<'_, '_>,
     a: &Option<Boxed<Attribute>>,
     found: &mut Vec<Finding>,
 ) -> Result<(), AllocError>
+    requires { AreUnbroken cx.now.lint.scanned.now.pairs cx.now.unbroken.first cx.now.unbroken.past }
     ensures { OnOk result
-        (Collects cx.now.rules cx.now.scanned.now.pairs
+        (Collects cx.now.lint.rules cx.now.lint.scanned.now.pairs
         (option_children a.now) found.old.items found.new.items) }
 {
     match a {
@@ -91,7 +97,10 @@ pub fn tree_findings(
         (λ found. AreTreeFindings rules scanned.now.pairs
         (map member tree.now.body.members) found.items) }
 {
-    let cx = LintContext { scanned, rules };
+    let cx = WalkContext {
+        lint: LintContext { scanned, rules },
+        unbroken: Unbroken::none(),
+    };
     let mut found = Vec::new(alloc);
     walk_members(&cx, &tree.body.members, &mut found)?;
     Ok(found)
@@ -110,6 +119,9 @@ pub fn add_node_findings(
     ensures { OnOk result
         (AreAddedFindings rules scanned.now.pairs (member x.now ∷ []) found.old.items found.new.items) }
 {
-    let cx = LintContext { scanned, rules };
+    let cx = WalkContext {
+        lint: LintContext { scanned, rules },
+        unbroken: Unbroken::none(),
+    };
     walk_member(&cx, x, found)
 }

@@ -8,42 +8,46 @@ ghost use Rattle.hcl_grammar.specs.declared.tree.Primary.{out-Primary};
 ghost use Rattle.hcl_grammar.specs.declared.tree.Tail.{out-Tail};
 ghost use Rattle.hcl_grammar.specs.declared.tree.Part.{out-Part};
 ghost use Rattle.tf_rules.specs.declared.role.Role.TheVariants as role;
+ghost use Rattle.tf_rules.specs.Unbroken.{AreUnbroken};
 ghost use Rattle.tf_findings.specs.Inner.Collects.{Collects};
 ghost use Rattle.tf_rules.specs.Preorder.{Node, expr, term, tail, part, elem_children, expr_kind_children, primary_children, nodes_of_tails, filter_children, else_children, part_children, for_tuple_children, for_object_children, if_children, splat_after, tail_children};
 
+use crate::walk::WalkContext;
 use hcl_grammar::tree::{
     Elem, Expr, ExprKind, ForDirective, ForObject, ForTuple, IfDirective, Operation, Part, Primary,
     Tail, Template, Term,
 };
 use hcl_grammar::{Boxed, Items};
 use std::alloc::AllocError;
-use tf_rules::{Finding, LintContext, Role, check_expr, check_tail, check_term};
+use tf_rules::{Finding, Role, check_expr, check_tail, check_term_beyond};
 
 #[cycle(expressions)]
 pub fn walk_expr(
-    cx: &LintContext<'_, '_>,
+    cx: &WalkContext<'_, '_>,
     role: Role,
     e: &Expr,
     found: &mut Vec<Finding>,
 ) -> Result<(), AllocError>
+    requires { AreUnbroken cx.now.lint.scanned.now.pairs cx.now.unbroken.first cx.now.unbroken.past }
     ensures { OnOk result
-        (Collects cx.now.rules cx.now.scanned.now.pairs
+        (Collects cx.now.lint.rules cx.now.lint.scanned.now.pairs
         (expr role e.now ∷ []) found.old.items found.new.items) }
 {
-    check_expr(cx, role, e, found)?;
+    check_expr(&cx.lint, role, e, found)?;
     walk_expr_kind(cx, role, &e.kind, found)?;
     Ok(())
 }
 
 #[cycle(expressions)]
 fn walk_expr_kind(
-    cx: &LintContext<'_, '_>,
+    cx: &WalkContext<'_, '_>,
     role: Role,
     kind: &ExprKind,
     found: &mut Vec<Finding>,
 ) -> Result<(), AllocError>
+    requires { AreUnbroken cx.now.lint.scanned.now.pairs cx.now.unbroken.first cx.now.unbroken.past }
     ensures { OnOk result
-        (Collects cx.now.rules cx.now.scanned.now.pairs
+        (Collects cx.now.lint.rules cx.now.lint.scanned.now.pairs
         (expr_kind_children role (out-ExprKind kind.now)) found.old.items found.new.items) }
 {
     match kind {
@@ -76,13 +80,14 @@ fn walk_expr_kind(
 
 #[cycle(expressions)]
 fn walk_boxed(
-    cx: &LintContext<'_, '_>,
+    cx: &WalkContext<'_, '_>,
     role: Role,
     e: &Boxed<Expr>,
     found: &mut Vec<Finding>,
 ) -> Result<(), AllocError>
+    requires { AreUnbroken cx.now.lint.scanned.now.pairs cx.now.unbroken.first cx.now.unbroken.past }
     ensures { OnOk result
-        (Collects cx.now.rules cx.now.scanned.now.pairs
+        (Collects cx.now.lint.rules cx.now.lint.scanned.now.pairs
         (expr role e.now ∷ []) found.old.items found.new.items) }
 {
     walk_expr(cx, role, e.get(), found)
@@ -90,12 +95,13 @@ fn walk_boxed(
 
 #[cycle(expressions)]
 fn walk_operations(
-    cx: &LintContext<'_, '_>,
+    cx: &WalkContext<'_, '_>,
     operations: &Items<Operation>,
     found: &mut Vec<Finding>,
 ) -> Result<(), AllocError>
+    requires { AreUnbroken cx.now.lint.scanned.now.pairs cx.now.unbroken.first cx.now.unbroken.past }
     ensures { OnOk result
-        (Collects cx.now.rules cx.now.scanned.now.pairs
+        (Collects cx.now.lint.rules cx.now.lint.scanned.now.pairs
         (map (λ (l : Operation). expr role.Elsewhere l.operand) operations.now) found.old.items
         found.new.items) }
 {
@@ -107,12 +113,13 @@ fn walk_operations(
 
 #[cycle(expressions)]
 fn walk_tails(
-    cx: &LintContext<'_, '_>,
+    cx: &WalkContext<'_, '_>,
     tails: &Items<Tail>,
     found: &mut Vec<Finding>,
 ) -> Result<(), AllocError>
+    requires { AreUnbroken cx.now.lint.scanned.now.pairs cx.now.unbroken.first cx.now.unbroken.past }
     ensures { OnOk result
-        (Collects cx.now.rules cx.now.scanned.now.pairs
+        (Collects cx.now.lint.rules cx.now.lint.scanned.now.pairs
         (nodes_of_tails false tails.now) found.old.items found.new.items) }
 {
     let mut splat = false;
@@ -125,28 +132,30 @@ fn walk_tails(
 
 #[cycle(expressions)]
 fn walk_tail(
-    cx: &LintContext<'_, '_>,
+    cx: &WalkContext<'_, '_>,
     splat: bool,
     t: &Tail,
     found: &mut Vec<Finding>,
 ) -> Result<(), AllocError>
+    requires { AreUnbroken cx.now.lint.scanned.now.pairs cx.now.unbroken.first cx.now.unbroken.past }
     ensures { OnOk result
-        (Collects cx.now.rules cx.now.scanned.now.pairs
+        (Collects cx.now.lint.rules cx.now.lint.scanned.now.pairs
         (tail splat t.now ∷ []) found.old.items found.new.items) }
 {
-    check_tail(cx, splat, t, found)?;
+    check_tail(&cx.lint, splat, t, found)?;
     walk_tail_children(cx, t, found)?;
     Ok(())
 }
 
 #[cycle(expressions)]
 fn walk_tail_children(
-    cx: &LintContext<'_, '_>,
+    cx: &WalkContext<'_, '_>,
     t: &Tail,
     found: &mut Vec<Finding>,
 ) -> Result<(), AllocError>
+    requires { AreUnbroken cx.now.lint.scanned.now.pairs cx.now.unbroken.first cx.now.unbroken.past }
     ensures { OnOk result
-        (Collects cx.now.rules cx.now.scanned.now.pairs
+        (Collects cx.now.lint.rules cx.now.lint.scanned.now.pairs
         (tail_children (out-Tail t.now)) found.old.items found.new.items) }
 {
     match t {
@@ -160,13 +169,14 @@ fn walk_tail_children(
 
 #[cycle(expressions)]
 fn walk_exprs(
-    cx: &LintContext<'_, '_>,
+    cx: &WalkContext<'_, '_>,
     role: Role,
     es: &Items<Expr>,
     found: &mut Vec<Finding>,
 ) -> Result<(), AllocError>
+    requires { AreUnbroken cx.now.lint.scanned.now.pairs cx.now.unbroken.first cx.now.unbroken.past }
     ensures { OnOk result
-        (Collects cx.now.rules cx.now.scanned.now.pairs
+        (Collects cx.now.lint.rules cx.now.lint.scanned.now.pairs
         (map (expr role) es.now) found.old.items found.new.items) }
 {
     for e in es.as_slice() {
@@ -177,12 +187,13 @@ fn walk_exprs(
 
 #[cycle(expressions)]
 fn walk_elems(
-    cx: &LintContext<'_, '_>,
+    cx: &WalkContext<'_, '_>,
     xs: &Items<Elem>,
     found: &mut Vec<Finding>,
 ) -> Result<(), AllocError>
+    requires { AreUnbroken cx.now.lint.scanned.now.pairs cx.now.unbroken.first cx.now.unbroken.past }
     ensures { OnOk result
-        (Collects cx.now.rules cx.now.scanned.now.pairs
+        (Collects cx.now.lint.rules cx.now.lint.scanned.now.pairs
         (flat_map elem_children xs.now) found.old.items found.new.items) }
 {
     for x in xs.as_slice() {
@@ -194,12 +205,13 @@ fn walk_elems(
 
 #[cycle(expressions)]
 fn walk_filter(
-    cx: &LintContext<'_, '_>,
+    cx: &WalkContext<'_, '_>,
     filter: &Option<Boxed<Expr>>,
     found: &mut Vec<Finding>,
 ) -> Result<(), AllocError>
+    requires { AreUnbroken cx.now.lint.scanned.now.pairs cx.now.unbroken.first cx.now.unbroken.past }
     ensures { OnOk result
-        (Collects cx.now.rules cx.now.scanned.now.pairs
+        (Collects cx.now.lint.rules cx.now.lint.scanned.now.pairs
         (filter_children filter.now) found.old.items found.new.items) }
 {
     match filter {
@@ -210,28 +222,35 @@ fn walk_filter(
 
 #[cycle(expressions)]
 fn walk_term(
-    cx: &LintContext<'_, '_>,
+    cx: &WalkContext<'_, '_>,
     role: Role,
     t: &Term,
     found: &mut Vec<Finding>,
 ) -> Result<(), AllocError>
+    requires { AreUnbroken cx.now.lint.scanned.now.pairs cx.now.unbroken.first cx.now.unbroken.past }
     ensures { OnOk result
-        (Collects cx.now.rules cx.now.scanned.now.pairs
+        (Collects cx.now.lint.rules cx.now.lint.scanned.now.pairs
         (term role t.now ∷ []) found.old.items found.new.items) }
 {
-    check_term(cx, role, t, found)?;
-    walk_primary(cx, &t.kind, found)?;
+    let mut unbroken = cx.unbroken;
+    check_term_beyond(&cx.lint, &mut unbroken, role, t, found)?;
+    let inside = WalkContext {
+        lint: cx.lint,
+        unbroken,
+    };
+    walk_primary(&inside, &t.kind, found)?;
     Ok(())
 }
 
 #[cycle(expressions)]
 fn walk_primary(
-    cx: &LintContext<'_, '_>,
+    cx: &WalkContext<'_, '_>,
     primary: &Primary,
     found: &mut Vec<Finding>,
 ) -> Result<(), AllocError>
+    requires { AreUnbroken cx.now.lint.scanned.now.pairs cx.now.unbroken.first cx.now.unbroken.past }
     ensures { OnOk result
-        (Collects cx.now.rules cx.now.scanned.now.pairs
+        (Collects cx.now.lint.rules cx.now.lint.scanned.now.pairs
         (primary_children (out-Primary primary.now)) found.old.items found.new.items) }
 {
     match primary {
@@ -250,12 +269,13 @@ fn walk_primary(
 
 #[cycle(expressions)]
 fn walk_for_tuple(
-    cx: &LintContext<'_, '_>,
+    cx: &WalkContext<'_, '_>,
     f: &ForTuple,
     found: &mut Vec<Finding>,
 ) -> Result<(), AllocError>
+    requires { AreUnbroken cx.now.lint.scanned.now.pairs cx.now.unbroken.first cx.now.unbroken.past }
     ensures { OnOk result
-        (Collects cx.now.rules cx.now.scanned.now.pairs
+        (Collects cx.now.lint.rules cx.now.lint.scanned.now.pairs
         (for_tuple_children f.now) found.old.items found.new.items) }
 {
     walk_expr(cx, Role::Elsewhere, &f.intro.collection, found)?;
@@ -266,12 +286,13 @@ fn walk_for_tuple(
 
 #[cycle(expressions)]
 fn walk_for_object(
-    cx: &LintContext<'_, '_>,
+    cx: &WalkContext<'_, '_>,
     f: &ForObject,
     found: &mut Vec<Finding>,
 ) -> Result<(), AllocError>
+    requires { AreUnbroken cx.now.lint.scanned.now.pairs cx.now.unbroken.first cx.now.unbroken.past }
     ensures { OnOk result
-        (Collects cx.now.rules cx.now.scanned.now.pairs
+        (Collects cx.now.lint.rules cx.now.lint.scanned.now.pairs
         (for_object_children f.now) found.old.items found.new.items) }
 {
     walk_expr(cx, Role::Elsewhere, &f.intro.collection, found)?;
@@ -283,12 +304,13 @@ fn walk_for_object(
 
 #[cycle(expressions)]
 fn walk_parts(
-    cx: &LintContext<'_, '_>,
+    cx: &WalkContext<'_, '_>,
     parts: &Items<Part>,
     found: &mut Vec<Finding>,
 ) -> Result<(), AllocError>
+    requires { AreUnbroken cx.now.lint.scanned.now.pairs cx.now.unbroken.first cx.now.unbroken.past }
     ensures { OnOk result
-        (Collects cx.now.rules cx.now.scanned.now.pairs
+        (Collects cx.now.lint.rules cx.now.lint.scanned.now.pairs
         (map part parts.now) found.old.items found.new.items) }
 {
     for x in parts.as_slice() {
@@ -298,9 +320,10 @@ fn walk_parts(
 }
 
 #[cycle(expressions)]
-fn walk_part(cx: &LintContext<'_, '_>, x: &Part, found: &mut Vec<Finding>) -> Result<(), AllocError>
+fn walk_part(cx: &WalkContext<'_, '_>, x: &Part, found: &mut Vec<Finding>) -> Result<(), AllocError>
+    requires { AreUnbroken cx.now.lint.scanned.now.pairs cx.now.unbroken.first cx.now.unbroken.past }
     ensures { OnOk result
-        (Collects cx.now.rules cx.now.scanned.now.pairs
+        (Collects cx.now.lint.rules cx.now.lint.scanned.now.pairs
         (part_children (out-Part x.now)) found.old.items found.new.items) }
 {
     match x {
@@ -313,12 +336,13 @@ fn walk_part(cx: &LintContext<'_, '_>, x: &Part, found: &mut Vec<Finding>) -> Re
 
 #[cycle(expressions)]
 fn walk_if_directive(
-    cx: &LintContext<'_, '_>,
+    cx: &WalkContext<'_, '_>,
     d: &IfDirective,
     found: &mut Vec<Finding>,
 ) -> Result<(), AllocError>
+    requires { AreUnbroken cx.now.lint.scanned.now.pairs cx.now.unbroken.first cx.now.unbroken.past }
     ensures { OnOk result
-        (Collects cx.now.rules cx.now.scanned.now.pairs
+        (Collects cx.now.lint.rules cx.now.lint.scanned.now.pairs
         (if_children d.now) found.old.items found.new.items) }
 {
     walk_expr(cx, Role::Elsewhere, &d.condition, found)?;
@@ -329,12 +353,13 @@ fn walk_if_directive(
 
 #[cycle(expressions)]
 fn walk_else_branch(
-    cx: &LintContext<'_, '_>,
+    cx: &WalkContext<'_, '_>,
     else_branch: &Option<Template>,
     found: &mut Vec<Finding>,
 ) -> Result<(), AllocError>
+    requires { AreUnbroken cx.now.lint.scanned.now.pairs cx.now.unbroken.first cx.now.unbroken.past }
     ensures { OnOk result
-        (Collects cx.now.rules cx.now.scanned.now.pairs
+        (Collects cx.now.lint.rules cx.now.lint.scanned.now.pairs
         (else_children else_branch.now) found.old.items found.new.items) }
 {
     match else_branch {
@@ -345,12 +370,13 @@ fn walk_else_branch(
 
 #[cycle(expressions)]
 fn walk_for_directive(
-    cx: &LintContext<'_, '_>,
+    cx: &WalkContext<'_, '_>,
     d: &ForDirective,
     found: &mut Vec<Finding>,
 ) -> Result<(), AllocError>
+    requires { AreUnbroken cx.now.lint.scanned.now.pairs cx.now.unbroken.first cx.now.unbroken.past }
     ensures { OnOk result
-        (Collects cx.now.rules cx.now.scanned.now.pairs
+        (Collects cx.now.lint.rules cx.now.lint.scanned.now.pairs
         (expr role.Elsewhere d.now.intro.collection
         ∷ map part d.now.body.parts) found.old.items found.new.items) }
 {

@@ -1,4 +1,5 @@
 mod TriviaLemmas
+mod UnbrokenLemmas
 mod SnakeCaseLemmas
 pub mod FoundBy
 pub mod AllFoundBy

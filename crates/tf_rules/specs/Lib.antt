@@ -17,3 +17,4 @@ pub mod SnakeCase
 pub mod Trivia
 pub mod TopLevelFindings
 pub mod Spelling
+pub mod Unbroken

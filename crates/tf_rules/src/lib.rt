@@ -17,13 +17,15 @@ mod snake_case;
 mod spelling;
 mod top_level;
 mod trivia;
+mod unbroken;
 
 pub use context::LintContext;
 pub use finding::{Finding, Message, NameKind, add_finding, is_valid_is_exact};
 pub use fix::{Fix, Insertion, KeptTokens};
-pub use node::{check_expr, check_tail, check_term};
+pub use node::{check_expr, check_tail, check_term, check_term_beyond};
 pub use role::Role;
 pub use rule::{Rule, RuleInfo, Severity};
 pub use rule_set::RuleSet;
 pub use rules::comment_syntax::check_comment;
 pub use top_level::{add_top_level_findings, add_top_level_member_findings};
+pub use unbroken::Unbroken;

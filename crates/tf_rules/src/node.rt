@@ -4,11 +4,13 @@ ghost use Rattle.std.specs.Prelude.{◌≡◌, ◌++◌, OnOk, length};
 ghost use Rattle.tf_rules.specs.NodeFindings.{node_findings};
 ghost use Rattle.tf_rules.specs.Preorder.{expr, term, tail};
 ghost use Rattle.tf_rules.specs.Findings.{valid_findings};
+ghost use Rattle.tf_rules.specs.Unbroken.{AreUnbroken};
 
 use crate::Finding;
 use crate::context::LintContext;
 use crate::role::Role;
 use crate::rules::{equality, index, interpolation, lookup};
+use crate::unbroken::Unbroken;
 use hcl_grammar::tree::{Expr, Tail, Term};
 use std::alloc::AllocError;
 
@@ -40,8 +42,28 @@ pub fn check_term(
         ++ valid_findings (length cx.now.scanned.now.pairs)
         (node_findings cx.now.rules cx.now.scanned.now.pairs (term role t.now))) }
 {
-    interpolation::check(cx, role, t, found)?;
-    lookup::check(cx, t, found)?;
+    let mut unbroken = Unbroken::none();
+    check_term_beyond(cx, &mut unbroken, role, t, found)
+}
+
+/// `check_term`, and what is found out for it of the tokens: so the terms inside this one need not
+/// go over them again.
+pub fn check_term_beyond(
+    cx: &LintContext<'_, '_>,
+    unbroken: &mut Unbroken,
+    role: Role,
+    t: &Term,
+    found: &mut Vec<Finding>,
+) -> Result<(), AllocError>
+    requires { AreUnbroken cx.now.scanned.now.pairs unbroken.old.first unbroken.old.past }
+    ensures found { OnOk result
+        (found.new.items ≡ found.old.items
+        ++ valid_findings (length cx.now.scanned.now.pairs)
+        (node_findings cx.now.rules cx.now.scanned.now.pairs (term role t.now))) }
+    ensures unbroken { AreUnbroken cx.now.scanned.now.pairs unbroken.new.first unbroken.new.past }
+{
+    interpolation::check(cx, unbroken, role, t, found)?;
+    lookup::check(cx, unbroken, t, found)?;
     Ok(())
 }
 

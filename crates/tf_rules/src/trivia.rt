@@ -6,7 +6,7 @@ ghost use Rattle.tf_rules.specs.Trivia.{token_range, is_line_break, is_trivia, i
 use hcl_scan::Scanned;
 use hcl_token::Kind;
 
-fn is_line_break(count_comments: bool, kind: Kind) -> bool
+pub fn is_line_break(count_comments: bool, kind: Kind) -> bool
     ensures { result ≡ is_line_break count_comments kind }
 {
     match kind {

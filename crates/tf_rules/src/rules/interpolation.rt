@@ -5,13 +5,14 @@ ghost use Rattle.hcl_grammar.specs.declared.tree.Part.{out-Part};
 ghost use Rattle.hcl_grammar.specs.declared.tree.Primary.{out-Primary};
 ghost use Rattle.tf_rules.specs.Rules.Interpolation.{is_post, is_object_key, is_elsewhere, sole_part, sole_interpolation, part_interpolation, is_interpolation_fixable, interpolation_findings};
 ghost use Rattle.tf_rules.specs.Trivia.{token_range, has_line_break};
+ghost use Rattle.tf_rules.specs.Unbroken.{AreUnbroken};
 ghost use Rattle.tf_rules.specs.RuleSets.{has_rule};
 ghost use Rattle.tf_rules.specs.Findings.{plain_message, finding_at, valid_findings};
 ghost use Rattle.tf_rules.specs.declared.rule.Rule.TheVariants.{DeprecatedInterpolation};
 
 use crate::context::LintContext;
 use crate::role::Role;
-use crate::trivia::has_line_break;
+use crate::unbroken::{Unbroken, has_line_break_beyond};
 use crate::{Finding, Fix, Insertion, KeptTokens, Message, Rule};
 use hcl_grammar::tree::{Expr, ExprKind, Part, Primary, Term};
 use std::alloc::AllocError;
@@ -100,39 +101,48 @@ fn report(
 
 fn check_term(
     cx: &LintContext<'_, '_>,
+    unbroken: &mut Unbroken,
     role: Role,
     t: &Term,
     found: &mut Vec<Finding>,
 ) -> Result<(), AllocError>
-    ensures { OnOk result
+    requires { AreUnbroken cx.now.scanned.now.pairs unbroken.old.first unbroken.old.past }
+    ensures found { OnOk result
         (found.new.items ≡ found.old.items
         ++ valid_findings (length cx.now.scanned.now.pairs)
         (interpolation_findings cx.now.scanned.now.pairs role t.now.first t.now.past
         (sole_interpolation (out-Primary t.now.kind)))) }
+    ensures unbroken { AreUnbroken cx.now.scanned.now.pairs unbroken.new.first unbroken.new.past }
 {
     match sole_interpolation(&t.kind) {
         None => Ok(()),
-        Some(e) => check_interpolation(cx, role, t.first as usize, t.past as usize, e, found),
+        Some(e) => {
+            let (first, past) = (t.first as usize, t.past as usize);
+            check_interpolation(cx, unbroken, role, first, past, e, found)
+        }
     }
 }
 
 fn check_interpolation(
     cx: &LintContext<'_, '_>,
+    unbroken: &mut Unbroken,
     role: Role,
     first: usize,
     past: usize,
     e: &Expr,
     found: &mut Vec<Finding>,
 ) -> Result<(), AllocError>
-    ensures { OnOk result
+    requires { AreUnbroken cx.now.scanned.now.pairs unbroken.old.first unbroken.old.past }
+    ensures found { OnOk result
         (found.new.items ≡ found.old.items
         ++ valid_findings (length cx.now.scanned.now.pairs)
         (interpolation_findings cx.now.scanned.now.pairs role first past (Some e.now))) }
+    ensures unbroken { AreUnbroken cx.now.scanned.now.pairs unbroken.new.first unbroken.new.past }
 {
     if is_object_key(role) {
         return Ok(());
     }
-    if !is_interpolation_fixable(cx, role, first, past, e) {
+    if !is_interpolation_fixable(cx, unbroken, role, first, past, e) {
         return report(cx, first, past, None, found);
     }
     if past < 2 || first >= past - 2 {
@@ -152,22 +162,32 @@ fn check_interpolation(
 
 fn is_interpolation_fixable(
     cx: &LintContext<'_, '_>,
+    unbroken: &mut Unbroken,
     role: Role,
     first: usize,
     past: usize,
     e: &Expr,
 ) -> bool
-    ensures { result ≡ is_interpolation_fixable cx.now.scanned.now.pairs role first past e.now }
+    requires { AreUnbroken cx.now.scanned.now.pairs unbroken.old.first unbroken.old.past }
+    ensures value { result ≡ is_interpolation_fixable cx.now.scanned.now.pairs role first past e.now }
+    ensures unbroken { AreUnbroken cx.now.scanned.now.pairs unbroken.new.first unbroken.new.past }
 {
-    if has_line_break_inside(cx, first, past) {
+    if has_line_break_inside(cx, unbroken, first, past) {
         return false;
     }
     is_post(e) || !is_elsewhere(role)
 }
 
-fn has_line_break_inside(cx: &LintContext<'_, '_>, first: usize, past: usize) -> bool
-    ensures { result ≡ has_line_break false 0
+fn has_line_break_inside(
+    cx: &LintContext<'_, '_>,
+    unbroken: &mut Unbroken,
+    first: usize,
+    past: usize,
+) -> bool
+    requires { AreUnbroken cx.now.scanned.now.pairs unbroken.old.first unbroken.old.past }
+    ensures value { result ≡ has_line_break false 0
         (token_range cx.now.scanned.now.pairs (first + 2) (past - 2)) }
+    ensures unbroken { AreUnbroken cx.now.scanned.now.pairs unbroken.new.first unbroken.new.past }
 {
     if past <= 2 || first >= past - 2 {
         return false;
@@ -175,25 +195,28 @@ fn has_line_break_inside(cx: &LintContext<'_, '_>, first: usize, past: usize) ->
     if past - 2 - first <= 2 {
         return false;
     }
-    has_line_break(cx.scanned, false, first + 2, past - 2)
+    has_line_break_beyond(unbroken, cx.scanned, false, first + 2, past - 2)
 }
 
 /// At a term, if the rule is chosen.
 pub fn check(
     cx: &LintContext<'_, '_>,
+    unbroken: &mut Unbroken,
     role: Role,
     t: &Term,
     found: &mut Vec<Finding>,
 ) -> Result<(), AllocError>
-    ensures { OnOk result
+    requires { AreUnbroken cx.now.scanned.now.pairs unbroken.old.first unbroken.old.past }
+    ensures found { OnOk result
         (found.new.items ≡ found.old.items
         ++ valid_findings (length cx.now.scanned.now.pairs)
         ((if has_rule cx.now.rules DeprecatedInterpolation
         then interpolation_findings cx.now.scanned.now.pairs role t.now.first t.now.past
         (sole_interpolation (out-Primary t.now.kind)) else []))) }
+    ensures unbroken { AreUnbroken cx.now.scanned.now.pairs unbroken.new.first unbroken.new.past }
 {
     if !cx.rules.has(Rule::DeprecatedInterpolation) {
         return Ok(());
     }
-    check_term(cx, role, t, found)
+    check_term(cx, unbroken, role, t, found)
 }

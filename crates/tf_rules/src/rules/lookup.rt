@@ -7,12 +7,14 @@ ghost use Rattle.hcl_grammar.specs.declared.tree.Primary.{out-Primary};
 ghost use Rattle.hcl_token.specs.TokenizedText.{spelling_of};
 ghost use Rattle.tf_rules.specs.Arguments.{two_arguments};
 ghost use Rattle.tf_rules.specs.Rules.Lookup.{is_splat, has_splat, is_indexable_kind, is_lookup, is_lookup_token, is_lookup_fixable, pair_findings, call_findings, lookup_findings};
+ghost use Rattle.tf_rules.specs.Unbroken.{AreUnbroken};
 ghost use Rattle.tf_rules.specs.RuleSets.{has_rule};
 ghost use Rattle.tf_rules.specs.declared.rule.Rule.TheVariants.{DeprecatedLookup};
 ghost use Rattle.tf_rules.specs.Findings.{valid_findings};
 
 use crate::context::LintContext;
-use crate::trivia::{has_line_break, has_trivia};
+use crate::trivia::has_trivia;
+use crate::unbroken::{Unbroken, has_line_break_beyond};
 use crate::{Finding, Fix, Insertion, KeptTokens, Message, Rule};
 use hcl_grammar::tree::{Call, Expr, ExprKind, Primary, Tail, Term};
 use hcl_scan::Scanned;
@@ -72,11 +74,20 @@ fn two_arguments(es: &[Expr]) -> Option<(&Expr, &Expr)>
     }
 }
 
-fn is_lookup_fixable(scanned: &Scanned<'_>, first: usize, past: usize, a: &Expr, b: &Expr) -> bool
-    ensures { result ≡ is_lookup_fixable scanned.now.pairs first past a.now b.now }
+fn is_lookup_fixable(
+    unbroken: &mut Unbroken,
+    scanned: &Scanned<'_>,
+    first: usize,
+    past: usize,
+    a: &Expr,
+    b: &Expr,
+) -> bool
+    requires { AreUnbroken scanned.now.pairs unbroken.old.first unbroken.old.past }
+    ensures value { result ≡ is_lookup_fixable scanned.now.pairs first past a.now b.now }
+    ensures unbroken { AreUnbroken scanned.now.pairs unbroken.new.first unbroken.new.past }
 {
     is_indexable(&a.kind)
-        && !has_line_break(scanned, true, a.first as usize, a.past as usize)
+        && !has_line_break_beyond(unbroken, scanned, true, a.first as usize, a.past as usize)
         && !has_trivia(scanned, first, a.first as usize)
         && !has_trivia(scanned, a.past as usize, b.first as usize)
         && !has_trivia(scanned, b.past as usize, past)
@@ -84,19 +95,25 @@ fn is_lookup_fixable(scanned: &Scanned<'_>, first: usize, past: usize, a: &Expr,
 
 fn check_term(
     cx: &LintContext<'_, '_>,
+    unbroken: &mut Unbroken,
     t: &Term,
     found: &mut Vec<Finding>,
 ) -> Result<(), AllocError>
-    ensures { OnOk result
+    requires { AreUnbroken cx.now.scanned.now.pairs unbroken.old.first unbroken.old.past }
+    ensures found { OnOk result
         (found.new.items ≡ found.old.items
         ++ valid_findings (length cx.now.scanned.now.pairs)
         (lookup_findings cx.now.scanned.now.pairs t.now.first t.now.past
         (out-Primary t.now.kind))) }
+    ensures unbroken { AreUnbroken cx.now.scanned.now.pairs unbroken.new.first unbroken.new.past }
 {
     match &t.kind {
         Primary::Number => Ok(()),
         Primary::Identifier => Ok(()),
-        Primary::Call(c) => check_call(cx, t.first as usize, t.past as usize, c.get(), found),
+        Primary::Call(c) => {
+            let (first, past) = (t.first as usize, t.past as usize);
+            check_call(cx, unbroken, first, past, c.get(), found)
+        }
         Primary::Tuple(_) => Ok(()),
         Primary::Object(_) => Ok(()),
         Primary::ForTuple(_) => Ok(()),
@@ -109,39 +126,45 @@ fn check_term(
 
 fn check_call(
     cx: &LintContext<'_, '_>,
+    unbroken: &mut Unbroken,
     first: usize,
     past: usize,
     c: &Call,
     found: &mut Vec<Finding>,
 ) -> Result<(), AllocError>
-    ensures { OnOk result
+    requires { AreUnbroken cx.now.scanned.now.pairs unbroken.old.first unbroken.old.past }
+    ensures found { OnOk result
         (found.new.items ≡ found.old.items
         ++ valid_findings (length cx.now.scanned.now.pairs)
         (call_findings cx.now.scanned.now.pairs first past (out-Call c.now))) }
+    ensures unbroken { AreUnbroken cx.now.scanned.now.pairs unbroken.new.first unbroken.new.past }
 {
     if c.expand_final || !is_lookup(cx.scanned, c.names.as_slice()) {
         return Ok(());
     }
     match two_arguments(c.arguments.as_slice()) {
         None => Ok(()),
-        Some((a, b)) => check_arguments(cx, first, past, a, b, found),
+        Some((a, b)) => check_arguments(cx, unbroken, first, past, a, b, found),
     }
 }
 
 fn check_arguments(
     cx: &LintContext<'_, '_>,
+    unbroken: &mut Unbroken,
     first: usize,
     past: usize,
     a: &Expr,
     b: &Expr,
     found: &mut Vec<Finding>,
 ) -> Result<(), AllocError>
-    ensures { OnOk result
+    requires { AreUnbroken cx.now.scanned.now.pairs unbroken.old.first unbroken.old.past }
+    ensures found { OnOk result
         (found.new.items ≡ found.old.items
         ++ valid_findings (length cx.now.scanned.now.pairs)
         (pair_findings cx.now.scanned.now.pairs first past (Some (a.now, b.now)))) }
+    ensures unbroken { AreUnbroken cx.now.scanned.now.pairs unbroken.new.first unbroken.new.past }
 {
-    let fixable = is_lookup_fixable(cx.scanned, first, past, a, b);
+    let fixable = is_lookup_fixable(unbroken, cx.scanned, first, past, a, b);
     let kept = KeptTokens {
         from: a.first as usize,
         to: a.past as usize,
@@ -162,16 +185,23 @@ fn check_arguments(
 }
 
 /// At a term, if the rule is chosen.
-pub fn check(cx: &LintContext<'_, '_>, t: &Term, found: &mut Vec<Finding>) -> Result<(), AllocError>
-    ensures { OnOk result
+pub fn check(
+    cx: &LintContext<'_, '_>,
+    unbroken: &mut Unbroken,
+    t: &Term,
+    found: &mut Vec<Finding>,
+) -> Result<(), AllocError>
+    requires { AreUnbroken cx.now.scanned.now.pairs unbroken.old.first unbroken.old.past }
+    ensures found { OnOk result
         (found.new.items ≡ found.old.items
         ++ valid_findings (length cx.now.scanned.now.pairs)
         ((if has_rule cx.now.rules DeprecatedLookup
         then lookup_findings cx.now.scanned.now.pairs t.now.first t.now.past
         (out-Primary t.now.kind) else []))) }
+    ensures unbroken { AreUnbroken cx.now.scanned.now.pairs unbroken.new.first unbroken.new.past }
 {
     if !cx.rules.has(Rule::DeprecatedLookup) {
         return Ok(());
     }
-    check_term(cx, t, found)
+    check_term(cx, unbroken, t, found)
 }

@@ -11,7 +11,7 @@ pub walk_expr-returns : goal.walk_expr-returns
 walk_expr-returns t c = whole _ c.in_ok-check_expr.ensures c.in_ok-walk_expr_kind.ensures
 
 pub walk_term-returns : goal.walk_term-returns
-walk_term-returns t c = whole _ c.in_ok-check_term.ensures c.in_ok-walk_primary.ensures
+walk_term-returns t c = whole _ c.in_ok-check_term_beyond.ensures.found c.in_ok-walk_primary.ensures
 
 pub walk_tail-returns : goal.walk_tail-returns
 walk_tail-returns t c = whole _ c.in_ok-check_tail.ensures c.in_ok-walk_tail_children.ensures
