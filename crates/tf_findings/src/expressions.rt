@@ -232,14 +232,21 @@ fn walk_term(
         (Collects cx.now.lint.rules cx.now.lint.scanned.now.pairs
         (term role t.now ∷ []) found.old.items found.new.items) }
 {
-    let mut unbroken = cx.unbroken;
-    check_term_beyond(&cx.lint, &mut unbroken, role, t, found)?;
-    let inside = WalkContext {
-        lint: cx.lint,
-        unbroken,
-    };
-    walk_primary(&inside, &t.kind, found)?;
-    Ok(())
+    match &t.kind {
+        // no rule finds anything here, and no nodes stand inside
+        Primary::Number => Ok(()),
+        Primary::Identifier => Ok(()),
+        _ => {
+            let mut unbroken = cx.unbroken;
+            check_term_beyond(&cx.lint, &mut unbroken, role, t, found)?;
+            let inside = WalkContext {
+                lint: cx.lint,
+                unbroken,
+            };
+            walk_primary(&inside, &t.kind, found)?;
+            Ok(())
+        }
+    }
 }
 
 #[cycle(expressions)]

@@ -3,6 +3,9 @@ use Rattle.std.specs.List.{flat_map}
 use Rattle.hcl_grammar.specs.declared.tree.Operation.{Operation}
 use Rattle.tf_rules.specs.declared.role.Role.TheVariants as role
 use Rattle.tf_rules.specs.Preorder.{expr, term, part, tail, elem_children, expr_kind_children, primary_children, tail_children, part_children, filter_children, else_children, nodes_of_tails}
+use Rattle.tf_rules.specs.Rules.Interpolation.{sole_interpolation}
+use Rattle.tf_rules.specs.Rules.Lookup.{lookup_findings}
+use Rattle.tf_findings.proofs.LeafLemmas.{leaf}
 use Rattle.tf_findings.proofs.WalkLemmas.{joined, whole, nowhere, among, turn, finished}
 use Rattle.tf_findings.proofs.TreeLayers.{is-Conditional, is-Chain, is-Tailed, is-Number, is-Identifier, is-Literal, is-Name, is-Legacy, is-AttributeSplat, is-FullSplat}
 use Rattle.tf_findings.proofs.expressions.+expressions.Goals as goal
@@ -10,8 +13,21 @@ use Rattle.tf_findings.proofs.expressions.+expressions.Goals as goal
 pub walk_expr-returns : goal.walk_expr-returns
 walk_expr-returns t c = whole _ c.in_ok-check_expr.ensures c.in_ok-walk_expr_kind.ensures
 
-pub walk_term-returns : goal.walk_term-returns
-walk_term-returns t c = whole _ c.in_ok-check_term_beyond.ensures.found c.in_ok-walk_primary.ensures
+pub walk_term-returns-in-Number : goal.walk_term-returns-in-Number
+walk_term-returns-in-Number t c =
+    let e = is-Number c.in-Number.is in
+    leaf c.args.cx.now.lint.rules c.args.cx.now.lint.scanned.now.pairs c.args.role c.args.t.now _ (ap sole_interpolation e)
+    (ap (lookup_findings c.args.cx.now.lint.scanned.now.pairs c.args.t.now.first c.args.t.now.past) e) (ap primary_children e)
+
+pub walk_term-returns-in-Identifier : goal.walk_term-returns-in-Identifier
+walk_term-returns-in-Identifier t c =
+    let e = is-Identifier c.in-Identifier.is in
+    leaf c.args.cx.now.lint.rules c.args.cx.now.lint.scanned.now.pairs c.args.role c.args.t.now _ (ap sole_interpolation e)
+    (ap (lookup_findings c.args.cx.now.lint.scanned.now.pairs c.args.t.now.first c.args.t.now.past) e) (ap primary_children e)
+
+pub walk_term-returns-in_ok-walk_primary-in_default : goal.walk_term-returns-in_ok-walk_primary-in_default
+walk_term-returns-in_ok-walk_primary-in_default t c =
+    whole _ c.in_ok-check_term_beyond-in_default.ensures.found c.in_ok-walk_primary-in_default.ensures
 
 pub walk_tail-returns : goal.walk_tail-returns
 walk_tail-returns t c = whole _ c.in_ok-check_tail.ensures c.in_ok-walk_tail_children.ensures
