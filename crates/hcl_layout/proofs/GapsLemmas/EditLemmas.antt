@@ -160,6 +160,19 @@ come_push ps ns last i old new item g size inside item_is g_is is =
     ∙ append_assoc old (gap_edit ps ns i t.pair) (to_come ps (with_gaps ns ps) last (i + 1))
     ∙ ap (λ (es : List EditEntry). old ++ es) (sym (come_turn ps ns last i t size inside))
 
+-- past a gap that stays
+pub come_stays : (ps : List Pair) (ns last : List ℕ) (i : ℕ) (es : List EditEntry) (g : List ℕ) → length ns ≡ length ps → i < length ps → Some g ≡ gap_of ps i
+    → bytes_eq g (resolved_gap (get_or ns i 0) g) ≡ true → es ++ to_come ps (with_gaps ns ps) last (i + 1) ≡ es ++ to_come ps (with_gaps ns ps) last i
+come_stays ps ns last i es g size inside g_is same =
+    let t = turn ps i (length ps) inside (omega arith) in
+    let at : ℕ = length (whole_text (take i ps) []) in
+    let none : gap_edit ps ns i t.pair ≡ [] =
+    ap (λ (x : List ℕ). changed_entries at (gap_piece x (resolved_gap (get_or ns i 0) x) ∷ [])) (sym (gap_is ps i (length ps) g t g_is))
+    ∙ no_change at g (resolved_gap (get_or ns i 0) g) same in
+    let step : to_come ps (with_gaps ns ps) last i ≡ to_come ps (with_gaps ns ps) last (i + 1) =
+    come_turn ps ns last i t size inside ∙ ap (λ (xs : List EditEntry). xs ++ to_come ps (with_gaps ns ps) last (i + 1)) none in
+    ap (λ (xs : List EditEntry). es ++ xs) (sym step)
+
 pub last_at : (ps : List Pair) (last text : List ℕ) → text ≡ whole_text ps last → length text - length last ≡ length (whole_text ps [])
 last_at ps last text is = omega (arith, ap length is, bytes_joining ps last, bytes_joining ps [])
 

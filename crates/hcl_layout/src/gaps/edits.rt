@@ -85,6 +85,10 @@ pub(crate) fn gap_edits(
 {
     let mut edits = Vec::new(alloc);
     for i in 0..scanned.len() {
+        // most gaps stay, and this test is inlined
+        if is_unchanged(scanned.gap(i), gaps[i]) {
+            continue;
+        }
         let item = scanned.item(i);
         push_gap(
             alloc,

@@ -3,13 +3,19 @@ use Rattle.edit_record.specs.Lists.Pieces.{EditEntry, changed_entries}
 use Rattle.hcl_token.specs.Tokens.{whole_text}
 use Rattle.hcl_layout.specs.Gaps.Layout.{gap_piece}
 use Rattle.hcl_layout.specs.Gaps.Inner.Stages.{with_gaps}
-use Rattle.hcl_layout.proofs.GapsLemmas.EditLemmas.{come_push, come_last, come_first, last_at, last_fits}
+use Rattle.hcl_layout.proofs.GapsLemmas.EditLemmas.{come_push, come_stays, come_last, come_first, last_at, last_fits}
 use Rattle.hcl_layout.proofs.gaps.edits.gap_edits.Goals as goal
 
 pub loop-i-preserved : goal.loop-i-preserved
 loop-i-preserved c =
-    come_push c.args.scanned.now.pairs c.args.gaps.now c.args.scanned.now.last c.loop-i.i c.loop-i.edits.items c.push_gap.new.edits.items c.item-item.result c.gap.result.now c.requires
-    (omega (arith, c.loop-i-test.true, c.len-i-end.ensures.value)) c.item-item.ensures c.gap.ensures.value c.in_ok-push_gap.ensures
+    come_push c.args.scanned.now.pairs c.args.gaps.now c.args.scanned.now.last c.loop-i.i c.loop-i.edits.items c.push_gap.new.edits.items c.item-item.result c.gap-in-loop-i.result.now c.requires
+    (omega (arith, c.loop-i-test.true, c.len-i-end.ensures.value)) c.item-item.ensures c.gap-in-loop-i.ensures.value c.in_ok-push_gap.ensures
+    ∙ c.loop-i.invariant
+
+pub loop-i-preserved-then-is_unchanged : goal.loop-i-preserved-then-is_unchanged
+loop-i-preserved-then-is_unchanged c =
+    come_stays c.args.scanned.now.pairs c.args.gaps.now c.args.scanned.now.last c.loop-i.i c.loop-i.edits.items c.gap.result.now c.requires
+    (omega (arith, c.loop-i-test.true, c.len-i-end.ensures.value)) c.gap.ensures.value (sym c.is_unchanged.ensures ∙ c.if-is_unchanged.true)
     ∙ c.loop-i.invariant
 
 pub overflow_sub-text : goal.overflow_sub-text
