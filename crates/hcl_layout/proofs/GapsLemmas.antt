@@ -18,4 +18,5 @@ pub mod BothColumns
 pub mod Copied
 pub mod SplitLaw
 pub mod LineFlagLemmas
+pub mod LinePass
 pub mod FlagLemmas

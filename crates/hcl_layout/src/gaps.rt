@@ -16,6 +16,7 @@ mod kinds;
 pub mod laws;
 mod limit;
 mod line_flags;
+mod line_pass;
 mod lines;
 mod space;
 mod spacing_flags;

@@ -1,5 +1,5 @@
 -- The flags of a line, and what is not searched for where none is set. For speed alone.
-use Rattle.std.proofs.Common.{◌≡◌, ℕ, zero, suc, ◌+◌, ◌-◌, ◌<◌, ◌≤◌, Bool, true, false, List, [], ◌∷◌, length, slice_range, Some, if◌then◌else◌, refl, sym, ap, ap₂, ◌∙◌, arith}
+use Rattle.std.proofs.Common.{◌≡◌, ℕ, zero, suc, ◌+◌, ◌<◌, ◌≤◌, Bool, true, false, List, [], ◌∷◌, length, slice_range, Some, refl, sym, ap, ap₂, ◌∙◌, arith}
 use Rattle.std.specs.Option.{option_map}
 use Rattle.std.proofs.Common.{cond, ◌++◌}
 use Rattle.std.proofs.lemmas.List.Sums.{sum_by-cons}
@@ -18,7 +18,7 @@ use Rattle.hcl_layout.specs.Gaps.Indent.{is_opening, is_closing, openings, closi
 use Rattle.hcl_layout.specs.Gaps.Cells.{index_of_first, index_after_first}
 use Rattle.hcl_layout.proofs.GapsLemmas.LineLemmas.{turn, kind_is, range_split, none_there}
 
-some_if : (f : Kind → Bool) (p : Pair) (ps : List Pair) (b : Bool) → f p.kind ≡ b → are_some f (p ∷ ps) ≡ (b || are_some f ps)
+pub some_if : (f : Kind → Bool) (p : Pair) (ps : List Pair) (b : Bool) → f p.kind ≡ b → are_some f (p ∷ ps) ≡ (b || are_some f ps)
 some_if f p ps true h = rw h refl
 some_if f p ps false h = rw h refl
 
@@ -145,7 +145,7 @@ quiet_two : (f : Kind → Bool) (p : Pair) (ps : List Pair) → are_some f (p �
 quiet_two f p ps h = or_first (f p.kind) (are_some f ps) (sym (some_if f p ps (f p.kind) refl) ∙ h)
 
 -- what is not among tokens where none makes a line busy
-quiet : (k : Kind) → is_bracket k ≡ false → (is_opening k ≡ false) × (is_closing k ≡ false)
+pub quiet : (k : Kind) → is_bracket k ≡ false → (is_opening k ≡ false) × (is_closing k ≡ false)
 quiet OpenBrace h = absurd (cc)
 quiet CloseBrace h = absurd (cc)
 quiet OpenBracket h = absurd (cc)

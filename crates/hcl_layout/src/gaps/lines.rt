@@ -1,15 +1,14 @@
 //! The lines of a text.
 
-ghost use Rattle.std.specs.Prelude.{◌≡◌, ◌+◌, ◌<◌, ◌≤◌, false, length, IfOk};
+ghost use Rattle.std.specs.Prelude.{◌≡◌, ◌+◌, ◌<◌, ◌≤◌, length};
 ghost use Rattle.hcl_scan.specs.Tokenization.{MAX_TEXT};
 ghost use Rattle.hcl_layout.specs.Gaps.Lines.{heredocs_after, ends_line};
-ghost use Rattle.hcl_layout.specs.Gaps.Inner.CodeViews.{IsLine, AreLines};
+ghost use Rattle.hcl_layout.specs.Gaps.Inner.CodeViews.{IsLine};
 
 use crate::gaps::kinds::{is_equal, is_here_open};
 use crate::gaps::line_flags::{has_no_line_effect, is_bracket, is_comment};
 use hcl_scan::Scanned;
 use hcl_token::Kind;
-use std::alloc::{AllocError, Global};
 
 /// A line, which begins where the line before it ends.
 #[derive(Clone, Copy)]
@@ -48,7 +47,7 @@ fn ends_line(open_heredocs: usize, kind: Kind) -> bool
 }
 
 /// Returns the line that begins at token `at`, in a heredoc or not.
-fn line_at(scanned: &Scanned<'_>, at: usize, frozen: bool) -> LineSpan
+pub(crate) fn line_at(scanned: &Scanned<'_>, at: usize, frozen: bool) -> LineSpan
     requires within { at < length scanned.now.pairs }
     requires within_limit { length scanned.now.pairs ≤ MAX_TEXT }
     ensures { IsLine scanned.now.pairs at frozen result }
@@ -89,26 +88,4 @@ fn line_at(scanned: &Scanned<'_>, at: usize, frozen: bool) -> LineSpan
         has_comment,
         has_equals,
     }
-}
-
-/// Returns the lines from token `first` on, in order.
-pub(crate) fn line_spans(
-    alloc: Global,
-    scanned: &Scanned<'_>,
-    first: usize,
-) -> Result<Vec<LineSpan>, AllocError>
-    requires within_limit { length scanned.now.pairs ≤ MAX_TEXT }
-    requires within { first ≤ length scanned.now.pairs }
-    ensures { IfOk result (λ lines. AreLines scanned.now.pairs first false lines.items) }
-{
-    let mut lines = Vec::new(alloc);
-    let mut frozen = false;
-    let mut at = first;
-    while at < scanned.len() {
-        let line = line_at(scanned, at, frozen);
-        lines.push(line)?;
-        frozen = line.next_frozen;
-        at = line.past as usize;
-    }
-    Ok(lines)
 }

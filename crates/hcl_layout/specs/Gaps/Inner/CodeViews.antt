@@ -1,5 +1,5 @@
 -- What the code keeps of tokens and cells, as lists. For proofs: nothing here has to be believed.
-use Rattle.std.specs.Prelude.{◌≡◌, ℕ, Bool, true, false, slice_range, List, [], ◌∷◌, length, map, ◌<◌, Option, Some, None, ⊤}
+use Rattle.std.specs.Prelude.{◌≡◌, ℕ, Bool, true, false, slice_range, List, [], ◌∷◌, ◌++◌, length, map, drop, reverse, ◌<◌, Option, Some, None, ⊤}
 use Rattle.std.specs.List.{list_any}
 use Rattle.hcl_token.specs.declared.kind.Kind.{Kind}
 use Rattle.hcl_token.specs.declared.kind.Kind.TheVariants.{LineEnd, HereOpen, HereClose, HereLit, Equal, LineComment, InlineComment, OpenBrace, CloseBrace, OpenBracket, CloseBracket, OpenParen, CloseParen, SeqClose, InterpOpen, DirectiveOpen}
@@ -7,7 +7,8 @@ use Rattle.hcl_layout.specs.Gaps.Kinds.{is_equal, is_line_comment}
 use Rattle.hcl_layout.specs.Gaps.Lines.{Line}
 use Rattle.hcl_token.specs.Tokens.{Pair}
 use Rattle.hcl_layout.specs.Gaps.Cells.{is_balanced, assignment, closing_comment}
-use Rattle.hcl_layout.specs.Gaps.Inner.Stages.{prev_kinds_of, SplitsLine}
+use Rattle.hcl_layout.specs.Gaps.Inner.Stages.{prev_kinds_of, SplitsLine, lines_from, open_heredocs_of, all_gap_lens}
+use Rattle.hcl_layout.specs.Gaps.Space.{prev_after_all}
 use Rattle.hcl_layout.specs.declared.gaps.lines.LineSpan.{LineSpan}
 use Rattle.hcl_layout.specs.declared.gaps.space.PrevKinds.{PrevKinds}
 use Rattle.hcl_layout.specs.declared.gaps.cells.Cell.{Cell}
@@ -117,3 +118,10 @@ abbrev pub AreLines : List Pair → ℕ → Bool → List LineSpan → Type 0
 AreLines pairs at frozen [] = at ≡ length pairs
 AreLines pairs at frozen (line ∷ lines) =
     IsLine pairs at frozen line × AreLines pairs line.past line.next_frozen lines
+
+-- the numbers of gaps up to a token, with those of the lines from there on, where these lines are
+-- open before it
+abbrev pub gaps_left : List Pair → ℕ → ℕ → Bool → List ℕ → List ℕ → List ℕ
+gaps_left pairs first at frozen gaps surplus =
+    gaps ++ all_gap_lens (reverse surplus) (prev_after_all (slice_range pairs first at) [])
+    (lines_from (open_heredocs_of frozen) (drop at pairs))

@@ -1,38 +1,30 @@
-use Rattle.std.proofs.Common.{sym, get_or, length, ap, reverse, ◌∙◌, arith}
-use Rattle.std.proofs.lemmas.List.{length-reverse}
+use Rattle.std.proofs.Common.{List, false, sym, subst, ◌∙◌, arith}
 use Rattle.hcl_layout.specs.declared.gaps.lines.LineSpan.{LineSpan}
-use Rattle.hcl_layout.proofs.GapsLemmas.LineLemmas.{no_span, line_at}
-use Rattle.hcl_layout.proofs.GapsLemmas.NearLemmas.{set_begins, set_turn}
+use Rattle.hcl_layout.proofs.GapsLemmas.LineLemmas.{LinesTo, lines_push, lines_whole}
+use Rattle.hcl_layout.proofs.GapsLemmas.LinePass.{left_ends}
 use Rattle.hcl_layout.proofs.gaps.base_gaps.push_base_gaps.Goals as goal
 
-pub loop-line-init : goal.loop-line-init
-loop-line-init c = record {
-  rest = set_begins c.args.scanned.now.pairs c.args.first c.args.gaps.now.items c.new-surplus.result.items c.new-surplus.ensures.items;
-  begun = omega arith;
-  small = omega (arith, ap length c.new-surplus.ensures.items);
-  lines = c.requires.lines;
-}
-
-pub loop-line-preserved : goal.loop-line-preserved
-loop-line-preserved c =
-    let line : LineSpan = get_or c.args.lines.now c.loop-line.line-index no_span in
-    let (this, more) = line_at c.args.scanned.now.pairs c.loop-line.at c.loop-line.frozen c.args.lines.now c.loop-line.line-index c.loop-line-test.true c.loop-line.invariant.lines in
-    let split = this.split in
+pub loop-at-preserved : goal.loop-at-preserved
+loop-at-preserved c =
+    let ps = c.args.scanned.now.pairs in
+    let line = c.in_ok-line.line in
+    let old = c.loop-at.invariant in
+    let split = c.in_ok-line.ensures.line.split in
     record {
-      rest =
-          set_turn c.args.scanned.now.pairs c.args.first c.loop-line.at c.loop-line.frozen line.past line.next_frozen c.count_brackets-opened.result.0 c.count_brackets-opened.result.1 c.len-level.result
-          (reverse c.loop-line.surplus.items) (reverse c.close_earlier.new.surplus.items) (reverse c.push_opened.new.surplus.items)
-          c.loop-line.gaps.items c.push_line_gaps.new.gaps.items
-          c.loop-line.invariant.begun split c.count_brackets-opened.ensures.opened c.count_brackets-opened.ensures.closed c.close_earlier.ensures.open
-          (omega (arith, c.len-level.ensures, length-reverse c.close_earlier.new.surplus.items))
-          c.in_ok-push_line_gaps.ensures c.in_ok-push_opened.ensures.open
-          ∙ c.loop-line.invariant.rest;
-      begun = omega (arith, split.more, c.loop-line.invariant.begun);
-      small = omega (arith, c.in_ok-push_opened.ensures.longer, c.close_earlier.ensures.shorter, c.loop-line.invariant.small, split.more);
-      lines = more;
+      left = c.in_ok-line.ensures.gaps ∙ old.left;
+      lines = subst (λ (lines : List LineSpan). LinesTo ps c.args.first false lines line.past line.next_frozen) (sym c.in_ok-push.ensures.items)
+          (lines_push ps c.args.first false c.loop-at.lines.items c.loop-at.at c.loop-at.frozen line old.lines c.in_ok-line.ensures.line);
+      begun = omega (arith, split.more, old.begun);
+      within = split.within;
+      small = c.in_ok-line.ensures.small;
     }
 
-pub count_brackets-opened-requires-clause-has_bracket : goal.count_brackets-opened-requires-clause-has_bracket
-count_brackets-opened-requires-clause-has_bracket c = λ h.
-    let (this, more) = line_at c.args.scanned.now.pairs c.loop-line.at c.loop-line.frozen c.args.lines.now c.loop-line.line-index c.loop-line-test.true c.loop-line.invariant.lines in
-    sym this.flags.has_bracket ∙ h
+pub returns-clause-lines : goal.returns-clause-lines
+returns-clause-lines c =
+    lines_whole c.args.scanned.now.pairs c.args.first false c.loop-at.lines.items c.loop-at.at c.loop-at.frozen c.loop-at.invariant.lines
+    (omega (arith, c.loop-at-test.false, c.len.ensures.value, c.loop-at.invariant.within))
+
+pub returns-clause-gaps : goal.returns-clause-gaps
+returns-clause-gaps c =
+    sym (left_ends c.args.scanned.now.pairs c.args.first c.loop-at.at c.loop-at.frozen c.loop-at.gaps.items c.loop-at.surplus.items (omega (arith, c.loop-at-test.false, c.len.ensures.value)))
+    ∙ c.loop-at.invariant.left

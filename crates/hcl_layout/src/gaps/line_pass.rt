@@ -1,0 +1,129 @@
+//! A line in one pass: its end, its flags, its brackets and the gaps inside it. For speed alone:
+//! `lines::line_at` and `indent::count_brackets` say the same of its tokens.
+
+ghost use Rattle.std.specs.Prelude.{◌≡◌, ◌==◌, ◌+◌, ◌*◌, ◌/◌, ◌%◌, ◌<◌, ◌≤◌, ◌++◌, not, [], ◌∷◌, false, length, slice_range, if◌then◌else◌, IfOk};
+ghost use Rattle.hcl_scan.specs.Tokenization.{MAX_TEXT};
+ghost use Rattle.hcl_layout.specs.Gaps.Indent.{is_opening, is_closing, openings, closings};
+ghost use Rattle.hcl_layout.specs.Gaps.Kinds.{is_equal};
+ghost use Rattle.hcl_layout.specs.Gaps.Lines.{ends_line};
+ghost use Rattle.hcl_layout.specs.Gaps.Space.{prev_after_all};
+ghost use Rattle.hcl_layout.specs.Gaps.Inner.CodeViews.{is_comment, IsLine};
+ghost use Rattle.hcl_layout.specs.Gaps.Inner.Stages.{spaces_from};
+
+use crate::gaps::kinds::is_here_open;
+use crate::gaps::lines::LineSpan;
+use crate::gaps::spacing_flags::gap_len;
+use hcl_scan::Scanned;
+use hcl_token::Kind;
+use std::alloc::AllocError;
+
+/// A closing bracket or template sequence counts so much, an opening one 1.
+const CLOSING: u64 = 4_294_967_296;
+
+/// A `=` counts so much, a comment 1.
+const EQUALS: u64 = 1_073_741_824;
+
+/// What ends a line counts so much, which is more than all comments and `=` of a text.
+const LINE_END: u64 = 1_152_921_504_606_846_976;
+
+/// A line, and its brackets.
+#[derive(Clone, Copy)]
+pub(crate) struct PassedLine {
+    pub line: LineSpan,
+    pub opened: u32,
+    pub closed: u32,
+}
+
+/// Returns what a token counts among brackets and template sequences: those that open, and
+/// `CLOSING` times those that close, are one number.
+fn bracket_number(kind: Kind) -> u64
+    ensures { result ≡ (if is_opening kind then 1 else 0)
+        + 4294967296 * (if is_closing kind then 1 else 0) }
+{
+    match kind {
+        Kind::OpenParen
+        | Kind::OpenBracket
+        | Kind::OpenBrace
+        | Kind::InterpOpen
+        | Kind::DirectiveOpen => 1,
+        Kind::CloseParen | Kind::CloseBracket | Kind::CloseBrace | Kind::SeqClose => CLOSING,
+        _ => 0,
+    }
+}
+
+/// Returns what a token counts among the marks of a line: comments, `EQUALS` times the `=`, and
+/// `LINE_END` for its end are one number.
+fn mark_number(kind: Kind) -> u64
+    ensures { result ≡ (if is_comment kind then 1 else 0) + 1073741824 * (if is_equal kind then 1 else 0)
+        + 1152921504606846976 * (if ends_line 0 kind then 1 else 0) }
+{
+    match kind {
+        Kind::LineComment | Kind::InlineComment => 1,
+        Kind::Equal => EQUALS,
+        Kind::LineEnd | Kind::HereOpen => LINE_END,
+        _ => 0,
+    }
+}
+
+/// Returns the line before token `past` whose tokens count so much.
+fn passed_line(brackets: u64, marks: u64, past: usize, next_frozen: bool) -> PassedLine
+    requires { past ≤ MAX_TEXT }
+    ensures past { result.line.past ≡ past }
+    ensures next_frozen { result.line.next_frozen ≡ next_frozen }
+    ensures has_bracket { result.line.has_bracket ≡ not (brackets == 0) }
+    ensures has_comment { result.line.has_comment ≡ not (marks % 1073741824 == 0) }
+    ensures has_equals { result.line.has_equals ≡ not (marks / 1073741824 % 1073741824 == 0) }
+    ensures opened { result.opened ≡ brackets % 4294967296 }
+    ensures closed { result.closed ≡ brackets / 4294967296 }
+{
+    PassedLine {
+        line: LineSpan {
+            past: past as u32,
+            next_frozen,
+            has_bracket: brackets != 0,
+            has_comment: marks % EQUALS != 0,
+            has_equals: marks / EQUALS % EQUALS != 0,
+        },
+        opened: (brackets % CLOSING) as u32,
+        closed: (brackets / CLOSING) as u32,
+    }
+}
+
+/// Pushes a number for each token of the line that begins at token `at` in no heredoc: 0 for the
+/// first, and those of the gaps inside the line.
+pub(crate) fn push_line(
+    scanned: &Scanned<'_>,
+    gaps: &mut Vec<u32>,
+    first: usize,
+    at: usize,
+) -> Result<PassedLine, AllocError>
+    requires begun { first ≤ at }
+    requires within { at < length scanned.now.pairs }
+    requires within_limit { length scanned.now.pairs ≤ MAX_TEXT }
+    ensures line { IfOk result (λ passed. IsLine scanned.now.pairs at false passed.line) }
+    ensures opened { IfOk result (λ passed.
+        passed.opened ≡ openings (slice_range scanned.now.pairs at passed.line.past)) }
+    ensures closed { IfOk result (λ passed.
+        passed.closed ≡ closings (slice_range scanned.now.pairs at passed.line.past)) }
+    ensures gaps { IfOk result (λ passed. gaps.new.items ≡ gaps.old.items
+        ++ 0 ∷ spaces_from (prev_after_all (slice_range scanned.now.pairs first at) [])
+        (slice_range scanned.now.pairs at passed.line.past)) }
+{
+    let mut brackets: u64 = 0;
+    let mut marks: u64 = 0;
+    let mut a = scanned.kind(at);
+    gaps.push(0)?;
+    for i in at + 1..scanned.len() {
+        brackets += bracket_number(a);
+        marks += mark_number(a);
+        if marks >= LINE_END {
+            return Ok(passed_line(brackets, marks, i, is_here_open(a)));
+        }
+        let b = scanned.kind(i);
+        gaps.push(gap_len(scanned, first, a, b, i))?;
+        a = b;
+    }
+    brackets += bracket_number(a);
+    marks += mark_number(a);
+    Ok(passed_line(brackets, marks, scanned.len(), is_here_open(a)))
+}
