@@ -5,6 +5,7 @@ pub mod CellGaps
 pub mod CellLaw
 pub mod LineLemmas
 pub mod NearLemmas
+pub mod Repeats
 pub mod RowLemmas
 pub mod TokensKept
 pub mod WidthLemmas

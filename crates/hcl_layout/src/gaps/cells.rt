@@ -1,6 +1,6 @@
 //! Alignment: the cells of a run of lines in one column.
 
-ghost use Rattle.std.specs.Prelude.{take, false, [], ◌∷◌, Some, slice_get, ◌≡◌, ◌==◌, ◌&&◌, ◌+◌, ◌-◌, ◌*◌, ◌<◌, ◌≤◌, ◌^◌, length, drop, slice_range, option_map, OnOk, IfOk, IfSome};
+ghost use Rattle.std.specs.Prelude.{take, false, [], ◌∷◌, Some, slice_get, ◌≡◌, ◌==◌, ◌&&◌, ◌+◌, ◌-◌, ◌*◌, ◌<◌, ◌≤◌, ◌^◌, ◌++◌, length, drop, slice_range, option_map, OnOk, IfOk, IfSome};
 ghost use Rattle.hcl_scan.specs.Tokenization.{MAX_TEXT};
 ghost use Rattle.std.specs.List.{list_any};
 ghost use Rattle.hcl_token.specs.Place.{is_lf};
@@ -9,8 +9,8 @@ ghost use Rattle.hcl_token.specs.TokenizedText.{AreUtf8};
 ghost use Rattle.hcl_layout.specs.Gaps.Kinds.{is_inline_comment};
 ghost use Rattle.hcl_layout.specs.Gaps.Lines.{pairs_in};
 ghost use Rattle.hcl_layout.specs.Gaps.Cells.{index_after_first, is_balanced, width, width_before, aligned};
-ghost use Rattle.hcl_layout.specs.Gaps.Inner.Stages.{widths, greatest, lines_from, with_gaps, AreAtMost, cell_tokens, set_cell_gaps, cell_gaps_from_width};
-ghost use Rattle.hcl_layout.specs.Gaps.Inner.CodeViews.{starts_cell, cell_of, is_valid_cell, widths_of, tokens_in, width_in, token_in, can_have_cell, is_bracket, is_comment, are_some, HasFlags, AreInside, AreLines};
+ghost use Rattle.hcl_layout.specs.Gaps.Inner.Stages.{widths, greatest, lines_from, with_gaps, AreAtMost, set_cell_gaps, cell_gaps_from_width};
+ghost use Rattle.hcl_layout.specs.Gaps.Inner.CodeViews.{starts_cell, cell_of, is_valid_cell, is_cell, without_repeats, AreStarts, widths_of, tokens_in, width_in, token_in, can_have_cell, is_bracket, is_comment, are_some, HasFlags, AreInside, AreLines};
 
 use crate::gaps::base_gaps::KEEP_GAP;
 use crate::gaps::indent::count_brackets;
@@ -263,8 +263,29 @@ fn cell_start(
     }
 }
 
-/// Returns the cells of a text, one for each of these lines, the first of which begins at token
-/// `first`.
+fn is_cell(start: Option<CellStart>) -> bool
+    ensures { result ≡ is_cell start }
+{
+    start.is_some()
+}
+
+/// Pushes the cell of a line, if it has one or the line before it had one.
+fn push_start(
+    starts: &mut Vec<Option<CellStart>>,
+    in_run: bool,
+    start: Option<CellStart>,
+) -> Result<(), AllocError>
+    ensures { OnOk result
+        (starts.new.items ≡ starts.old.items ++ without_repeats in_run (start ∷ [])) }
+{
+    if in_run | is_cell(start) {
+        starts.push(start)?;
+    }
+    Ok(())
+}
+
+/// Returns the cells of these lines, the first of which begins at token `first`. Of several lines
+/// without a cell there is one, or none before the first cell.
 fn cell_starts(
     alloc: Global,
     scanned: &Scanned<'_>,
@@ -279,22 +300,17 @@ fn cell_starts(
     requires lines { AreLines scanned.now.pairs first false lines.now }
     requires bounded { AreAtMost 1073741824
         (widths (cell_of cell) (lines_from 0 (drop first (with_gaps gaps.now scanned.now.pairs)))) }
-    ensures widths { IfOk result
-        (λ starts. widths_of starts.items
-        ≡ widths (cell_of cell)
-        (lines_from 0 (drop first (with_gaps gaps.now scanned.now.pairs)))) }
-    ensures tokens { IfOk result
-        (λ starts. tokens_in starts.items
-        ≡ cell_tokens first (cell_of cell)
-        (lines_from 0 (drop first (with_gaps gaps.now scanned.now.pairs)))) }
-    ensures inside { IfOk result (λ starts. AreInside (length scanned.now.pairs) starts.items) }
+    ensures { IfOk result (λ starts.
+        AreStarts cell gaps.now scanned.now.pairs first starts.items) }
 {
     let mut starts = Vec::with_capacity(alloc, lines.len())?;
+    let mut in_run = false;
     let mut frozen = false;
     let mut at = first;
     for line in lines {
         let start = cell_start(scanned, cell, gaps, at, frozen, *line);
-        starts.push(start)?;
+        push_start(&mut starts, in_run, start)?;
+        in_run = is_cell(start);
         frozen = line.next_frozen;
         at = line.past as usize;
     }

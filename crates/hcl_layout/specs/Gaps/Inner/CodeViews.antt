@@ -7,7 +7,7 @@ use Rattle.hcl_layout.specs.Gaps.Kinds.{is_equal, is_line_comment}
 use Rattle.hcl_layout.specs.Gaps.Lines.{Line}
 use Rattle.hcl_token.specs.Tokens.{Pair}
 use Rattle.hcl_layout.specs.Gaps.Cells.{is_balanced, assignment, closing_comment}
-use Rattle.hcl_layout.specs.Gaps.Inner.Stages.{prev_kinds_of, SplitsLine, lines_from, open_heredocs_of, all_gap_lens}
+use Rattle.hcl_layout.specs.Gaps.Inner.Stages.{prev_kinds_of, SplitsLine, lines_from, open_heredocs_of, all_gap_lens, widths, cell_tokens, with_gaps}
 use Rattle.hcl_layout.specs.Gaps.Space.{prev_after_all}
 use Rattle.hcl_layout.specs.declared.gaps.lines.LineSpan.{LineSpan}
 use Rattle.hcl_layout.specs.declared.gaps.space.PrevKinds.{PrevKinds}
@@ -125,3 +125,24 @@ abbrev pub gaps_left : List Pair → ℕ → ℕ → Bool → List ℕ → List 
 gaps_left pairs first at frozen gaps surplus =
     gaps ++ all_gap_lens (reverse surplus) (prev_after_all (slice_range pairs first at) [])
     (lines_from (open_heredocs_of frozen) (drop at pairs))
+
+-- ---- cells without repeats
+
+abbrev pub is_cell : Option CellStart → Bool
+is_cell None = false
+is_cell (Some p) = true
+
+-- the cells of lines, where of several lines without a cell one is kept, and after a cell alone
+abbrev pub without_repeats : Bool → List (Option CellStart) → List (Option CellStart)
+without_repeats in_run [] = []
+without_repeats in_run (Some p ∷ starts) = Some p ∷ without_repeats true starts
+without_repeats true (None ∷ starts) = None ∷ without_repeats false starts
+without_repeats false (None ∷ starts) = without_repeats false starts
+
+-- cells that are those of the lines of a text from a token on, without repeats
+pub record AreStarts (cell : Cell) (gaps : List ℕ) (pairs : List Pair) (first : ℕ) (starts : List (Option CellStart)) : Type 0 where
+  pub all : List (Option CellStart)
+  pub kept : starts ≡ without_repeats false all
+  pub sizes : widths_of all ≡ widths (cell_of cell) (lines_from 0 (drop first (with_gaps gaps pairs)))
+  pub numbers : tokens_in all ≡ cell_tokens first (cell_of cell) (lines_from 0 (drop first (with_gaps gaps pairs)))
+  pub inside : AreInside (length pairs) all
