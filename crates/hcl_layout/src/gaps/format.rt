@@ -109,6 +109,11 @@ pub fn is_laid_out(alloc: Global, scanned: &Scanned<'_>) -> Result<bool, LayoutF
         (IsMemoryOrTooLong (MAX_TEXT < length (layout_text scanned.now))) }
 {
     let _text = scanned.text();
-    let gaps = gaps_within_limit(alloc, scanned)?;
-    Ok(all_unchanged(scanned, &gaps))
+    let gaps = layout_gaps(alloc, scanned)?;
+    // a layout that is the text is no longer than the text
+    if all_unchanged(scanned, &gaps) {
+        return Ok(true);
+    }
+    capacity_within_limit(scanned, &gaps)?;
+    Ok(false)
 }
