@@ -115,7 +115,15 @@ pub(crate) fn all_unchanged(scanned: &Scanned<'_>, gaps: &[u32]) -> bool
     ensures { result ≡ unchanged scanned.now.pairs
         (with_gaps gaps.now scanned.now.pairs) scanned.now.last }
 {
-    for i in 0..scanned.len() {
+    let len = scanned.len();
+    if len == 0 {
+        return scanned.last_gap().is_empty();
+    }
+    if !is_unchanged(scanned.gap(0), gaps[0]) {
+        return false;
+    }
+    // from the second token on each gap has a token before it, so the loop need not ask for one
+    for i in 1..len {
         if !is_unchanged(scanned.gap(i), gaps[i]) {
             return false;
         }
