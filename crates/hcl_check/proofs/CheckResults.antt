@@ -39,7 +39,7 @@ refused_deep : {d b : ℕ} {t : Tree} {n : ℕ} {o : Outcome Tree} (f : TokenFau
 refused_deep f found e = absurd (cc)
 refused_deep {o = o} f (deep {at} l) e = (l, deep_is at f o refl e)
 
-not_memory : {o : Outcome (Unit {0})} (f : TokenFault) → NoMemory o → o ≡ Err f → f ≢ Memory
+pub not_memory : {A : Type 0} {o : Outcome A} (f : TokenFault) → NoMemory o → o ≡ Err f → f ≢ Memory
 not_memory f none.read e = absurd (cc)
 not_memory f (none.refused {e = met} h) e = λ is. h (let same : met ≡ f = cc in cc)
 

@@ -353,6 +353,10 @@ module _ (ts : List Token) where
   members zero i = members_from zero _ (λ i. refused (is_deep i)) (length ts) i
   members (suc depth) i = members_from (suc depth) _ (λ i. members depth i) (length ts) i
 
+  pub member : (depth i : ℕ) → NoMemory (q.member_of ts depth (q.deeper_body ts depth) i)
+  member zero i = member_of zero _ (λ i. refused (is_deep i)) i
+  member (suc depth) i = member_of (suc depth) _ (λ i. members depth i) i
+
   pub file : (depth i : ℕ) → NoMemory (q.file ts depth i)
   unfolding q.file
   file depth i = next _ (members depth _) (λ x j. at_end _ _)
