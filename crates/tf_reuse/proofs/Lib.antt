@@ -2,11 +2,11 @@ pub mod Window
 pub mod RenumberedNodes
 mod MoveLines
 mod MoveExpressions
-mod MoveBodies
+pub mod MoveBodies
 mod RenumberedTrivia
-mod Renumbering
+pub mod Renumbering
 mod RenumberedFindings
-mod FoundNodes
+pub mod FoundNodes
 mod FoundBlocks
 mod FoundMember
 mod MembersKeep

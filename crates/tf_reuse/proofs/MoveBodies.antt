@@ -29,6 +29,28 @@ in_front (alone.attribute p q x el) r = attribute p q x el r
 in_front (alone.block p ls br nl bs cl el) r = block p ls br nl bs cl el r
 in_front (alone.line_block p ls br x cl el) r = line_block p ls br x cl el r
 
+-- a line end ends it, not the end of the text
+abbrev pub IsLine : {ts : List Token} {i j : ℕ} → IsEol ts i j → Type 0
+IsLine (eol_line q) = Unit {0}
+IsLine (eol_end e) = ⊥
+IsLine (eol_comment p e) = ⊥
+
+abbrev pub EndsLine : {ts : List Token} {d : ℕ} {x : Member} {i j : ℕ} → IsOneMember ts d x i j → Type 0
+EndsLine (alone.attribute p q x el) = IsLine el
+EndsLine (alone.block p ls br nl bs cl el) = IsLine el
+EndsLine (alone.line_block p ls br x cl el) = IsLine el
+
+-- so it is where a token follows
+is_line : {ts : List Token} {i j : ℕ} (el : IsEol ts i j) → next_kind ts false j ≢ None → IsLine el
+is_line (eol_line q) n = tt
+is_line (eol_end e) n = n e
+is_line (eol_comment p e) n = n e
+
+ends_line : {ts : List Token} {d : ℕ} {x : Member} {i j : ℕ} (is : IsOneMember ts d x i j) → next_kind ts false j ≢ None → EndsLine is
+ends_line (alone.attribute p q x el) n = is_line el n
+ends_line (alone.block p ls br nl bs cl el) n = is_line el n
+ends_line (alone.line_block p ls br x cl el) n = is_line el n
+
 module _ {old new : List Token} {from to count : ℕ} (w : SameTokens old new from to count) where
   begins : (i : ℕ) → next_index old false i < after_next old false i
   unfolding after_next
@@ -47,16 +69,16 @@ module _ {old new : List Token} {from to count : ℕ} (w : SameTokens old new fr
 
   -- ---- ends of lines
 
-  eol_comes : {i j : ℕ} → IsEol old i j → j ≤ from + count → next_kind old false j ≢ None → Comes w false i
+  eol_comes : {i j : ℕ} (el : IsEol old i j) → j ≤ from + count → IsLine el → Comes w false i
   eol_comes (eol_line (line_end {i} q)) l n = comes_within w false i l
   eol_comes (eol_line (comment {i} p q)) l n = back i (comes_within w false (after_next old false i) l)
-  eol_comes (eol_end e) l n = absurd (n e)
-  eol_comes (eol_comment p e) l n = absurd (n e)
+  eol_comes (eol_end e) l n = absurd n
+  eol_comes (eol_comment p e) l n = absurd n
 
-  pub move_eol : {i i' j : ℕ} → IsEol old i j → Here w i i' → j ≤ from + count → next_kind old false j ≢ None → (j' : ℕ) × Here w j j' × IsEol new i' j'
+  pub move_eol : {i i' j : ℕ} (el : IsEol old i j) → Here w i i' → j ≤ from + count → IsLine el → (j' : ℕ) × Here w j j' × IsEol new i' j'
   move_eol (eol_line q) h l n = let (j', hj, q') = move_line w q h l in (j', hj, eol_line q')
-  move_eol (eol_end e) h l n = absurd (n e)
-  move_eol (eol_comment p e) h l n = absurd (n e)
+  move_eol (eol_end e) h l n = absurd n
+  move_eol (eol_comment p e) h l n = absurd n
 
   -- ---- labels
 
@@ -128,8 +150,8 @@ module _ {old new : List Token} {from to count : ℕ} (w : SameTokens old new fr
   abbrev MovesMembers : ℕ → List Member → ℕ → ℕ → Type 0
   MovesMembers d ms i' j = (ns : List Member) × (j' : ℕ) × Here w j j' × IsMembers new d ns i' j' × MovedMembers (Here w) (Same w) ms ns
 
-  move_attribute : {d : ℕ} {e : Expr} {i i' j n : ℕ} → NextIs old false k.Identifier i → NextIs old false k.Equal (after_next old false i) → IsExpr old d false e (after_next old false (after_next old false i)) j → IsEol old j n
-      → Here w i i' → n ≤ from + count → next_kind old false n ≢ None → MovesMember d (member.Attribute (node.attribute (next_index old false i) n e)) i' n
+  move_attribute : {d : ℕ} {e : Expr} {i i' j n : ℕ} → NextIs old false k.Identifier i → NextIs old false k.Equal (after_next old false i) → IsExpr old d false e (after_next old false (after_next old false i)) j → (el : IsEol old j n)
+      → Here w i i' → n ≤ from + count → IsLine el → MovesMember d (member.Attribute (node.attribute (next_index old false i) n e)) i' n
   move_attribute {i} {i'} {j} p q x el h l some =
       let i1 = after_next old false i in
       let cj = eol_comes el l some in
@@ -148,8 +170,8 @@ module _ {old new : List Token} {from to count : ℕ} (w : SameTokens old new fr
 
   -- a block whose body, as it stands in the braces, is moved
   move_block : {d : ℕ} {ls : List Label} {bs : List Member} {i i' j n o q : ℕ} → NextIs old false k.Identifier i → IsLabels old ls (after_next old false i) j → NextIs old false k.OpenBrace j
-      → IsNewline old (after_next old false j) n → n ≤ o → (Comes w false o → (n' : ℕ) → Here w n n' → MovesMembers d bs n' o) → NextIs old false k.CloseBrace o → IsEol old (after_next old false o) q
-      → Here w i i' → q ≤ from + count → next_kind old false q ≢ None
+      → IsNewline old (after_next old false j) n → n ≤ o → (Comes w false o → (n' : ℕ) → Here w n n' → MovesMembers d bs n' o) → NextIs old false k.CloseBrace o → (el : IsEol old (after_next old false o) q)
+      → Here w i i' → q ≤ from + count → IsLine el
       → MovesMember (suc d) (node.block (next_index old false i) q ls (content.Body (node.body (first_token_in old false n o) o bs))) i' q
   move_block {i} {i'} {j} {n} {o} p ls br nl on inner cl el h l some =
       let i1 = after_next old false i in
@@ -173,8 +195,8 @@ module _ {old new : List Token} {from to count : ℕ} (w : SameTokens old new fr
       )
 
   move_line_block : {d : ℕ} {ls : List Label} {a : Option Attribute} {i i' j o q : ℕ} → NextIs old false k.Identifier i → IsLabels old ls (after_next old false i) j → NextIs old false k.OpenBrace j
-      → IsOneLineBody old d a (after_next old false j) o → NextIs old false k.CloseBrace o → IsEol old (after_next old false o) q
-      → Here w i i' → q ≤ from + count → next_kind old false q ≢ None → MovesMember (suc d) (node.block (next_index old false i) q ls (content.OneLine a)) i' q
+      → IsOneLineBody old d a (after_next old false j) o → NextIs old false k.CloseBrace o → (el : IsEol old (after_next old false o) q)
+      → Here w i i' → q ≤ from + count → IsLine el → MovesMember (suc d) (node.block (next_index old false i) q ls (content.OneLine a)) i' q
   move_line_block {i} {i'} {j} {o} p ls br x cl el h l some =
       let i1 = after_next old false i in
       let j1 = after_next old false j in
@@ -204,16 +226,20 @@ module _ {old new : List Token} {from to count : ℕ} (w : SameTokens old new fr
       (ns, l', hl, blank q' r', m)
   move_members (attribute {n} {l} p q x el r) h c =
       let cn = earlier w false n l (span_members r).forth c in
-      then (move_attribute p q x el h (comes_end w false n cn) (some_next w false n cn)) (λ n' hn. move_members r hn c)
+      then (move_attribute p q x el h (comes_end w false n cn) (is_line el (some_next w false n cn))) (λ n' hn. move_members r hn c)
   move_members (block {q} {l} p ls br nl bs cl el r) h c =
       let cq = earlier w false q l (span_members r).forth c in
-      then (move_block p ls br nl (span_members bs).forth (λ co n' hn. move_members bs hn co) cl el h (comes_end w false q cq) (some_next w false q cq)) (λ n' hn. move_members r hn c)
+      then (move_block p ls br nl (span_members bs).forth (λ co n' hn. move_members bs hn co) cl el h (comes_end w false q cq) (is_line el (some_next w false q cq))) (λ n' hn. move_members r hn c)
   move_members (line_block {q} {l} p ls br x cl el r) h c =
       let cq = earlier w false q l (span_members r).forth c in
-      then (move_line_block p ls br x cl el h (comes_end w false q cq) (some_next w false q cq)) (λ n' hn. move_members r hn c)
+      then (move_line_block p ls br x cl el h (comes_end w false q cq) (is_line el (some_next w false q cq))) (λ n' hn. move_members r hn c)
+
+  pub move_line_member : {d : ℕ} {x : Member} {i i' j : ℕ} (is : IsOneMember old d x i j) → Here w i i' → j ≤ from + count → EndsLine is
+      → (y : Member) × (j' : ℕ) × Here w j j' × IsOneMember new d y i' j' × MovedMember (Here w) (Same w) x y
+  move_line_member (alone.attribute p q x el) h l line = move_attribute p q x el h l line
+  move_line_member (alone.block p ls br nl bs cl el) h l line = move_block p ls br nl (span_members bs).forth (λ co n' hn. move_members bs hn co) cl el h l line
+  move_line_member (alone.line_block p ls br x cl el) h l line = move_line_block p ls br x cl el h l line
 
   pub move_member : {d : ℕ} {x : Member} {i i' j : ℕ} → IsOneMember old d x i j → Here w i i' → j ≤ from + count → next_kind old false j ≢ None
       → (y : Member) × (j' : ℕ) × Here w j j' × IsOneMember new d y i' j' × MovedMember (Here w) (Same w) x y
-  move_member (alone.attribute p q x el) h l some = move_attribute p q x el h l some
-  move_member (alone.block p ls br nl bs cl el) h l some = move_block p ls br nl (span_members bs).forth (λ co n' hn. move_members bs hn co) cl el h l some
-  move_member (alone.line_block p ls br x cl el) h l some = move_line_block p ls br x cl el h l some
+  move_member is h l some = move_line_member is h l (ends_line is some)
