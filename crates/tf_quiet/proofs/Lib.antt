@@ -1,0 +1,9 @@
+mod Nothing
+mod QuietRuns
+mod QuietTokens
+mod Walks
+mod LineEnds
+mod QuietNodes
+mod QuietMembers
+mod QuietHeads
+mod SnakeCaseLemmas

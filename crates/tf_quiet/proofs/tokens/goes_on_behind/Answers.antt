@@ -1,0 +1,39 @@
+use Rattle.std.proofs.Common.{◌≡◌, ◌+◌, drop, Some, sym, ap, ◌∙◌}
+use Rattle.hcl_token.specs.TokenizedText.{kind_of}
+use Rattle.hcl_token.specs.declared.kind.Kind.TheVariants as k
+use Rattle.tf_quiet.specs.QuietTokens.{goes_on, goes_on_behind}
+use Rattle.tf_quiet.proofs.QuietRuns.{goes_on_at, goes_on_over}
+use Rattle.tf_quiet.proofs.tokens.goes_on_behind.Goals as goal
+
+pub returns-in-SeqClose : goal.returns-in-SeqClose
+returns-in-SeqClose c =
+    let here : kind_of c.args.scanned.now.pairs c.inside.n ≡ Some k.SeqClose = sym c.kind.ensures ∙ ap Some c.in-SeqClose.is in
+    c.goes_on.ensures ∙ sym (goes_on_at c.args.scanned.now.pairs c.inside.n k.SeqClose here) ∙ c.inside.invariant
+
+pub returns-in-QuoteOpen : goal.returns-in-QuoteOpen
+returns-in-QuoteOpen c =
+    let here : kind_of c.args.scanned.now.pairs c.inside.n ≡ Some k.QuoteOpen = sym c.kind.ensures ∙ ap Some c.in-QuoteOpen.is in
+    sym (goes_on_at c.args.scanned.now.pairs c.inside.n k.QuoteOpen here) ∙ c.inside.invariant
+
+pub returns-in-HereOpen : goal.returns-in-HereOpen
+returns-in-HereOpen c =
+    let here : kind_of c.args.scanned.now.pairs c.inside.n ≡ Some k.HereOpen = sym c.kind.ensures ∙ ap Some c.in-HereOpen.is in
+    sym (goes_on_at c.args.scanned.now.pairs c.inside.n k.HereOpen here) ∙ c.inside.invariant
+
+pub returns-in-InterpOpen : goal.returns-in-InterpOpen
+returns-in-InterpOpen c =
+    let here : kind_of c.args.scanned.now.pairs c.inside.n ≡ Some k.InterpOpen = sym c.kind.ensures ∙ ap Some c.in-InterpOpen.is in
+    sym (goes_on_at c.args.scanned.now.pairs c.inside.n k.InterpOpen here) ∙ c.inside.invariant
+
+pub returns-in-DirectiveOpen : goal.returns-in-DirectiveOpen
+returns-in-DirectiveOpen c =
+    let here : kind_of c.args.scanned.now.pairs c.inside.n ≡ Some k.DirectiveOpen = sym c.kind.ensures ∙ ap Some c.in-DirectiveOpen.is in
+    sym (goes_on_at c.args.scanned.now.pairs c.inside.n k.DirectiveOpen here) ∙ c.inside.invariant
+
+pub inside-preserved : goal.inside-preserved
+inside-preserved c =
+    let pairs = c.args.scanned.now.pairs in
+    let n = c.inside.n in
+    let d = c.in_default in
+    sym (goes_on_over c.kind.result (goes_on (kind_of pairs (n + 1))) (goes_on_behind (drop (n + 1) pairs)) d.not-SeqClose d.not-QuoteOpen d.not-HereOpen d.not-InterpOpen d.not-DirectiveOpen)
+    ∙ sym (goes_on_at pairs n c.kind.result (sym c.kind.ensures)) ∙ c.inside.invariant

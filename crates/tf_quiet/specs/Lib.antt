@@ -1,0 +1,3 @@
+pub mod QuietTokens
+pub mod QuietMembers
+pub mod QuietHeads

@@ -1,0 +1,82 @@
+//! How a member begins.
+
+ghost use Rattle.std.specs.Prelude.{◌≡◌, ◌<◌, ◌+◌, ◌^◌, true};
+ghost use Rattle.hcl_grammar.specs.Tokens.{is_kind};
+ghost use Rattle.hcl_token.specs.TokenizedText.{kind_of};
+ghost use Rattle.std.specs.Str.{bytes_eq};
+ghost use Rattle.tf_quiet.specs.QuietHeads.{is_text_label, is_snake_label, is_quiet_behind_word, is_quiet_head};
+ghost use Rattle.tf_rules.specs.Spelling.{token_text};
+
+use crate::snake_case::is_snake_case;
+use hcl_scan::Scanned;
+use hcl_token::Kind;
+
+/// Returns whether a token is there, of this kind.
+#[tactic(auto, unfolding(hcl_grammar::specs::Tokens::same_kind))]
+fn is_kind(scanned: &Scanned<'_>, n: usize, kind: Kind) -> bool
+    ensures { result ≡ is_kind (kind_of scanned.now.pairs n) kind }
+{
+    n < scanned.len() && scanned.kind(n) == kind
+}
+
+/// The spelling of a token; nothing where there is no such token.
+fn token_text<'t>(scanned: &Scanned<'t>, n: usize) -> &'t [u8]
+    ensures { result.now ≡ token_text scanned.now.pairs n }
+{
+    if n >= scanned.len() {
+        return b"";
+    }
+    scanned.spelling(n)
+}
+
+fn is_spelled(spelling: &[u8], expected: &[u8]) -> bool
+    ensures { result ≡ bytes_eq spelling.now expected.now }
+{
+    spelling == expected
+}
+
+/// Returns whether a quoted label is there.
+fn is_text_label(scanned: &Scanned<'_>, n: usize) -> bool
+    requires { n + 2 < 2 ^ 64 }
+    ensures { result ≡ is_text_label scanned.now.pairs n }
+{
+    is_kind(scanned, n, Kind::QuoteOpen)
+        && is_kind(scanned, n + 1, Kind::QuoteLit)
+        && is_kind(scanned, n + 2, Kind::QuoteClose)
+}
+
+/// Returns whether a quoted label in snake_case is there.
+fn is_snake_label(scanned: &Scanned<'_>, n: usize) -> bool
+    requires { n + 1 < 2 ^ 64 }
+    ensures { result ≡ is_snake_label scanned.now.pairs n }
+{
+    is_kind(scanned, n, Kind::QuoteOpen)
+        && is_kind(scanned, n + 1, Kind::QuoteLit)
+        && is_snake_case(token_text(scanned, n + 1))
+}
+
+fn is_quiet_behind_word(scanned: &Scanned<'_>, n: usize, word: &[u8]) -> bool
+    requires { n + 6 < 2 ^ 64 }
+    ensures { result ≡ is_quiet_behind_word scanned.now.pairs n word.now }
+{
+    if is_spelled(word, b"resource") || is_spelled(word, b"data") {
+        return is_text_label(scanned, n + 1) && is_snake_label(scanned, n + 4);
+    }
+    if is_spelled(word, b"module") {
+        return is_snake_label(scanned, n + 1);
+    }
+    !(is_spelled(word, b"variable") || is_spelled(word, b"output") || is_spelled(word, b"locals"))
+}
+
+/// The most tokens of a head.
+const HEAD: usize = 6;
+
+/// Returns whether no rule on blocks finds anything at a member that begins with this token,
+/// whatever is in it.
+pub fn is_quiet_head(scanned: &Scanned<'_>, n: usize) -> bool
+    ensures { result ≡ true → is_quiet_head scanned.now.pairs n ≡ true }
+{
+    n <= usize::MAX - HEAD
+        && is_kind(scanned, n, Kind::Identifier)
+        && is_quiet_behind_word(scanned, n, token_text(scanned, n))
+}

@@ -1,0 +1,10 @@
+//! Members of a body in which no rule can find anything, as their tokens tell.
+#![tactic(auto)]
+
+mod heads;
+pub mod laws;
+mod snake_case;
+mod tokens;
+
+pub use heads::is_quiet_head;
+pub use tokens::quiet_line_end;
