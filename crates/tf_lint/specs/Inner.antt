@@ -5,3 +5,4 @@ pub mod LineParts
 pub mod FirstChange
 pub mod BodyFindings
 pub mod FixState
+pub mod QuietMember

@@ -14,6 +14,7 @@ ghost use Rattle.tf_rules.specs.Findings.{valid_findings};
 ghost use Rattle.tf_rules.specs.declared.rule_set.RuleSet.{RuleSet};
 ghost use Rattle.tf_rules.specs.TopLevelFindings.{top_level_member_findings};
 
+use crate::quiet_member::skip_quiet_member;
 use crate::tokens::same_tokens;
 use hcl_grammar::fault::TokenFault;
 use hcl_grammar::tree::Member;
@@ -86,7 +87,23 @@ fn lint_member(
     })
 }
 
-/// The member that comes next, if one does, read and looked at.
+/// A member that was passed over between two places, in which no rule finds anything.
+fn quiet_member(alloc: Global, from: usize, past: usize) -> LintedMember
+    ensures from { result.from ≡ from }
+    ensures past { result.past ≡ past }
+    ensures nodes { result.nodes.items ≡ [] }
+    ensures blocks { result.blocks.items ≡ [] }
+{
+    LintedMember {
+        from,
+        past,
+        nodes: Vec::new(alloc),
+        blocks: Vec::new(alloc),
+    }
+}
+
+/// The member that comes next, if one does, read and looked at. No tree is made of one in which no
+/// rule can find anything.
 fn lint_next_member(
     alloc: Global,
     scanned: &Scanned<'_>,
@@ -100,6 +117,9 @@ fn lint_next_member(
         ≡ Err e) }
 {
     let from = *at;
+    if skip_quiet_member(alloc, scanned, at) {
+        return Ok(Some(quiet_member(alloc, from, *at)));
+    }
     let Some(x) = member(&Reader::new(alloc, scanned), at)? else {
         return Ok(None);
     };

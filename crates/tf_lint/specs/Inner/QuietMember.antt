@@ -1,0 +1,25 @@
+-- A member that is passed over: no rule finds anything in it.
+use Rattle.std.specs.Prelude.{◌≡◌, ℕ, List, [], ◌∷◌, Some, Ok}
+use Rattle.hcl_grammar.specs.Pure.BodyParser.{deeper_members, member_of}
+use Rattle.hcl_grammar.specs.declared.bounds.TheConstants.{MAX_NESTING}
+use Rattle.hcl_grammar.specs.declared.tree.Member.{Member}
+use Rattle.hcl_scan.specs.Follows.{tokens_of}
+use Rattle.hcl_token.specs.Tokens.{Pair}
+use Rattle.tf_findings.specs.TreeFindings.{AreTreeFindings}
+use Rattle.tf_reuse.specs.OneMember.{IsOneMember}
+use Rattle.tf_rules.specs.Preorder as node
+use Rattle.tf_rules.specs.TopLevelFindings.{top_level_member_findings}
+use Rattle.tf_rules.specs.declared.rule_set.RuleSet.{RuleSet}
+
+-- a member stands between these places, and nothing is found at its nodes or at itself
+pub record IsQuietMember (pairs : List Pair) (from past : ℕ) : Type 0 where
+  pub member : Member
+  pub is_member : IsOneMember (tokens_of pairs) MAX_NESTING member from past
+  pub at_nodes : (rules : RuleSet) → AreTreeFindings rules pairs (node.member member ∷ []) []
+  pub at_block : (rules : RuleSet) → top_level_member_findings rules pairs member ≡ []
+
+-- the parser reads a member between these places
+pub record IsSkippedMember (pairs : List Pair) (from past : ℕ) : Type 0 where
+  pub member : Member
+  pub answer : member_of (tokens_of pairs) MAX_NESTING (deeper_members (tokens_of pairs) MAX_NESTING) from
+      ≡ Ok (Some member, past)

@@ -1,0 +1,48 @@
+//! A member in which no rule can find anything, passed over with no tree of it made.
+//!
+//! Its tokens tell, and most members of most texts are such. One that is not is given up at its first
+//! token that is not quiet, before it is read; the tree is then made as before.
+
+ghost use Rattle.std.specs.Prelude.{◌≡◌, true, false};
+ghost use Rattle.tf_lint.specs.Inner.QuietMember.{IsQuietMember, IsSkippedMember};
+
+use hcl_check::skip_member;
+use hcl_scan::Scanned;
+use std::alloc::Global;
+use tf_quiet::laws::{quiet_heads_have_no_findings, quiet_members_have_no_findings};
+use tf_quiet::{is_quiet_head, quiet_line_end};
+
+/// Passes over the member that comes next, if there is one that ends at this place.
+fn skip_member_up_to(alloc: Global, scanned: &Scanned<'_>, end: usize, at: &mut usize) -> bool
+    ensures member { result ≡ true → IsSkippedMember scanned.now.pairs at.old at.new }
+    ensures place { result ≡ true → at.new ≡ end }
+{
+    match skip_member(alloc, scanned, at) {
+        Ok(true) => *at == end,
+        _ => false,
+    }
+}
+
+/// Passes over the member that comes next, if no rule can find anything in it, and returns whether
+/// it did; else the place stays.
+pub fn skip_quiet_member(alloc: Global, scanned: &Scanned<'_>, at: &mut usize) -> bool
+    ensures passed { result ≡ true → IsQuietMember scanned.now.pairs at.old at.new }
+    ensures stays { result ≡ false → at.new ≡ at.old }
+{
+    quiet_members_have_no_findings();
+    quiet_heads_have_no_findings();
+    let _count = scanned.len();
+    let from = *at;
+    if !is_quiet_head(scanned, from) {
+        return false;
+    }
+    let Some(end) = quiet_line_end(scanned, from) else {
+        return false;
+    };
+    let mut past = from;
+    if !skip_member_up_to(alloc, scanned, end, &mut past) {
+        return false;
+    }
+    *at = past;
+    true
+}
