@@ -6,7 +6,7 @@ use Rattle.std.proofs.lemmas.Fmt.{decimal_digit}
 use Rattle.edit_record.specs.Text.{space, newline, max_number, number_text}
 use Rattle.edit_record.specs.declared.fault.FaultKind.TheVariants.{End}
 use Rattle.edit_record.specs.Parsing.{is_digit, expect, number_at, bytes_at, edit_head_at, edit_at}
-use Rattle.edit_record.specs.Inner.EditLengths.{lengths_at, behind_at}
+use Rattle.edit_record.specs.Inner.EditLengths.{lengths_at, after_head_at}
 use Rattle.edit_record.proofs.Choices.{ok_is, through, goes_on}
 use Rattle.edit_record.proofs.Numbers.{number_again}
 
@@ -33,8 +33,8 @@ two_digits_read r a t rest is r_low r_high a_low a_high =
     refl)
 
 -- the place, and then the lengths
-pub head_read : (t : List ℕ) (at removed added : ℕ) (t1 rest : List ℕ) → number_at 0 max_number space t ≡ Ok (at, t1) → lengths_at t1 ≡ Ok ((removed, added), rest) → edit_at t ≡ behind_at at removed added rest
-unfolding edit_at edit_head_at behind_at
+pub head_read : (t : List ℕ) (at removed added : ℕ) (t1 rest : List ℕ) → number_at 0 max_number space t ≡ Ok (at, t1) → lengths_at t1 ≡ Ok ((removed, added), rest) → edit_at t ≡ after_head_at at removed added rest
+unfolding edit_at edit_head_at after_head_at
 head_read t at removed added t1 rest place lengths =
     through (number_at 0 max_number space t1) _ ((removed, added), rest) lengths λ r t2 r_is e1.
     through (number_at 0 max_number newline t2) _ ((removed, added), rest) e1 λ a t3 a_is e2.
@@ -45,9 +45,9 @@ head_read t at removed added t1 rest place lengths =
     (ap (λ (x : (ℕ × ℕ) × List ℕ). Ok ((at, x.0.0, x.0.1), x.1)) (ok_is ((r, a), t3) ((removed, added), rest) e2)))) in
     goes_on (edit_head_at t) _ ((at, removed, added), rest) _ head refl
 
-pub edit_read : (at removed added : ℕ) (rest after : List ℕ) → removed + added ≤ length rest → drop (removed + added) rest ≡ newline ∷ after → behind_at at removed added rest ≡ Ok (record { at = at; removed = take removed rest; added = take added (drop removed rest) }, after)
-unfolding behind_at
-edit_read at removed added rest after room end =
+pub edit_read : (at removed added : ℕ) (rest after : List ℕ) → removed + added ≤ length rest → drop (removed + added) rest ≡ newline ∷ after → after_head_at at removed added rest ≡ Ok (record { at = at; removed = take removed rest; added = take added (drop removed rest) }, after)
+unfolding after_head_at
+edit_read at removed added rest after spare end =
     let behind = drop removed rest in
     goes_on (bytes_at removed rest) _ (take removed rest, behind) _ (bytes_read removed rest (omega arith))
     (goes_on (bytes_at added behind) _ (take added behind, drop added behind) _ (bytes_read added behind (omega (arith, length-drop removed rest)))

@@ -41,7 +41,7 @@ fn few_digits(number: usize) -> usize
 #[inline(always)]
 fn push_digit(out: &mut Vec<u8>, digit: usize)
     requires small { digit < 10 }
-    requires room { vec_len out.old < vec_capacity out.old }
+    requires spare { vec_len out.old < vec_capacity out.old }
     ensures text { out.new.items ≡ out.old.items ++ (48 + digit) ∷ [] }
     ensures len { vec_len out.new ≡ vec_len out.old + 1 }
     ensures capacity { vec_capacity out.new ≡ vec_capacity out.old }
@@ -53,7 +53,7 @@ fn push_digit(out: &mut Vec<u8>, digit: usize)
 #[inline(always)]
 fn push_pair(out: &mut Vec<u8>, number: usize)
     requires small { number < 100 }
-    requires room { vec_len out.old + 2 ≤ vec_capacity out.old }
+    requires spare { vec_len out.old + 2 ≤ vec_capacity out.old }
     ensures text { out.new.items ≡ out.old.items ++ two_digits number }
     ensures len { vec_len out.new ≡ vec_len out.old + 2 }
     ensures capacity { vec_capacity out.new ≡ vec_capacity out.old }
@@ -66,7 +66,7 @@ fn push_pair(out: &mut Vec<u8>, number: usize)
 #[inline(always)]
 pub(crate) fn push_short(out: &mut Vec<u8>, number: usize)
     requires small { number < 100 }
-    requires room { vec_len out.old + 2 ≤ vec_capacity out.old }
+    requires spare { vec_len out.old + 2 ≤ vec_capacity out.old }
     ensures text { out.new.items ≡ out.old.items ++ decimal number }
     ensures len { vec_len out.new ≤ vec_len out.old + 2 }
     ensures capacity { vec_capacity out.new ≡ vec_capacity out.old }
@@ -82,7 +82,7 @@ pub(crate) fn push_short(out: &mut Vec<u8>, number: usize)
 #[inline(always)]
 fn push_few(out: &mut Vec<u8>, number: usize)
     requires small { number < 10000 }
-    requires room { vec_len out.old + 4 ≤ vec_capacity out.old }
+    requires spare { vec_len out.old + 4 ≤ vec_capacity out.old }
     ensures text { out.new.items ≡ out.old.items ++ decimal number }
     ensures len { vec_len out.new ≤ vec_len out.old + 4 }
     ensures capacity { vec_capacity out.new ≡ vec_capacity out.old }
@@ -98,7 +98,7 @@ fn push_few(out: &mut Vec<u8>, number: usize)
 /// Pushes a number with eight digits at most.
 pub(crate) fn push_number(out: &mut Vec<u8>, number: usize)
     requires small { number < 100000000 }
-    requires room { vec_len out.old + 8 ≤ vec_capacity out.old }
+    requires spare { vec_len out.old + 8 ≤ vec_capacity out.old }
     ensures text { out.new.items ≡ out.old.items ++ decimal number }
     ensures len { vec_len out.new ≤ vec_len out.old + 8 }
     ensures capacity { vec_capacity out.new ≡ vec_capacity out.old }

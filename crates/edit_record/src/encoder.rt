@@ -144,8 +144,8 @@ fn write_part(out: &mut Vec<u8>, part: Part) -> Result<(), AllocError>
 fn write_edit(out: &mut Vec<u8>, edit: &Edit) -> Result<(), AllocError>
     ensures { OnOk result (out.new.items ≡ out.old.items ++ edit_text edit.now) }
 {
-    let room = out.capacity() - out.len();
-    if room >= MOST_BYTES && is_short(edit) {
+    let spare = out.capacity() - out.len();
+    if spare >= MOST_BYTES && is_short(edit) {
         push_edit(out, edit);
         return Ok(());
     }

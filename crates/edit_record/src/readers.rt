@@ -3,7 +3,7 @@
 ghost use Rattle.std.specs.Prelude.{◌≡◌, ◌<◌, ◌^◌, option_map, IfOk, IfErr, ◌≤◌, is_ok};
 ghost use Rattle.edit_record.specs.Inner.ParseResults.{IsParsed, IsRead, IsStop, IsPushed};
 ghost use Rattle.edit_record.specs.Inner.Allocating.{edits_allocate, edit_list_allocates};
-ghost use Rattle.edit_record.specs.Inner.EditLengths.{behind_at};
+ghost use Rattle.edit_record.specs.Inner.EditLengths.{after_head_at};
 ghost use Rattle.edit_record.specs.Lists.Validity.{make_edits};
 ghost use Rattle.edit_record.specs.Parsing.{strip, expect, number_at, bytes_at, edit_head_at, edit_at, edits_at, if_valid, list_head_at, edit_list_at, bare_word_at, word_at};
 ghost use Rattle.edit_record.specs.declared.fault.FaultKind.{FaultKind};
@@ -125,16 +125,16 @@ fn edit_head(text: &[u8]) -> Result<((usize, usize, usize), &[u8]), TextError>
 /// Reads what follows the head of an edit. It allocates only after all bytes of the edit, and its
 /// line end, are read.
 #[inline(always)]
-#[tactic(auto, unfolding(crate::specs::Inner::EditLengths::behind_at))]
-fn behind_head(
+#[tactic(auto, unfolding(crate::specs::Inner::EditLengths::after_head_at))]
+fn after_head(
     alloc: Global,
     at: usize,
     removed: usize,
     added: usize,
     text: &[u8],
 ) -> Result<(Edit, &[u8]), DecodeStop>
-    ensures { IsRead (λ x. (x.0, x.1.now)) (is_ok (behind_at at removed added text.now)) result
-        (behind_at at removed added text.now) }
+    ensures { IsRead (λ x. (x.0, x.1.now)) (is_ok (after_head_at at removed added text.now)) result
+        (after_head_at at removed added text.now) }
 {
     let (removed, rest) = bytes(removed, text)?;
     let (added, rest) = bytes(added, rest)?;
@@ -142,14 +142,14 @@ fn behind_head(
     Ok((Edit::new(alloc, at, removed, added)?, rest))
 }
 
-/// Reads an edit, part by part. It allocates as `behind_head` does.
+/// Reads an edit, part by part. It allocates as `after_head` does.
 #[inline(never)]
-#[tactic(auto, unfolding(crate::specs::Parsing::edit_at, crate::specs::Inner::EditLengths::behind_at))]
+#[tactic(auto, unfolding(crate::specs::Parsing::edit_at, crate::specs::Inner::EditLengths::after_head_at))]
 fn any_edit(alloc: Global, text: &[u8]) -> Result<(Edit, &[u8]), DecodeStop>
     ensures { IsRead (λ x. (x.0, x.1.now)) (is_ok (edit_at text.now)) result (edit_at text.now) }
 {
     let ((at, removed, added), rest) = edit_head(text)?;
-    behind_head(alloc, at, removed, added, rest)
+    after_head(alloc, at, removed, added, rest)
 }
 
 /// Reads an edit, pushes it, and returns the rest of the text. It allocates only after the edit is
@@ -173,7 +173,7 @@ fn push_next<'t>(
         edits.push(next)?;
         return Ok(after);
     }
-    let (next, after) = behind_head(alloc, at, removed, added, rest)?;
+    let (next, after) = after_head(alloc, at, removed, added, rest)?;
     edits.push(next)?;
     Ok(after)
 }

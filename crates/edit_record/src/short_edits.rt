@@ -3,7 +3,7 @@
 ghost use Rattle.std.specs.Prelude.{◌≡◌, ◌+◌, ◌∷◌, false, length, IfSome};
 ghost use Rattle.edit_record.specs.Text.{max_number};
 ghost use Rattle.edit_record.specs.Parsing.{is_digit, number_at, list_head_at, edit_at};
-ghost use Rattle.edit_record.specs.Inner.EditLengths.{lengths_at, behind_at};
+ghost use Rattle.edit_record.specs.Inner.EditLengths.{lengths_at, after_head_at};
 
 use crate::lists::{Edit, INLINE_CAPACITY};
 use crate::readers::MAX_NUMBER;
@@ -117,7 +117,7 @@ fn plain_lengths(text: &[u8]) -> Option<((usize, usize), &[u8])>
 #[inline(always)]
 pub(crate) fn plain_head(text: &[u8]) -> Option<((usize, usize, usize), &[u8])>
     ensures { IfSome result
-        (λ x. edit_at text.now ≡ behind_at x.0.0 x.0.1 x.0.2 x.1.now) }
+        (λ x. edit_at text.now ≡ after_head_at x.0.0 x.0.1 x.0.2 x.1.now) }
 {
     let Some((at, rest)) = plain_number(b' ', text) else {
         return None;
@@ -136,7 +136,7 @@ pub(crate) fn short_edit(
     added: usize,
     text: &[u8],
 ) -> Option<(Edit, &[u8])>
-    ensures { IfSome result (λ x. behind_at at removed added text.now ≡ Ok (x.0, x.1.now)) }
+    ensures { IfSome result (λ x. after_head_at at removed added text.now ≡ Ok (x.0, x.1.now)) }
 {
     if removed > INLINE_CAPACITY || added > INLINE_CAPACITY - removed {
         return None;

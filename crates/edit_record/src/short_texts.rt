@@ -12,7 +12,7 @@ pub(crate) const MOST_BYTES: usize = 32;
 /// The least place that has more than eight digits.
 const FAR: usize = 100_000_000;
 
-/// Returns whether the edit can be pushed by `push_edit`, where there is room.
+/// Returns whether the edit can be pushed by `push_edit`, where there is capacity.
 #[inline(always)]
 pub(crate) fn is_short(edit: &Edit) -> bool
     ensures near { IsTrue result → edit.now.at < 100000000 }
@@ -27,7 +27,7 @@ pub(crate) fn is_short(edit: &Edit) -> bool
 /// Pushes bytes one by one, since they are few.
 #[inline(always)]
 fn push_bytes(out: &mut Vec<u8>, bytes: &[u8])
-    requires room { vec_len out.old + length bytes.now ≤ vec_capacity out.old }
+    requires spare { vec_len out.old + length bytes.now ≤ vec_capacity out.old }
     ensures text { out.new.items ≡ out.old.items ++ bytes.now }
     ensures len { vec_len out.new ≡ vec_len out.old + length bytes.now }
     ensures capacity { vec_capacity out.new ≡ vec_capacity out.old }
@@ -42,7 +42,7 @@ fn push_bytes(out: &mut Vec<u8>, bytes: &[u8])
 pub(crate) fn push_edit(out: &mut Vec<u8>, edit: &Edit)
     requires near { edit.now.at < 100000000 }
     requires few { length edit.now.removed + length edit.now.added ≤ INLINE_CAPACITY }
-    requires room { vec_len out.old + MOST_BYTES ≤ vec_capacity out.old }
+    requires spare { vec_len out.old + MOST_BYTES ≤ vec_capacity out.old }
     ensures { out.new.items ≡ out.old.items ++ edit_text edit.now }
 {
     let removed = edit.removed();

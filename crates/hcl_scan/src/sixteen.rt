@@ -1,4 +1,4 @@
-//! Runs of bytes that two tables tell, 16 bytes at a time.
+//! Runs of bytes by two tables, 16 bytes at a time.
 
 ghost use Rattle.std.specs.Prelude.{◌≡◌, ℕ, ◌+◌, ◌==◌, ◌<◌, ◌≤◌, not, true, false, length, slice_index};
 ghost use Rattle.std.specs.List.{prefix_len};
@@ -15,7 +15,7 @@ const ID_LOW: [u8; 16] = [26, 30, 30, 30, 30, 30, 30, 30, 30, 30, 28, 4, 4, 5, 4
 
 const ID_HIGH: [u8; 16] = [0, 0, 1, 2, 4, 8, 4, 16, 0, 0, 0, 0, 0, 0, 0, 0];
 
-// The same of the bytes that are text of a comment that ends with its line: neither LF nor CR.
+// So with bytes that are text of a comment that ends with its line: neither LF nor CR.
 const COMMENT_LOW: [u8; 16] = [3, 3, 3, 3, 3, 3, 3, 3, 3, 3, 2, 3, 3, 2, 3, 3];
 
 const COMMENT_HIGH: [u8; 16] = [1, 2, 2, 2, 2, 2, 2, 2, 2, 2, 2, 2, 2, 2, 2, 2];
@@ -47,7 +47,7 @@ fn flags(v: u8x16, low: u8x16, high: u8x16) -> u8x16
     low.swizzle_dyn(v & u8x16::splat(15)) & high.swizzle_dyn(v >> u8x16::splat(4))
 }
 
-/// How many lanes come before the first that is 0.
+/// How many lanes precede the first that is 0.
 #[inline(always)]
 fn count_nonzero(v: u8x16) -> usize
     requires { length v ≡ 16 }

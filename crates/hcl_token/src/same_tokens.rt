@@ -8,8 +8,8 @@ ghost use Rattle.hcl_token.specs.Tokens.{whole_text};
 use crate::line_column::slice;
 use crate::span::{STEP, Span};
 
-/// Returns how far the words of two tokens lie apart, modulo 2^64, if they are of one kind and lie so
-/// far apart as places `to` and `from`.
+/// Returns the distance of the words of two tokens, modulo 2^64, if they are of one kind and their
+/// places differ by that of `to` and `from`.
 fn shift_of(to: u32, from: u32) -> u64
     requires to { to ≤ MAX_TEXT }
     requires from { from ≤ MAX_TEXT }

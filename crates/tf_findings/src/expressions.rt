@@ -233,7 +233,7 @@ fn walk_term(
         (term role t.now ∷ []) found.old.items found.new.items) }
 {
     match &t.kind {
-        // no rule finds anything here, and no nodes stand inside
+        // no rule finds anything here, and no nodes are inside
         Primary::Number => Ok(()),
         Primary::Identifier => Ok(()),
         _ => {

@@ -87,7 +87,7 @@ fn lint_member(
     })
 }
 
-/// A member that was passed over between two places, in which no rule finds anything.
+/// A member that was skipped between two places, in which no rule finds anything.
 fn quiet_member(alloc: Global, from: usize, past: usize) -> LintedMember
     ensures from { result.from ≡ from }
     ensures past { result.past ≡ past }

@@ -1,7 +1,7 @@
-//! A member in which no rule can find anything, passed over with no tree of it made.
+//! A member in which no rule can find anything, skipped with no tree of it made.
 //!
-//! Its tokens tell, and most members of most texts are such. One that is not is given up at its first
-//! token that is not quiet, before it is read; the tree is then made as before.
+//! Its tokens show it, and most members of most texts are such. One that is not is given up at its
+//! first token that is not quiet, before it is read; the tree is then made as before.
 
 ghost use Rattle.std.specs.Prelude.{◌≡◌, true, false};
 ghost use Rattle.tf_lint.specs.Inner.QuietMember.{IsQuietMember, IsSkippedMember};

@@ -22,7 +22,7 @@ use Rattle.hcl_token.specs.declared.kind.Kind.{Kind}
 use Rattle.hcl_token.specs.declared.kind.Kind.TheVariants as k
 use Rattle.tf_quiet.proofs.Nothing.{Nothing, none, choose, unless, append}
 use Rattle.tf_quiet.proofs.QuietTokens.{some_next}
-use Rattle.tf_quiet.specs.QuietHeads.{is_text_label, is_snake_label, is_quiet_behind_word, is_quiet_head, QuietHeadsHaveNoFindings}
+use Rattle.tf_quiet.specs.QuietHeads.{is_text_label, is_snake_label, is_quiet_after_word, is_quiet_head, QuietHeadsHaveNoFindings}
 use Rattle.tf_reuse.specs.OneMember.{IsOneMember}
 use Rattle.tf_reuse.specs.OneMember as alone
 use Rattle.tf_rules.specs.Attributes.{attributes, has_attribute}
@@ -218,7 +218,7 @@ module _ (rules : RuleSet) (pairs : List Pair) where
   block_nothing : {j : ℕ} (from : ℕ) (b : Block) → is_quiet_head pairs from ≡ true → NextIs (tokens_of pairs) false k.Identifier from → b.block_type ≡ next_index (tokens_of pairs) false from
       → IsLabels (tokens_of pairs) b.labels (after_next (tokens_of pairs) false from) j → Nothing (top_level_block_findings rules pairs b)
   block_nothing {j} from b h p e labels =
-      let parts = both (is_kind (kind_of pairs from) k.Identifier) (is_quiet_behind_word pairs from (token_text pairs from)) h in
+      let parts = both (is_kind (kind_of pairs from) k.Identifier) (is_quiet_after_word pairs from (token_text pairs from)) h in
       let word = stands pairs from k.Identifier parts.0 in
       let at : b.block_type ≡ from = e ∙ here word refl in
       let ls = subst (λ (n : ℕ). IsLabels (tokens_of pairs) b.labels n j) (behind word refl) labels in

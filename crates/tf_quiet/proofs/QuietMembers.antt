@@ -18,7 +18,7 @@ use Rattle.tf_quiet.proofs.QuietNodes.{spelled, body_nothing}
 use Rattle.tf_quiet.proofs.QuietRuns.{kind_same, goes_on_at}
 use Rattle.tf_quiet.proofs.QuietTokens.{AllQuiet}
 use Rattle.tf_quiet.specs.QuietMembers.{QuietMembersHaveNoFindings}
-use Rattle.tf_quiet.specs.QuietTokens.{goes_on, goes_on_by, goes_on_behind, is_quiet_token, AreQuiet}
+use Rattle.tf_quiet.specs.QuietTokens.{continues, continues_by, continues_after, is_quiet_token, AreQuiet}
 use Rattle.tf_reuse.proofs.FoundNodes.{found_member}
 use Rattle.tf_reuse.proofs.MoveBodies.{in_front, move_line_member}
 use Rattle.tf_reuse.proofs.Window.{Here, one_place, each_same}
@@ -65,7 +65,7 @@ kind_is (p ∷ ps) zero t e = ap (option_map (λ (t : Token). t.0)) e
 kind_is (p ∷ ps) (suc n) t e = kind_is ps n t e
 
 walks_on : (pairs : List Pair) (n : ℕ) (t : Token) → slice_get (tokens_of pairs) n ≡ Some t
-    → goes_on_behind (drop n pairs) ≡ goes_on_by t.0 (goes_on (kind_of pairs (n + 1))) (goes_on_behind (drop (n + 1) pairs))
+    → continues_after (drop n pairs) ≡ continues_by t.0 (continues (kind_of pairs (n + 1))) (continues_after (drop (n + 1) pairs))
 walks_on pairs n t e = goes_on_at pairs n t.0 (kind_is pairs n t e)
 
 -- ---- the tokens of a member, cut out
@@ -113,21 +113,21 @@ module _ (pairs : List Pair) (from count : ℕ) (w : SameTokens (tokens_of pairs
 
   all_quiet : AreQuiet pairs from (from + count) → AllQuiet own
   all_quiet quiet = record {
-    walk = λ n. goes_on_behind (drop (from + n) pairs);
+    walk = λ n. continues_after (drop (from + n) pairs);
     at = λ n t h.
         let l = inside own n t h in
         let is = stands n t h in
         let known = quiet.each (from + n) (omega arith) (omega (arith, l, long)) in
         let next = kind_of pairs (from + n + 1) in
-        let more = goes_on_behind (drop (from + n + 2) pairs) in
+        let more = continues_after (drop (from + n + 2) pairs) in
         let two : from + n + 2 ≡ from + (n + 2) = omega arith in
         let by_kind : is_quiet_token (Some t.0) (spelling_of pairs (from + n)) next more ≡ true = subst (λ (o : Option Kind). is_quiet_token o (spelling_of pairs (from + n)) next more ≡ true) (kind_is pairs (from + n) t is) known in
         let by_text : is_quiet_token (Some t.0) (Some t.1) next more ≡ true = subst (λ (o : Option (List ℕ)). is_quiet_token (Some t.0) o next more ≡ true) (spelled pairs (from + n) t is) by_kind in
         let last : from + n + 1 ≡ from + (n + 1) = omega arith in
         record {
           next = next;
-          is = subst (λ (i : ℕ). is_quiet_token (Some t.0) (Some t.1) next (goes_on_behind (drop i pairs)) ≡ true) two by_text;
-          walks = walks_on pairs (from + n) t is ∙ ap (λ (i : ℕ). goes_on_by t.0 (goes_on next) (goes_on_behind (drop i pairs))) last;
+          is = subst (λ (i : ℕ). is_quiet_token (Some t.0) (Some t.1) next (continues_after (drop i pairs)) ≡ true) two by_text;
+          walks = walks_on pairs (from + n) t is ∙ ap (λ (i : ℕ). continues_by t.0 (continues next) (continues_after (drop i pairs))) last;
           behind = λ u b. let e : from + n + 1 ≡ from + suc n = omega arith in ap (kind_of pairs) e ∙ kind_is pairs (from + suc n) u (stands (suc n) u b);
         };
   }

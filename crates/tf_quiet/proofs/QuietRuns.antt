@@ -4,7 +4,7 @@ use Rattle.hcl_token.specs.TokenizedText.{kind_of}
 use Rattle.hcl_token.specs.declared.kind.Kind.{Kind}
 use Rattle.hcl_token.specs.declared.kind.Kind.TheVariants as k
 use Rattle.hcl_token.specs.Tokens.{Pair}
-use Rattle.tf_quiet.specs.QuietTokens.{goes_on, goes_on_by, goes_on_behind, is_quiet_at, AreQuiet}
+use Rattle.tf_quiet.specs.QuietTokens.{continues, continues_by, continues_after, is_quiet_at, AreQuiet}
 
 pub below_or_not : (a b : ℕ) → (a < b) ⊎ (b ≤ a)
 below_or_not zero zero = inr (omega arith)
@@ -29,14 +29,14 @@ pub kind_same : {t u : Kind} → Some t ≡ Some u → t ≡ u
 kind_same e = cc
 
 pub goes_on_at : (pairs : List Pair) (n : ℕ) (t : Kind) → kind_of pairs n ≡ Some t
-    → goes_on_behind (drop n pairs) ≡ goes_on_by t (goes_on (kind_of pairs (n + 1))) (goes_on_behind (drop (n + 1) pairs))
+    → continues_after (drop n pairs) ≡ continues_by t (continues (kind_of pairs (n + 1))) (continues_after (drop (n + 1) pairs))
 goes_on_at [] n t e = absurd (cc)
-goes_on_at (p ∷ ps) zero t e = ap (λ (z : Kind). goes_on_by z (goes_on (kind_of ps 0)) (goes_on_behind ps)) (kind_same e)
+goes_on_at (p ∷ ps) zero t e = ap (λ (z : Kind). continues_by z (continues (kind_of ps 0)) (continues_after ps)) (kind_same e)
 goes_on_at (p ∷ ps) (suc n) t e =
     let r : suc (n + 1) ≡ suc n + 1 = omega arith in
-    goes_on_at ps n t e ∙ ap (λ (i : ℕ). goes_on_by t (goes_on (kind_of (p ∷ ps) i)) (goes_on_behind (drop i (p ∷ ps)))) r
+    goes_on_at ps n t e ∙ ap (λ (i : ℕ). continues_by t (continues (kind_of (p ∷ ps) i)) (continues_after (drop i (p ∷ ps)))) r
 
-pub goes_on_over : (t : Kind) (more rest : Bool) → t ≢ k.SeqClose → t ≢ k.QuoteOpen → t ≢ k.HereOpen → t ≢ k.InterpOpen → t ≢ k.DirectiveOpen → goes_on_by t more rest ≡ rest
+pub goes_on_over : (t : Kind) (more rest : Bool) → t ≢ k.SeqClose → t ≢ k.QuoteOpen → t ≢ k.HereOpen → t ≢ k.InterpOpen → t ≢ k.DirectiveOpen → continues_by t more rest ≡ rest
 goes_on_over k.SeqClose more rest a b c d e = absurd (a refl)
 goes_on_over k.QuoteOpen more rest a b c d e = absurd (b refl)
 goes_on_over k.HereOpen more rest a b c d e = absurd (c refl)
@@ -44,7 +44,7 @@ goes_on_over k.InterpOpen more rest a b c d e = absurd (d refl)
 goes_on_over k.DirectiveOpen more rest a b c d e = absurd (e refl)
 goes_on_over _ more rest a b c d e = refl
 
-pub none_behind : (pairs : List Pair) (n : ℕ) → length pairs ≤ n → goes_on_behind (drop n pairs) ≡ false
+pub none_behind : (pairs : List Pair) (n : ℕ) → length pairs ≤ n → continues_after (drop n pairs) ≡ false
 none_behind [] zero l = refl
 none_behind [] (suc n) l = refl
 none_behind (p ∷ ps) zero l = absurd (omega (arith, l))

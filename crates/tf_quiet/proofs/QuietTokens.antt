@@ -8,7 +8,7 @@ use Rattle.hcl_grammar_laws.proofs.Neat.{kept_at}
 use Rattle.hcl_token.specs.declared.kind.Kind.{Kind}
 use Rattle.hcl_token.specs.declared.kind.Kind.TheVariants as k
 use Rattle.tf_quiet.proofs.QuietRuns.{below_or_not}
-use Rattle.tf_quiet.specs.QuietTokens.{goes_on, goes_on_by, is_quiet_behind_quote, is_quiet_operand, is_no_equality, is_quiet_token}
+use Rattle.tf_quiet.specs.QuietTokens.{continues, continues_by, is_quiet_after_quote, is_quiet_operand, is_no_equality, is_quiet_token}
 use Rattle.tf_rules.specs.Rules.Lookup.{is_lookup_token}
 
 -- Token n is quiet, and how a walk through an interpolation goes on from it; the kind behind it is
@@ -16,7 +16,7 @@ use Rattle.tf_rules.specs.Rules.Lookup.{is_lookup_token}
 pub record QuietAt (ts : List Token) (walk : ℕ → Bool) (n : ℕ) (t : Token) : Type 0 where
   pub next : Option Kind
   pub is : is_quiet_token (Some t.0) (Some t.1) next (walk (n + 2)) ≡ true
-  pub walks : walk n ≡ goes_on_by t.0 (goes_on next) (walk (n + 1))
+  pub walks : walk n ≡ continues_by t.0 (continues next) (walk (n + 1))
   pub behind : (u : Token) → slice_get ts (suc n) ≡ Some u → next ≡ Some u.0
 
 -- each token of a list is
@@ -32,9 +32,9 @@ not_true false h = refl
 
 -- kinds that a walk through an interpolation passes
 abbrev pub is_passed : Kind → Bool
-is_passed t = goes_on_by t false true
+is_passed t = continues_by t false true
 
-passed : (t : Kind) (more rest : Bool) → is_passed t ≡ true → goes_on_by t more rest ≡ rest
+passed : (t : Kind) (more rest : Bool) → is_passed t ≡ true → continues_by t more rest ≡ rest
 passed k.SeqClose more rest h = absurd (cc)
 passed k.QuoteOpen more rest h = absurd (cc)
 passed k.HereOpen more rest h = absurd (cc)
@@ -54,14 +54,14 @@ skipped_is_quiet m k.LineEnd s o w h = refl
 skipped_is_quiet m k.LineComment s o w h = refl
 skipped_is_quiet m _ s o w h = absurd (cc)
 
-text_stands : (t : Kind) (w : Bool) → is_quiet_behind_quote (Some t) w ≡ true → (m : Bool) → is_skipped m t ≡ false
+text_stands : (t : Kind) (w : Bool) → is_quiet_after_quote (Some t) w ≡ true → (m : Bool) → is_skipped m t ≡ false
 text_stands k.QuoteLit w h m = refl
 text_stands k.QuoteClose w h m = refl
 text_stands k.DirectiveOpen w h m = refl
 text_stands k.InterpOpen w h m = refl
 text_stands _ w h m = absurd (cc)
 
-more_stands : (t : Kind) → goes_on (Some t) ≡ true → (m : Bool) → is_skipped m t ≡ false
+more_stands : (t : Kind) → continues (Some t) ≡ true → (m : Bool) → is_skipped m t ≡ false
 more_stands k.QuoteLit h m = refl
 more_stands k.InterpOpen h m = refl
 more_stands k.DirectiveOpen h m = refl
@@ -249,7 +249,7 @@ module _ (ts : List Token) (quiet : AllQuiet ts) where
       let w = over m i n (omega (arith, l)) h in
       let d = dropped ts m i (i + n) (omega arith) (omega (arith, l)) in
       let q = quiet.at (i + n) d.token d.is in
-      let e : quiet.walk (i + n) ≡ quiet.walk (i + n + 1) = q.walks ∙ passed d.token.0 (goes_on q.next) (quiet.walk (i + n + 1)) (skipped_is_passed m d.token.0 d.skipped) in
+      let e : quiet.walk (i + n) ≡ quiet.walk (i + n + 1) = q.walks ∙ passed d.token.0 (continues q.next) (quiet.walk (i + n + 1)) (skipped_is_passed m d.token.0 d.skipped) in
       let s : i + n + 1 ≡ i + suc n = omega arith in
       subst (λ (z : ℕ). quiet.walk z ≡ true) s (sym e ∙ w)
 
@@ -266,29 +266,29 @@ module _ (ts : List Token) (quiet : AllQuiet ts) where
         let c = comes ts m t i p in
         let n = next_index ts m i in
         let q = quiet.at n c.token c.is in
-        let e : quiet.walk n ≡ quiet.walk (n + 1) = q.walks ∙ passed c.token.0 (goes_on q.next) (quiet.walk (n + 1)) (ap is_passed c.kind ∙ f) in
+        let e : quiet.walk n ≡ quiet.walk (n + 1) = q.walks ∙ passed c.token.0 (continues q.next) (quiet.walk (n + 1)) (ap is_passed c.kind ∙ f) in
         let s : n + 1 ≡ suc n = omega arith in
         subst (λ (z : ℕ). quiet.walk z ≡ true) s (sym e ∙ to_next m i h);
   }
 
   -- a walk ends where a template begins
-  pub stop : (m : Bool) (i j : ℕ) (t : Kind) → ((more rest : Bool) → goes_on_by t more rest ≡ false) → NextIs ts m t i → Passes i j
+  pub stop : (m : Bool) (i j : ℕ) (t : Kind) → ((more rest : Bool) → continues_by t more rest ≡ false) → NextIs ts m t i → Passes i j
   stop m i j t f p = record {
     on = λ h.
         let c = comes ts m t i p in
         let n = next_index ts m i in
         let q = quiet.at n c.token c.is in
-        let e : quiet.walk n ≡ false = q.walks ∙ (ap (λ (z : Kind). goes_on_by z (goes_on q.next) (quiet.walk (n + 1))) c.kind ∙ f (goes_on q.next) (quiet.walk (n + 1))) in
+        let e : quiet.walk n ≡ false = q.walks ∙ (ap (λ (z : Kind). continues_by z (continues q.next) (quiet.walk (n + 1))) c.kind ∙ f (continues q.next) (quiet.walk (n + 1))) in
         let g : true ≡ false = sym (to_next m i h) ∙ e in
         absurd (cc);
   }
 
   -- behind the end of the interpolation quoted text goes on, where the walk came there
-  goes_behind : (m : Bool) (n : ℕ) (next : Option Kind) → goes_on next ≡ true → ((u : Token) → slice_get ts n ≡ Some u → next ≡ Some u.0) → NextIs ts m k.QuoteClose n → ⊥
+  goes_behind : (m : Bool) (n : ℕ) (next : Option Kind) → continues next ≡ true → ((u : Token) → slice_get ts n ≡ Some u → next ≡ Some u.0) → NextIs ts m k.QuoteClose n → ⊥
   goes_behind m n next f known r =
       clash ts m k.QuoteClose n (slice_get ts n) refl (λ u e.
-      let g : goes_on (Some u.0) ≡ true = subst (λ (z : Option Kind). goes_on z ≡ true) (known u e) f in
-      (more_stands u.0 g m, λ same. let h : false ≡ true = subst (λ (z : Kind). goes_on (Some z) ≡ true) same g in absurd (cc))) r
+      let g : continues (Some u.0) ≡ true = subst (λ (z : Option Kind). continues z ≡ true) (known u e) f in
+      (more_stands u.0 g m, λ same. let h : false ≡ true = subst (λ (z : Kind). continues (Some z) ≡ true) same g in absurd (cc))) r
 
   no_quote_behind : (m : Bool) (j : ℕ) → quiet.walk j ≡ true → NextIs ts true k.SeqClose j → NextIs ts m k.QuoteClose (after_next ts true j) → ⊥
   unfolding after_next
@@ -296,18 +296,18 @@ module _ (ts : List Token) (quiet : AllQuiet ts) where
       let c = comes ts true k.SeqClose j p in
       let n = next_index ts true j in
       let q = quiet.at n c.token c.is in
-      let e : quiet.walk n ≡ goes_on q.next = q.walks ∙ ap (λ (z : Kind). goes_on_by z (goes_on q.next) (quiet.walk (n + 1))) c.kind in
+      let e : quiet.walk n ≡ continues q.next = q.walks ∙ ap (λ (z : Kind). continues_by z (continues q.next) (quiet.walk (n + 1))) c.kind in
       goes_behind m (suc n) q.next (sym e ∙ to_next true j h) q.behind r
 
   -- the walk begins behind an interpolation that begins right behind a quote
-  begins_by : (m : Bool) (n : ℕ) (next : Option Kind) (w : Bool) → is_quiet_behind_quote next w ≡ true → ((u : Token) → slice_get ts n ≡ Some u → next ≡ Some u.0)
+  begins_by : (m : Bool) (n : ℕ) (next : Option Kind) (w : Bool) → is_quiet_after_quote next w ≡ true → ((u : Token) → slice_get ts n ≡ Some u → next ≡ Some u.0)
       → (o : Option Token) → slice_get ts n ≡ o → NextIs ts m k.InterpOpen n → (w ≡ true) × (next_index ts m n ≡ n)
   begins_by m n next w f known None e r = absurd (none_next ts m k.InterpOpen n e r)
   begins_by m n next w f known (Some u) e r =
-      let g : is_quiet_behind_quote (Some u.0) w ≡ true = subst (λ (z : Option Kind). is_quiet_behind_quote z w ≡ true) (known u e) f in
+      let g : is_quiet_after_quote (Some u.0) w ≡ true = subst (λ (z : Option Kind). is_quiet_after_quote z w ≡ true) (known u e) f in
       let d = text_stands u.0 w g m in
       let same = some_next ts m k.InterpOpen n u e d r in
-      (subst (λ (z : Kind). is_quiet_behind_quote (Some z) w ≡ true) same g, next_here ts m n u e d)
+      (subst (λ (z : Kind). is_quiet_after_quote (Some z) w ≡ true) same g, next_here ts m n u e d)
 
   begins : (m : Bool) (i : ℕ) → NextIs ts m k.QuoteOpen i → NextIs ts m k.InterpOpen (after_next ts m i) → quiet.walk (after_next ts m (after_next ts m i)) ≡ true
   unfolding after_next
@@ -315,7 +315,7 @@ module _ (ts : List Token) (quiet : AllQuiet ts) where
       let c = comes ts m k.QuoteOpen i p in
       let n = next_index ts m i in
       let q = quiet.at n c.token c.is in
-      let f : is_quiet_behind_quote q.next (quiet.walk (n + 2)) ≡ true = subst (λ (z : Kind). is_quiet_token (Some z) (Some c.token.1) q.next (quiet.walk (n + 2)) ≡ true) c.kind q.is in
+      let f : is_quiet_after_quote q.next (quiet.walk (n + 2)) ≡ true = subst (λ (z : Kind). is_quiet_token (Some z) (Some c.token.1) q.next (quiet.walk (n + 2)) ≡ true) c.kind q.is in
       let b = begins_by m (suc n) q.next (quiet.walk (n + 2)) f q.behind (slice_get ts (suc n)) refl r in
       let e : n + 2 ≡ suc (next_index ts m (suc n)) = omega (arith, b.1) in
       subst (λ (z : ℕ). quiet.walk z ≡ true) e b.0

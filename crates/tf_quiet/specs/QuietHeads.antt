@@ -13,7 +13,7 @@ use Rattle.tf_rules.specs.Spelling.{token_text}
 use Rattle.tf_rules.specs.TopLevelFindings.{top_level_member_findings}
 use Rattle.tf_rules.specs.declared.rule_set.RuleSet.{RuleSet}
 
--- a quoted label stands at token n
+-- a quoted label is at token n
 abbrev pub is_text_label : List Pair → ℕ → Bool
 is_text_label pairs n =
     is_kind (kind_of pairs n) k.QuoteOpen
@@ -25,10 +25,10 @@ is_snake_label pairs n =
     is_kind (kind_of pairs n) k.QuoteOpen
     && (is_kind (kind_of pairs (n + 1)) k.QuoteLit && is_snake_case (token_text pairs (n + 1)))
 
--- behind this word, which is token n: the label that names what the block declares, if it declares
+-- after this word, which is token n: the label that names what the block declares, if it declares
 -- something, is in snake_case
-abbrev pub is_quiet_behind_word : List Pair → ℕ → List ℕ → Bool
-is_quiet_behind_word pairs n word =
+abbrev pub is_quiet_after_word : List Pair → ℕ → List ℕ → Bool
+is_quiet_after_word pairs n word =
     if bytes_eq word (codes "resource") || bytes_eq word (codes "data")
     then is_text_label pairs (n + 1) && is_snake_label pairs (n + 4)
     else (if bytes_eq word (codes "module") then is_snake_label pairs (n + 1)
@@ -37,7 +37,7 @@ is_quiet_behind_word pairs n word =
 -- token n is the word
 abbrev pub is_quiet_head : List Pair → ℕ → Bool
 is_quiet_head pairs n =
-    is_kind (kind_of pairs n) k.Identifier && is_quiet_behind_word pairs n (token_text pairs n)
+    is_kind (kind_of pairs n) k.Identifier && is_quiet_after_word pairs n (token_text pairs n)
 
 -- At a member that begins so no rule on blocks finds anything.
 abbrev pub QuietHeadsHaveNoFindings : Type 0

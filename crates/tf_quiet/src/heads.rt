@@ -4,7 +4,7 @@ ghost use Rattle.std.specs.Prelude.{◌≡◌, ◌<◌, ◌+◌, ◌^◌, true};
 ghost use Rattle.hcl_grammar.specs.Tokens.{is_kind};
 ghost use Rattle.hcl_token.specs.TokenizedText.{kind_of};
 ghost use Rattle.std.specs.Str.{bytes_eq};
-ghost use Rattle.tf_quiet.specs.QuietHeads.{is_text_label, is_snake_label, is_quiet_behind_word, is_quiet_head};
+ghost use Rattle.tf_quiet.specs.QuietHeads.{is_text_label, is_snake_label, is_quiet_after_word, is_quiet_head};
 ghost use Rattle.tf_rules.specs.Spelling.{token_text};
 
 use crate::snake_case::is_snake_case;
@@ -55,9 +55,9 @@ fn is_snake_label(scanned: &Scanned<'_>, n: usize) -> bool
         && is_snake_case(token_text(scanned, n + 1))
 }
 
-fn is_quiet_behind_word(scanned: &Scanned<'_>, n: usize, word: &[u8]) -> bool
+fn is_quiet_after_word(scanned: &Scanned<'_>, n: usize, word: &[u8]) -> bool
     requires { n + 6 < 2 ^ 64 }
-    ensures { result ≡ is_quiet_behind_word scanned.now.pairs n word.now }
+    ensures { result ≡ is_quiet_after_word scanned.now.pairs n word.now }
 {
     if is_spelled(word, b"resource") || is_spelled(word, b"data") {
         return is_text_label(scanned, n + 1) && is_snake_label(scanned, n + 4);
@@ -78,5 +78,5 @@ pub fn is_quiet_head(scanned: &Scanned<'_>, n: usize) -> bool
 {
     n <= usize::MAX - HEAD
         && is_kind(scanned, n, Kind::Identifier)
-        && is_quiet_behind_word(scanned, n, token_text(scanned, n))
+        && is_quiet_after_word(scanned, n, token_text(scanned, n))
 }

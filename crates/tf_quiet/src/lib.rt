@@ -1,4 +1,4 @@
-//! Members of a body in which no rule can find anything, as their tokens tell.
+//! Members of a body in which no rule can find anything, as their tokens show.
 #![tactic(auto)]
 
 mod heads;

@@ -3,15 +3,15 @@
 ghost use Rattle.std.specs.Prelude.{◌≡◌, ◌<◌, ◌+◌, ◌-◌, true, length, drop, Some, IfSome};
 ghost use Rattle.hcl_token.specs.declared.kind.Kind.TheVariants.{LineEnd};
 ghost use Rattle.hcl_token.specs.TokenizedText.{kind_of, spelling_of};
-ghost use Rattle.tf_quiet.specs.QuietTokens.{goes_on, goes_on_behind, is_quiet_behind_quote, is_quiet_operand, is_no_equality, is_quiet_at, AreQuiet};
+ghost use Rattle.tf_quiet.specs.QuietTokens.{continues, continues_after, is_quiet_after_quote, is_quiet_operand, is_no_equality, is_quiet_at, AreQuiet};
 ghost use Rattle.tf_rules.specs.Rules.Lookup.{is_lookup_token};
 
 use hcl_scan::Scanned;
 use hcl_token::Kind;
 
 /// Returns whether quoted text goes on at a token.
-fn goes_on(scanned: &Scanned<'_>, n: usize) -> bool
-    ensures { result ≡ goes_on (kind_of scanned.now.pairs n) }
+fn continues(scanned: &Scanned<'_>, n: usize) -> bool
+    ensures { result ≡ continues (kind_of scanned.now.pairs n) }
 {
     if n >= scanned.len() {
         return false;
@@ -23,14 +23,14 @@ fn goes_on(scanned: &Scanned<'_>, n: usize) -> bool
 }
 
 /// Returns whether no template is in an interpolation, from token `from` on, and quoted text goes on
-/// behind its end.
-fn goes_on_behind(scanned: &Scanned<'_>, from: usize) -> bool
-    ensures { result ≡ goes_on_behind (drop from scanned.now.pairs) }
+/// after its end.
+fn continues_after(scanned: &Scanned<'_>, from: usize) -> bool
+    ensures { result ≡ continues_after (drop from scanned.now.pairs) }
 {
     let mut n = from;
     'inside: while n < scanned.len() {
         match scanned.kind(n) {
-            Kind::SeqClose => return goes_on(scanned, n + 1),
+            Kind::SeqClose => return continues(scanned, n + 1),
             Kind::QuoteOpen => return false,
             Kind::HereOpen => return false,
             Kind::InterpOpen => return false,
@@ -41,21 +41,21 @@ fn goes_on_behind(scanned: &Scanned<'_>, from: usize) -> bool
     false
 }
 
-/// Returns whether a token behind a quote says that the quoted text is not one interpolation.
-fn is_quiet_behind_quote(scanned: &Scanned<'_>, n: usize) -> bool
-    ensures { result ≡ is_quiet_behind_quote (kind_of scanned.now.pairs n) (goes_on_behind (drop (n + 1) scanned.now.pairs)) }
+/// Returns whether a token after a quote says that the quoted text is not one interpolation.
+fn is_quiet_after_quote(scanned: &Scanned<'_>, n: usize) -> bool
+    ensures { result ≡ is_quiet_after_quote (kind_of scanned.now.pairs n) (continues_after (drop (n + 1) scanned.now.pairs)) }
 {
     if n >= scanned.len() {
         return false;
     }
     match scanned.kind(n) {
         Kind::QuoteLit | Kind::QuoteClose | Kind::DirectiveOpen => true,
-        Kind::InterpOpen => goes_on_behind(scanned, n + 1),
+        Kind::InterpOpen => continues_after(scanned, n + 1),
         _ => false,
     }
 }
 
-/// Returns whether a token behind `==` or `!=` says that no list is compared.
+/// Returns whether a token after `==` or `!=` says that no list is compared.
 fn is_quiet_operand(scanned: &Scanned<'_>, n: usize) -> bool
     ensures { result ≡ is_quiet_operand (kind_of scanned.now.pairs n) }
 {
@@ -102,7 +102,7 @@ fn is_quiet(scanned: &Scanned<'_>, n: usize) -> bool
             is_no_equality(scanned, n + 1)
         }
         Kind::Identifier => !is_lookup(scanned, n),
-        Kind::QuoteOpen => is_quiet_behind_quote(scanned, n + 1),
+        Kind::QuoteOpen => is_quiet_after_quote(scanned, n + 1),
         _ => true,
     }
 }

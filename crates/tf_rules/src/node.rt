@@ -46,8 +46,8 @@ pub fn check_term(
     check_term_beyond(cx, &mut unbroken, role, t, found)
 }
 
-/// `check_term`, and what is found out for it of the tokens: so the terms inside this one need not
-/// go over them again.
+/// `check_term`, and what is found out for it of the tokens, so that the terms inside this one need
+/// not look at them again.
 pub fn check_term_beyond(
     cx: &LintContext<'_, '_>,
     unbroken: &mut Unbroken,

@@ -1,5 +1,5 @@
-//! Tokens that are known to have no line end among them. Interpolations and lookups stand inside
-//! each other: so each token is looked at for the outermost of them alone.
+//! Tokens that are known to have no line end among them. Interpolations and lookups nest, so each
+//! token is looked at for the outermost of them alone.
 
 ghost use Rattle.std.specs.Prelude.{◌≡◌, List};
 ghost use Rattle.hcl_token.specs.Tokens.{Pair};

@@ -14,8 +14,8 @@ lengths_at t = do
   Ok ((removed.0, added.0), added.1)
 
 -- the edit whose head has these numbers: its place, and how many bytes it removes and adds
-unfoldable pub behind_at : ℕ → ℕ → ℕ → List ℕ → Result (EditEntry × List ℕ) TextError
-behind_at at removes adds t = do
+unfoldable pub after_head_at : ℕ → ℕ → ℕ → List ℕ → Result (EditEntry × List ℕ) TextError
+after_head_at at removes adds t = do
   removed ← bytes_at removes t
   added ← bytes_at adds removed.1
   rest ← expect (newline ∷ []) End added.1

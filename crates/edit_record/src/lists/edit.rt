@@ -70,7 +70,7 @@ impl Edit {
         Ok(Edit { at, storage })
     }
 
-    /// Makes the edit whose two texts stand one behind the other at the start of `texts`. All these
+    /// Makes the edit whose two texts are one after the other at the start of `texts`. All these
     /// bytes are copied at once, since that is faster than to copy only those of the edit.
     #[inline(always)]
     pub(crate) fn from_adjacent(

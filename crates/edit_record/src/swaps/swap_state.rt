@@ -38,7 +38,7 @@ impl SwapState {
         }
     }
 
-    /// The same, with memory for all edits of both lists.
+    /// A state with capacity for all edits of both lists.
     pub(crate) fn with_capacity(
         alloc: Global,
         firsts: usize,

@@ -12,7 +12,7 @@ abbrev pub moved_spans : ℕ → ℕ → List Span → List Span
 moved_spans from to [] = []
 moved_spans from to (token ∷ tokens) = moved_span from to token ∷ moved_spans from to tokens
 
--- the token is behind the one place, and begins within a text behind the other
+-- the token is after the one place, and begins within a text after the other
 pub record IsMovable (from to : ℕ) (token : Span) : Type 0 where
   pub start : from ≤ token.start
   pub stop : token.start ≤ token.stop

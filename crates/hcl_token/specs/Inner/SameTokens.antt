@@ -22,7 +22,7 @@ abbrev pub AreShiftedBy : ℕ → List Span → List Span → Type 0
 AreShiftedBy distance xs ys =
     (k : ℕ) → k < length xs → IsShiftedBy distance (slice_index_or xs k none) (slice_index_or ys k none)
 
--- the word of a token lies so far from that of another, modulo 2 ^ 64
+-- the word of a token is that of another plus this number, modulo 2 ^ 64
 abbrev pub IsWordShiftedBy : ℕ → Span → Span → Type 0
 IsWordShiftedBy shift x y = (word_of x + 2 ^ 64 - word_of y) % 2 ^ 64 ≡ shift
 

@@ -1,4 +1,4 @@
--- A member that is passed over: no rule finds anything in it.
+-- A member that is skipped: no rule finds anything in it.
 use Rattle.std.specs.Prelude.{◌≡◌, ℕ, List, [], ◌∷◌, Some, Ok}
 use Rattle.hcl_grammar.specs.Pure.BodyParser.{deeper_members, member_of}
 use Rattle.hcl_grammar.specs.declared.bounds.TheConstants.{MAX_NESTING}
@@ -11,7 +11,7 @@ use Rattle.tf_rules.specs.Preorder as node
 use Rattle.tf_rules.specs.TopLevelFindings.{top_level_member_findings}
 use Rattle.tf_rules.specs.declared.rule_set.RuleSet.{RuleSet}
 
--- a member stands between these places, and nothing is found at its nodes or at itself
+-- a member is between these places, and nothing is found at its nodes or at itself
 pub record IsQuietMember (pairs : List Pair) (from past : ℕ) : Type 0 where
   pub member : Member
   pub is_member : IsOneMember (tokens_of pairs) MAX_NESTING member from past

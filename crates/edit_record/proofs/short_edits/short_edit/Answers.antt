@@ -18,8 +18,8 @@ returns c =
     let text = c.args.text.now in
     let after = take (length text - (removed + added + 1)) (drop (removed + added + 1) text) in
     let few : removed + added ≤ 13 = omega arith in
-    let room : removed + added < length text = omega arith in
-    let end : drop (removed + added) text ≡ newline ∷ after = from_end text (removed + added) room c.if-text-len-ne10.false in
+    let spare : removed + added < length text = omega arith in
+    let end : drop (removed + added) text ≡ newline ∷ after = from_end text (removed + added) spare c.if-text-len-ne10.false in
     let read = edit_read c.args.at removed added text after (omega arith) end in
     let p = in_first removed added 13 text c.in-Some.texts.now c.in-Some.ensures.cases.0 few in
     rw (c.from_adjacent.ensures, p.0, p.1) read
