@@ -1,6 +1,6 @@
 -- The stages, one behind the other, make the layout.
 use Rattle.std.proofs.Common.{◌≡◌, ℕ, ◌+◌, ◌≤◌, Bool, true, false, List, [], ◌∷◌, ◌++◌, length, take, drop, replicate, if◌then◌else◌, refl, sym, ap, ap₂, subst, ◌∙◌, arith, length-append, take_at, drop_at}
-use Rattle.std.proofs.lemmas.List.{length-take-le, take-append-drop, length-drop}
+use Rattle.std.proofs.lemmas.List.{length-take-le, take-append-drop, take-replicate, length-drop}
 use Rattle.hcl_token.specs.declared.kind.Kind.{Kind}
 use Rattle.hcl_token.specs.Tokens.{Pair}
 use Rattle.hcl_token.specs.TokenizedText.{AreUtf8}
@@ -40,6 +40,10 @@ layout_first [] = refl
 layout_first (p ∷ ps) = layout_first_if p ps (is_mark p.kind)
 
 -- ---- the first stage
+
+-- before it each gap stays
+pub kept_front : (ps : List Pair) (first : ℕ) (kept : List ℕ) → first ≤ length ps → kept ≡ replicate (length ps) KEEP_GAP → take first kept ≡ replicate first KEEP_GAP
+kept_front ps first kept fits is = ap (take first) is ∙ take-replicate first (length ps) KEEP_GAP fits
 
 pub first_size : (ps : List Pair) (first : ℕ) (gaps : List ℕ) → first ≤ length ps → gaps ≡ replicate first KEEP_GAP ++ all_gap_lens [] [] (lines_from 0 (drop first ps)) → length gaps ≡ length ps
 first_size ps first gaps fits is =

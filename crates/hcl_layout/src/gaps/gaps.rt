@@ -6,7 +6,7 @@ ghost use Rattle.hcl_scan.specs.Tokenization.{IsTokenization};
 ghost use Rattle.hcl_layout.specs.Gaps.Layout.{layout_pairs};
 ghost use Rattle.hcl_layout.specs.Gaps.Inner.Stages.{with_gaps, mark_count};
 
-use crate::gaps::base_gaps::{kept_gaps, push_base_gaps};
+use crate::gaps::base_gaps::{fill_base_gaps, kept_gaps};
 use crate::gaps::cells::{Cell, align};
 use hcl_scan::Scanned;
 use hcl_token::Kind;
@@ -35,8 +35,8 @@ pub(crate) fn layout_gaps(alloc: Global, scanned: &Scanned<'_>) -> Result<Vec<u3
     ensures same { IfOk result (λ gaps. length gaps.items ≡ length scanned.now.pairs) }
 {
     let first = mark_count(scanned);
-    let mut gaps = kept_gaps(alloc, scanned, first)?;
-    let lines = push_base_gaps(alloc, scanned, &mut gaps, first)?;
+    let mut gaps = kept_gaps(alloc, scanned)?;
+    let lines = fill_base_gaps(alloc, scanned, &mut gaps, first)?;
     align(alloc, scanned, Cell::Assignment, &lines, &mut gaps, first)?;
     align(
         alloc,

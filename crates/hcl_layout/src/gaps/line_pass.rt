@@ -1,7 +1,7 @@
 //! A line in one pass: its end, its flags, its brackets and the gaps inside it. For speed alone:
 //! `lines::line_at` and `indent::count_brackets` say the same of its tokens.
 
-ghost use Rattle.std.specs.Prelude.{◌≡◌, ◌==◌, ◌+◌, ◌*◌, ◌/◌, ◌%◌, ◌<◌, ◌≤◌, ◌++◌, not, [], ◌∷◌, false, length, slice_range, if◌then◌else◌, IfOk};
+ghost use Rattle.std.specs.Prelude.{◌≡◌, ◌==◌, ◌+◌, ◌*◌, ◌/◌, ◌%◌, ◌<◌, ◌≤◌, ◌++◌, not, [], ◌∷◌, false, length, slice_range, take, if◌then◌else◌};
 ghost use Rattle.hcl_scan.specs.Tokenization.{MAX_TEXT};
 ghost use Rattle.hcl_layout.specs.Gaps.Indent.{is_opening, is_closing, openings, closings};
 ghost use Rattle.hcl_layout.specs.Gaps.Kinds.{is_equal};
@@ -15,7 +15,6 @@ use crate::gaps::lines::LineSpan;
 use crate::gaps::spacing_flags::gap_len;
 use hcl_scan::Scanned;
 use hcl_token::Kind;
-use std::alloc::AllocError;
 
 /// A closing bracket or template sequence counts so much, an opening one 1.
 const CLOSING: u64 = 4_294_967_296;
@@ -89,41 +88,41 @@ fn passed_line(brackets: u64, marks: u64, past: usize, next_frozen: bool) -> Pas
     }
 }
 
-/// Pushes a number for each token of the line that begins at token `at` in no heredoc: 0 for the
+/// Sets the number of each token of the line that begins at token `at` in no heredoc: 0 for the
 /// first, and those of the gaps inside the line.
-pub(crate) fn push_line(
+pub(crate) fn fill_line(
     scanned: &Scanned<'_>,
     gaps: &mut Vec<u32>,
     first: usize,
     at: usize,
-) -> Result<PassedLine, AllocError>
+) -> PassedLine
+    requires same { length gaps.old.items ≡ length scanned.now.pairs }
     requires begun { first ≤ at }
     requires within { at < length scanned.now.pairs }
     requires within_limit { length scanned.now.pairs ≤ MAX_TEXT }
-    ensures line { IfOk result (λ passed. IsLine scanned.now.pairs at false passed.line) }
-    ensures opened { IfOk result (λ passed.
-        passed.opened ≡ openings (slice_range scanned.now.pairs at passed.line.past)) }
-    ensures closed { IfOk result (λ passed.
-        passed.closed ≡ closings (slice_range scanned.now.pairs at passed.line.past)) }
-    ensures gaps { IfOk result (λ passed. gaps.new.items ≡ gaps.old.items
+    ensures line { IsLine scanned.now.pairs at false result.line }
+    ensures opened { result.opened ≡ openings (slice_range scanned.now.pairs at result.line.past) }
+    ensures closed { result.closed ≡ closings (slice_range scanned.now.pairs at result.line.past) }
+    ensures gaps { take result.line.past gaps.new.items ≡ take at gaps.old.items
         ++ 0 ∷ spaces_from (prev_after_all (slice_range scanned.now.pairs first at) [])
-        (slice_range scanned.now.pairs at passed.line.past)) }
+        (slice_range scanned.now.pairs at result.line.past) }
+    ensures same { length gaps.new.items ≡ length gaps.old.items }
 {
     let mut brackets: u64 = 0;
     let mut marks: u64 = 0;
     let mut a = scanned.kind(at);
-    gaps.push(0)?;
+    gaps[at] = 0;
     for i in at + 1..scanned.len() {
         brackets += bracket_number(a);
         marks += mark_number(a);
         if marks >= LINE_END {
-            return Ok(passed_line(brackets, marks, i, is_here_open(a)));
+            return passed_line(brackets, marks, i, is_here_open(a));
         }
         let b = scanned.kind(i);
-        gaps.push(gap_len(scanned, first, a, b, i))?;
+        gaps[i] = gap_len(scanned, first, a, b, i);
         a = b;
     }
     brackets += bracket_number(a);
     marks += mark_number(a);
-    Ok(passed_line(brackets, marks, scanned.len(), is_here_open(a)))
+    passed_line(brackets, marks, scanned.len(), is_here_open(a))
 }

@@ -1,16 +1,17 @@
-use Rattle.std.proofs.Common.{◌≡◌, ◌≤◌, ◌-◌, ◌++◌, [], false, length, drop}
+use Rattle.std.proofs.Common.{◌≡◌, ◌≤◌, ◌-◌, ◌++◌, [], false, length, drop, take}
 use Rattle.hcl_layout.specs.Gaps.Inner.CodeViews.{gaps_left}
 use Rattle.hcl_layout.specs.Gaps.Inner.Stages.{lines_from, all_gap_lens}
 use Rattle.hcl_layout.proofs.GapsLemmas.LineLemmas.{LinesTo}
-use Rattle.hcl_layout.proofs.gaps.base_gaps.push_base_gaps.Given as goal
+use Rattle.hcl_layout.proofs.gaps.base_gaps.fill_base_gaps.Given as goal
 
 abbrev pub invariant-loop-at : goal.invariant-loop-at
 invariant-loop-at l = record {
-  left : gaps_left l.scanned.pairs l.first l.at l.frozen l.gaps.items l.surplus.items
-      ≡ l.fn.gaps.items ++ all_gap_lens [] [] (lines_from 0 (drop l.first l.scanned.pairs));
+  left : gaps_left l.scanned.pairs l.first l.at l.frozen (take l.at l.gaps.items) l.surplus.items
+      ≡ take l.first l.fn.gaps.items ++ all_gap_lens [] [] (lines_from 0 (drop l.first l.scanned.pairs));
   lines : LinesTo l.scanned.pairs l.first false l.lines.items l.at l.frozen;
   begun : l.first ≤ l.at;
   within : l.at ≤ length l.scanned.pairs;
+  same : length l.gaps.items ≡ length l.scanned.pairs;
   small : length l.surplus.items ≤ l.at;
 }
 

@@ -1,8 +1,9 @@
-use Rattle.std.proofs.Common.{List, false, sym, subst, ◌∙◌, arith}
+use Rattle.std.proofs.Common.{List, false, sym, take, subst, ◌∙◌, arith}
+use Rattle.std.proofs.lemmas.List.{take_all}
 use Rattle.hcl_layout.specs.declared.gaps.lines.LineSpan.{LineSpan}
 use Rattle.hcl_layout.proofs.GapsLemmas.LineLemmas.{LinesTo, lines_push, lines_whole}
 use Rattle.hcl_layout.proofs.GapsLemmas.LinePass.{left_ends}
-use Rattle.hcl_layout.proofs.gaps.base_gaps.push_base_gaps.Goals as goal
+use Rattle.hcl_layout.proofs.gaps.base_gaps.fill_base_gaps.Goals as goal
 
 pub loop-at-preserved : goal.loop-at-preserved
 loop-at-preserved c =
@@ -16,6 +17,7 @@ loop-at-preserved c =
           (lines_push ps c.args.first false c.loop-at.lines.items c.loop-at.at c.loop-at.frozen line old.lines c.in_ok-line.ensures.line);
       begun = omega (arith, split.more, old.begun);
       within = split.within;
+      same = c.in_ok-line.ensures.same ∙ old.same;
       small = c.in_ok-line.ensures.small;
     }
 
@@ -26,5 +28,6 @@ returns-clause-lines c =
 
 pub returns-clause-gaps : goal.returns-clause-gaps
 returns-clause-gaps c =
-    sym (left_ends c.args.scanned.now.pairs c.args.first c.loop-at.at c.loop-at.frozen c.loop-at.gaps.items c.loop-at.surplus.items (omega (arith, c.loop-at-test.false, c.len.ensures.value)))
+    sym (take_all c.loop-at.at c.loop-at.gaps.items (omega (arith, c.loop-at.invariant.same, c.loop-at-test.false, c.len.ensures.value)))
+    ∙ sym (left_ends c.args.scanned.now.pairs c.args.first c.loop-at.at c.loop-at.frozen (take c.loop-at.at c.loop-at.gaps.items) c.loop-at.surplus.items (omega (arith, c.loop-at-test.false, c.len.ensures.value)))
     ∙ c.loop-at.invariant.left
