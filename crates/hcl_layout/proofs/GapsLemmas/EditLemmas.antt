@@ -45,6 +45,18 @@ gap_ends g i h = let none : length g - i ≡ 0 = omega arith in ap₂ (λ (t : L
 pub stays_kept : (g : List ℕ) (n : ℕ) → n ≡ KEEP_GAP → bytes_eq g (resolved_gap n g) ≡ true
 stays_kept g n h = let test : (n == KEEP_GAP) ≡ true = grind (arith, nat_tests) in rw test (same_self_bytes g)
 
+pub stays_spaced : (g : List ℕ) (n : ℕ) → bytes_eq g (spaces n) ≡ true → bytes_eq g (resolved_gap n g) ≡ true
+stays_spaced g n h = elim (n == KEEP_GAP) as (λ b. bytes_eq g (if b then g else spaces n) ≡ true) [
+  | true ↦ same_self_bytes g
+  | false ↦ h
+]
+
+pub stays_if_kept : (g : List ℕ) (n : ℕ) → bytes_eq g (spaces n) ≡ false → bytes_eq g (resolved_gap n g) ≡ (n == KEEP_GAP)
+stays_if_kept g n h = elim (n == KEEP_GAP) as (λ b. bytes_eq g (if b then g else spaces n) ≡ b) [
+  | true ↦ same_self_bytes g
+  | false ↦ h
+]
+
 -- ---- the length of the text
 
 pub length_end : (ns : List ℕ) (ps : List Pair) (i : ℕ) → length ns ≡ length ps → length ps ≤ i → length (whole_text (drop i (with_gaps ns ps)) []) ≡ 0

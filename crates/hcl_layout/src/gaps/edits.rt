@@ -34,10 +34,11 @@ fn is_spaces(gap: &[u8], len: u32) -> bool
 pub(crate) fn is_unchanged(gap: &[u8], new: u32) -> bool
     ensures { result ≡ bytes_eq gap.now (resolved_gap new gap.now) }
 {
-    if new == KEEP_GAP {
+    // of few gaps the number is `KEEP_GAP`, so that is asked last
+    if is_spaces(gap, new) {
         return true;
     }
-    is_spaces(gap, new)
+    new == KEEP_GAP
 }
 
 fn spaces(alloc: Global, len: u32) -> Result<Vec<u8>, AllocError>
