@@ -34,7 +34,7 @@ pub record CountsTo (pairs : List Pair) (at i brackets marks ends : ℕ) : Type 
   pub few_comments : number_of is_comment (slice_range pairs at i) + at ≤ i
   pub few_equals : number_of is_equal (slice_range pairs at i) + at ≤ i
 
-count_more : (f : Kind → Bool) (pairs : List Pair) (at i : ℕ) (k : Kind) → at ≤ i → i < length pairs → Some k ≡ kind_of pairs i
+pub count_more : (f : Kind → Bool) (pairs : List Pair) (at i : ℕ) (k : Kind) → at ≤ i → i < length pairs → Some k ≡ kind_of pairs i
     → count_by (λ (p : Pair). f p.kind) (slice_range pairs at (i + 1)) ≡ count_by (λ (p : Pair). f p.kind) (slice_range pairs at i) + (if f k then 1 else 0)
 count_more f pairs at i k later inside is =
     let whole = ap (count_by (λ (p : Pair). f p.kind)) (range_split pairs at i (i + 1) later (omega arith)) ∙ sum_by-append (λ (p : Pair). cond (f p.kind) 1 0) (slice_range pairs at i) (slice_range pairs i (i + 1)) in
@@ -42,7 +42,7 @@ count_more f pairs at i k later inside is =
     let none : count_by (λ (p : Pair). f p.kind) (slice_range pairs (i + 1) (i + 1)) ≡ 0 = ap (count_by (λ (p : Pair). f p.kind)) (none_there pairs (i + 1)) in
     omega (arith, whole, one, none)
 
-one_at_most : (b : Bool) → (if b then 1 else 0) ≤ 1
+pub one_at_most : (b : Bool) → (if b then 1 else 0) ≤ 1
 one_at_most true = omega arith
 one_at_most false = omega arith
 

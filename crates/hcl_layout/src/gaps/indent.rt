@@ -1,6 +1,6 @@
 //! Indentation: the levels of lines.
 
-ghost use Rattle.std.specs.Prelude.{◌≡◌, false, ◌∷◌, ◌+◌, ◌-◌, nat_lt, if◌then◌else◌, OnOk, ◌<◌, ◌≤◌, length, reverse, slice_range};
+ghost use Rattle.std.specs.Prelude.{◌≡◌, false, ◌∷◌, ◌+◌, ◌-◌, ◌*◌, nat_lt, if◌then◌else◌, OnOk, ◌<◌, ◌≤◌, length, reverse, slice_range};
 ghost use Rattle.hcl_scan.specs.Tokenization.{MAX_TEXT};
 ghost use Rattle.hcl_layout.specs.Gaps.Indent.{is_opening, is_closing, openings, closings};
 ghost use Rattle.hcl_layout.specs.Gaps.Inner.CodeViews.{is_bracket, are_some};
@@ -10,26 +10,24 @@ use hcl_scan::Scanned;
 use hcl_token::Kind;
 use std::alloc::AllocError;
 
-fn is_opening(kind: Kind) -> bool
-    ensures { result ≡ is_opening kind }
-{
-    matches!(
-        kind,
-        Kind::OpenParen
-            | Kind::OpenBracket
-            | Kind::OpenBrace
-            | Kind::InterpOpen
-            | Kind::DirectiveOpen
-    )
-}
+/// A closing bracket or template sequence counts so much, an opening one 1.
+pub(crate) const CLOSING: u64 = 4_294_967_296;
 
-fn is_closing(kind: Kind) -> bool
-    ensures { result ≡ is_closing kind }
+/// Returns what a token counts among brackets and template sequences: those that open, and
+/// `CLOSING` times those that close, are one number.
+pub(crate) fn bracket_number(kind: Kind) -> u64
+    ensures { result ≡ (if is_opening kind then 1 else 0)
+        + 4294967296 * (if is_closing kind then 1 else 0) }
 {
-    matches!(
-        kind,
-        Kind::CloseParen | Kind::CloseBracket | Kind::CloseBrace | Kind::SeqClose
-    )
+    match kind {
+        Kind::OpenParen
+        | Kind::OpenBracket
+        | Kind::OpenBrace
+        | Kind::InterpOpen
+        | Kind::DirectiveOpen => 1,
+        Kind::CloseParen | Kind::CloseBracket | Kind::CloseBrace | Kind::SeqClose => CLOSING,
+        _ => 0,
+    }
 }
 
 /// Returns how many brackets and template sequences open among the tokens `from..to`, and how many
@@ -50,14 +48,11 @@ pub(crate) fn count_brackets(
     if !has_bracket {
         return (0, 0);
     }
-    let mut opened: u32 = 0;
-    let mut closed: u32 = 0;
+    let mut brackets: u64 = 0;
     for i in from..to {
-        let kind = scanned.kind(i);
-        opened += u32::from(is_opening(kind));
-        closed += u32::from(is_closing(kind));
+        brackets += bracket_number(scanned.kind(i));
     }
-    (opened, closed)
+    ((brackets % CLOSING) as u32, (brackets / CLOSING) as u32)
 }
 
 /// Removes `closed` brackets from `surplus`, from its end on. Of each line that is still open

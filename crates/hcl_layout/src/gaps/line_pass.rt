@@ -3,21 +3,19 @@
 
 ghost use Rattle.std.specs.Prelude.{◌≡◌, ◌==◌, ◌+◌, ◌*◌, ◌/◌, ◌%◌, ◌<◌, ◌≤◌, ◌++◌, not, [], ◌∷◌, false, length, slice_range, take, if◌then◌else◌};
 ghost use Rattle.hcl_scan.specs.Tokenization.{MAX_TEXT};
-ghost use Rattle.hcl_layout.specs.Gaps.Indent.{is_opening, is_closing, openings, closings};
+ghost use Rattle.hcl_layout.specs.Gaps.Indent.{openings, closings};
 ghost use Rattle.hcl_layout.specs.Gaps.Kinds.{is_equal};
 ghost use Rattle.hcl_layout.specs.Gaps.Lines.{ends_line};
 ghost use Rattle.hcl_layout.specs.Gaps.Space.{prev_after_all};
 ghost use Rattle.hcl_layout.specs.Gaps.Inner.CodeViews.{is_comment, IsLine};
 ghost use Rattle.hcl_layout.specs.Gaps.Inner.Stages.{spaces_from};
 
+use crate::gaps::indent::{CLOSING, bracket_number};
 use crate::gaps::kinds::is_here_open;
 use crate::gaps::lines::LineSpan;
 use crate::gaps::spacing_flags::gap_len;
 use hcl_scan::Scanned;
 use hcl_token::Kind;
-
-/// A closing bracket or template sequence counts so much, an opening one 1.
-const CLOSING: u64 = 4_294_967_296;
 
 /// A `=` counts so much, a comment 1.
 const EQUALS: u64 = 1_073_741_824;
@@ -31,23 +29,6 @@ pub(crate) struct PassedLine {
     pub line: LineSpan,
     pub opened: u32,
     pub closed: u32,
-}
-
-/// Returns what a token counts among brackets and template sequences: those that open, and
-/// `CLOSING` times those that close, are one number.
-fn bracket_number(kind: Kind) -> u64
-    ensures { result ≡ (if is_opening kind then 1 else 0)
-        + 4294967296 * (if is_closing kind then 1 else 0) }
-{
-    match kind {
-        Kind::OpenParen
-        | Kind::OpenBracket
-        | Kind::OpenBrace
-        | Kind::InterpOpen
-        | Kind::DirectiveOpen => 1,
-        Kind::CloseParen | Kind::CloseBracket | Kind::CloseBrace | Kind::SeqClose => CLOSING,
-        _ => 0,
-    }
 }
 
 /// Returns what a token counts among the marks of a line: comments, `EQUALS` times the `=`, and
