@@ -5,6 +5,7 @@ pub mod Heads
 pub mod Fields
 pub mod ShortEdits
 pub mod Pushes
+pub mod PairTable
 pub mod Making
 pub mod Records
 pub mod Allocating

@@ -1,6 +1,7 @@
 //! Numbers in decimal, a few digits at once, for speed alone.
 ghost use Rattle.std.specs.Prelude.{◌≡◌, ◌+◌, ◌++◌, ◌<◌, ◌≤◌, [], ◌∷◌, length, decimal, vec_len, vec_capacity};
 ghost use Rattle.edit_record.specs.Inner.Digits.{two_digits};
+ghost use Rattle.edit_record.specs.Text.{number_text};
 
 use itoa::Buffer;
 
@@ -17,6 +18,16 @@ pub(crate) fn digit_count(number: usize) -> usize
     } else {
         Buffer::new().format(number).len()
     }
+}
+
+/// Returns the number of digits of a number with two of them at most.
+#[inline(always)]
+pub(crate) fn short_count(number: usize) -> usize
+    requires { number < 100 }
+    ensures is { result ≡ length (decimal number) }
+    ensures short { result ≤ 2 }
+{
+    if number < 10 { 1 } else { 2 }
 }
 
 /// Returns the number of digits of a number with four of them at most.
@@ -49,6 +60,19 @@ fn push_digit(out: &mut Vec<u8>, digit: usize)
     out.push_reserved(b'0' + digit as u8);
 }
 
+/// The two digits of each number below 100, one number after another.
+static PAIRS: [u8; 200] = *b"\
+    00010203040506070809\
+    10111213141516171819\
+    20212223242526272829\
+    30313233343536373839\
+    40414243444546474849\
+    50515253545556575859\
+    60616263646566676869\
+    70717273747576777879\
+    80818283848586878889\
+    90919293949596979899";
+
 /// Pushes two digits of a number, the first of which may be 0.
 #[inline(always)]
 fn push_pair(out: &mut Vec<u8>, number: usize)
@@ -58,8 +82,8 @@ fn push_pair(out: &mut Vec<u8>, number: usize)
     ensures len { vec_len out.new ≡ vec_len out.old + 2 }
     ensures capacity { vec_capacity out.new ≡ vec_capacity out.old }
 {
-    push_digit(out, number / 10);
-    push_digit(out, number % 10);
+    out.push_reserved(PAIRS[number * 2]);
+    out.push_reserved(PAIRS[number * 2 + 1]);
 }
 
 /// Pushes a number with two digits at most.
@@ -96,6 +120,7 @@ fn push_few(out: &mut Vec<u8>, number: usize)
 }
 
 /// Pushes a number with eight digits at most.
+#[inline(always)]
 pub(crate) fn push_number(out: &mut Vec<u8>, number: usize)
     requires small { number < 100000000 }
     requires spare { vec_len out.old + 8 ≤ vec_capacity out.old }
@@ -111,4 +136,17 @@ pub(crate) fn push_number(out: &mut Vec<u8>, number: usize)
         push_pair(out, last / 100);
         push_pair(out, last % 100);
     }
+}
+
+/// Pushes a number with eight digits at most, and the byte that ends it.
+#[inline(always)]
+pub(crate) fn push_number_text(out: &mut Vec<u8>, number: usize, stop: u8)
+    requires small { number < 100000000 }
+    requires spare { vec_len out.old + 9 ≤ vec_capacity out.old }
+    ensures text { out.new.items ≡ out.old.items ++ number_text stop number }
+    ensures len { vec_len out.new ≤ vec_len out.old + 9 }
+    ensures capacity { vec_capacity out.new ≡ vec_capacity out.old }
+{
+    push_number(out, number);
+    out.push_reserved(stop);
 }

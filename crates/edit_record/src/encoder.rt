@@ -1,18 +1,18 @@
 //! Writing a journal.
 ghost use Rattle.std.specs.Prelude.{◌≡◌, ◌+◌, ◌-◌, ◌^◌, ◌≤◌, ◌++◌, length, min, OnOk, IfOk, IfErr, ◌<◌};
 ghost use Rattle.std.specs.List.{flat_map};
-ghost use Rattle.edit_record.specs.Text.{word_text, edit_text, list_head, record_head, record_text, journal_text, IsCurrentText};
+ghost use Rattle.edit_record.specs.Text.{edit_text, list_head, record_head, record_text, journal_text, IsCurrentText};
 ghost use Rattle.edit_record.specs.Inner.PartText.{part_text};
 ghost use Rattle.edit_record.specs.Lists.Validity.{IsValidList};
 
 use crate::digits::digit_count;
 use crate::lists::{Edit, Journal, Record, Word};
-use crate::short_texts::{MOST_BYTES, is_short, push_edit};
+use crate::short_texts::{FAR, MOST_BYTES, push_edit, push_edit_head, push_list_head, short_len};
 use itoa::Buffer;
 use std::alloc::{AllocError, Global};
 
-/// A part of a record's text. A record is described once, by its parts: they are written, and their
-/// lengths are added.
+/// A part of a record's text. What does not fit the memory that is reserved at once is written by
+/// its parts.
 #[derive(Clone, Copy)]
 enum Part<'a> {
     Bytes(&'a [u8]),
@@ -20,28 +20,14 @@ enum Part<'a> {
     Number(usize, u8),
 }
 
-fn word_bytes(word: Word) -> &'static [u8]
-    ensures { result.now ≡ word_text word }
+/// Returns the head of a record.
+fn mark_bytes(word: Word) -> &'static [u8; 12]
+    ensures { result.now ≡ record_head word }
 {
     match word {
-        Word::Fmt => b"fmt ",
-        Word::Fix => b"fix ",
+        Word::Fmt => b"tfrec 2 fmt ",
+        Word::Fix => b"tfrec 2 fix ",
     }
-}
-
-/// Returns the parts of the head of a record and of its list of edits.
-fn head_parts(rec: &Record) -> [Part<'_>; 4]
-    ensures { flat_map part_text result
-        ≡ record_head rec.now.word
-        ++ list_head rec.now.edits.old_len (length rec.now.edits.entries) }
-{
-    let list = rec.edits();
-    [
-        Part::Bytes(b"tfrec 2 "),
-        Part::Bytes(word_bytes(rec.word())),
-        Part::Number(list.old_len(), b' '),
-        Part::Number(list.edits().len(), b'\n'),
-    ]
 }
 
 /// Returns the parts of an edit.
@@ -63,24 +49,16 @@ fn edit_parts(edit: &Edit) -> [Part<'_>; 6]
 /// The last part of a record.
 const END: &[u8] = b"end\n";
 
-/// Returns the length of the text of some parts.
-fn parts_len(parts: &[Part]) -> usize
-    ensures { result ≡ min (length (flat_map part_text parts.now)) (2 ^ 64 - 1) }
+/// Returns the length of the head of a record and of its list of edits.
+fn heads_len(rec: &Record) -> usize
+    ensures is { result
+        ≡ length (record_head rec.now.word
+        ++ list_head rec.now.edits.old_len (length rec.now.edits.entries)) }
+    ensures short { result ≤ 100 }
 {
-    let mut len = 0usize;
-    for part in parts {
-        len = len.saturating_add(part_len(*part));
-    }
-    len
-}
-
-fn part_len(part: Part) -> usize
-    ensures { result ≡ length (part_text part.entry) }
-{
-    match part {
-        Part::Bytes(bytes) => bytes.len(),
-        Part::Number(number, _) => digit_count(number) + 1,
-    }
+    let list = rec.edits();
+    let digits = digit_count(list.old_len()) + digit_count(list.edits().len());
+    mark_bytes(rec.word()).len() + digits + 2
 }
 
 /// Returns the length of the text of an edit.
@@ -88,6 +66,9 @@ fn part_len(part: Part) -> usize
 fn edit_len(edit: &Edit) -> usize
     ensures { result ≡ min (length (edit_text edit.now)) (2 ^ 64 - 1) }
 {
+    if let Some((removed, added, texts)) = edit.inline_texts() {
+        return short_len(edit.at(), removed, added, texts);
+    }
     let removed = edit.removed().len();
     let added = edit.added().len();
     let digits = digit_count(edit.at()) + digit_count(removed) + digit_count(added);
@@ -98,7 +79,7 @@ fn edit_len(edit: &Edit) -> usize
 fn record_len(rec: &Record) -> usize
     ensures { result ≡ min (length (record_text rec.now)) (2 ^ 64 - 1) }
 {
-    let mut len = parts_len(&head_parts(rec)).saturating_add(END.len());
+    let mut len = heads_len(rec) + END.len();
     for edit in rec.edits().edits() {
         len = len.saturating_add(edit_len(edit));
     }
@@ -139,24 +120,68 @@ fn write_part(out: &mut Vec<u8>, part: Part) -> Result<(), AllocError>
     }
 }
 
-/// Writes an edit: at once if it is short and memory for it is reserved, else part by part.
+/// Writes an edit: at once if it is short and memory for it is reserved.
 #[inline(always)]
 fn write_edit(out: &mut Vec<u8>, edit: &Edit) -> Result<(), AllocError>
     ensures { OnOk result (out.new.items ≡ out.old.items ++ edit_text edit.now) }
 {
+    let at = edit.at();
     let spare = out.capacity() - out.len();
-    if spare >= MOST_BYTES && is_short(edit) {
-        push_edit(out, edit);
-        return Ok(());
+    if spare >= MOST_BYTES && at < FAR {
+        if let Some((removed, added, texts)) = edit.inline_texts() {
+            push_edit(out, at, removed, added, texts);
+            return Ok(());
+        }
     }
-    write_parts(out, &edit_parts(edit))
+    write_any_edit(out, edit)
+}
+
+/// Writes an edit of any length: its head at once if memory for it is reserved, else all of it part
+/// by part.
+#[inline(never)]
+fn write_any_edit(out: &mut Vec<u8>, edit: &Edit) -> Result<(), AllocError>
+    ensures { OnOk result (out.new.items ≡ out.old.items ++ edit_text edit.now) }
+{
+    let at = edit.at();
+    let removed = edit.removed();
+    let added = edit.added();
+    let spare = out.capacity() - out.len();
+    if spare < MOST_BYTES || at >= FAR || removed.len() >= FAR || added.len() >= FAR {
+        return write_parts(out, &edit_parts(edit));
+    }
+    push_edit_head(out, at, removed.len(), added.len());
+    out.extend_from_slice(removed)?;
+    out.extend_from_slice(added)?;
+    out.push(b'\n')?;
+    Ok(())
+}
+
+/// Writes the head of a record and of its list of edits: at once if memory for it is reserved, else
+/// part by part.
+fn write_heads(out: &mut Vec<u8>, rec: &Record) -> Result<(), AllocError>
+    ensures { OnOk result (out.new.items
+        ≡ out.old.items
+        ++ (record_head rec.now.word
+        ++ list_head rec.now.edits.old_len (length rec.now.edits.entries))) }
+{
+    let list = rec.edits();
+    let old_len = list.old_len();
+    let count = list.edits().len();
+    out.extend_from_slice(mark_bytes(rec.word()))?;
+    let spare = out.capacity() - out.len();
+    if spare < MOST_BYTES || old_len >= FAR || count >= FAR {
+        let numbers = [Part::Number(old_len, b' '), Part::Number(count, b'\n')];
+        return write_parts(out, &numbers);
+    }
+    push_list_head(out, old_len, count);
+    Ok(())
 }
 
 fn write_record(out: &mut Vec<u8>, rec: &Record) -> Result<(), AllocError>
     ensures text { OnOk result (out.new.items ≡ out.old.items ++ record_text rec.now) }
     ensures made { OnOk result (IsValidList rec.now.edits) }
 {
-    write_parts(out, &head_parts(rec))?;
+    write_heads(out, rec)?;
     for edit in rec.edits().edits() {
         write_edit(out, edit)?;
     }
@@ -176,7 +201,17 @@ pub fn encode(alloc: Global, journal: &Journal) -> Result<Vec<u8>, AllocError>
     ensures text { IfOk result (λ text. IsCurrentText text.items journal.now) }
     ensures allocates { IfErr result (λ _. 0 < length journal.now) }
 {
-    let mut out = Vec::with_capacity(alloc, encoded_len(journal))?;
+    encode_with_len(alloc, journal, encoded_len(journal))
+}
+
+/// Returns the text of a journal as [`encode`] does, where its length is known: `len` is what
+/// [`encoded_len`] returns for it.
+pub fn encode_with_len(alloc: Global, journal: &Journal, len: usize) -> Result<Vec<u8>, AllocError>
+    requires { len ≡ min (length (journal_text journal.now)) (2 ^ 64 - 1) }
+    ensures text { IfOk result (λ text. IsCurrentText text.items journal.now) }
+    ensures allocates { IfErr result (λ _. 0 < length journal.now) }
+{
+    let mut out = Vec::with_capacity(alloc, len)?;
     for rec in journal.records() {
         write_record(&mut out, rec)?;
     }

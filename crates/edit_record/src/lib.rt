@@ -21,7 +21,7 @@ pub mod swaps;
 mod version_1;
 
 pub use decoder::decode;
-pub use encoder::{encode, encoded_len};
+pub use encoder::{encode, encode_with_len, encoded_len};
 pub use fault::RecordFault;
 pub use lists::{
     BadEdits, Change, Edit, Edits, Journal, Record, Refused, Word, apply_all, undo_all,

@@ -1,4 +1,4 @@
-ghost use Rattle.std.specs.Prelude.{◌≡◌, ◌+◌, ◌≤◌, ◌<◌, length, take, drop, IfOk, IfErr};
+ghost use Rattle.std.specs.Prelude.{◌≡◌, ◌+◌, ◌≤◌, ◌<◌, length, take, drop, IfOk, IfErr, IfSome};
 ghost use Rattle.edit_record.specs.Lists.Inner.Storage.{removed_of, added_of, IsValidStorage};
 ghost use Rattle.edit_record.specs.declared.lists.edit.TheConstants.{INLINE_CAPACITY};
 
@@ -121,6 +121,27 @@ impl Edit {
         let mut copy = self.clone()?;
         copy.set_at(at);
         Ok(copy)
+    }
+
+    /// Returns how many bytes the edit removes, how many it adds, and an array that begins with
+    /// these bytes, if they are stored inline.
+    #[inline(always)]
+    pub(crate) fn inline_texts(&self) -> Option<(usize, usize, &[u8; INLINE_CAPACITY])>
+        ensures few { IfSome result (λ x. x.0 + x.1 ≤ INLINE_CAPACITY) }
+        ensures removed { IfSome result (λ x. self.now.removed ≡ take x.0 x.2.now) }
+        ensures added { IfSome result (λ x. self.now.added ≡ take x.1 (drop x.0 x.2.now)) }
+    {
+        match &self.storage {
+            Storage::Inline {
+                removed_end,
+                len,
+                bytes,
+            } => {
+                let removed = *removed_end as usize;
+                Some((removed, *len as usize - removed, bytes))
+            }
+            Storage::Heap(_) => None,
+        }
     }
 
     /// Returns the bytes that the edit removes.
