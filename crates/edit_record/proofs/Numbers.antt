@@ -73,15 +73,15 @@ number_takes least limit stop (c ∷ t) x small e =
       | inr h ↦ absurd cc
     ]
 
-is_digit_from : (c : ℕ) → 48 ≤ c → c ≤ 57 → is_digit c ≡ true
+pub is_digit_from : (c : ℕ) → 48 ≤ c → c ≤ 57 → is_digit c ≡ true
 is_digit_from c low high = grind (arith, le-leb 48 c low, le-leb c 57 high)
 
-one_digit : (left least limit stop value m c : ℕ) (some : Bool) (t : List ℕ) → is_digit c ≡ true → (some && (value == 0)) ≡ false → with_digit value c ≡ m → m ≤ limit → number_on left least limit stop some value (c ∷ t) ≡ number_on left least limit stop true m t
+pub one_digit : (left least limit stop value m c : ℕ) (some : Bool) (t : List ℕ) → is_digit c ≡ true → (some && (value == 0)) ≡ false → with_digit value c ≡ m → m ≤ limit → number_on left least limit stop some value (c ∷ t) ≡ number_on left least limit stop true m t
 one_digit left least limit stop value m c some t digit nonzero is fits =
     let lt : nat_lt limit (with_digit value c) ≡ false = le-ltb limit (with_digit value c) (omega (arith, is)) in
     rw (digit, nonzero, lt) (ap (λ k. number_on left least limit stop true k t) is)
 
-not_zero : (n : ℕ) → 0 < n → (true && (n == 0)) ≡ false
+pub not_zero : (n : ℕ) → 0 < n → (true && (n == 0)) ≡ false
 not_zero n some = grind arith
 
 -- What is written so is read, whatever follows.

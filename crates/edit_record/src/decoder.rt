@@ -58,8 +58,9 @@ fn records(alloc: Global, text: &[u8]) -> Result<Journal, DecodeStop>
 /// which a record has steps; these are squashed into one list of edits. The first record decides
 /// the version. Each journal has one text in version 2.
 ///
-/// It is one pass over the text. No capacity is reserved by a number that the text has, and nothing
-/// is allocated before the first edit is read.
+/// It is one pass over the text. Nothing is allocated before the first edit is read, and then no
+/// more is reserved by a number that the text has than 1,024 edits take, or than those that can be in
+/// the bytes that are left.
 ///
 /// # Errors
 ///

@@ -5,12 +5,16 @@ ghost use Rattle.edit_record.specs.Inner.ParseResults.{IsParsed, IsRead, IsStop,
 ghost use Rattle.edit_record.specs.Inner.Allocating.{edits_allocate, edit_list_allocates};
 ghost use Rattle.edit_record.specs.Inner.EditLengths.{after_head_at};
 ghost use Rattle.edit_record.specs.Lists.Validity.{make_edits};
+ghost use Rattle.edit_record.specs.Text.{max_number, space};
 ghost use Rattle.edit_record.specs.Parsing.{strip, expect, number_at, bytes_at, edit_head_at, edit_at, edits_at, if_valid, list_head_at, edit_list_at, bare_word_at, word_at};
 ghost use Rattle.edit_record.specs.declared.fault.FaultKind.{FaultKind};
 
 use crate::fault::{DecodeStop, FaultKind, TextError};
+use crate::list_room::push_edit;
 use crate::lists::{Edit, Edits, Word};
-use crate::short_edits::{plain_head, plain_list_head, short_edit};
+use crate::short_edits::{
+    plain_head, plain_lengths, plain_list_head, quick_edit, short_edit, short_place,
+};
 use std::alloc::Global;
 
 /// The greatest number that is read: twice the most bytes of a text, since the edits of a list are
@@ -152,12 +156,12 @@ fn any_edit(alloc: Global, text: &[u8]) -> Result<(Edit, &[u8]), DecodeStop>
     after_head(alloc, at, removed, added, rest)
 }
 
-/// Reads an edit, pushes it, and returns the rest of the text. It allocates only after the edit is
-/// read. A short edit is pushed where it is read, so that it is moved once.
-#[inline(always)]
-fn push_next<'t>(
+/// Does so with any edit. It is not inlined, so that the loop over quick ones keeps its registers.
+#[inline(never)]
+fn push_any<'t>(
     alloc: Global,
     edits: &mut Vec<Edit>,
+    count: usize,
     text: &'t [u8],
 ) -> Result<&'t [u8], DecodeStop>
     ensures pushed { IfOk result (λ rest. IsPushed edits.old.items edits.new.items text.now rest.now) }
@@ -166,16 +170,93 @@ fn push_next<'t>(
 {
     let Some(((at, removed, added), rest)) = plain_head(text) else {
         let (next, after) = any_edit(alloc, text)?;
-        edits.push(next)?;
+        push_edit(edits, next, count, after.len())?;
         return Ok(after);
     };
     if let Some((next, after)) = short_edit(at, removed, added, rest) {
-        edits.push(next)?;
+        push_edit(edits, next, count, after.len())?;
         return Ok(after);
     }
     let (next, after) = after_head(alloc, at, removed, added, rest)?;
-    edits.push(next)?;
+    push_edit(edits, next, count, after.len())?;
     Ok(after)
+}
+
+/// Does so with an edit of which the place is read: `text` follows it in `whole`.
+#[inline(never)]
+#[tactic(auto, using(crate::proofs::ShortEdits::head_read))]
+fn push_placed<'t>(
+    alloc: Global,
+    edits: &mut Vec<Edit>,
+    count: usize,
+    whole: &'t [u8],
+    at: usize,
+    text: &'t [u8],
+) -> Result<&'t [u8], DecodeStop>
+    requires { number_at 0 max_number space whole.now ≡ Ok (at, text.now) }
+    ensures pushed { IfOk result (λ rest. IsPushed edits.old.items edits.new.items whole.now rest.now) }
+    ensures stops { IfErr result
+        (λ stop. IsStop (is_ok (edit_at whole.now)) stop (edit_at whole.now)) }
+{
+    let Some(((removed, added), rest)) = plain_lengths(text) else {
+        return push_any(alloc, edits, count, whole);
+    };
+    if let Some((next, after)) = short_edit(at, removed, added, rest) {
+        push_edit(edits, next, count, after.len())?;
+        return Ok(after);
+    }
+    let (next, after) = after_head(alloc, at, removed, added, rest)?;
+    push_edit(edits, next, count, after.len())?;
+    Ok(after)
+}
+
+/// Does so with an edit that may be the first one, or one for which there is no capacity.
+#[inline(never)]
+fn push_growing<'t>(
+    alloc: Global,
+    edits: &mut Vec<Edit>,
+    count: usize,
+    text: &'t [u8],
+) -> Result<&'t [u8], DecodeStop>
+    ensures pushed { IfOk result (λ rest. IsPushed edits.old.items edits.new.items text.now rest.now) }
+    ensures stops { IfErr result
+        (λ stop. IsStop (is_ok (edit_at text.now)) stop (edit_at text.now)) }
+{
+    let Some((at, rest)) = short_place(text) else {
+        return push_any(alloc, edits, count, text);
+    };
+    if let Some((next, after)) = quick_edit(at, rest) {
+        push_edit(edits, next, count, after.len())?;
+        return Ok(after);
+    }
+    push_placed(alloc, edits, count, text, at, rest)
+}
+
+/// Reads an edit, pushes it, and returns the rest of the text. It allocates only after the edit is
+/// read. A short edit is pushed where it is read, so that it is moved once, and where there is
+/// capacity no call comes between, so that its parts stay in registers.
+#[inline(always)]
+fn push_next<'t>(
+    alloc: Global,
+    edits: &mut Vec<Edit>,
+    count: usize,
+    text: &'t [u8],
+) -> Result<&'t [u8], DecodeStop>
+    ensures pushed { IfOk result (λ rest. IsPushed edits.old.items edits.new.items text.now rest.now) }
+    ensures stops { IfErr result
+        (λ stop. IsStop (is_ok (edit_at text.now)) stop (edit_at text.now)) }
+{
+    if edits.len() >= edits.capacity() {
+        return push_growing(alloc, edits, count, text);
+    }
+    let Some((at, rest)) = short_place(text) else {
+        return push_any(alloc, edits, count, text);
+    };
+    if let Some((next, after)) = quick_edit(at, rest) {
+        edits.push_reserved(next);
+        return Ok(after);
+    }
+    push_placed(alloc, edits, count, text, at, rest)
 }
 
 /// Reads `count` edits. It allocates only after the first of them is read.
@@ -187,7 +268,7 @@ fn edits(alloc: Global, count: usize, text: &[u8]) -> Result<(Vec<Edit>, &[u8]),
     let mut edits = Vec::new(alloc);
     let mut rest = text;
     for _ in 0..count {
-        rest = push_next(alloc, &mut edits, rest)?;
+        rest = push_next(alloc, &mut edits, count, rest)?;
     }
     Ok((edits, rest))
 }

@@ -1,7 +1,7 @@
 //! Reading numbers and short edits in one straight pass, for speed alone. What is unusual (an error,
 //! a long edit, the end of the text near) is left to the readers of each part.
-ghost use Rattle.std.specs.Prelude.{◌≡◌, ◌+◌, ◌∷◌, false, length, IfSome};
-ghost use Rattle.edit_record.specs.Text.{max_number};
+ghost use Rattle.std.specs.Prelude.{◌≡◌, ◌+◌, ◌∷◌, false, ℕ, List, length, IfSome};
+ghost use Rattle.edit_record.specs.Text.{max_number, space};
 ghost use Rattle.edit_record.specs.Parsing.{is_digit, number_at, list_head_at, edit_at};
 ghost use Rattle.edit_record.specs.Inner.EditLengths.{lengths_at, after_head_at};
 
@@ -98,7 +98,7 @@ fn short_lengths(text: &[u8]) -> Option<((usize, usize), &[u8])>
 
 /// Reads how many bytes an edit removes and adds.
 #[inline(always)]
-fn plain_lengths(text: &[u8]) -> Option<((usize, usize), &[u8])>
+pub(crate) fn plain_lengths(text: &[u8]) -> Option<((usize, usize), &[u8])>
     ensures { IfSome result (λ x. lengths_at text.now ≡ Ok (x.0, x.1.now)) }
 {
     if let Some(short) = short_lengths(text) {
@@ -153,4 +153,46 @@ pub(crate) fn short_edit(
     }
     let after = &text[len + 1..];
     Some((Edit::from_adjacent(at, removed, added, texts), after))
+}
+
+/// Reads a place of at most six digits, the first of which is not 0, and the space that follows it.
+#[inline(always)]
+#[tactic(auto, unfolding(crate::specs::Parsing::number_at))]
+pub(crate) fn short_place(text: &[u8]) -> Option<(usize, &[u8])>
+    ensures { IfSome result (λ x. number_at 0 max_number space text.now ≡ Ok (x.0, x.1.now)) }
+{
+    let Some((digits, _others)) = text.split_first_chunk::<7>() else {
+        return None;
+    };
+    let first = digits[0];
+    if !first.is_ascii_digit() || first == b'0' {
+        return None;
+    }
+    let mut value = (first - b'0') as usize;
+    for i in 1..7 {
+        let digit = digits[i];
+        if !digit.is_ascii_digit() {
+            return if digit == b' ' {
+                Some((value, &text[i + 1..]))
+            } else {
+                None
+            };
+        }
+        value = value * 10 + (digit - b'0') as usize;
+    }
+    None
+}
+
+/// Reads a short edit, of which the place is read, with lengths of one digit each, as nearly every
+/// edit has.
+#[inline(always)]
+pub(crate) fn quick_edit(at: usize, text: &[u8]) -> Option<(Edit, &[u8])>
+    ensures { IfSome result (λ x. (whole : List ℕ)
+        → number_at 0 max_number space whole ≡ Ok (at, text.now)
+        → edit_at whole ≡ Ok (x.0, x.1.now)) }
+{
+    let Some(((removed, added), rest)) = short_lengths(text) else {
+        return None;
+    };
+    short_edit(at, removed, added, rest)
 }
