@@ -113,8 +113,31 @@ impl Edit {
     }
 
     /// Returns a copy of the edit at another offset. What is stored inline is copied as it is.
-    #[inline]
+    #[inline(always)]
     pub(crate) fn copy_at(&self, at: usize) -> Result<Edit, AllocError>
+        ensures { IfOk result
+            (λ e. e ≡ record { at = at; removed = self.now.removed; added = self.now.added }) }
+    {
+        match &self.storage {
+            Storage::Inline {
+                removed_end,
+                len,
+                bytes,
+            } => Ok(Edit {
+                at,
+                storage: Storage::Inline {
+                    removed_end: *removed_end,
+                    len: *len,
+                    bytes: *bytes,
+                },
+            }),
+            Storage::Heap(_) => self.copy_long_at(at),
+        }
+    }
+
+    /// Returns a copy of an edit of any length at another offset.
+    #[inline(never)]
+    fn copy_long_at(&self, at: usize) -> Result<Edit, AllocError>
         ensures { IfOk result
             (λ e. e ≡ record { at = at; removed = self.now.removed; added = self.now.added }) }
     {
