@@ -320,8 +320,23 @@ pub(crate) fn list_of_edits(
 }
 
 /// Reads the word of a command and the space that follows it.
-#[tactic(auto, unfolding(crate::specs::Parsing::word_at))]
+#[inline(always)]
 pub(crate) fn word(text: &[u8]) -> Result<(Word, &[u8]), TextError>
+    ensures { IsParsed (λ x. (x.0, x.1.now)) result (word_at text.now) }
+{
+    if let Some(rest) = strip(b"fmt ", text) {
+        return Ok((Word::Fmt, rest));
+    }
+    if let Some(rest) = strip(b"fix ", text) {
+        return Ok((Word::Fix, rest));
+    }
+    word_by_parts(text)
+}
+
+/// Reads the word and then the space. It is called where there is an error.
+#[inline(never)]
+#[tactic(auto, unfolding(crate::specs::Parsing::word_at))]
+fn word_by_parts(text: &[u8]) -> Result<(Word, &[u8]), TextError>
     ensures { IsParsed (λ x. (x.0, x.1.now)) result (word_at text.now) }
 {
     let (word, rest) = bare_word(text)?;
