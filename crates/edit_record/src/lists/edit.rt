@@ -136,7 +136,7 @@ impl Edit {
     }
 
     /// Returns a copy of an edit of any length at another offset.
-    #[inline(never)]
+    #[inline(always)]
     fn copy_long_at(&self, at: usize) -> Result<Edit, AllocError>
         ensures { IfOk result
             (λ e. e ≡ record { at = at; removed = self.now.removed; added = self.now.added }) }
