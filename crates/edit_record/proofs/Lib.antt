@@ -17,3 +17,4 @@ pub mod FormerTexts
 pub mod ListsLemmas
 pub mod SquashesLemmas
 pub mod SwapsLemmas
+pub mod KnownText

@@ -7,3 +7,4 @@ pub mod OldHead
 pub mod Digits
 pub mod EditLengths
 pub mod PartText
+pub mod KnownText

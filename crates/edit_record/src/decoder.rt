@@ -73,3 +73,20 @@ pub fn decode(alloc: Global, text: &[u8]) -> Result<Journal, RecordFault>
         Err(stop) => Err(stop.into_fault(text.len())),
     }
 }
+
+/// Returns the journal whose text this is, as [`decode`] does, and keeps the text: where the records
+/// that it has are written again it is copied. A text of version 1 is not kept.
+///
+/// # Errors
+///
+/// As for [`decode`].
+pub fn decode_owned(alloc: Global, text: Vec<u8>) -> Result<Journal, RecordFault>
+    ensures { IsDecodeResult text.items result }
+{
+    let old = text.starts_with(b"tfrec 1");
+    let mut journal = decode(alloc, text.as_slice())?;
+    if !old {
+        journal.keep_text(text);
+    }
+    Ok(journal)
+}

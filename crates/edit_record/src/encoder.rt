@@ -86,16 +86,24 @@ fn record_len(rec: &Record) -> usize
     len
 }
 
+/// Returns the length of the text of some records, or the greatest `usize` if it is longer.
+pub(crate) fn records_len(records: &[Record]) -> usize
+    ensures { result ≡ min (length (journal_text records.now)) (2 ^ 64 - 1) }
+{
+    let mut len = 0usize;
+    for rec in records {
+        len = len.saturating_add(record_len(rec));
+    }
+    len
+}
+
 /// Returns the length of the text of a journal, or the greatest `usize` if it is longer. It
 /// allocates nothing.
 pub fn encoded_len(journal: &Journal) -> usize
     ensures { result ≡ min (length (journal_text journal.now)) (2 ^ 64 - 1) }
 {
-    let mut len = 0usize;
-    for rec in journal.records() {
-        len = len.saturating_add(record_len(rec));
-    }
-    len
+    let (text, others) = journal.known_text();
+    text.len().saturating_add(records_len(others))
 }
 
 fn write_parts(out: &mut Vec<u8>, parts: &[Part]) -> Result<(), AllocError>
@@ -189,6 +197,17 @@ fn write_record(out: &mut Vec<u8>, rec: &Record) -> Result<(), AllocError>
     Ok(())
 }
 
+/// Copies a text. No memory is asked for where it has no bytes.
+fn copy_text(out: &mut Vec<u8>, text: &[u8]) -> Result<(), AllocError>
+    ensures text { OnOk result (out.new.items ≡ out.old.items ++ text.now) }
+    ensures allocates { IfErr result (λ _. 0 < length text.now) }
+{
+    if text.is_empty() {
+        return Ok(());
+    }
+    out.extend_from_slice(text)
+}
+
 /// Returns the text of a journal, in version 2: its records in order, the oldest first. A record
 /// is the line `tfrec 2 COMMAND LENGTH EDITS` (the command `fmt` or `fix`, the length of the texts
 /// that it applies to, and how many edits follow), the edits, and the line `end`. An edit is the
@@ -196,7 +215,7 @@ fn write_record(out: &mut Vec<u8>, rec: &Record) -> Result<(), AllocError>
 /// a line end. Numbers are decimal without leading zeros.
 ///
 /// The capacity is reserved once, so only that allocation can fail. The text of an empty journal
-/// has no bytes.
+/// has no bytes. The text of records that [`decode_owned`](crate::decode_owned) read is copied.
 pub fn encode(alloc: Global, journal: &Journal) -> Result<Vec<u8>, AllocError>
     ensures text { IfOk result (λ text. IsCurrentText text.items journal.now) }
     ensures allocates { IfErr result (λ _. 0 < length journal.now) }
@@ -212,7 +231,9 @@ pub fn encode_with_len(alloc: Global, journal: &Journal, len: usize) -> Result<V
     ensures allocates { IfErr result (λ _. 0 < length journal.now) }
 {
     let mut out = Vec::with_capacity(alloc, len)?;
-    for rec in journal.records() {
+    let (text, others) = journal.known_text();
+    copy_text(&mut out, text)?;
+    for rec in others {
         write_record(&mut out, rec)?;
     }
     Ok(out)

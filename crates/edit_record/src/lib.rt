@@ -21,7 +21,7 @@ pub mod squashes;
 pub mod swaps;
 mod version_1;
 
-pub use decoder::decode;
+pub use decoder::{decode, decode_owned};
 pub use encoder::{encode, encode_with_len, encoded_len};
 pub use fault::RecordFault;
 pub use lists::{

@@ -10,6 +10,7 @@ mod direction;
 mod edit;
 mod edits;
 mod journal;
+mod known_text;
 pub mod laws;
 mod pass;
 mod record;

@@ -7,7 +7,7 @@ ghost use Rattle.tf_session.specs.Session.{text_of, records_of};
 ghost use Rattle.tf_session.specs.Journals.{Loads, LoadFault};
 
 use crate::{RunFault, Session, Told};
-use edit_record::decode;
+use edit_record::decode_owned;
 use hcl_scan::MAX_TEXT;
 use std::alloc::Global;
 use std::io::Read;
@@ -40,6 +40,6 @@ pub fn load<R: Read, J: Read>(
 {
     let text = read_to_limit(alloc, MAX_TEXT, text)?;
     let bytes = read_to_limit(alloc, MAX_JOURNAL, journal)?;
-    let journal = decode(alloc, bytes.as_slice())?;
+    let journal = decode_owned(alloc, bytes)?;
     Ok(Session::start(text, journal))
 }

@@ -9,7 +9,7 @@ ghost use Rattle.tf_session.specs.Journals.{IsSavedText, JournalTextFault, Saves
 
 use crate::loader::MAX_JOURNAL;
 use crate::{Part, RunFault, Session, Told, put_journal, put_text};
-use edit_record::{encode, encoded_len};
+use edit_record::{encode_with_len, encoded_len};
 use std::alloc::Global;
 use std::io::Write;
 
@@ -22,10 +22,11 @@ pub fn journal_text(alloc: Global, session: &Session) -> Result<Vec<u8>, RunFaul
     ensures fault { IfErr result (λ fault. JournalTextFault (records_of session.now) fault) }
 {
     let journal = session.journal();
-    if encoded_len(journal) > MAX_JOURNAL {
+    let len = encoded_len(journal);
+    if len > MAX_JOURNAL {
         return Err(RunFault::Endless);
     }
-    match encode(alloc, journal) {
+    match encode_with_len(alloc, journal, len) {
         Ok(text) => Ok(text),
         Err(_) => Err(RunFault::Memory),
     }

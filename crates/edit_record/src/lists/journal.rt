@@ -1,23 +1,34 @@
 ghost use Rattle.std.specs.Prelude.{◌≡◌, ◌≤◌, ◌+◌, [], ◌∷◌, ◌++◌, length, take, OnOk, OnErr, IfErr, IsNone, option_to_list};
+ghost use Rattle.edit_record.specs.Text.{IsCurrentText};
+ghost use Rattle.edit_record.specs.Inner.KnownText.{SplitsKnown};
 
+use crate::lists::known_text::cut_known_text;
 use crate::lists::sequence::{apply_records, undo_records};
 use crate::lists::{Change, Record, Refused};
 use std::alloc::{AllocError, AllocFailed, Global};
+use std::fmt::{self, Debug};
 use std::marker::Model;
 
 /// The records of the commands that changed a text, the oldest first.
-#[derive(Debug, Drop)]
+#[derive(Drop)]
 pub struct Journal {
     records: Vec<Record>,
+    /// The text of the first `known` records, if they were read from it. For speed alone: it is
+    /// copied where they are written again.
+    text: Vec<u8>,
+    known: usize,
 }
 
 impl Model for Journal {
     ghost use Rattle.std.specs.Prelude.{List};
     ghost use Rattle.edit_record.specs.Lists.Journal.{JournalEntry};
+    ghost use Rattle.edit_record.specs.Inner.KnownText.{IsKnownText};
 
     ghost Value = { List JournalEntry };
 
     ghost view = { λ j. j.records.items };
+
+    ghost invariant = { λ j. IsKnownText j.records.items j.known j.text.items };
 }
 
 impl Journal {
@@ -27,7 +38,25 @@ impl Journal {
     {
         Journal {
             records: Vec::new(alloc),
+            text: Vec::new(alloc),
+            known: 0,
         }
+    }
+
+    /// Keeps the text that the records were read from.
+    pub(crate) fn keep_text(&mut self, text: Vec<u8>)
+        requires { IsCurrentText text.items self.old }
+        ensures { self.new ≡ self.old }
+    {
+        self.known = self.records.len();
+        self.text = text;
+    }
+
+    /// Returns the text of the first records, as far as it was kept, and the other records.
+    pub(crate) fn known_text(&self) -> (&[u8], &[Record])
+        ensures { SplitsKnown self.now result.0.now result.1.now }
+    {
+        (self.text.as_slice(), &self.records[self.known..])
     }
 
     /// Adds a record at the end.
@@ -48,6 +77,8 @@ impl Journal {
         ensures rest { self.old ≡ self.new ++ option_to_list result }
         ensures none { IsNone result → self.old ≡ [] }
     {
+        let others = self.records.len().saturating_sub(1);
+        self.known = cut_known_text(&self.records, self.known, &mut self.text, others);
         self.records.pop()
     }
 
@@ -58,6 +89,7 @@ impl Journal {
         ensures { self.new ≡ take from self.old ++ others.items }
     {
         let mut others = others;
+        self.known = cut_known_text(&self.records, self.known, &mut self.text, from);
         self.records.truncate(from);
         let _ = self.records.append(&mut others);
     }
@@ -76,7 +108,17 @@ impl Clone for Journal {
     fn clone(&self) -> Result<Journal, AllocError> {
         Ok(Journal {
             records: self.records.clone()?,
+            text: Vec::new(*self.records.allocator()),
+            known: 0,
         })
+    }
+}
+
+impl Debug for Journal {
+    fn fmt<W: fmt::Write>(&self, f: &mut fmt::Formatter<W>) -> fmt::Result {
+        f.debug_struct("Journal")
+            .field("records", &self.records)
+            .finish()
     }
 }
 

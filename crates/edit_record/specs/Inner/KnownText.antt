@@ -1,0 +1,15 @@
+-- What a journal keeps of the text that it was read from.
+use Rattle.std.specs.Prelude.{◌≡◌, ℕ, ◌≤◌, List, ◌++◌, length, take}
+use Rattle.edit_record.specs.CurrentText.{IsCurrentText, journal_text}
+use Rattle.edit_record.specs.Lists.Journal.{JournalEntry}
+
+-- the text of the first `known` records is kept
+pub record IsKnownText (rs : List JournalEntry) (known : ℕ) (text : List ℕ) : Type 0 where
+  pub within : known ≤ length rs
+  pub is : IsCurrentText text (take known rs)
+
+-- records whose text is kept, and the rest of them
+pub record SplitsKnown (rs : List JournalEntry) (text : List ℕ) (rest : List JournalEntry) : Type 0 where
+  pub front : List JournalEntry
+  pub is : IsCurrentText text front
+  pub whole : rs ≡ front ++ rest

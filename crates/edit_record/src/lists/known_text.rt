@@ -1,0 +1,34 @@
+//! The text that the first records of a journal were read from, kept for speed alone: where these
+//! records are written again it is copied.
+ghost use Rattle.std.specs.Prelude.{◌≤◌};
+ghost use Rattle.edit_record.specs.Inner.KnownText.{IsKnownText};
+
+use crate::encoder::records_len;
+use crate::lists::Record;
+
+/// A text that was cut is freed once it is less than this part of its memory.
+const MOST_SPARE: usize = 4;
+
+/// Cuts the text of the first `known` records to that of the first `to` of them, if they are fewer,
+/// and returns of how many it is the text now.
+pub(crate) fn cut_known_text(
+    records: &[Record],
+    known: usize,
+    text: &mut Vec<u8>,
+    to: usize,
+) -> usize
+    requires { IsKnownText records.now known text.old.items }
+    ensures known { IsKnownText records.now result text.new.items }
+    ensures within { result ≤ to }
+{
+    if known <= to {
+        return known;
+    }
+    let len = text.len() - records_len(&records[to..known]);
+    if len < text.capacity() / MOST_SPARE {
+        *text = Vec::new(*text.allocator());
+        return 0;
+    }
+    text.truncate(len);
+    to
+}
