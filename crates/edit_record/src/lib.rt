@@ -12,7 +12,7 @@ mod digits;
 mod encoder;
 mod fault;
 pub mod laws;
-mod list_room;
+mod list_capacity;
 pub mod lists;
 mod readers;
 mod short_edits;

@@ -10,7 +10,7 @@ ghost use Rattle.edit_record.specs.Parsing.{strip, expect, number_at, bytes_at, 
 ghost use Rattle.edit_record.specs.declared.fault.FaultKind.{FaultKind};
 
 use crate::fault::{DecodeStop, FaultKind, TextError};
-use crate::list_room::push_edit;
+use crate::list_capacity::push_edit;
 use crate::lists::{Edit, Edits, Word};
 use crate::short_edits::{
     plain_head, plain_lengths, plain_list_head, quick_edit, short_edit, short_place,
@@ -212,7 +212,7 @@ fn push_placed<'t>(
 
 /// Does so with an edit that may be the first one, or one for which there is no capacity.
 #[inline(never)]
-fn push_growing<'t>(
+fn push_allocating<'t>(
     alloc: Global,
     edits: &mut Vec<Edit>,
     count: usize,
@@ -247,7 +247,7 @@ fn push_next<'t>(
         (λ stop. IsStop (is_ok (edit_at text.now)) stop (edit_at text.now)) }
 {
     if edits.len() >= edits.capacity() {
-        return push_growing(alloc, edits, count, text);
+        return push_allocating(alloc, edits, count, text);
     }
     let Some((at, rest)) = short_place(text) else {
         return push_any(alloc, edits, count, text);

@@ -22,16 +22,16 @@ pub(crate) fn push_edit(
     ensures { OnOk result (edits.new.items ≡ edits.old.items ++ next ∷ []) }
 {
     if edits.len() >= edits.capacity() {
-        make_room(edits, count, left)?;
+        reserve_edits(edits, count, left)?;
     }
     edits.push_reserved(next);
     Ok(())
 }
 
-/// Makes room for one edit more, and where the list is empty for those that follow.
+/// Reserves capacity for one edit more, and where the list is empty for those that follow.
 #[cold]
 #[inline(never)]
-fn make_room(edits: &mut Vec<Edit>, count: usize, left: usize) -> Result<(), AllocError>
+fn reserve_edits(edits: &mut Vec<Edit>, count: usize, left: usize) -> Result<(), AllocError>
     ensures items { edits.new.items ≡ edits.old.items }
     ensures spare { OnOk result (vec_len edits.new < vec_capacity edits.new) }
 {
