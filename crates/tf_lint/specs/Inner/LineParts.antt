@@ -5,6 +5,14 @@ use Rattle.hcl_token.specs.declared.place.Place.{Place}
 use Rattle.tf_rules.specs.declared.rule.Rule.{Rule}
 use Rattle.tf_rules.specs.Table.{name_of, severity_of, label_of}
 
+-- NAME:LINE:COLUMN
+abbrev pub place_words : List ℕ → Place → List ℕ
+place_words name place = name ++ (codes ":" ++ (decimal place.line ++ (codes ":" ++ decimal place.column)))
+
+-- : SEVERITY -
+abbrev pub severity_words : Rule → List ℕ
+severity_words rule = codes ": " ++ (label_of (severity_of rule) ++ codes " - ")
+
 abbrev pub line_prefix : List ℕ → Place → Rule → List ℕ
 line_prefix name place rule =
     name ++ (codes ":" ++
