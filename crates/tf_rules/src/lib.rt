@@ -27,5 +27,6 @@ pub use role::Role;
 pub use rule::{Rule, RuleInfo, Severity};
 pub use rule_set::RuleSet;
 pub use rules::comment_syntax::check_comment;
+pub use snake_case::is_snake_case;
 pub use top_level::{add_top_level_findings, add_top_level_member_findings};
 pub use unbroken::Unbroken;
