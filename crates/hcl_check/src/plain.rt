@@ -130,6 +130,7 @@ fn eat_term(reader: &Reader<'_, '_>, first: usize, kind: Kind, at: &mut usize) -
 }
 
 /// Takes an `Expr` that is one such term, if what comes next shows that it is.
+#[inline(always)]
 #[tactic(auto, unfolding(hcl_grammar::specs::Tokens::after_next))]
 pub fn eat_plain_expr(reader: &Reader<'_, '_>, at: &mut usize) -> bool
     ensures taken { result ≡ true → spec.expr reader.now at.old ≡ Ok (tt, at.new) }
@@ -152,19 +153,16 @@ pub fn eat_plain_expr(reader: &Reader<'_, '_>, at: &mut usize) -> bool
     }
 }
 
-/// Takes the rest of an `Attr`, after its name, if its value is such an expression and no comment
-/// comes before its line end.
+/// Takes the rest of an `Attr`, after its name and `=`, if its value is such an expression and a
+/// line end comes after it, with a comment or without.
 #[inline(always)]
-#[tactic(auto, unfolding(crate::specs::Passes::attr_or_block, crate::specs::Passes::attr_by, hcl_grammar::specs::Pure::BodyParser::eol))]
+#[tactic(auto, unfolding(crate::specs::Passes::attr_by, hcl_grammar::specs::Pure::BodyParser::eol))]
 pub fn eat_plain_attr(reader: &Reader<'_, '_>, at: &mut usize) -> bool
-    ensures taken { result ≡ true → spec.attr_or_block reader.now at.old ≡ Ok (tt, at.new) }
+    ensures taken { result ≡ true → spec.attr reader.now at.old ≡ Ok (tt, at.new) }
     ensures kept { result ≡ false → at.new ≡ at.old }
 {
     let lines = reader.outside_brackets();
     let mut end = *at;
-    if !lines.eat(Kind::Equal, &mut end) {
-        return false;
-    }
     if !eat_plain_expr(&lines, &mut end) {
         return false;
     }
