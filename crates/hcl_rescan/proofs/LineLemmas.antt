@@ -455,15 +455,49 @@ lines_scanned text piece tokens new at len cut b within e c last ended none is =
     let same : new ≡ tokens ++ tokens_at at ps = is ∙ ap (λ (x : List Pair). tokens ++ tokens_at at x) (all_range ps) in
     subst (λ (x : List Span). IsRescannedTo text x (at + len)) (sym same) (subst (λ n. IsRescannedTo text (tokens ++ tokens_at at ps) (at + n)) size more)
 
--- what is left, cut by itself
-pub rest_scanned : (text piece : List ℕ) (tokens new : List Span) (at : ℕ) (cut : TokenizedText) → length text ≤ MAX_TEXT → IsRescannedTo text tokens at → piece ≡ slice_range text at (length text) → IsTokenization piece cut.pairs cut.last → AreSelfContained cut.pairs cut.last
-    → new ≡ tokens ++ tokens_at at (slice_range cut.pairs 0 (length cut.pairs)) → IsRescanned text new (length text - length cut.last)
-rest_scanned text piece tokens new at cut short b e c last is =
+-- what is left, as it was in the text before
+pub record RestText (text : List ℕ) (at : ℕ) (cut : TokenizedText) (from : ℕ) : Type 0 where
+  pub text_is : drop at text ≡ whole_text (drop from cut.pairs) cut.last
+  pub pairs : slice_range cut.pairs from (length cut.pairs) ≡ drop from cut.pairs
+  pub fits : at + length (whole_text (slice_range cut.pairs from (length cut.pairs)) []) ≤ MAX_TEXT
+  pub last : length cut.last ≤ length text
+
+to_end : (text : List ℕ) (at : ℕ) → slice_range text at (length text) ≡ drop at text
+to_end text at = take_all (length text - at) (drop at text) (omega (arith, length-drop {A = ℕ} at text))
+
+pub rest_text : (text : List ℕ) (at : ℕ) (cut : TokenizedText) (from front : ℕ) → cut.text ≡ whole_text cut.pairs cut.last → IsLineStart cut from front → at ≤ length text → length text ≤ MAX_TEXT
+    → slice_range text at (length text) ≡ slice_range cut.text front (length cut.text) → RestText text at cut from
+rest_text text at cut from front whole f within short same =
     let ps : List Pair = cut.pairs in
-    let all : slice_range text at (length text) ≡ drop at text = take_all (length text - at) (drop at text) (omega (arith, length-drop {A = ℕ} at text)) in
-    let whole : drop at text ≡ whole_text ps cut.last = sym all ∙ sym e ∙ c.tokenizes.text_is in
-    let same : new ≡ tokens ++ tokens_at at ps = is ∙ ap (λ (x : List Pair). tokens ++ tokens_at at x) (all_range ps) in
-    subst (λ (x : List Span). IsRescanned text x (length text - length cut.last)) (sym same) (rescanned_last text tokens at ps cut.last short b last c.whitespace whole)
+    let rest : List ℕ = whole_text (drop from ps) cut.last in
+    let all : cut.text ≡ whole_text (take from ps) [] ++ rest =
+    whole
+    ∙ ap (λ (x : List Pair). whole_text x cut.last) (sym (take-append-drop from ps))
+    ∙ whole_both (take from ps) (drop from ps) cut.last
+    ∙ whole_rest (take from ps) rest in
+    let old : drop front cut.text ≡ rest = ap (drop front) all ∙ drop_at (whole_text (take from ps) []) rest front (sym f.place) in
+    let is : drop at text ≡ rest = sym (to_end text at) ∙ same ∙ to_end cut.text front ∙ old in
+    let pairs : slice_range ps from (length ps) ≡ drop from ps = take_all (length ps - from) (drop from ps) (omega (arith, length-drop {A = Pair} from ps)) in
+    let size : length (whole_text (slice_range ps from (length ps)) []) ≡ length (whole_text (drop from ps) []) = ap (λ (x : List Pair). length (whole_text x [])) pairs in
+    record {
+      text_is = is;
+      pairs = pairs;
+      fits = omega (arith, size, ap length is, joining_rest (drop from ps) cut.last, length-drop {A = ℕ} at text);
+      last = omega (arith, ap length is, joining_rest (drop from ps) cut.last, length-drop {A = ℕ} at text);
+    }
+
+-- so with the pieces that are compared
+pub same_rest : (text old other bytes mine : List ℕ) (at : ℕ) (cut : TokenizedText) (from front : ℕ) → cut.text ≡ whole_text cut.pairs cut.last → IsLineStart cut from front → at ≤ length text → length text ≤ MAX_TEXT
+    → old ≡ cut.text → other ≡ cut.text → bytes ≡ slice_range old front (length other) → mine ≡ slice_range text at (length text) → mine ≡ bytes → RestText text at cut from
+same_rest text old other bytes mine at cut from front whole f within short is again bytes_are mine_are same =
+    rest_text text at cut from front whole f within short
+    (sym mine_are ∙ same ∙ bytes_are ∙ ap₂ (λ (x y : List ℕ). slice_range x front (length y)) is again)
+
+pub rest_rescanned : (text : List ℕ) (tokens new : List Span) (at : ℕ) (cut : TokenizedText) (from front : ℕ) → length text ≤ MAX_TEXT → IsRescannedTo text tokens at → IsLineStart cut from front → list_all is_whitespace cut.last ≡ true → RestText text at cut from
+    → new ≡ tokens ++ tokens_at at (slice_range cut.pairs from (length cut.pairs)) → IsRescanned text new (length text - length cut.last)
+rest_rescanned text tokens new at cut from front short b f blank rest is =
+    let same : new ≡ tokens ++ tokens_at at (drop from cut.pairs) = is ∙ ap (λ (x : List Pair). tokens ++ tokens_at at x) rest.pairs in
+    subst (λ (x : List Span). IsRescanned text x (length text - length cut.last)) (sym same) (rescanned_last text tokens at (drop from cut.pairs) cut.last short b f.rest blank rest.text_is)
 
 -- ---- tokens that don't join
 

@@ -313,24 +313,26 @@ fn scan_lines(
     Ok(lines.into_buffer())
 }
 
-/// Adds the tokens of the rest of a text, and returns where its last gap begins.
-fn scan_rest(
-    alloc: Global,
+/// Adds the tokens of the rest of the old text, if the new one has its bytes from byte `at` on, and
+/// returns where the last gap begins.
+fn reuse_rest(
     text: &[u8],
     tokens: &mut Vec<Span>,
     at: usize,
-    scratch: Vec<Span>,
+    old: &Scanned<'_>,
+    from: LineStart,
 ) -> Result<usize, RescanFault>
     requires rescanned { IsRescannedTo text.now tokens.old.items at }
     requires short { length text.now ≤ MAX_TEXT }
+    requires line_start { IsLineStart old.now from.index from.at }
     ensures { IfOk result (λ last_gap_at. IsRescanned text.now tokens.new.items last_gap_at) }
 {
-    let rest = scan_part(alloc, scratch, slice(text, at, text.len()))?;
-    if !can_follow_lines(&rest) {
+    let bytes = slice(old.text(), from.at, old.text().len());
+    if !same_bytes(slice(text, at, text.len()), bytes) {
         return Err(RescanFault::Mismatch);
     }
-    push_relocated(tokens, at, &rest, LineStart { index: 0, at: 0 }, rest.len())?;
-    Ok(text.len() - rest.last_gap().len())
+    push_relocated(tokens, at, old, from, old.len())?;
+    Ok(text.len() - old.last_gap().len())
 }
 
 /// Lines of the old text in which bytes are replaced: where the next unchanged line begins, how
@@ -447,8 +449,7 @@ fn rescan_tokens(
         };
         first = count;
     }
-    progress = reuse_unchanged(text, tokens, old, progress, usize::MAX)?;
-    scan_rest(alloc, text, tokens, progress.at, scratch)
+    reuse_rest(text, tokens, progress.at, old, progress.line_start)
 }
 
 /// Returns the error of a text for whose tokens memory ran out: bytes that are not UTF-8 are
