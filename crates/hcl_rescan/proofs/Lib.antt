@@ -1,3 +1,4 @@
 pub mod DepthLemmas
 pub mod LineLemmas
 pub mod MovedLemmas
+pub mod SequenceLemmas

@@ -123,7 +123,7 @@ all_movable from to x (p ∷ ps) filled fits =
 
 -- ---- the tokens of a stretch
 
-stretch_is : (cut : TokenizedText) (from at to : ℕ) (spans : List Span) → IsLineStart cut from at → spans ≡ spans_from 0 cut.pairs → slice_range spans from to ≡ tokens_at (at + 0) (slice_range cut.pairs from to)
+pub stretch_is : (cut : TokenizedText) (from at to : ℕ) (spans : List Span) → IsLineStart cut from at → spans ≡ spans_from 0 cut.pairs → slice_range spans from to ≡ tokens_at (at + 0) (slice_range cut.pairs from to)
 stretch_is cut from at to spans f e =
     let place : 0 + length (whole_text (take from cut.pairs) []) ≡ at + 0 = omega (arith, f.place) in
     ap (λ (l : List Span). slice_range l from to) (e ∙ spans_are 0 cut.pairs)

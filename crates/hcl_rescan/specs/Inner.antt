@@ -1,2 +1,3 @@
 pub mod WholeLines
 pub mod MovedSpans
+pub mod Sequences

@@ -5,8 +5,9 @@
 //! what precedes and follows the line, so if its bytes are in the new text at the start of a line,
 //! they have the same tokens there. The other lines are scanned as texts of their own.
 
-ghost use Rattle.std.specs.Prelude.{◌≡◌, ◌<◌, ◌≤◌, ◌+◌, ◌-◌, ◌^◌, ◌++◌, ◌∷◌, ℕ, true, false, Some, [], length, drop, slice_get, slice_range, IsTrue, OnOk, IfOk};
+ghost use Rattle.std.specs.Prelude.{◌≡◌, ◌<◌, ◌≤◌, ◌+◌, ◌-◌, ◌^◌, ◌++◌, ◌∷◌, ℕ, true, false, Some, [], length, drop, slice_get, slice_range, IsTrue, OnOk, IfOk, IfSome};
 ghost use Rattle.hcl_token.specs.declared.kind.Kind.TheVariants.{LineEnd};
+ghost use Rattle.hcl_token.specs.TokenizedText.{kind_of};
 ghost use Rattle.hcl_token.specs.Tokens.{Pair, whole_text};
 ghost use Rattle.hcl_token.specs.Pairs.{InOrder, pairs_of};
 ghost use Rattle.hcl_scan.specs.Tokenization.{IsTokenization, MAX_TEXT};
@@ -15,6 +16,7 @@ ghost use Rattle.hcl_scan.specs.Follows.{AreApart, FollowsFrom, IsApart};
 ghost use Rattle.hcl_rescan.specs.Inner.WholeLines.{AreSelfContained, EndsWithLineEnd, IsRescannedTo, IsLineStart, IsLineRange, IsRescanned, depth_after, tokens_at};
 
 use crate::moved::move_spans;
+use crate::sequences::{close_what_they_open, first_beyond};
 use hcl_scan::{Kind, MAX_TEXT, ScanFault, Scanned, Span, scan_in};
 use std::alloc::{AllocError, Global};
 
@@ -99,8 +101,9 @@ fn ends_top_level_line(kind: Kind, depth: usize) -> bool
     is_line_end(kind) && depth == 0
 }
 
-/// Returns the last start of a line at or before byte `limit`, of whole lines from `from` on.
-fn last_line_start(old: &Scanned<'_>, from: LineStart, limit: usize) -> LineStart
+/// Returns the last start of a line at or before byte `limit`, of whole lines from `from` on: what
+/// is open is counted from token to token.
+fn last_line_start_by_depth(old: &Scanned<'_>, from: LineStart, limit: usize) -> LineStart
     requires { IsLineStart old.now from.index from.at }
     ensures line_start { IsLineStart old.now result.index result.at }
     ensures lines { IsLineRange old.now.pairs from.index result.index }
@@ -157,6 +160,45 @@ fn span_range(spans: &[Span], from: usize, to: usize) -> &[Span]
     ensures { result.now ≡ slice_range spans.now from to }
 {
     &spans[from..to]
+}
+
+/// Returns the number of the last token of `past` that ends a line, if there is one from number
+/// `from` on.
+fn last_line_end(old: &Scanned<'_>, from: usize, past: usize) -> Option<usize>
+    requires { past ≤ length old.now.pairs }
+    ensures { IfSome result (λ i. (from ≤ i) × (i < past)
+        × (kind_of old.now.pairs i ≡ Some LineEnd)) }
+{
+    let mut left = past;
+    while from < left {
+        left -= 1;
+        if is_line_end(old.kind(left)) {
+            return Some(left);
+        }
+    }
+    None
+}
+
+/// Returns the last start of a line at or before byte `limit`, of whole lines from `from` on.
+///
+/// Few line ends are in a template sequence, so that the last one nearly always ends a line.
+fn last_line_start(old: &Scanned<'_>, from: LineStart, limit: usize) -> LineStart
+    requires { IsLineStart old.now from.index from.at }
+    ensures line_start { IsLineStart old.now result.index result.at }
+    ensures lines { IsLineRange old.now.pairs from.index result.index }
+{
+    let spans = old.places().spans();
+    let past = first_beyond(spans, from.index, limit);
+    let Some(end) = last_line_end(old, from.index, past) else {
+        return from;
+    };
+    if !close_what_they_open(span_range(spans, from.index, end)) {
+        return last_line_start_by_depth(old, from, limit);
+    }
+    LineStart {
+        index: end + 1,
+        at: old.item(end).stop as usize,
+    }
 }
 
 /// Adds tokens of a text, with their places in another one, where they begin at byte `at`.

@@ -3,5 +3,6 @@
 
 mod incremental;
 mod moved;
+mod sequences;
 
 pub use incremental::{ReplacedRange, rescan};

@@ -1,40 +1,47 @@
-use Rattle.std.proofs.Common.{◌≡◌, ◌≤◌, ◌<◌, ◌+◌, length, [], slice_range, arith, ap, refl, subst, sym, ◌∙◌}
-use Rattle.hcl_rescan.specs.declared.incremental.LineStart.{LineStart}
-use Rattle.hcl_rescan.specs.Inner.WholeLines.{IsLineStart, IsLineRange, depth_after}
-use Rattle.hcl_scan.proofs.PairLemmas.{modes_after_pairs}
+use Rattle.std.proofs.Common.{◌≡◌, ◌<◌, ◌+◌, List, length, slice_range, Some, arith, ap, refl, sym, subst, ◌∙◌}
+use Rattle.hcl_token.specs.declared.span.Span.{Span}
+use Rattle.hcl_token.specs.declared.kind.Kind.TheVariants.{LineEnd}
+use Rattle.hcl_token.specs.Pairs.{spans_from}
+use Rattle.hcl_rescan.specs.Inner.WholeLines.{IsLineStart, IsLineRange}
+use Rattle.hcl_rescan.specs.Inner.Sequences.{opened, closed}
 use Rattle.hcl_rescan.proofs.LineLemmas.{line_start_at_line_end}
-use Rattle.hcl_rescan.proofs.DepthLemmas.{depth_more, none_open}
+use Rattle.hcl_rescan.proofs.MovedLemmas.{spans_length}
+use Rattle.hcl_rescan.proofs.SequenceLemmas.{none_open_at}
 use Rattle.hcl_rescan.proofs.incremental.last_line_start.Goals as goal
-use Rattle.hcl_rescan.proofs.incremental.last_line_start.Goals.{then-ends_top_level_line+else-at-limit, else-ends_top_level_line}
 
-pub loop-i-preserved : goal.loop-i-preserved
-loop-i-preserved c =
+all_spans : (c : goal.After-spans-spans) → length c.spans-spans.result.now ≡ length c.args.old.now.pairs
+all_spans c =
+    ap length (c.spans-spans.ensures ∙ ap (spans_from 0) c.places.ensures) ∙ spans_length 0 c.args.old.now.pairs
+
+pub first_beyond-past-requires : goal.first_beyond-past-requires
+first_beyond-past-requires c = omega (arith, all_spans c, c.requires.within)
+
+pub last_line_end-requires : goal.last_line_end-requires
+last_line_end-requires c = omega (arith, ap length (c.spans-spans.ensures ∙ ap (spans_from 0) c.places.ensures), spans_length 0 c.args.old.now.pairs, c.first_beyond-past.ensures.within)
+
+pub span_range-requires-clause-within : goal.span_range-requires-clause-within
+span_range-requires-clause-within c = omega (arith, ap length (c.spans-spans.ensures ∙ ap (spans_from 0) c.places.ensures), spans_length 0 c.args.old.now.pairs, c.in-Some.ensures.1, c.first_beyond-past.ensures.within)
+
+pub overflow_add-result : goal.overflow_add-result
+overflow_add-result c = record { fits = omega (arith, c.in-Some.ensures.1) }
+
+line : (c : goal.After-struct_known-1) → IsLineStart c.args.old.now (c.in-Some.end + 1) c.item.result.stop × IsLineRange c.args.old.now.pairs c.args.from.index (c.in-Some.end + 1) × (c.args.from.index < c.in-Some.end + 1)
+line c =
     let old = c.args.old.now in
-    let from = c.args.from.index in
-    let at = c.args.from.at in
-    let i = c.loop-i.i in
-    let depth = c.loop-i.depth in
-    let kind = c.kind-kind.result in
-    let told = c.loop-i.invariant in
-    let ordered : from ≤ i = omega arith in
-    let within : i < length old.pairs = omega arith in
-    let more : depth_after kind depth ≡ length (modes_after_pairs [] (slice_range old.pairs from (i + 1))) = depth_more old from at i depth kind c.requires ordered within c.kind-kind.ensures told.depth in
-    elim c.if-ends_top_level_line.branch [
-      | then-ends_top_level_line+else-at-limit w ↦
-          let end = w.if-ends_top_level_line.ensures in
-          let none = none_open _ depth told.depth (end.none refl) in
-          let line = line_start_at_line_end old from at i kind w.item-at.result c.requires ordered within c.kind-kind.ensures (end.kind refl) w.item-at.ensures none in
-          record {
-            line_start = subst (λ (t : LineStart). IsLineStart old t.index t.at) (sym w.to-is) line.0;
-            lines = subst (λ (t : LineStart). IsLineRange old.pairs from t.index) (sym w.to-is) line.1;
-            depth = w.depth-is ∙ sym (ap (λ k. depth_after k depth) (end.kind refl)) ∙ more;
-            few = omega (arith, w.depth-is, told.few);
-          }
-      | else-ends_top_level_line w ↦
-          record {
-            line_start = subst (λ (t : LineStart). IsLineStart old t.index t.at) (sym w.to-is) told.line_start;
-            lines = subst (λ (t : LineStart). IsLineRange old.pairs from t.index) (sym w.to-is) told.lines;
-            depth = w.depth-is ∙ w.depth_after-depth.ensures.value ∙ more;
-            few = omega (arith, w.depth-is, w.depth_after-depth.ensures.small, told.few);
-          }
-    ]
+    let from = c.args.from in
+    let end = c.in-Some.end in
+    let spans = c.spans-spans.result.now in
+    let found = c.in-Some.ensures in
+    let known : spans ≡ spans_from 0 old.pairs = c.spans-spans.ensures ∙ ap (spans_from 0) c.places.ensures in
+    let within : end < length old.pairs = omega (arith, found.1, c.first_beyond-past.ensures.within, ap length known, spans_length 0 old.pairs) in
+    let is : Some LineEnd ≡ Rattle.hcl_token.specs.TokenizedText.kind_of old.pairs end = sym found.2 in
+    let balance : opened (slice_range spans from.index end) ≡ closed (slice_range spans from.index end) =
+    subst (λ (x : List Span). opened x ≡ closed x) c.span_range.ensures (c.close_what_they_open.ensures c.if-not-close_what_they_open.false) in
+    let none = none_open_at old from.index from.at end LineEnd spans c.requires known found.0 within is refl balance in
+    line_start_at_line_end old from.index from.at end LineEnd c.item.result c.requires found.0 within is refl c.item.ensures none
+
+pub returns-clause-line_start : goal.returns-clause-line_start
+returns-clause-line_start c = (line c).0
+
+pub returns-clause-lines : goal.returns-clause-lines
+returns-clause-lines c = (line c).1

@@ -1,7 +1,7 @@
 use Rattle.std.proofs.Common.{◌≡◌, ◌≤◌, [], length, slice_range}
 use Rattle.hcl_rescan.specs.Inner.WholeLines.{IsLineStart, IsLineRange}
 use Rattle.hcl_scan.proofs.PairLemmas.{modes_after_pairs}
-use Rattle.hcl_rescan.proofs.incremental.last_line_start.Given as goal
+use Rattle.hcl_rescan.proofs.incremental.last_line_start_by_depth.Given as goal
 
 abbrev pub invariant-loop-i : goal.invariant-loop-i
 invariant-loop-i l = record {
