@@ -1,7 +1,7 @@
 -- One step of a fix.
-use Rattle.std.proofs.Common.{◌≡◌, ℕ, List, true, refl, sym, subst, ◌∙◌}
+use Rattle.std.proofs.Common.{◌≡◌, ◌+◌, ℕ, List, [], ◌∷◌, ◌++◌, length, true, refl, sym, ap, subst, ◌∙◌}
 use Rattle.edit_record.specs.Lists.Validity.{LengthsMatch}
-use Rattle.edit_record.specs.Lists.Pieces.{EditList, Transforms}
+use Rattle.edit_record.specs.Lists.Pieces.{EditList, Piece, Kept, Changed, old_text, new_text, changed_entries, Transforms}
 use Rattle.edit_record.specs.Squashes.Squash.{AreComposable, IsSquashResult}
 use Rattle.edit_record.specs.declared.squashes.squash_lists.Unmet.{Unmet}
 use Rattle.edit_record.specs.declared.squashes.squash_lists.Unmet.TheVariants.{LengthsDiffer, Contradicts, Memory}
@@ -25,6 +25,17 @@ never_unmet lengths a b Memory can said = refl
 pub made_is : {rule : Rule} {p : Parsed} {count : ℕ} {edits : EditList} (s : IsFixStep rule p count edits) {text made : List ℕ} → text ≡ p.scanned.text
     → ((new : List ℕ) → Transforms edits text new → made ≡ new) → made ≡ step_text_of p s.found
 made_is {rule} {p} {count} {edits} s is makes = makes (step_text_of p s.found) (subst (λ t. Transforms edits t (step_text_of p s.found)) (sym is) s.transforms)
+
+-- where nothing is edited the text stays
+no_changes : (ps : List Piece) (from : ℕ) → changed_entries from ps ≡ [] → new_text ps ≡ old_text ps
+no_changes [] from e = refl
+no_changes (Kept b ∷ ps) from e = ap (λ (x : List ℕ). b ++ x) (no_changes ps (from + length b) e)
+no_changes (Changed r n ∷ ps) from e = absurd (cc)
+
+pub kept_is : {rule : Rule} {p : Parsed} {count : ℕ} {edits : EditList} (s : IsFixStep rule p count edits) → edits.entries ≡ [] → step_text_of p s.found ≡ p.scanned.text
+kept_is {rule} {p} {count} {edits} s none =
+    let t = s.transforms in
+    sym t.new_is ∙ no_changes t.pieces 0 (t.edits_are ∙ none) ∙ t.old_is
 
 pub differ_is : (old : List ℕ) {new fixed : List ℕ} → new ≡ fixed → texts_differ old new ≡ true → texts_differ old fixed ≡ true
 differ_is old made other = subst (λ t. texts_differ old t ≡ true) made other

@@ -1,6 +1,6 @@
 //! The step of one rule.
 
-ghost use Rattle.std.specs.Prelude.{◌≡◌, ◌≤◌, ◌⊎◌, ℕ, true, List, IfOk, IfErr};
+ghost use Rattle.std.specs.Prelude.{◌≡◌, ◌≤◌, ◌⊎◌, ℕ, true, List, [], IfOk, IfErr};
 ghost use Rattle.hcl_scan.specs.Tokenization.{MAX_TEXT};
 ghost use Rattle.edit_record.specs.Lists.Pieces.{Transforms};
 ghost use Rattle.tf_rules.specs.RuleSets.{has_rule};
@@ -51,6 +51,13 @@ fn step_edits(alloc: Global, linted: &LintedText<'_>, rule: Rule) -> Result<Step
     Ok(edits)
 }
 
+/// Whether nothing is edited.
+fn is_without_edits(edits: &Edits) -> bool
+    ensures { result ≡ true → edits.now.entries ≡ [] }
+{
+    matches!(edits.edits(), [])
+}
+
 /// Makes the step of a rule over a text that was linted with a set that has it.
 pub fn apply_step(alloc: Global, linted: &LintedText<'_>, rule: Rule) -> Result<Step, FixFault>
     requires linted { (p : Parsed) × IsLintOf p linted.now }
@@ -60,6 +67,13 @@ pub fn apply_step(alloc: Global, linted: &LintedText<'_>, rule: Rule) -> Result<
         → IfErr result (λ fault. (fault ≡ FixFault.Memory) ⊎ CannotStep rule p fault) }
 {
     let StepEdits { count, edits } = step_edits(alloc, linted, rule)?;
+    if is_without_edits(&edits) {
+        // the text is neither copied nor compared
+        return Ok(Step {
+            count,
+            change: None,
+        });
+    }
     let text = apply_step_edits(alloc, linted.scanned.text(), &edits)?;
     if text.as_slice() == linted.scanned.text() {
         return Ok(Step {
