@@ -3,6 +3,11 @@ mod QuietRuns
 mod QuietTokens
 mod Walks
 mod LineEnds
+mod OpenBrackets
+mod TokensThere
+mod LineWalks
+mod BlockMembers
+mod QuietBlocks
 mod QuietNodes
 mod QuietMembers
 mod QuietHeads

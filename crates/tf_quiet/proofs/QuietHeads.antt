@@ -1,27 +1,23 @@
 -- At a member with a quiet head no rule on blocks finds anything.
-use Rattle.std.proofs.Common.{◌≡◌, ℕ, zero, suc, ◌+◌, not, ◌&&◌, ◌||◌, Bool, true, false, List, [], ◌∷◌, ◌++◌, slice_get, Option, Some, None, refl, sym, ap, ◌∙◌, subst, arith, codes, if◌then◌else◌}
+use Rattle.std.proofs.Common.{◌≡◌, ℕ, ◌+◌, not, ◌&&◌, ◌||◌, Bool, true, false, List, [], ◌++◌, slice_get, Option, Some, None, refl, sym, ap, ◌∙◌, subst, arith, codes, if◌then◌else◌}
 use Rattle.std.proofs.lemmas.Slice.Eq.{bytes_eq-Decides}
 use Rattle.std.specs.List.{flat_map}
-use Rattle.std.specs.Option.{option_map}
 use Rattle.std.specs.Str.{bytes_eq}
 use Rattle.hcl_grammar.specs.Bodies.{IsLabels, no_labels, word_label, text_label, empty_label}
 use Rattle.hcl_grammar.specs.Lookahead.{NextIs}
 use Rattle.hcl_grammar.specs.Nodes as node
-use Rattle.hcl_grammar.specs.Tokens.{Token, is_skipped, is_kind, next_index, after_next, first_token_in}
+use Rattle.hcl_grammar.specs.Tokens.{Token, is_kind, next_index, after_next, first_token_in}
 use Rattle.hcl_grammar.specs.declared.tree.Block.{Block, roll-Block}
 use Rattle.hcl_grammar.specs.declared.tree.Content.{Content}
 use Rattle.hcl_grammar.specs.declared.tree.Content.TheVariants as content
 use Rattle.hcl_grammar.specs.declared.tree.Label.{Label}
-use Rattle.hcl_grammar_laws.proofs.Neat.{kept_at}
 use Rattle.hcl_grammar_laws.proofs.Opens.{open_attribute, open_block}
-use Rattle.hcl_grammar_laws.proofs.Steps.{same-eq}
 use Rattle.hcl_scan.specs.Follows.{tokens_of}
 use Rattle.hcl_token.specs.TokenizedText.{kind_of}
 use Rattle.hcl_token.specs.Tokens.{Pair}
-use Rattle.hcl_token.specs.declared.kind.Kind.{Kind}
 use Rattle.hcl_token.specs.declared.kind.Kind.TheVariants as k
 use Rattle.tf_quiet.proofs.Nothing.{Nothing, none, choose, unless, append}
-use Rattle.tf_quiet.proofs.QuietTokens.{some_next}
+use Rattle.tf_quiet.proofs.TokensThere.{stands, here, behind, only}
 use Rattle.tf_quiet.specs.QuietHeads.{is_text_label, is_snake_label, is_quiet_after_word, is_quiet_head, QuietHeadsHaveNoFindings}
 use Rattle.tf_reuse.specs.OneMember.{IsOneMember}
 use Rattle.tf_reuse.specs.OneMember as alone
@@ -57,48 +53,13 @@ skip : {A : Type 0} (b : Bool) (x y : A) → b ≡ false → (if b then x else y
 skip true x y e = absurd (cc)
 skip false x y e = refl
 
-never : (a b c : Bool) (xs : List Finding) {ys : List Finding} → b ≡ false → Nothing ys → Nothing (if a && (b && c) then xs else ys)
+pub never : (a b c : Bool) (xs : List Finding) {ys : List Finding} → b ≡ false → Nothing ys → Nothing (if a && (b && c) then xs else ys)
 never false b c xs e h = h
 never true true c xs e h = absurd (cc)
 never true false c xs e h = h
 
-spelled : (word expected : List ℕ) → bytes_eq word expected ≡ true → word ≡ expected
+pub spelled : (word expected : List ℕ) → bytes_eq word expected ≡ true → word ≡ expected
 spelled word expected e = (bytes_eq-Decides word expected).0 e
-
--- ---- a token of a kind
-
-record Stands (ts : List Token) (n : ℕ) (t : Kind) : Type 0 where
-  token : Token
-  is : slice_get ts n ≡ Some token
-  kind : token.0 ≡ t
-
-pair_token : (pairs : List Pair) (n : ℕ) (p : Pair) → slice_get pairs n ≡ Some p → slice_get (tokens_of pairs) n ≡ Some (p.kind, p.spelling)
-pair_token [] n p h = absurd (cc)
-pair_token (x ∷ xs) zero p h = ap (option_map (λ (z : Pair). (z.kind, z.spelling))) h
-pair_token (x ∷ xs) (suc n) p h = pair_token xs n p h
-
-stands_by : (pairs : List Pair) (n : ℕ) (t : Kind) (o : Option Pair) → slice_get pairs n ≡ o → is_kind (option_map (λ (p : Pair). p.kind) o) t ≡ true → Stands (tokens_of pairs) n t
-stands_by pairs n t None h e = absurd (cc)
-stands_by pairs n t (Some p) h e = record { token = (p.kind, p.spelling); is = pair_token pairs n p h; kind = same-eq p.kind t e }
-
-stands : (pairs : List Pair) (n : ℕ) (t : Kind) → is_kind (kind_of pairs n) t ≡ true → Stands (tokens_of pairs) n t
-stands pairs n t e = stands_by pairs n t (slice_get pairs n) refl e
-
-module _ {ts : List Token} where
-  kept : {n : ℕ} {t : Kind} (s : Stands ts n t) → is_skipped false t ≡ false → is_skipped false s.token.0 ≡ false
-  kept s d = ap (is_skipped false) s.kind ∙ d
-
-  here : {n : ℕ} {t : Kind} → Stands ts n t → is_skipped false t ≡ false → next_index ts false n ≡ n
-  unfolding next_index
-  here {n} s d = let z = kept_at (λ (t : Token). is_skipped false t.0) ts n s.token s.is (kept s d) in omega (arith, z)
-
-  behind : {n : ℕ} {t : Kind} → Stands ts n t → is_skipped false t ≡ false → after_next ts false n ≡ n + 1
-  unfolding after_next
-  behind {n} s d = let e = here s d in omega (arith, e)
-
-  -- what comes next there is of that kind
-  only : {n : ℕ} {t u : Kind} → Stands ts n t → is_skipped false t ≡ false → NextIs ts false u n → t ≡ u
-  only {n} {t} {u} s d r = sym s.kind ∙ some_next ts false u n s.token s.is (kept s d) r
 
 -- ---- labels
 
@@ -110,7 +71,7 @@ module _ (pairs : List Pair) where
   named : (kind : NameKind) (n : ℕ) (first past : ℕ) → is_snake_case (token_text pairs n) ≡ true → Nothing (naming_finding pairs kind (Some n) first past)
   named kind n first past e = record { is = rw e refl }
 
-  first_label : {ls : List Label} {i j : ℕ} (kind : NameKind) → IsLabels ts ls i j → is_snake_label pairs i ≡ true → Nothing (label_findings pairs kind (slice_get ls 0))
+  pub first_label : {ls : List Label} {i j : ℕ} (kind : NameKind) → IsLabels ts ls i j → is_snake_label pairs i ≡ true → Nothing (label_findings pairs kind (slice_get ls 0))
   unfolding node.label
   first_label kind no_labels h = none
   first_label kind (word_label {i} p ls) h =
@@ -154,23 +115,23 @@ module _ (pairs : List Pair) where
 
 module _ (rules : RuleSet) (pairs : List Pair) (b : Block) where
   -- what is found at it, if this is its word
-  abbrev untyped : List ℕ → Label → List Finding
+  abbrev pub untyped : List ℕ → Label → List Finding
   untyped word l = if has_rule rules TypedVariables && (bytes_eq word (codes "variable") && not (has_attribute pairs (codes "type") false (attributes b))) then missing_finding TypedVariables b l.name else []
 
-  abbrev undocumented : List ℕ → Rule → List ℕ → Label → List Finding
+  abbrev pub undocumented : List ℕ → Rule → List ℕ → Label → List Finding
   undocumented word rule kind l = if has_rule rules rule && (bytes_eq word kind && is_undocumented pairs (attributes b)) then missing_finding rule b l.name else []
 
-  abbrev missing : List ℕ → Option Label → List Finding
+  abbrev pub missing : List ℕ → Option Label → List Finding
   missing word None = []
   missing word (Some l) = untyped word l ++ (undocumented word DocumentedVariables (codes "variable") l ++ undocumented word DocumentedOutputs (codes "output") l)
 
-  abbrev naming : List ℕ → List Finding
+  abbrev pub naming : List ℕ → List Finding
   naming word = declared_findings pairs b (declared_name word) ++ (if bytes_eq word (codes "locals") then flat_map (local_findings pairs) (attributes b) else [])
 
-  abbrev found : List ℕ → List Finding
+  abbrev pub found : List ℕ → List Finding
   found word = (if has_rule rules NamingConvention then naming word else []) ++ missing word (slice_get b.labels 0)
 
-  none_missing : (word : List ℕ) (o : Option Label) → bytes_eq word (codes "variable") ≡ false → bytes_eq word (codes "output") ≡ false → Nothing (missing word o)
+  pub none_missing : (word : List ℕ) (o : Option Label) → bytes_eq word (codes "variable") ≡ false → bytes_eq word (codes "output") ≡ false → Nothing (missing word o)
   none_missing word None v o = none
   none_missing word (Some l) v o =
       append (never (has_rule rules TypedVariables) (bytes_eq word (codes "variable")) (not (has_attribute pairs (codes "type") false (attributes b))) (missing_finding TypedVariables b l.name) v none)
@@ -226,7 +187,7 @@ module _ (rules : RuleSet) (pairs : List Pair) where
       subst (λ (n : ℕ). Nothing (found rules pairs b (token_text pairs n))) (sym at)
       (by_word rules pairs b from ls text (bytes_eq text (codes "resource")) (bytes_eq text (codes "data")) (bytes_eq text (codes "module")) refl refl refl parts.1)
 
-abbrev the_block : ℕ → ℕ → List Label → Content → Block
+abbrev pub the_block : ℕ → ℕ → List Label → Content → Block
 the_block first past ls x = roll-Block (record { first = first; past = past; block_type = first; labels = ls; content = x })
 
 pub quiet_heads : QuietHeadsHaveNoFindings

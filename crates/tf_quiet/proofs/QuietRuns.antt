@@ -49,3 +49,11 @@ none_behind [] zero l = refl
 none_behind [] (suc n) l = refl
 none_behind (p ∷ ps) zero l = absurd (omega (arith, l))
 none_behind (p ∷ ps) (suc n) l = none_behind ps n (omega (arith, l))
+
+-- ---- runs
+
+pub fewer : (pairs : List Pair) (from n to : ℕ) → AreQuiet pairs from n → to ≤ n → AreQuiet pairs from to
+fewer pairs from n to a l = record { each = λ i m h. a.each i m (omega (arith, h, l)) }
+
+pub joined_runs : (pairs : List Pair) (from n to : ℕ) → AreQuiet pairs from n → AreQuiet pairs n to → AreQuiet pairs from to
+joined_runs pairs from n to a b = record { each = λ i l m. elim (below_or_not i n) [ inl h ↦ a.each i l h | inr h ↦ b.each i h m ] }

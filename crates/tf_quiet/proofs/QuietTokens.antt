@@ -146,16 +146,16 @@ dropped_at p (t ∷ ts) (suc i) zero a l h e = absurd (omega arith)
 dropped_at p (t ∷ ts) (suc i) (suc n) a l h e = dropped_at p ts i n a (omega arith) (omega arith) e
 
 -- a token that is dropped
-record Dropped (ts : List Token) (m : Bool) (n : ℕ) : Type 0 where
-  token : Token
-  is : slice_get ts n ≡ Some token
-  skipped : is_skipped m token.0 ≡ true
+pub record Dropped (ts : List Token) (m : Bool) (n : ℕ) : Type 0 where
+  pub token : Token
+  pub is : slice_get ts n ≡ Some token
+  pub skipped : is_skipped m token.0 ≡ true
 
 dropped_by : (ts : List Token) (m : Bool) (i n : ℕ) (o : Option Token) → slice_get ts n ≡ o → i ≤ n → n < i + prefix_len (λ (t : Token). is_skipped m t.0) (drop i ts) → Dropped ts m n
 dropped_by ts m i n None e l h = absurd (none_there (λ (t : Token). is_skipped m t.0) ts i n l h e)
 dropped_by ts m i n (Some a) e l h = record { token = a; is = e; skipped = dropped_at (λ (t : Token). is_skipped m t.0) ts i n a l h e }
 
-dropped : (ts : List Token) (m : Bool) (i n : ℕ) → i ≤ n → n < next_index ts m i → Dropped ts m n
+pub dropped : (ts : List Token) (m : Bool) (i n : ℕ) → i ≤ n → n < next_index ts m i → Dropped ts m n
 unfolding next_index
 dropped ts m i n l h = dropped_by ts m i n (slice_get ts n) refl l h
 

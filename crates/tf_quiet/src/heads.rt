@@ -13,14 +13,14 @@ use hcl_token::Kind;
 
 /// Returns whether a token is there, of this kind.
 #[tactic(auto, unfolding(hcl_grammar::specs::Tokens::same_kind))]
-fn is_kind(scanned: &Scanned<'_>, n: usize, kind: Kind) -> bool
+pub fn is_kind(scanned: &Scanned<'_>, n: usize, kind: Kind) -> bool
     ensures { result ≡ is_kind (kind_of scanned.now.pairs n) kind }
 {
     n < scanned.len() && scanned.kind(n) == kind
 }
 
 /// The spelling of a token; nothing where there is no such token.
-fn token_text<'t>(scanned: &Scanned<'t>, n: usize) -> &'t [u8]
+pub fn token_text<'t>(scanned: &Scanned<'t>, n: usize) -> &'t [u8]
     ensures { result.now ≡ token_text scanned.now.pairs n }
 {
     if n >= scanned.len() {
@@ -29,7 +29,8 @@ fn token_text<'t>(scanned: &Scanned<'t>, n: usize) -> &'t [u8]
     scanned.spelling(n)
 }
 
-fn is_spelled(spelling: &[u8], expected: &[u8]) -> bool
+/// Returns whether a name is spelled so.
+pub fn is_spelled(spelling: &[u8], expected: &[u8]) -> bool
     ensures { result ≡ bytes_eq spelling.now expected.now }
 {
     spelling == expected
@@ -46,7 +47,7 @@ fn is_text_label(scanned: &Scanned<'_>, n: usize) -> bool
 }
 
 /// Returns whether a quoted label in snake_case is there.
-fn is_snake_label(scanned: &Scanned<'_>, n: usize) -> bool
+pub fn is_snake_label(scanned: &Scanned<'_>, n: usize) -> bool
     requires { n + 1 < 2 ^ 64 }
     ensures { result ≡ is_snake_label scanned.now.pairs n }
 {

@@ -1,8 +1,10 @@
 //! Which tokens are quiet.
 
-ghost use Rattle.std.specs.Prelude.{◌≡◌, ◌<◌, ◌+◌, ◌-◌, true, length, drop, Some, IfSome};
+ghost use Rattle.std.specs.Prelude.{◌≡◌, ◌<◌, ◌+◌, ◌-◌, ◌^◌, true, length, drop, Some, IfSome};
+ghost use Rattle.hcl_scan.specs.Follows.{tokens_of};
 ghost use Rattle.hcl_token.specs.declared.kind.Kind.TheVariants.{LineEnd};
 ghost use Rattle.hcl_token.specs.TokenizedText.{kind_of, spelling_of};
+ghost use Rattle.tf_quiet.specs.LineEnds.{depth_after, is_line_end, line_end_from};
 ghost use Rattle.tf_quiet.specs.QuietTokens.{continues, continues_after, is_quiet_after_quote, is_quiet_operand, is_no_equality, is_quiet_at, AreQuiet};
 ghost use Rattle.tf_rules.specs.Rules.Lookup.{is_lookup_token};
 
@@ -90,7 +92,7 @@ fn is_lookup(scanned: &Scanned<'_>, n: usize) -> bool
 }
 
 /// Returns whether no rule at a node can find anything at this token.
-fn is_quiet(scanned: &Scanned<'_>, n: usize) -> bool
+pub fn is_quiet(scanned: &Scanned<'_>, n: usize) -> bool
     requires { n < length scanned.now.pairs }
     ensures { result ≡ is_quiet_at scanned.now.pairs n }
 {
@@ -108,7 +110,7 @@ fn is_quiet(scanned: &Scanned<'_>, n: usize) -> bool
 }
 
 fn is_line_end(kind: Kind) -> bool
-    ensures { result ≡ true → kind ≡ LineEnd }
+    ensures { result ≡ is_line_end kind }
 {
     match kind {
         Kind::LineEnd => true,
@@ -116,14 +118,17 @@ fn is_line_end(kind: Kind) -> bool
     }
 }
 
-/// How many brackets are open after a token of this kind.
-fn depth_after(kind: Kind, depth: usize) -> usize {
+/// Returns how many brackets are open after a token of this kind.
+fn depth_after(kind: Kind, depth: usize) -> usize
+    requires { depth + 1 < 2 ^ 64 }
+    ensures { result ≡ depth_after kind depth }
+{
     match kind {
         Kind::OpenParen
         | Kind::OpenBracket
         | Kind::OpenBrace
         | Kind::InterpOpen
-        | Kind::DirectiveOpen => depth.saturating_add(1),
+        | Kind::DirectiveOpen => depth + 1,
         Kind::CloseParen | Kind::CloseBracket | Kind::CloseBrace | Kind::SeqClose =>
             depth.saturating_sub(1),
         _ => depth,
@@ -131,11 +136,11 @@ fn depth_after(kind: Kind, depth: usize) -> usize {
 }
 
 /// Returns the place after the first line end that is outside of brackets, if all tokens from number
-/// `from` up to there are quiet. There a member ends that begins at `from`, if one does; no more is
-/// claimed of it than that its tokens are quiet.
+/// `from` up to there are quiet. There a member ends that begins at `from`, if one does.
 pub fn quiet_line_end(scanned: &Scanned<'_>, from: usize) -> Option<usize>
     ensures quiet { IfSome result (λ to. AreQuiet scanned.now.pairs from to) }
     ensures line { IfSome result (λ to. kind_of scanned.now.pairs (to - 1) ≡ Some LineEnd) }
+    ensures first { IfSome result (λ to. line_end_from (tokens_of scanned.now.pairs) 0 from ≡ Some to) }
 {
     let mut depth = 0;
     let mut n = from;
