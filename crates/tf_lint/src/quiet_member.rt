@@ -3,14 +3,32 @@
 //! Its tokens show it, and most members of most texts are such. One that is not is given up at its
 //! first token that is not quiet, before it is read; the tree is then made as before.
 
-ghost use Rattle.std.specs.Prelude.{◌≡◌, true, false};
+ghost use Rattle.std.specs.Prelude.{◌≡◌, ◌-◌, true, false, Some, IfSome};
+ghost use Rattle.hcl_token.specs.TokenizedText.{kind_of};
+ghost use Rattle.hcl_token.specs.declared.kind.Kind.TheVariants.{LineEnd};
 ghost use Rattle.tf_lint.specs.Inner.QuietMember.{IsQuietMember, IsSkippedMember};
+ghost use Rattle.tf_quiet.specs.QuietBlocks.{HasNoBlockFindings};
+ghost use Rattle.tf_quiet.specs.QuietTokens.{AreQuiet};
 
 use hcl_check::skip_member;
 use hcl_scan::Scanned;
 use std::alloc::Global;
 use tf_quiet::laws::{quiet_heads_have_no_findings, quiet_members_have_no_findings};
-use tf_quiet::{is_quiet_head, quiet_line_end};
+use tf_quiet::{is_quiet_head, quiet_block_end, quiet_line_end};
+
+/// Returns the place after the first line end outside of brackets, if the tokens up to there are
+/// quiet and show that no rule on blocks finds anything at the member that begins with this token.
+fn quiet_end(scanned: &Scanned<'_>, from: usize) -> Option<usize>
+    ensures quiet { IfSome result (λ to. AreQuiet scanned.now.pairs from to) }
+    ensures line { IfSome result (λ to. kind_of scanned.now.pairs (to - 1) ≡ Some LineEnd) }
+    ensures nothing { IfSome result (λ to. HasNoBlockFindings scanned.now.pairs from) }
+{
+    quiet_heads_have_no_findings();
+    if !is_quiet_head(scanned, from) {
+        return quiet_block_end(scanned, from);
+    }
+    quiet_line_end(scanned, from)
+}
 
 /// Passes over the member that comes next, if there is one that ends at this place.
 fn skip_member_up_to(alloc: Global, scanned: &Scanned<'_>, end: usize, at: &mut usize) -> bool
@@ -30,13 +48,9 @@ pub fn skip_quiet_member(alloc: Global, scanned: &Scanned<'_>, at: &mut usize) -
     ensures stays { result ≡ false → at.new ≡ at.old }
 {
     quiet_members_have_no_findings();
-    quiet_heads_have_no_findings();
     let _count = scanned.len();
     let from = *at;
-    if !is_quiet_head(scanned, from) {
-        return false;
-    }
-    let Some(end) = quiet_line_end(scanned, from) else {
+    let Some(end) = quiet_end(scanned, from) else {
         return false;
     };
     let mut past = from;
