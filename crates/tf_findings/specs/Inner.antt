@@ -1,2 +1,3 @@
 pub mod Collects
 pub mod Annotations
+pub mod NextComment
