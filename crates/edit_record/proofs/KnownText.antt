@@ -49,39 +49,39 @@ pub cut_known : (rs : List JournalEntry) (known to len : ℕ) (text : List ℕ) 
 cut_known rs known to len text h l e =
     let two = cut_in_two rs known to text h l in
     let at : len ≡ length (journal_text (take to rs)) = omega (arith, e, ap length two, length-append (journal_text (take to rs)) (journal_text (slice_range rs to known))) in
-    let front : take len text ≡ journal_text (take to rs) =
+    let prefix : take len text ≡ journal_text (take to rs) =
     ap (λ (n : ℕ). take n text) at ∙ ap (take (length (journal_text (take to rs)))) two ∙ take-append_seam (journal_text (take to rs)) (journal_text (slice_range rs to known)) in
     let made = all_left (λ (r : JournalEntry). IsValidList r.edits) (take to rs) (slice_range rs to known)
     (subst (λ (xs : List JournalEntry). AllByRecursion (λ (r : JournalEntry). IsValidList r.edits) xs) (take_split to known rs l) h.is.made) in
-    record { within = omega (arith, l, h.within); is = record { made = made; is = front } }
+    record { within = omega (arith, l, h.within); is = record { made = made; is = prefix } }
 
--- ---- a journal whose text is written: what is written is the text of the records in front
+-- ---- a journal whose text is written: what is written is the text of the records before those left
 
 pub written_next : (rs : List JournalEntry) (out new : List ℕ) (others : List JournalEntry) (i : ℕ) (r : JournalEntry) → SplitsKnown rs out (drop i others)
     → drop i others ≡ r ∷ drop (i + 1) others → new ≡ out ++ record_text r → IsValidList r.edits → SplitsKnown rs new (drop (i + 1) others)
 written_next rs out new others i r h next text valid = record {
-  front = h.front ++ r ∷ [];
+  start = h.start ++ r ∷ [];
   is = record {
-    made = all_push (λ (x : JournalEntry). IsValidList x.edits) h.front r h.is.made valid;
-    is = text ∙ ap (λ (t : List ℕ). t ++ record_text r) h.is.is ∙ flat_map_more record_text [] h.front r;
+    made = all_push (λ (x : JournalEntry). IsValidList x.edits) h.start r h.is.made valid;
+    is = text ∙ ap (λ (t : List ℕ). t ++ record_text r) h.is.is ∙ flat_map_more record_text [] h.start r;
   };
-  whole = h.whole ∙ ap (λ (xs : List JournalEntry). h.front ++ xs) next ∙ sym (append_assoc h.front (r ∷ []) (drop (i + 1) others));
+  whole = h.whole ∙ ap (λ (xs : List JournalEntry). h.start ++ xs) next ∙ sym (append_assoc h.start (r ∷ []) (drop (i + 1) others));
 }
 
 pub written_all : (rs : List JournalEntry) (out : List ℕ) (rest : List JournalEntry) → SplitsKnown rs out rest → rest ≡ [] → IsCurrentText out rs
 written_all rs out rest h none =
-    subst (λ (xs : List JournalEntry). IsCurrentText out xs) (sym (h.whole ∙ ap (λ (xs : List JournalEntry). h.front ++ xs) none ∙ append-nil h.front)) h.is
+    subst (λ (xs : List JournalEntry). IsCurrentText out xs) (sym (h.whole ∙ ap (λ (xs : List JournalEntry). h.start ++ xs) none ∙ append-nil h.start)) h.is
 
 pub some_record : (rs : List JournalEntry) (out : List ℕ) (r : JournalEntry) (rest more : List JournalEntry) → SplitsKnown rs out rest → rest ≡ r ∷ more → 0 < length rs
 some_record rs out r rest more h next =
-    omega (arith, ap length h.whole, length-append h.front rest, ap length next)
+    omega (arith, ap length h.whole, length-append h.start rest, ap length next)
 
 pub some_text : (rs : List JournalEntry) (text : List ℕ) (rest : List JournalEntry) → SplitsKnown rs text rest → 0 < length text → 0 < length rs
-some_text rs text rest h some = by_front h.front refl
+some_text rs text rest h some = by_start h.start refl
   where
-    by_front : (front : List JournalEntry) → h.front ≡ front → 0 < length rs
-    by_front [] e = absurd (omega (arith, some, ap length (h.is.is ∙ ap journal_text e)))
-    by_front (x ∷ xs) e = omega (arith, ap length h.whole, length-append h.front rest, ap length e)
+    by_start : (start : List JournalEntry) → h.start ≡ start → 0 < length rs
+    by_start [] e = absurd (omega (arith, some, ap length (h.is.is ∙ ap journal_text e)))
+    by_start (x ∷ xs) e = omega (arith, ap length h.whole, length-append h.start rest, ap length e)
 
 pub current : (text : List ℕ) (rs : List JournalEntry) → IsVersion false text → IsJournalText text rs → IsCurrentText text rs
 current text rs version h = text_from text rs (from_journal false text rs version h)

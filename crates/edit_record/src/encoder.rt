@@ -197,7 +197,7 @@ fn write_record(out: &mut Vec<u8>, rec: &Record) -> Result<(), AllocError>
     Ok(())
 }
 
-/// Copies a text. No memory is asked for where it has no bytes.
+/// Copies a text. It takes no memory for a text without bytes.
 fn copy_text(out: &mut Vec<u8>, text: &[u8]) -> Result<(), AllocError>
     ensures text { OnOk result (out.new.items ≡ out.old.items ++ text.now) }
     ensures allocates { IfErr result (λ _. 0 < length text.now) }

@@ -37,7 +37,7 @@ line_end_in [] depth n = None
 line_end_in (t ∷ ts) depth n =
     line_end_by t.0 depth (Some (suc n)) (line_end_in ts (depth_after t.0 depth) (suc n))
 
--- the place after the first line end outside of brackets, from token number n on, if so many
+-- the place after the first line end outside of brackets, from token number n on, if `depth`
 -- brackets are open there
 abbrev pub line_end_from : List Token → ℕ → ℕ → Option ℕ
 line_end_from ts depth n = line_end_in (drop n ts) depth n

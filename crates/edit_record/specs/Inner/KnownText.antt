@@ -10,6 +10,6 @@ pub record IsKnownText (rs : List JournalEntry) (known : ℕ) (text : List ℕ) 
 
 -- records whose text is kept, and the rest of them
 pub record SplitsKnown (rs : List JournalEntry) (text : List ℕ) (rest : List JournalEntry) : Type 0 where
-  pub front : List JournalEntry
-  pub is : IsCurrentText text front
-  pub whole : rs ≡ front ++ rest
+  pub start : List JournalEntry
+  pub is : IsCurrentText text start
+  pub whole : rs ≡ start ++ rest

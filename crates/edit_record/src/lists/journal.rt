@@ -2,7 +2,7 @@ ghost use Rattle.std.specs.Prelude.{◌≡◌, ◌≤◌, ◌+◌, [], ◌∷◌
 ghost use Rattle.edit_record.specs.Text.{IsCurrentText};
 ghost use Rattle.edit_record.specs.Inner.KnownText.{SplitsKnown};
 
-use crate::lists::known_text::cut_known_text;
+use crate::lists::known_text::shorten_known_text;
 use crate::lists::sequence::{apply_records, undo_records};
 use crate::lists::{Change, Record, Refused};
 use std::alloc::{AllocError, AllocFailed, Global};
@@ -78,7 +78,7 @@ impl Journal {
         ensures none { IsNone result → self.old ≡ [] }
     {
         let others = self.records.len().saturating_sub(1);
-        self.known = cut_known_text(&self.records, self.known, &mut self.text, others);
+        self.known = shorten_known_text(&self.records, self.known, &mut self.text, others);
         self.records.pop()
     }
 
@@ -89,7 +89,7 @@ impl Journal {
         ensures { self.new ≡ take from self.old ++ others.items }
     {
         let mut others = others;
-        self.known = cut_known_text(&self.records, self.known, &mut self.text, from);
+        self.known = shorten_known_text(&self.records, self.known, &mut self.text, from);
         self.records.truncate(from);
         let _ = self.records.append(&mut others);
     }

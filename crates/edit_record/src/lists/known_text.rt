@@ -6,12 +6,12 @@ ghost use Rattle.edit_record.specs.Inner.KnownText.{IsKnownText};
 use crate::encoder::records_len;
 use crate::lists::Record;
 
-/// A text that was cut is freed once it is less than this part of its memory.
+/// A text that got shorter is freed once it is less than this part of its memory.
 const MOST_SPARE: usize = 4;
 
-/// Cuts the text of the first `known` records to that of the first `to` of them, if they are fewer,
+/// Shortens the text of the first `known` records to that of the first `to` of them, if they are fewer,
 /// and returns of how many it is the text now.
-pub(crate) fn cut_known_text(
+pub(crate) fn shorten_known_text(
     records: &[Record],
     known: usize,
     text: &mut Vec<u8>,

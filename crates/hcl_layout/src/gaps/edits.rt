@@ -34,7 +34,7 @@ fn is_spaces(gap: &[u8], len: u32) -> bool
 pub(crate) fn is_unchanged(gap: &[u8], new: u32) -> bool
     ensures { result ≡ bytes_eq gap.now (resolved_gap new gap.now) }
 {
-    // of few gaps the number is `KEEP_GAP`, so that is asked last
+    // of few gaps the number is `KEEP_GAP`, so that is tested last
     if is_spaces(gap, new) {
         return true;
     }

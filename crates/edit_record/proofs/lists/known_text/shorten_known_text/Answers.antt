@@ -2,7 +2,7 @@ use Rattle.std.proofs.Common.{◌≡◌, ◌<◌, ◌-◌, arith, ap, length, �
 use Rattle.edit_record.specs.Text.{journal_text}
 use Rattle.std.specs.List.{slice_range}
 use Rattle.edit_record.proofs.KnownText.{cut_fits, cut_known}
-use Rattle.edit_record.proofs.lists.known_text.cut_known_text.Goals as goal
+use Rattle.edit_record.proofs.lists.known_text.shorten_known_text.Goals as goal
 
 pub overflow_sub-len : goal.overflow_sub-len
 overflow_sub-len c =
