@@ -4,7 +4,6 @@ pub mod BeatsNumbers
 pub mod BeatsPlain
 pub mod TokenizationFollows
 pub mod TokenizationOrFault
-pub mod TokenizedTo
 pub mod Ends
 pub mod Exact
 pub mod ExactNumbers
@@ -29,6 +28,7 @@ pub mod OpeningLemmas
 pub mod OpeningPlaces
 pub mod OtherGaps
 pub mod PairLemmas
+pub mod PlainLemmas
 pub mod Pieces
 pub mod RunLemmas
 pub mod RunFollowingText

@@ -11,7 +11,7 @@ use Rattle.hcl_scan.specs.Modes.{Mode}
 use Rattle.hcl_scan.specs.Tokenization.{byte_order_mark, mark_prefix, TokenizesPrefix}
 use Rattle.hcl_scan.specs.Inner.OpeningPlaces.{opening_places_after_pairs}
 use Rattle.hcl_scan.specs.Inner.MarkToken.{mark_tokens, mark_length}
-use Rattle.hcl_scan.proofs.TokenizedTo.{IsTokenizedTo}
+use Rattle.hcl_scan.specs.Inner.TokenizedTo.{IsTokenizedTo}
 use Rattle.hcl_scan.proofs.HeredocLemmas.{marker_at}
 
 abbrev mark : Pair

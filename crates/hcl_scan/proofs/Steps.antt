@@ -18,7 +18,7 @@ use Rattle.hcl_scan.specs.Inner.NextToken.{LexedToken, expression_token, token, 
 use Rattle.hcl_scan.specs.Tokenization.{IsGap, TokenizesFrom, TokenizesPrefix, IsTokenization, MAX_TEXT, mark_prefix}
 use Rattle.hcl_scan.specs.Fault.{EndsInFault, fault_at}
 use Rattle.hcl_scan.specs.Inner.OpeningPlaces.{innermost_place, opening_places_after, opening_places_after_pairs}
-use Rattle.hcl_scan.proofs.TokenizedTo.{IsTokenizedTo}
+use Rattle.hcl_scan.specs.Inner.TokenizedTo.{IsTokenizedTo}
 use Rattle.hcl_scan.proofs.Pieces.{prefix_all}
 use Rattle.hcl_scan.proofs.Found.{IsFound, Sound, Beats}
 use Rattle.hcl_scan.proofs.MarkerLemmas.{marker_of_mode}

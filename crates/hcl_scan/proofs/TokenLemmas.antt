@@ -1,5 +1,6 @@
 -- The token outside of literal text, by its first bytes.
-use Rattle.std.proofs.Common.{◌≡◌, ℕ, ◌+◌, Bool, true, false, List, drop, slice_index, refl, ap, ◌∙◌, arith, get_or-drop, drop-drop, Some}
+use Rattle.std.proofs.Common.{◌≡◌, ℕ, ◌+◌, ◌≤◌, Bool, true, false, List, drop, slice_index, refl, ap, ◌∙◌, arith, get_or-drop, drop-drop, Some}
+use Rattle.std.proofs.lemmas.Bool.Decides.{nat_tests}
 use Rattle.std.specs.Char.{is_ascii_digit}
 use Rattle.hcl_token.specs.declared.kind.Kind.TheVariants.{Number, DotIndex}
 use Rattle.hcl_scan.specs.Inner.HeredocToken.{is_at_heredoc_start, here_open}
@@ -16,6 +17,9 @@ pub index_token : (text : List ℕ) (at n : ℕ) → is_ascii_digit (slice_index
 index_token text at n digit size =
     let rest : drop 1 (drop at text) ≡ drop (at + 1) text = drop-drop 1 at text in
     rw (second_at text at, digit, rest) (ap (λ m. Some (DotIndex, m)) size)
+
+pub digit_byte : (b : ℕ) → 48 ≤ b → b ≤ 57 → (is_ascii_digit b ≡ true) × (is_word_start b ≡ false)
+digit_byte b low high = (grind (arith, nat_tests), grind (arith, nat_tests))
 
 pub token_of_word : (text : List ℕ) (at : ℕ) (closes : Bool) → is_word_start (slice_index text at) ≡ true → expression_token closes (drop at text) ≡ identifier (drop at text)
 token_of_word text at closes word = rw (first_at text at, word) refl

@@ -17,7 +17,7 @@ use Rattle.hcl_scan.specs.Fault.{IsFault, EndsInFault}
 use Rattle.hcl_scan.specs.Inner.OpeningPlaces.{opening_places_after}
 use Rattle.hcl_scan.specs.Inner.NextToken.{LexedToken, token, gap_length}
 use Rattle.hcl_scan.specs.Inner.MarkToken.{mark_tokens, mark_length}
-use Rattle.hcl_scan.proofs.TokenizedTo.{IsTokenizedTo}
+use Rattle.hcl_scan.specs.Inner.TokenizedTo.{IsTokenizedTo}
 use Rattle.hcl_scan.proofs.MarkLemmas.{started}
 use Rattle.hcl_scan.proofs.Steps.{one_more, finished, stopped}
 

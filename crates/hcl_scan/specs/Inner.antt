@@ -10,3 +10,5 @@ pub mod NextToken
 pub mod OpeningPlaces
 pub mod Openings
 pub mod RunLength
+pub mod TextLength
+pub mod TokenizedTo

@@ -13,6 +13,7 @@ pub mod laws;
 mod mode;
 mod number;
 mod operator;
+mod plain;
 mod runs;
 mod scanned;
 mod sixteen;

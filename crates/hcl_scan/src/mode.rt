@@ -327,6 +327,21 @@ pub fn can_change_openings(kind: Kind) -> bool
     )
 }
 
+/// `can_change_openings` in a mode: outside of every template braces change nothing.
+#[inline(always)]
+pub fn can_change_openings_in(mode: Mode<'_>, kind: Kind) -> bool
+    ensures modes { (spelling : List ℕ) (modes : List spec.Mode) → mode_view mode.entry ≡ mode_of modes
+        → result ≡ false → modes_after kind spelling modes ≡ modes }
+    ensures places { (at : ℕ) (modes : List spec.Mode) (places : List ℕ)
+        → mode_view mode.entry ≡ mode_of modes → result ≡ false
+        → opening_places_after kind at modes places ≡ places }
+{
+    match kind {
+        Kind::OpenBrace | Kind::CloseBrace => !matches!(mode, Mode::Expression),
+        _ => can_change_openings(kind),
+    }
+}
+
 /// Updates the openings for a token of this kind and spelling that begins at a place, and the
 /// region.
 pub fn update_openings<'t>(

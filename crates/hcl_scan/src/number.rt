@@ -50,6 +50,7 @@ fn exponent_len(text: &[u8], at: usize) -> usize
 }
 
 /// Returns how many bytes the number at a place has, 0 if there is none.
+#[inline(never)]
 pub fn number_len(text: &[u8], at: usize) -> usize
     requires { at ≤ length text.now }
     ensures value { result ≡ number_length (drop at text.now) }

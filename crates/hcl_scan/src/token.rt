@@ -1,11 +1,13 @@
 //! The token at a place.
 
-ghost use Rattle.std.specs.Prelude.{◌≡◌, ◌+◌, ◌<◌, ◌≤◌, length, drop, slice_index, IsUtf8, Some, IfSome, if◌then◌else◌};
+ghost use Rattle.std.specs.Prelude.{◌≡◌, ◌+◌, ◌<◌, ◌≤◌, false, length, drop, slice_index, IsUtf8, Some, IfSome, if◌then◌else◌};
 ghost use Rattle.hcl_token.specs.declared.kind.Kind.TheVariants.{SeqClose, CloseBrace};
+ghost use Rattle.hcl_scan.specs.Lexeme.{comment_unit};
+ghost use Rattle.hcl_scan.specs.Inner.RunLength.{run_length};
 ghost use Rattle.hcl_scan.specs.Inner.NextToken.{inline_comment, dot_token, punctuation, heredoc_or_less, expression_token, quoted_token, gap_length, token};
 ghost use Rattle.hcl_scan.specs.Inner.Markers.{HasMarker};
 ghost use Rattle.hcl_scan.specs.Inner.Openings.{mode_view};
-ghost use Rattle.hcl_scan.specs.Modes.{can_close_sequence};
+ghost use Rattle.hcl_scan.specs.Modes.{can_close_sequence, is_literal};
 
 use crate::bytes::{byte_at, digits_end, is_letter, skip_whitespace};
 use crate::heredoc::{here_open, heredoc_token, is_at_heredoc_start, is_at_opening, opening};
@@ -71,6 +73,15 @@ fn punctuation(text: &[u8], at: usize, can_close: bool) -> Option<(Kind, usize)>
     }
 }
 
+/// Returns how many bytes the comment has that begins with a `#` at a place.
+#[inline(never)]
+fn comment_len(text: &[u8], at: usize) -> usize
+    requires { at < length text.now }
+    ensures { result ≡ 1 + run_length comment_unit false (drop 1 (drop at text.now)) }
+{
+    run_end(&CommentUnit, text, at + 1, false) - at
+}
+
 /// Returns the token that begins with a `.`.
 fn dot_token(text: &[u8], at: usize) -> Option<(Kind, usize)>
     requires { at < length text.now }
@@ -91,6 +102,7 @@ fn dot_token(text: &[u8], at: usize) -> Option<(Kind, usize)>
 /// a template sequence if `can_close`.
 ///
 /// The tokens that most texts are made of need no more than their first byte.
+#[inline(always)]
 fn expression_token(text: &str, at: usize, first: u8, can_close: bool) -> Option<(Kind, usize)>
     requires within { at ≤ length text.now }
     requires utf8 { IsUtf8 (drop at text.now) }
@@ -114,6 +126,13 @@ fn expression_token(text: &str, at: usize, first: u8, can_close: bool) -> Option
         b']' => Some((Kind::CloseBracket, 1)),
         b'(' => Some((Kind::OpenParen, 1)),
         b')' => Some((Kind::CloseParen, 1)),
+        b'?' => Some((Kind::Question, 1)),
+        b'+' => Some((Kind::Plus, 1)),
+        b'-' => Some((Kind::Minus, 1)),
+        b'*' => Some((Kind::Star, 1)),
+        b'%' => Some((Kind::Percent, 1)),
+        b'0'..=b'9' => Some((Kind::Number, number_len(bytes, at))),
+        b'#' => Some((Kind::LineComment, comment_len(bytes, at))),
         _ => slow_expression_token(text, at, can_close),
     }
 }
@@ -130,6 +149,7 @@ fn close_brace_token(can_close: bool) -> Option<(Kind, usize)>
 }
 
 /// `expression_token` for any first byte; none at the end.
+#[inline(always)]
 fn slow_expression_token(text: &str, at: usize, can_close: bool) -> Option<(Kind, usize)>
     requires within { at ≤ length text.now }
     requires utf8 { IsUtf8 (drop at text.now) }
@@ -143,6 +163,7 @@ fn slow_expression_token(text: &str, at: usize, can_close: bool) -> Option<(Kind
 }
 
 /// `slow_expression_token` where the text does not end.
+#[inline(always)]
 fn any_expression_token(text: &str, at: usize, can_close: bool) -> Option<(Kind, usize)>
     requires within { at < length text.now }
     requires utf8 { IsUtf8 (drop at text.now) }
@@ -206,6 +227,16 @@ pub struct NextToken {
     pub token: Option<(Kind, usize)>,
 }
 
+/// Whether the text is literal: every blank counts.
+pub fn is_literal(mode: Mode<'_>) -> bool
+    ensures { result ≡ is_literal (mode_view mode.entry) }
+{
+    match mode {
+        Mode::Expression | Mode::Sequence | Mode::Braces => false,
+        _ => true,
+    }
+}
+
 /// Returns the gap from a place on and the token after it; no token if none begins there.
 pub fn next_token(text: &str, at: usize, mode: Mode<'_>) -> NextToken
     requires within { at ≤ length text.now }
@@ -230,10 +261,39 @@ pub fn next_token(text: &str, at: usize, mode: Mode<'_>) -> NextToken
             start: at,
             token: heredoc_token(bytes, at, marker, at_line_start),
         },
-        _ => {
-            let (start, first) = skip_whitespace(bytes, at);
-            let token = expression_token(text, start, first, can_close_sequence(mode));
-            NextToken { start, token }
-        }
+        _ => next_plain_token_apart(text, at, mode),
     }
+}
+
+/// `next_token` outside of literal text.
+#[inline(always)]
+pub fn next_plain_token(text: &str, at: usize, mode: Mode<'_>) -> NextToken
+    requires within { at ≤ length text.now }
+    requires utf8 { IsUtf8 (drop at text.now) }
+    requires plain { is_literal (mode_view mode) ≡ false }
+    ensures gap { result.start ≡ at + gap_length (mode_view mode.entry) (drop at text.now) }
+    ensures start { result.start ≤ length text.now }
+    ensures token { result.token ≡ token (mode_view mode.entry) (drop result.start text.now) }
+    ensures within { IfSome result.token
+        (λ found. (0 < found.1) × (result.start + found.1 ≤ length text.now)) }
+{
+    let bytes = text.as_bytes();
+    let (start, first) = skip_whitespace(bytes, at);
+    let token = expression_token(text, start, first, can_close_sequence(mode));
+    NextToken { start, token }
+}
+
+/// `next_plain_token` where it is rare.
+#[inline(never)]
+pub fn next_plain_token_apart(text: &str, at: usize, mode: Mode<'_>) -> NextToken
+    requires within { at ≤ length text.now }
+    requires utf8 { IsUtf8 (drop at text.now) }
+    requires plain { is_literal (mode_view mode) ≡ false }
+    ensures gap { result.start ≡ at + gap_length (mode_view mode.entry) (drop at text.now) }
+    ensures start { result.start ≤ length text.now }
+    ensures token { result.token ≡ token (mode_view mode.entry) (drop result.start text.now) }
+    ensures within { IfSome result.token
+        (λ found. (0 < found.1) × (result.start + found.1 ≤ length text.now)) }
+{
+    next_plain_token(text, at, mode)
 }

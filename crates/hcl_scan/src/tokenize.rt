@@ -15,7 +15,7 @@ use crate::fault::ScanFault;
 use crate::mode::{
     Mode, Opening, Region, can_change_openings, innermost_template_start, mode_in, update_openings,
 };
-use crate::token::next_token;
+use crate::plain::push_plain_tokens;
 use hcl_token::{Kind, MAX_TEXT, Span};
 use std::alloc::{AllocError, Global};
 
@@ -122,14 +122,16 @@ fn tokenize_str(
     let mut at = push_mark(&mut tokens, bytes)?;
     let mut region = Region::Expression;
     'scan: loop {
-        let mode = mode_in(region, &openings);
-        let next = next_token(text, at, mode);
+        let (list, from, next) = push_plain_tokens(tokens, text, at, region, &openings);
+        tokens = list;
+        at = from;
         let start = next.start;
         match next.token {
             None => {
                 if is_done(&openings, start, bytes.len()) {
                     return Ok((tokens, at));
                 }
+                let mode = mode_in(region, &openings);
                 let opened = innermost_template_start(&openings);
                 return Err(fault_at(bytes, mode, opened, start));
             }

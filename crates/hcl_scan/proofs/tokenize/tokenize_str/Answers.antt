@@ -6,13 +6,12 @@ use Rattle.hcl_scan.specs.Modes.{Mode, mode_of, modes_after}
 use Rattle.hcl_scan.specs.Modes.Mode.{Expression}
 use Rattle.hcl_scan.specs.Fault.{EndsInFault}
 use Rattle.hcl_scan.specs.Inner.OpeningPlaces.{innermost_place}
-use Rattle.hcl_scan.specs.Inner.Markers.{HasMarker}
-use Rattle.hcl_scan.specs.Inner.Openings.{mode_view, region_of, modes_of, places_of}
+use Rattle.hcl_scan.specs.Inner.Openings.{region_of, modes_of, places_of}
 use Rattle.hcl_scan.specs.Inner.MarkToken.{mark_tokens}
-use Rattle.hcl_scan.proofs.TokenizedTo.{IsTokenizedTo}
+use Rattle.hcl_scan.specs.Inner.TokenizedTo.{IsTokenizedTo}
 use Rattle.hcl_scan.proofs.MarkLemmas.{started}
 use Rattle.hcl_scan.proofs.OpeningLemmas.{none_open}
-use Rattle.hcl_scan.proofs.Steps.{marker_tokenized, one_more, finished, stopped}
+use Rattle.hcl_scan.proofs.Steps.{one_more, finished, stopped}
 use Rattle.hcl_scan.proofs.tokenize.tokenize_str.Goals as goal
 
 pub scan-init : goal.scan-init
@@ -21,8 +20,9 @@ scan-init c =
     let tokens = c.in_ok-at.ensures.tokens ∙ ap (λ (x : List Span). x ++ mark_tokens text) (c.in_ok-reserve.ensures.items ∙ c.clear.ensures.items) in
     let none = c.new-openings.ensures.items in
     let begun = subst₂ (λ (x : List Span) n. IsTokenizedTo text x n [] []) (sym tokens) (sym c.in_ok-at.ensures.length) (started text c.as_bytes-bytes.ensures.utf8) in
+    let opened = subst (λ (o : List Opening). IsTokenizedTo text c.push_mark.new.tokens.items c.in_ok-at.at (modes_of o) (places_of o)) (sym none) begun in
     record {
-      tokenization = subst (λ (o : List Opening). IsTokenizedTo text c.push_mark.new.tokens.items c.in_ok-at.at (modes_of o) (places_of o)) (sym none) begun;
+      tokenization = subst (λ (x : List ℕ). IsTokenizedTo x c.push_mark.new.tokens.items c.in_ok-at.at (modes_of c.new-openings.result.items) (places_of c.new-openings.result.items)) c.as_bytes-bytes.ensures.value opened;
       region = sym (ap (λ (o : List Opening). region_of (mode_of (modes_of o))) none);
     }
 
@@ -32,85 +32,74 @@ returns-then-is_done-clause-tokenization c =
     let done = c.is_done.ensures.0 c.if-is_done.true in
     let none = sym c.deref.ensures.value ∙ done.1 in
     let places = places_of c.scan.openings.items in
-    let state = subst (λ (m : List Mode). IsTokenizedTo c.args.text.now c.scan.tokens.items c.scan.at m places) (ap modes_of none) (rw same at c.scan.invariant.tokenization) in
-    let mode : mode_view c.mode_in-mode.result ≡ Expression = c.mode_in-mode.ensures ∙ ap (λ x. mode_of (modes_of x)) none in
-    let start = rw mode at c.next_token-next.ensures.gap in
-    finished c.args.text.now c.scan.tokens.items c.scan.at c.next_token-next.result.start places c.requires c.utf8.text state start (rw same at done.0)
-
-pub next_token-next-requires-clause-marker : goal.next_token-next-requires-clause-marker
-next_token-next-requires-clause-marker c =
-    let modes = modes_of c.scan.openings.items in
-    let marked = marker_tokenized c.as_bytes-bytes.result.now c.scan.tokens.items c.scan.at modes (places_of c.scan.openings.items) c.scan.invariant.tokenization in
-    subst HasMarker (sym c.mode_in-mode.ensures) marked
+    let plain = c.push_plain_tokens-list in
+    let text = c.args.text.now in
+    let state = subst (λ (m : List Mode). IsTokenizedTo text plain.result.0.items plain.result.1 m places) (ap modes_of none) plain.ensures.state in
+    let mode : mode_of (modes_of c.scan.openings.items) ≡ Expression = ap (λ x. mode_of (modes_of x)) none in
+    let start = rw mode at plain.ensures.gap in
+    finished text plain.result.0.items plain.result.1 plain.result.2.start places c.requires c.utf8.text state start (rw same at done.0)
 
 pub returns-in-None-clause-fault : goal.returns-in-None-clause-fault
 returns-in-None-clause-fault c =
     let text = c.args.text.now in
-    let at = c.scan.at in
-    let start = c.next_token-next.result.start in
+    let plain = c.push_plain_tokens-list in
+    let start = plain.result.2.start in
     let same = c.as_bytes-bytes.ensures.value in
     let modes = modes_of c.scan.openings.items in
     let places = places_of c.scan.openings.items in
-    let state = rw same at c.scan.invariant.tokenization in
     let mode = c.mode_in-mode.ensures in
-    let start_is = rw mode at c.next_token-next.ensures.gap in
-    let none = rw mode at (sym c.next_token-next.ensures.token ∙ c.in-None.is) in
+    let none = sym plain.ensures.token ∙ c.in-None.is in
     let opened = c.innermost_template_start-opened.ensures ∙ ap (λ x. innermost_place (modes_of x) (places_of x)) c.deref-in-None.ensures.value in
     let fault = rw (same, mode, opened) at c.fault_at.ensures in
     let unfinished = λ (e : modes ≡ []) (z : start ≡ length text).
     iff_false c.is_done.ensures c.if-is_done.false (z ∙ ap length (sym same), c.deref.ensures.value ∙ none_open c.scan.openings.items e) in
-    inr (subst (EndsInFault text) (sym fault) (stopped text c.scan.tokens.items at start modes places state start_is none unfinished))
+    inr (subst (EndsInFault text) (sym fault) (stopped text plain.result.0.items plain.result.1 start modes places plain.ensures.state plain.ensures.gap none unfinished))
 
 -- the token leaves the openings
 pub scan-preserved : goal.scan-preserved
 scan-preserved c =
     let text = c.args.text.now in
-    let at = c.scan.at in
-    let start = c.next_token-next.result.start in
+    let plain = c.push_plain_tokens-list in
+    let at = plain.result.1 in
+    let start = plain.result.2.start in
     let kind = c.in-Some.kind in
     let stop = start + c.in-Some.len in
-    let same = c.as_bytes-bytes.ensures.value in
     let modes = modes_of c.scan.openings.items in
     let places = places_of c.scan.openings.items in
-    let state = rw same at c.scan.invariant.tokenization in
-    let mode = c.mode_in-mode.ensures in
-    let start_is = rw mode at c.next_token-next.ensures.gap in
-    let found = rw mode at (sym c.next_token-next.ensures.token ∙ c.in-Some.is) in
-    let more = one_more text c.scan.tokens.items at modes places start kind c.in-Some.len state start_is found in
+    let found = sym plain.ensures.token ∙ c.in-Some.is in
+    let more = one_more text plain.result.0.items at modes places start kind c.in-Some.len plain.ensures.state plain.ensures.gap found in
     let item : Span = record { start = start; stop = stop; kind = kind } in
     let pushed = c.in_ok-push_token-in-Some.ensures in
     let shifted = c.can_change_openings.ensures.modes (slice_range text start stop) modes c.if-can_change_openings.false in
     let placed = c.can_change_openings.ensures.places start modes places c.if-can_change_openings.false in
-    let tokens = c.scan.tokens.items ++ item ∷ [] in
+    let tokens = plain.result.0.items ++ item ∷ [] in
     let next = subst₂ (λ (m : List Mode) (o : List ℕ). IsTokenizedTo text tokens stop m o) shifted placed more.1 in
     record {
-      tokenization = subst₂ (λ (x : List ℕ) (xs : List Span). IsTokenizedTo x xs stop modes places) (sym same) (sym pushed) next;
+      tokenization = subst (λ (xs : List Span). IsTokenizedTo text xs stop modes places) (sym pushed) next;
       region = c.scan.invariant.region;
     }
 
 pub scan-preserved-in_ok-update_openings-in-Some : goal.scan-preserved-in_ok-update_openings-in-Some
 scan-preserved-in_ok-update_openings-in-Some c =
     let text = c.args.text.now in
-    let at = c.scan.at in
-    let start = c.next_token-next.result.start in
+    let plain = c.push_plain_tokens-list in
+    let at = plain.result.1 in
+    let start = plain.result.2.start in
     let kind = c.in-Some.kind in
     let stop = start + c.in-Some.len in
     let same = c.as_bytes-bytes.ensures.value in
     let modes = modes_of c.scan.openings.items in
     let places = places_of c.scan.openings.items in
-    let state = rw same at c.scan.invariant.tokenization in
-    let mode = c.mode_in-mode.ensures in
-    let start_is = rw mode at c.next_token-next.ensures.gap in
-    let found = rw mode at (sym c.next_token-next.ensures.token ∙ c.in-Some.is) in
-    let more = one_more text c.scan.tokens.items at modes places start kind c.in-Some.len state start_is found in
+    let found = sym plain.ensures.token ∙ c.in-Some.is in
+    let more = one_more text plain.result.0.items at modes places start kind c.in-Some.len plain.ensures.state plain.ensures.gap found in
     let item : Span = record { start = start; stop = stop; kind = kind } in
     let pushed = c.in_ok-push_token-in-Some.ensures in
     let spelling = rw same at c.slice-spelling.ensures in
     let shifted = c.in_ok-update_openings-in-Some.ensures.modes ∙ ap (λ (s : List ℕ). modes_after kind s modes) spelling in
     let placed = c.in_ok-update_openings-in-Some.ensures.places in
-    let tokens = c.scan.tokens.items ++ item ∷ [] in
+    let tokens = plain.result.0.items ++ item ∷ [] in
     let next = subst₂ (λ (m : List Mode) (o : List ℕ). IsTokenizedTo text tokens stop m o) (sym shifted) (sym placed) more.1 in
     record {
-      tokenization = subst₂ (λ (x : List ℕ) (xs : List Span). IsTokenizedTo x xs stop (modes_of c.update_openings.new.openings.items) (places_of c.update_openings.new.openings.items)) (sym same) (sym pushed) next;
+      tokenization = subst (λ (xs : List Span). IsTokenizedTo text xs stop (modes_of c.update_openings.new.openings.items) (places_of c.update_openings.new.openings.items)) (sym pushed) next;
       region = c.in_ok-update_openings-in-Some.ensures.region;
     }

@@ -1,0 +1,61 @@
+-- Quoted text in quotes is three tokens, after which the openings are as before.
+use Rattle.std.proofs.Common.{◌≡◌, ℕ, zero, suc, ◌+◌, ◌<◌, true, false, ◌==◌, List, [], ◌∷◌, ◌++◌, drop, slice_index, Some, refl, sym, ap, subst, ◌∙◌, arith, get_or-drop, drop-drop}
+use Rattle.std.proofs.lemmas.Bool.{ne_eqb, eqb-true}
+use Rattle.hcl_token.specs.declared.kind.Kind.TheVariants.{QuoteOpen, QuoteLit, QuoteClose}
+use Rattle.hcl_token.specs.declared.span.Span.{Span}
+use Rattle.hcl_scan.specs.Lexeme.{quote_unit}
+use Rattle.hcl_scan.specs.Modes.{Mode, mode_of}
+use Rattle.hcl_scan.specs.Modes.Mode.{Quoted}
+use Rattle.hcl_scan.specs.Inner.RunLength.{run_length}
+use Rattle.hcl_scan.specs.Inner.NextToken.{quoted_token, token, gap_length}
+use Rattle.hcl_scan.specs.Inner.MarkToken.{token_at}
+use Rattle.hcl_scan.specs.Inner.TextLength.{closed_text_length}
+use Rattle.hcl_scan.specs.Inner.TokenizedTo.{IsTokenizedTo}
+use Rattle.hcl_scan.proofs.RunLemmas.{run_length-none}
+use Rattle.hcl_scan.proofs.Beats.{unit_begins}
+use Rattle.hcl_scan.proofs.Steps.{one_more}
+
+some_unit : (t : List ℕ) → 0 < run_length quote_unit false t → 0 < quote_unit false t
+some_unit t some = by_size (quote_unit false t) refl
+  where
+    by_size : (n : ℕ) → quote_unit false t ≡ n → 0 < quote_unit false t
+    by_size zero e = absurd (omega (arith, some, run_length-none quote_unit false t e))
+    by_size (suc n) e = omega (arith, e)
+
+closed : (t : List ℕ) (n : ℕ) → n ≡ closed_text_length t → 0 < n → (run_length quote_unit false t ≡ n) × (slice_index t n ≡ 34)
+closed t n is some =
+    let run : ℕ = run_length quote_unit false t in
+    elim (slice_index t run == 34) as (λ b. (slice_index t run == 34) ≡ b → (run ≡ n) × (slice_index t n ≡ 34)) [
+      | true ↦ λ e.
+          let same : run ≡ n = sym (rw e at is) in
+          (same, subst (λ m. slice_index t m ≡ 34) same (eqb-true (slice_index t run) 34 e))
+      | false ↦ λ e. let none : n ≡ 0 = rw e at is in absurd (omega (arith, none, some))
+    ] refl
+
+-- text that a quote closes is a token, and so is the quote
+text_tokens : (t : List ℕ) (n : ℕ) → n ≡ closed_text_length t → 0 < n → (quoted_token t ≡ Some (QuoteLit, n)) × (quoted_token (drop n t) ≡ Some (QuoteClose, 1))
+text_tokens t n is some =
+    let c = closed t n is some in
+    let begins = unit_begins t (some_unit t (omega (arith, c.0, some))) in
+    let filled : (run_length quote_unit false t == 0) ≡ false = ne_eqb (run_length quote_unit false t) 0 (λ z. absurd (omega (arith, c.0, some, z))) in
+    let quote : slice_index (drop n t) 0 ≡ 34 = get_or-drop n t 0 0 ∙ ap (slice_index t) (omega arith) ∙ c.1 in
+    (rw (begins.0, begins.1, filled) (ap (λ m. Some (QuoteLit, m)) c.0), rw quote refl)
+
+-- the cut goes on by a quote, text, and the quote that closes it
+pub text_more : (text : List ℕ) (tokens : List Span) (at : ℕ) (modes : List Mode) (places : List ℕ) (start first len : ℕ)
+    → IsTokenizedTo text tokens at modes places
+    → start ≡ at + gap_length (mode_of modes) (drop at text)
+    → token (mode_of modes) (drop start text) ≡ Some (QuoteOpen, first)
+    → len ≡ closed_text_length (drop (start + first) text)
+    → 0 < len
+    → IsTokenizedTo text (((tokens ++ token_at start (start + first) QuoteOpen ∷ []) ++ token_at (start + first) (start + first + len) QuoteLit ∷ []) ++ token_at (start + first + len) (start + first + len + 1) QuoteClose ∷ []) (start + first + len + 1) modes places
+text_more text tokens at modes places start first len state start_is found is some =
+    let from : ℕ = start + first in
+    let both = text_tokens (drop from text) len is some in
+    let opened = (one_more text tokens at modes places start QuoteOpen first state start_is found).1 in
+    let one : List Span = tokens ++ token_at start from QuoteOpen ∷ [] in
+    let lit = (one_more text one from (Quoted ∷ modes) (start ∷ places) from QuoteLit len opened (omega arith) both.0).1 in
+    let two : List Span = one ++ token_at from (from + len) QuoteLit ∷ [] in
+    let rest : drop len (drop from text) ≡ drop (from + len) text = drop-drop len from text ∙ ap (λ n. drop n text) (omega arith) in
+    let closes : quoted_token (drop (from + len) text) ≡ Some (QuoteClose, 1) = ap quoted_token (sym rest) ∙ both.1 in
+    (one_more text two (from + len) (Quoted ∷ modes) (start ∷ places) (from + len) QuoteClose 1 lit (omega arith) closes).1

@@ -1,0 +1,25 @@
+use Rattle.std.proofs.Common.{sym, ◌∙◌, arith}
+use Rattle.hcl_scan.specs.Inner.Openings.{modes_of, places_of}
+use Rattle.hcl_scan.proofs.plain.push_in_mode.Goals as goal
+
+pub loop-bytes-smaller : goal.loop-bytes-smaller
+loop-bytes-smaller c =
+    let openings = c.args.openings.now.items in
+    let next = c.next_plain_token-next.ensures in
+    let gap = rw c.requires.mode at next.gap in
+    let found = sym (rw c.requires.mode at next.token) ∙ c.in-Some.is in
+    let step = rw c.as_bytes-bytes.ensures.value at c.in-Some-put_plain.ensures.state in
+    let state = step c.loop-bytes.at (modes_of openings) (places_of openings) c.requires.mode gap found c.loop-bytes.invariant.state in
+    omega (arith, state.within, gap, c.in-Some-put_plain.ensures.onward)
+
+pub loop-bytes-preserved : goal.loop-bytes-preserved
+loop-bytes-preserved c =
+    let openings = c.args.openings.now.items in
+    let next = c.next_plain_token-next.ensures in
+    let gap = rw c.requires.mode at next.gap in
+    let found = sym (rw c.requires.mode at next.token) ∙ c.in-Some.is in
+    let step = rw c.as_bytes-bytes.ensures.value at c.in-Some-put_plain.ensures.state in
+    record {
+      state = step c.loop-bytes.at (modes_of openings) (places_of openings) c.requires.mode gap found c.loop-bytes.invariant.state;
+      onward = omega (arith, gap, c.in-Some-put_plain.ensures.onward, c.loop-bytes.invariant.onward);
+    }

@@ -1,0 +1,190 @@
+//! The tokens outside of literal text that leave the openings as they are, one after the other.
+//!
+//! Most tokens are such, and a `"`, its text and the `"` after it are so together. Here no call is
+//! given the address of the list, so its place and its length are in registers, and a token's kind is
+//! tested where it is known.
+//!
+//! How many tokens are added here is not fixed by a clause: it decides only how long a scan takes.
+//! `tokenize_str` adds each token that is not added here.
+
+ghost use Rattle.std.specs.Prelude.{◌≡◌, ◌+◌, ◌<◌, ◌≤◌, ◌++◌, ◌∷◌, ℕ, List, [], false, length, drop, None, Some, IfSome, IsUtf8, vec_len, vec_capacity};
+ghost use Rattle.hcl_token.specs.declared.kind.Kind.TheVariants.{QuoteOpen, QuoteLit, QuoteClose};
+ghost use Rattle.hcl_scan.specs.Tokenization.{MAX_TEXT};
+ghost use Rattle.hcl_scan.specs.Modes as spec;
+ghost use Rattle.hcl_scan.specs.Modes.{mode_of, is_literal};
+ghost use Rattle.hcl_scan.specs.Inner.NextToken.{gap_length, token};
+ghost use Rattle.hcl_scan.specs.Inner.MarkToken.{token_at};
+ghost use Rattle.hcl_scan.specs.Inner.Openings.{mode_view, region_of, modes_of, places_of};
+ghost use Rattle.hcl_scan.specs.Inner.TextLength.{closed_text_length};
+ghost use Rattle.hcl_scan.specs.Inner.TokenizedTo.{IsTokenizedTo};
+
+use crate::bytes::byte_at;
+use crate::mode::{Mode, Opening, Region, can_change_openings_in, mode_in};
+use crate::runs::{QuoteUnit, run_end};
+use crate::token::{NextToken, is_literal, next_plain_token, next_plain_token_apart, next_token};
+use hcl_token::{Kind, MAX_TEXT, Span};
+
+/// Returns how many bytes the quoted text at a place has, 0 if no `"` closes it.
+fn closed_text_len(text: &[u8], at: usize) -> usize
+    requires { at ≤ length text.now }
+    ensures value { result ≡ closed_text_length (drop at text.now) }
+    ensures within { 0 < result → at + result < length text.now }
+{
+    let end = run_end(&QuoteUnit, text, at, false);
+    if byte_at(text, end) == b'"' {
+        end - at
+    } else {
+        0
+    }
+}
+
+/// Adds a token in reserved memory.
+#[inline(always)]
+fn put(tokens: &mut Vec<Span>, start: usize, stop: usize, kind: Kind)
+    requires start { start < MAX_TEXT }
+    requires stop { stop ≤ MAX_TEXT }
+    requires reserved { vec_len tokens.old < vec_capacity tokens.old }
+    ensures items { tokens.new.items ≡ tokens.old.items ++ token_at start stop kind ∷ [] }
+    ensures len { vec_len tokens.new ≡ vec_len tokens.old + 1 }
+    ensures capacity { vec_capacity tokens.new ≡ vec_capacity tokens.old }
+{
+    tokens.push_reserved(Span::new(start as u32, stop as u32, kind));
+}
+
+/// Adds a `"`, the text from a place up to another, and the `"` after it.
+#[inline(always)]
+fn put_text(tokens: &mut Vec<Span>, start: usize, from: usize, to: usize)
+    requires ordered { (start < from) × (from ≤ to) }
+    requires short { to < MAX_TEXT }
+    requires reserved { vec_len tokens.old + 3 ≤ vec_capacity tokens.old }
+    ensures { tokens.new.items
+        ≡ ((tokens.old.items ++ token_at start from QuoteOpen ∷ [])
+        ++ token_at from to QuoteLit ∷ [])
+        ++ token_at to (to + 1) QuoteClose ∷ [] }
+{
+    put(tokens, start, from, Kind::QuoteOpen);
+    put(tokens, from, to, Kind::QuoteLit);
+    put(tokens, to, to + 1, Kind::QuoteClose);
+}
+
+/// Adds a token that leaves the openings as they are, or quoted text in quotes, and returns where
+/// it stops. Adds nothing if the token is another.
+#[inline(always)]
+fn put_plain(
+    tokens: &mut Vec<Span>,
+    text: &[u8],
+    start: usize,
+    kind: Kind,
+    len: usize,
+    mode: Mode<'_>,
+) -> Option<usize>
+    requires short { length text.now ≤ MAX_TEXT }
+    requires some { 0 < len }
+    requires within { start + len ≤ length text.now }
+    requires reserved { vec_len tokens.old + 3 ≤ vec_capacity tokens.old }
+    ensures none { result ≡ None → tokens.new.items ≡ tokens.old.items }
+    ensures onward { IfSome result (λ stop. start < stop) }
+    ensures state { IfSome result (λ stop. (at : ℕ) (modes : List spec.Mode) (places : List ℕ)
+        → mode_view mode.entry ≡ mode_of modes
+        → start ≡ at + gap_length (mode_of modes) (drop at text.now)
+        → token (mode_of modes) (drop start text.now) ≡ Some (kind, len)
+        → IsTokenizedTo text.now tokens.old.items at modes places
+        → IsTokenizedTo text.now tokens.new.items stop modes places) }
+{
+    let stop = start + len;
+    match kind {
+        Kind::QuoteOpen => {
+            let text_len = closed_text_len(text, stop);
+            if text_len == 0 {
+                None
+            } else {
+                put_text(tokens, start, stop, stop + text_len);
+                Some(stop + text_len + 1)
+            }
+        }
+        _ => {
+            if can_change_openings_in(mode, kind) {
+                None
+            } else {
+                put(tokens, start, stop, kind);
+                Some(stop)
+            }
+        }
+    }
+}
+
+/// `push_plain_tokens` outside of literal text.
+#[inline(always)]
+fn push_in_mode(
+    buffer: Vec<Span>,
+    text: &str,
+    from: usize,
+    mode: Mode<'_>,
+    openings: &Vec<Opening<'_>>,
+) -> (Vec<Span>, usize, NextToken)
+    requires short { length text.now ≤ MAX_TEXT }
+    requires state { IsTokenizedTo text.now buffer.items from
+        (modes_of openings.now.items) (places_of openings.now.items) }
+    requires mode { mode_view mode ≡ mode_of (modes_of openings.now.items) }
+    requires plain { is_literal (mode_view mode) ≡ false }
+    ensures state { IsTokenizedTo text.now result.0.items result.1
+        (modes_of openings.now.items) (places_of openings.now.items) }
+    ensures onward { from ≤ result.1 }
+    ensures gap { result.2.start
+        ≡ result.1 + gap_length (mode_of (modes_of openings.now.items)) (drop result.1 text.now) }
+    ensures start { result.2.start ≤ length text.now }
+    ensures token { result.2.token
+        ≡ token (mode_of (modes_of openings.now.items)) (drop result.2.start text.now) }
+    ensures within { IfSome result.2.token
+        (λ found. (0 < found.1) × (result.2.start + found.1 ≤ length text.now)) }
+{
+    let bytes = text.as_bytes();
+    let mut tokens = buffer;
+    let mut at = from;
+    while tokens.capacity() - tokens.len() >= 3 {
+        let next = next_plain_token(text, at, mode);
+        let Some((kind, len)) = next.token else {
+            return (tokens, at, next);
+        };
+        match put_plain(&mut tokens, bytes, next.start, kind, len, mode) {
+            Some(stop) => at = stop,
+            None => return (tokens, at, next),
+        }
+    }
+    let next = next_plain_token_apart(text, at, mode);
+    (tokens, at, next)
+}
+
+/// Adds the tokens from a place on that leave the openings as they are, while memory is reserved
+/// for them, and quoted text in quotes. Returns the list, where they stop, and what follows.
+#[inline(always)]
+pub fn push_plain_tokens(
+    buffer: Vec<Span>,
+    text: &str,
+    from: usize,
+    region: Region,
+    openings: &Vec<Opening<'_>>,
+) -> (Vec<Span>, usize, NextToken)
+    requires short { length text.now ≤ MAX_TEXT }
+    requires state { IsTokenizedTo text.now buffer.items from
+        (modes_of openings.now.items) (places_of openings.now.items) }
+    requires region { region ≡ region_of (mode_of (modes_of openings.now.items)) }
+    ensures state { IsTokenizedTo text.now result.0.items result.1
+        (modes_of openings.now.items) (places_of openings.now.items) }
+    ensures onward { from ≤ result.1 }
+    ensures gap { result.2.start
+        ≡ result.1 + gap_length (mode_of (modes_of openings.now.items)) (drop result.1 text.now) }
+    ensures start { result.2.start ≤ length text.now }
+    ensures token { result.2.token
+        ≡ token (mode_of (modes_of openings.now.items)) (drop result.2.start text.now) }
+    ensures within { IfSome result.2.token
+        (λ found. (0 < found.1) × (result.2.start + found.1 ≤ length text.now)) }
+{
+    let mode = mode_in(region, openings);
+    if is_literal(mode) {
+        let next = next_token(text, from, mode);
+        (buffer, from, next)
+    } else {
+        push_in_mode(buffer, text, from, mode, openings)
+    }
+}
