@@ -1,4 +1,4 @@
--- A text of which the front is cut.
+-- A text that is tokenized up to a place.
 use Rattle.std.specs.Prelude.{◌≡◌, ℕ, ◌≤◌, [], List, length, drop, IsUtf8}
 use Rattle.hcl_token.specs.declared.span.Span.{Span}
 use Rattle.hcl_token.specs.Pairs.{pairs_of, InOrder}
@@ -6,7 +6,8 @@ use Rattle.hcl_scan.specs.Modes.{Mode}
 use Rattle.hcl_scan.specs.Tokenization.{TokenizesPrefix}
 use Rattle.hcl_scan.specs.Inner.OpeningPlaces.{opening_places_after_pairs}
 
--- the text up to a place is cut into these tokens, in these modes, the openings of which stand at these places
+-- up to this place the text has these tokens, after which the modes are these, whose openings are
+-- at these places
 pub record IsTokenizedTo (text : List ℕ) (tokens : List Span) (at : ℕ) (modes : List Mode) (openings : List ℕ) : Type 0 where
   pub within : at ≤ length text
   pub utf8 : IsUtf8 (drop at text)
