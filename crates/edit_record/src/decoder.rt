@@ -58,9 +58,9 @@ fn records(alloc: Global, text: &[u8]) -> Result<Journal, DecodeStop>
 /// which a record has steps; these are squashed into one list of edits. The first record decides
 /// the version. Each journal has one text in version 2.
 ///
-/// It is one pass over the text. Nothing is allocated before the first edit is read, and then no
-/// more is reserved by a number that the text has than 1,024 edits take, or than those that can be in
-/// the bytes that are left.
+/// It is one pass over the text. Nothing is allocated before the first edit is read. By a number
+/// that the text has memory is reserved for 1,024 edits at most, and for no more than can be in the
+/// bytes that are left.
 ///
 /// # Errors
 ///
@@ -74,8 +74,9 @@ pub fn decode(alloc: Global, text: &[u8]) -> Result<Journal, RecordFault>
     }
 }
 
-/// Returns the journal whose text this is, as [`decode`] does, and keeps the text: where the records
-/// that it has are written again it is copied. A text of version 1 is not kept.
+/// Returns the journal whose text this is, as [`decode`] does, and keeps the text: where the
+/// records that it has are written again it is copied. A text of version 1 is not kept, nor one
+/// whose memory is more than four times its length.
 ///
 /// # Errors
 ///

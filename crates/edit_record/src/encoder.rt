@@ -11,8 +11,8 @@ use crate::short_texts::{FAR, MOST_BYTES, push_edit, push_edit_head, push_list_h
 use itoa::Buffer;
 use std::alloc::{AllocError, Global};
 
-/// A part of a record's text. What does not fit the memory that is reserved at once is written by
-/// its parts.
+/// A part of a record's text. What does not fit into memory that is reserved is written part by
+/// part.
 #[derive(Clone, Copy)]
 enum Part<'a> {
     Bytes(&'a [u8]),

@@ -1,5 +1,6 @@
 //! Memory for the edits of a list that is read, reserved at once, for speed alone.
-ghost use Rattle.std.specs.Prelude.{◌≡◌, ◌<◌, ◌++◌, ◌∷◌, [], OnOk, vec_len, vec_capacity};
+ghost use Rattle.std.specs.Prelude.{◌≡◌, ◌<◌, ◌≤◌, ◌+◌, ◌/◌, ◌++◌, ◌∷◌, [], max, OnOk, vec_len, vec_capacity};
+ghost use Rattle.edit_record.specs.declared.list_capacity.TheConstants.{LEAST_BYTES, MOST_RESERVED};
 
 use crate::lists::Edit;
 use std::alloc::AllocError;
@@ -28,17 +29,27 @@ pub(crate) fn push_edit(
     Ok(())
 }
 
+/// Returns for how many edits memory is reserved at the first one: for `count`, but for no more than
+/// can be in the `left` bytes after it, and for 1,024 at most.
+fn first_capacity(count: usize, left: usize) -> usize
+    ensures some { 0 < result }
+    ensures few { result ≤ MOST_RESERVED }
+    ensures within { result ≤ left / LEAST_BYTES + 1 }
+{
+    count.min(MOST_RESERVED).min(left / LEAST_BYTES + 1).max(1)
+}
+
 /// Reserves capacity for one edit more, and where the list is empty for those that follow.
 #[cold]
 #[inline(never)]
 fn reserve_edits(edits: &mut Vec<Edit>, count: usize, left: usize) -> Result<(), AllocError>
     ensures items { edits.new.items ≡ edits.old.items }
     ensures spare { OnOk result (vec_len edits.new < vec_capacity edits.new) }
+    ensures few { edits.old.items ≡ []
+        → OnOk result (vec_capacity edits.new ≤ max (vec_capacity edits.old) MOST_RESERVED) }
 {
     if !edits.is_empty() {
         return edits.reserve(1);
     }
-    let most = left / LEAST_BYTES;
-    let others = count.min(MOST_RESERVED).min(most + 1);
-    edits.reserve_exact(others.max(1))
+    edits.reserve_exact(first_capacity(count, left))
 }

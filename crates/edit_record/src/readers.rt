@@ -156,7 +156,8 @@ fn any_edit(alloc: Global, text: &[u8]) -> Result<(Edit, &[u8]), DecodeStop>
     after_head(alloc, at, removed, added, rest)
 }
 
-/// Does so with any edit. It is not inlined, so that the loop over quick ones keeps its registers.
+/// Reads any edit, as `push_next` does. It is not inlined, so that the loop over quick ones keeps
+/// its registers.
 #[inline(never)]
 fn push_any<'t>(
     alloc: Global,
@@ -182,7 +183,7 @@ fn push_any<'t>(
     Ok(after)
 }
 
-/// Does so with an edit of which the place is read: `text` follows it in `whole`.
+/// Reads an edit of which the place is read, as `push_next` does: `text` follows it in `whole`.
 #[inline(never)]
 #[tactic(auto, using(crate::proofs::ShortEdits::head_read))]
 fn push_placed<'t>(
@@ -210,7 +211,7 @@ fn push_placed<'t>(
     Ok(after)
 }
 
-/// Does so with an edit that may be the first one, or one for which there is no capacity.
+/// Reads an edit that may be the first one, or for which there is no capacity, as `push_next` does.
 #[inline(never)]
 fn push_allocating<'t>(
     alloc: Global,

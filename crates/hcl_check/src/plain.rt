@@ -16,7 +16,7 @@ use crate::opens::enter;
 use hcl_expr::Reader;
 use hcl_token::Kind;
 
-/// Returns whether a term before this place is a whole `Expr`: what comes next ends it.
+/// Returns whether a term before this place is known to be a whole `Expr`: what comes next ends it.
 #[inline(always)]
 #[tactic(auto, unfolding(crate::specs::Passes::operator, crate::specs::Passes::tail_of, hcl_grammar::specs::Pure::Reading::next_is, hcl_grammar::specs::Tokens::same_kind))]
 fn ends_expr(reader: &Reader<'_, '_>, at: usize) -> bool

@@ -1,6 +1,6 @@
-//! Where a line of a text begins, without a walk from token to token: a line end is in no opening
-//! if as many template sequences were closed before it as were opened, and these are counted by a
-//! table.
+//! Where a line of a text begins, without keeping what is open from token to token: a line end is in
+//! no opening if as many template sequences were closed before it as were opened, and these are
+//! counted by a table.
 
 ghost use Rattle.std.specs.Prelude.{◌≡◌, ◌<◌, ◌≤◌, ◌+◌, ◌-◌, ◌*◌, ◌%◌, ◌^◌, true, length, slice_get};
 ghost use Rattle.hcl_rescan.specs.Inner.Sequences.{opens, closes, opened, closed};

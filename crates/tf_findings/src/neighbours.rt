@@ -59,7 +59,7 @@ fn exchange_at(found: &mut [Finding], i: usize)
 }
 
 /// Exchanges neighbours of which the second is to be before the first and no others beside them
-/// fall.
+/// fall; the first two of all are left to the sort.
 pub fn exchange_neighbours(found: &mut [Finding])
     ensures permutation { IsPermutation found.old found.new }
     ensures stable { IsStable report_order found.old found.new }

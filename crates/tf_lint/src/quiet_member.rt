@@ -1,7 +1,8 @@
 //! A member in which no rule can find anything, skipped with no tree of it made.
 //!
 //! Its tokens show it, and most members of most texts are such. One that is not is given up at its
-//! first token that is not quiet, before it is read; the tree is then made as before.
+//! first token that is not quiet, or at the end of a block that lacks an attribute, before it is
+//! read; the tree is then made as before.
 
 ghost use Rattle.std.specs.Prelude.{◌≡◌, ◌-◌, true, false, Some, IfSome};
 ghost use Rattle.hcl_token.specs.TokenizedText.{kind_of};

@@ -177,8 +177,8 @@ fn members(scanned: &Scanned<'_>, from: usize, names: bool) -> Option<Seen>
     None
 }
 
-/// Returns what is seen of a block whose opening brace is token `brace`, and which begins with token
-/// `from`: its members, and the place after its last line.
+/// Returns what is seen of a block whose opening brace is token `brace`, and which begins with
+/// token `from`: its members, and the place after its last line.
 fn block(scanned: &Scanned<'_>, from: usize, brace: usize, names: bool) -> Option<Seen>
     requires { length scanned.now.pairs + 8 < 2 ^ 64 }
     ensures quiet { IfSome result (λ s. AreQuiet scanned.now.pairs from s.end) }
@@ -257,8 +257,8 @@ fn quiet_declaration_end(scanned: &Scanned<'_>, from: usize, word: &[u8]) -> Opt
 }
 
 /// Returns the place after the last line of the block `variable`, `output` or `locals` that begins
-/// with this token, if its tokens are quiet and show that no rule on blocks finds anything at it. No
-/// more is claimed than that: it errs to one side alone.
+/// with this token, if its tokens are quiet and show that no rule on blocks finds anything at it.
+/// No more is claimed than that: it errs to one side alone.
 pub fn quiet_block_end(scanned: &Scanned<'_>, from: usize) -> Option<usize>
     ensures quiet { IfSome result (λ to. AreQuiet scanned.now.pairs from to) }
     ensures line { IfSome result (λ to. kind_of scanned.now.pairs (to - 1) ≡ Some LineEnd) }

@@ -135,8 +135,8 @@ fn depth_after(kind: Kind, depth: usize) -> usize
     }
 }
 
-/// Returns the place after the first line end that is outside of brackets, if all tokens from number
-/// `from` up to there are quiet. There a member ends that begins at `from`, if one does.
+/// Returns the place after the first line end that is outside of brackets, if all tokens from
+/// number `from` up to there are quiet. There a member ends that begins at `from`, if one does.
 pub fn quiet_line_end(scanned: &Scanned<'_>, from: usize) -> Option<usize>
     ensures quiet { IfSome result (λ to. AreQuiet scanned.now.pairs from to) }
     ensures line { IfSome result (λ to. kind_of scanned.now.pairs (to - 1) ≡ Some LineEnd) }

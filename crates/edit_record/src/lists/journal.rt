@@ -2,7 +2,7 @@ ghost use Rattle.std.specs.Prelude.{◌≡◌, ◌≤◌, ◌+◌, [], ◌∷◌
 ghost use Rattle.edit_record.specs.Text.{IsCurrentText};
 ghost use Rattle.edit_record.specs.Inner.KnownText.{SplitsKnown};
 
-use crate::lists::known_text::shorten_known_text;
+use crate::lists::known_text::{MOST_SPARE, shorten_known_text};
 use crate::lists::sequence::{apply_records, undo_records};
 use crate::lists::{Change, Record, Refused};
 use std::alloc::{AllocError, AllocFailed, Global};
@@ -43,11 +43,14 @@ impl Journal {
         }
     }
 
-    /// Keeps the text that the records were read from.
+    /// Keeps the text that the records were read from, unless its memory is much more.
     pub(crate) fn keep_text(&mut self, text: Vec<u8>)
         requires { IsCurrentText text.items self.old }
         ensures { self.new ≡ self.old }
     {
+        if text.len() < text.capacity() / MOST_SPARE {
+            return;
+        }
         self.known = self.records.len();
         self.text = text;
     }

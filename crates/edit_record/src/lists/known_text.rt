@@ -6,8 +6,8 @@ ghost use Rattle.edit_record.specs.Inner.KnownText.{IsKnownText};
 use crate::encoder::records_len;
 use crate::lists::Record;
 
-/// A text that got shorter is freed once it is less than this part of its memory.
-const MOST_SPARE: usize = 4;
+/// The memory of a text that is kept is at most so many times its length.
+pub(crate) const MOST_SPARE: usize = 4;
 
 /// Shortens the text of the first `known` records to that of the first `to` of them, if they are fewer,
 /// and returns of how many it is the text now.
