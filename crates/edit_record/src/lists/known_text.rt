@@ -6,7 +6,7 @@ ghost use Rattle.edit_record.specs.Inner.KnownText.{IsKnownText};
 use crate::encoder::records_len;
 use crate::lists::Record;
 
-/// The memory of a text that is kept is at most so many times its length.
+/// A text is kept while its memory is at most this many times its length.
 pub(crate) const MOST_SPARE: usize = 4;
 
 /// Shortens the text of the first `known` records to that of the first `to` of them, if they are fewer,
