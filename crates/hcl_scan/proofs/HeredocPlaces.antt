@@ -8,6 +8,7 @@ use Rattle.hcl_scan.specs.Characters.{is_prefix_of, is_sigil, sigil_length}
 use Rattle.hcl_scan.specs.Closing.{is_closing_line, heredoc_unit}
 use Rattle.hcl_scan.specs.Inner.LexemeStarts.{LexedToken, is_word_start, identifier}
 use Rattle.hcl_scan.specs.Inner.HeredocToken.{heredoc_start_length, is_at_heredoc_start}
+use Rattle.hcl_scan.specs.Inner.RunLength.{run_length}
 use Rattle.hcl_scan.proofs.TextLemmas.{first_1, first_2, utf8_past}
 use Rattle.hcl_scan.proofs.HeredocLemmas.{identifier_some}
 use Rattle.hcl_scan.proofs.HeredocSound.{WordSplit, Words, words}
@@ -88,3 +89,20 @@ utf8_past_intro text at n h e u =
     utf8_past 45 (drop 3 t) (omega arith) (subst IsUtf8 more u2))
     (λ _. u2) in
     subst IsUtf8 (drop-drop (heredoc_start_length t) at text ∙ ap (λ k. drop (at + k) text) (sym e)) behind
+
+-- ---- the text of a heredoc
+
+-- where the heredoc closes, no text begins
+pub run_length-closing : (name : List ℕ) (at_line_start : Bool) (t : List ℕ) → (at_line_start && is_closing_line name t) ≡ true → run_length (heredoc_unit name) at_line_start t ≡ 0
+run_length-closing name at_line_start [] h = refl
+run_length-closing name at_line_start (b ∷ t) h = rw h refl
+
+-- elsewhere it goes on as if no line began
+pub run_length-open : (name : List ℕ) (at_line_start : Bool) (t : List ℕ) → (at_line_start && is_closing_line name t) ≡ false
+    → run_length (heredoc_unit name) at_line_start t ≡ run_length (heredoc_unit name) false t
+run_length-open name at_line_start [] h = refl
+run_length-open name at_line_start (b ∷ t) h = rw h refl
+
+-- a line end is a unit where no line begins
+pub line_feed_unit : (name text : List ℕ) (at : ℕ) → at < length text → slice_index text at ≡ 10 → heredoc_unit name false (drop at text) ≡ 1
+line_feed_unit name text at h is = rw (heredoc_unit_at name text at false h, is) refl

@@ -4,11 +4,12 @@ ghost use Rattle.std.specs.Prelude.{◌≡◌, ◌+◌, ◌<◌, ◌≤◌, ◌&
 ghost use Rattle.hcl_scan.specs.Characters.{is_prefix_of};
 ghost use Rattle.hcl_scan.specs.Closing.{is_at_line_end_or_eof, is_closing_line, heredoc_unit};
 ghost use Rattle.hcl_scan.specs.Inner.LexemeStarts.{identifier, is_at_opening, opening};
+ghost use Rattle.hcl_scan.specs.Inner.RunLength.{run_length};
 ghost use Rattle.hcl_scan.specs.Inner.HeredocToken.{line_end_length, heredoc_start_length, is_at_heredoc_start, open_with_marker, here_open, closing_line_length, heredoc_text_token, heredoc_token};
 
-use crate::bytes::{byte_at, is_at_line_end, slice, whitespace_end};
+use crate::bytes::{byte_at, is_at_line_end, skip_whitespace, slice, whitespace_end};
 use crate::ident::{identifier, is_word_start};
-use crate::runs::{Unit, is_sigil, run_end, sigil_len};
+use crate::runs::{Unit, is_sigil, ordinary_end, sigil_len};
 use crate::sixteen::count_heredoc_bytes;
 use hcl_token::Kind;
 
@@ -20,13 +21,51 @@ fn is_at_line_end_or_eof(text: &[u8], at: usize) -> bool
     at == text.len() || is_at_line_end(text, at)
 }
 
-/// Whether the marker is at the place.
+/// Whether the marker is at the place. Most lines begin with another byte than it.
+#[inline(always)]
 fn is_marker_at(text: &[u8], at: usize, marker: &[u8]) -> bool
     requires { at ≤ length text.now }
     ensures value { result ≡ is_prefix_of marker.now (drop at text.now) }
     ensures within { result ≡ true → at + length marker.now ≤ length text.now }
 {
+    if !marker.is_empty() && byte_at(text, at) != marker[0] {
+        false
+    } else {
+        has_marker_at(text, at, marker)
+    }
+}
+
+/// `is_marker_at`, by the whole marker.
+#[inline(never)]
+fn has_marker_at(text: &[u8], at: usize, marker: &[u8]) -> bool
+    requires { at ≤ length text.now }
+    ensures value { result ≡ is_prefix_of marker.now (drop at text.now) }
+    ensures within { result ≡ true → at + length marker.now ≤ length text.now }
+{
     slice(text, at, text.len()).starts_with(marker)
+}
+
+/// Whether the heredoc closes at the place, if a line begins there.
+#[inline(always)]
+fn closes_at(text: &[u8], at: usize, marker: &[u8], at_line_start: bool) -> bool
+    requires { at ≤ length text.now }
+    ensures { result ≡ (at_line_start && is_closing_line marker.now (drop at text.now)) }
+{
+    at_line_start && is_closing_line(text, at, marker)
+}
+
+/// Whether the line that begins at the place closes the heredoc.
+#[inline(always)]
+fn is_closing_line(text: &[u8], at: usize, marker: &[u8]) -> bool
+    requires { at ≤ length text.now }
+    ensures { result ≡ is_closing_line marker.now (drop at text.now) }
+{
+    let (name, _) = skip_whitespace(text, at);
+    if !is_marker_at(text, name, marker) {
+        return false;
+    }
+    let end = whitespace_end(text, name + marker.len());
+    is_at_line_end_or_eof(text, end)
 }
 
 /// Returns how many bytes the closing line has that begins at the place.
@@ -94,6 +133,42 @@ impl<'t> Unit for HeredocUnit<'t> {
     }
 }
 
+/// Returns the end of the longest run of units of a heredoc's text from a place on; `at_line_start`
+/// says whether a line begins there.
+///
+/// A line is read as one piece where it does not close the heredoc.
+#[inline(always)]
+fn text_end(text: &[u8], from: usize, at_line_start: bool, marker: &[u8]) -> usize
+    requires { from ≤ length text.now }
+    ensures value { result
+        ≡ from + run_length (heredoc_unit marker.now) at_line_start (drop from text.now) }
+    ensures within { result ≤ length text.now }
+{
+    let unit = HeredocUnit { marker };
+    let mut at = from;
+    let mut is_line_start = at_line_start;
+    'lines: loop {
+        if closes_at(text, at, marker, is_line_start) {
+            return at;
+        }
+        let on = ordinary_end(&unit, text, at);
+        if on == text.len() {
+            return on;
+        }
+        if text[on] == b'\n' {
+            at = on + 1;
+            is_line_start = true;
+            continue 'lines;
+        }
+        let len = unit.len_at(text, on, false);
+        if len == 0 {
+            return on;
+        }
+        at = on + len;
+        is_line_start = text[at - 1] == b'\n';
+    }
+}
+
 pub fn is_at_opening(text: &[u8], at: usize) -> bool
     requires { at ≤ length text.now }
     ensures { result ≡ is_at_opening (drop at text.now) }
@@ -128,7 +203,7 @@ fn heredoc_text_token(
     if is_at_opening(text, at) {
         return Some(opening(text, at));
     }
-    let end = run_end(&HeredocUnit { marker }, text, at, at_line_start);
+    let end = text_end(text, at, at_line_start, marker);
     if end == at {
         None
     } else {

@@ -36,7 +36,7 @@ pub trait Unit {
 }
 
 /// Returns the end of the ordinary bytes from a place on, at which no line begins.
-fn ordinary_end<U: Unit>(unit: &U, text: &[u8], from: usize) -> usize
+pub fn ordinary_end<U: Unit>(unit: &U, text: &[u8], from: usize) -> usize
     requires { from ≤ length text.now }
     ensures run { result + run_length (U.len unit.now) false (drop result text.now)
         ≡ from + run_length (U.len unit.now) false (drop from text.now) }

@@ -1,7 +1,7 @@
 use Rattle.std.proofs.Common.{drop, ap, ◌∙◌, ◌==◌}
 use Rattle.std.specs.List.{starts_with}
 use Rattle.hcl_scan.proofs.HeredocPlaces.{starts_with_bytes, part_to_end}
-use Rattle.hcl_scan.proofs.heredoc.is_marker_at.Goals as goal
+use Rattle.hcl_scan.proofs.heredoc.has_marker_at.Goals as goal
 
 pub returns-clause-value : goal.returns-clause-value
 returns-clause-value c =
