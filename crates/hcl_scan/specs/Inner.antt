@@ -10,5 +10,4 @@ pub mod NextToken
 pub mod OpeningPlaces
 pub mod Openings
 pub mod RunLength
-pub mod TextLength
 pub mod TokenizedTo

@@ -14,6 +14,7 @@ mod mode;
 mod number;
 mod operator;
 mod plain;
+mod quoted;
 mod runs;
 mod scanned;
 mod sixteen;

@@ -7,36 +7,23 @@
 //! How many tokens are added here is not fixed by a clause: it decides only how long a scan takes.
 //! `tokenize_str` adds each token that is not added here.
 
-ghost use Rattle.std.specs.Prelude.{◌≡◌, ◌+◌, ◌<◌, ◌≤◌, ◌++◌, ◌∷◌, ℕ, List, [], false, length, drop, None, Some, IfSome, IsUtf8, vec_len, vec_capacity};
-ghost use Rattle.hcl_token.specs.declared.kind.Kind.TheVariants.{QuoteOpen, QuoteLit, QuoteClose};
+ghost use Rattle.std.specs.Prelude.{◌≡◌, ◌+◌, ◌<◌, ◌≤◌, ◌++◌, ◌∷◌, ℕ, List, [], false, length, drop, slice_index, None, Some, IfSome, IsUtf8, vec_len, vec_capacity};
+ghost use Rattle.hcl_token.specs.declared.kind.Kind.TheVariants.{QuoteOpen};
 ghost use Rattle.hcl_scan.specs.Tokenization.{MAX_TEXT};
 ghost use Rattle.hcl_scan.specs.Modes as spec;
 ghost use Rattle.hcl_scan.specs.Modes.{mode_of, is_literal};
+ghost use Rattle.hcl_scan.specs.Lexeme.{quote_unit};
 ghost use Rattle.hcl_scan.specs.Inner.NextToken.{gap_length, token};
 ghost use Rattle.hcl_scan.specs.Inner.MarkToken.{token_at};
 ghost use Rattle.hcl_scan.specs.Inner.Openings.{mode_view, region_of, modes_of, places_of};
-ghost use Rattle.hcl_scan.specs.Inner.TextLength.{closed_text_length};
+ghost use Rattle.hcl_scan.specs.Inner.RunLength.{run_length};
 ghost use Rattle.hcl_scan.specs.Inner.TokenizedTo.{IsTokenizedTo};
 
 use crate::bytes::byte_at;
 use crate::mode::{Mode, Opening, Region, can_change_openings_in, mode_in};
-use crate::runs::{QuoteUnit, run_end};
+use crate::quoted::quoted_len;
 use crate::token::{NextToken, is_literal, next_plain_token, next_plain_token_apart, next_token};
 use hcl_token::{Kind, MAX_TEXT, Span};
-
-/// Returns how many bytes the quoted text at a place has, 0 if no `"` closes it.
-fn closed_text_len(text: &[u8], at: usize) -> usize
-    requires { at ≤ length text.now }
-    ensures value { result ≡ closed_text_length (drop at text.now) }
-    ensures within { 0 < result → at + result < length text.now }
-{
-    let end = run_end(&QuoteUnit, text, at, false);
-    if byte_at(text, end) == b'"' {
-        end - at
-    } else {
-        0
-    }
-}
 
 /// Adds a token in reserved memory.
 #[inline(always)]
@@ -51,18 +38,28 @@ fn put(tokens: &mut Vec<Span>, start: usize, stop: usize, kind: Kind)
     tokens.push_reserved(Span::new(start as u32, stop as u32, kind));
 }
 
-/// Adds a `"`, the text from a place up to another, and the `"` after it.
+/// Adds the `"` at a place, the text after it, if there is any, and the `"` after that.
 #[inline(always)]
-fn put_text(tokens: &mut Vec<Span>, start: usize, from: usize, to: usize)
-    requires ordered { (start < from) × (from ≤ to) }
-    requires short { to < MAX_TEXT }
+fn put_text(tokens: &mut Vec<Span>, text: &[u8], start: usize, first: usize, len: usize)
+    requires first { 0 < first }
+    requires len { len ≡ run_length quote_unit false (drop (start + first) text.now) }
+    requires quote { slice_index text.now (start + first + len) ≡ 34 }
+    requires within { start + first + len < length text.now }
+    requires short { length text.now ≤ MAX_TEXT }
     requires reserved { vec_len tokens.old + 3 ≤ vec_capacity tokens.old }
-    ensures { tokens.new.items
-        ≡ ((tokens.old.items ++ token_at start from QuoteOpen ∷ [])
-        ++ token_at from to QuoteLit ∷ [])
-        ++ token_at to (to + 1) QuoteClose ∷ [] }
+    ensures state { (at : ℕ) (modes : List spec.Mode) (places : List ℕ)
+        → start ≡ at + gap_length (mode_of modes) (drop at text.now)
+        → token (mode_of modes) (drop start text.now) ≡ Some (QuoteOpen, first)
+        → IsTokenizedTo text.now tokens.old.items at modes places
+        → IsTokenizedTo text.now tokens.new.items (start + first + len + 1) modes places }
 {
+    let from = start + first;
     put(tokens, start, from, Kind::QuoteOpen);
+    if len == 0 {
+        put(tokens, from, from + 1, Kind::QuoteClose);
+        return;
+    }
+    let to = from + len;
     put(tokens, from, to, Kind::QuoteLit);
     put(tokens, to, to + 1, Kind::QuoteClose);
 }
@@ -94,12 +91,12 @@ fn put_plain(
     let stop = start + len;
     match kind {
         Kind::QuoteOpen => {
-            let text_len = closed_text_len(text, stop);
-            if text_len == 0 {
-                None
-            } else {
-                put_text(tokens, start, stop, stop + text_len);
+            let text_len = quoted_len(text, stop);
+            if byte_at(text, stop + text_len) == b'"' {
+                put_text(tokens, text, start, len, text_len);
                 Some(stop + text_len + 1)
+            } else {
+                None
             }
         }
         _ => {

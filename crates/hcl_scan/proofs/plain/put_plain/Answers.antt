@@ -3,18 +3,13 @@ use Rattle.hcl_token.specs.declared.span.Span.{Span}
 use Rattle.hcl_scan.specs.Modes.{Mode}
 use Rattle.hcl_scan.specs.Inner.MarkToken.{token_at}
 use Rattle.hcl_scan.specs.Inner.TokenizedTo.{IsTokenizedTo}
-use Rattle.hcl_scan.proofs.PlainLemmas.{text_more}
 use Rattle.hcl_scan.proofs.Steps.{one_more}
 use Rattle.hcl_scan.proofs.plain.put_plain.Goals as goal
 
-pub returns-else-text_len-eq0-clause-state : goal.returns-else-text_len-eq0-clause-state
-returns-else-text_len-eq0-clause-state c = λ at modes places mode start_is found state.
-    let text = c.args.text.now in
-    let stop = c.args.start + c.args.len in
-    let text_len = c.closed_text_len-text_len.result in
+pub returns-then-byte_at-eq34-clause-state : goal.returns-then-byte_at-eq34-clause-state
+returns-then-byte_at-eq34-clause-state c = λ at modes places mode start_is found state.
     let quote = found ∙ ap (λ k. Some (k, c.args.len)) c.in-QuoteOpen.is in
-    let more = text_more text c.args.tokens.now.items at modes places c.args.start c.args.len text_len state start_is quote c.closed_text_len-text_len.ensures.value (omega arith) in
-    subst (λ (x : List Span). IsTokenizedTo text x (stop + text_len + 1) modes places) (sym c.put_text.ensures) more
+    c.put_text.ensures.state at modes places start_is quote state
 
 pub returns-else-can_change_openings_in-clause-state : goal.returns-else-can_change_openings_in-clause-state
 returns-else-can_change_openings_in-clause-state c = λ at modes places mode start_is found state.

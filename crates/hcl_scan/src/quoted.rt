@@ -1,0 +1,60 @@
+//! The end of quoted text.
+
+ghost use Rattle.std.specs.Prelude.{◌≡◌, ◌+◌, ◌≤◌, true, false, length, drop};
+ghost use Rattle.hcl_scan.specs.Lexeme.{quote_unit};
+ghost use Rattle.hcl_scan.specs.Inner.RunLength.{run_length};
+
+use crate::bytes::byte_at;
+use crate::heredoc::is_at_opening;
+use crate::runs::{QuoteUnit, Unit, run_end};
+
+/// Whether a `"` or the opening of a template sequence is at the place, where quoted text ends.
+#[inline(always)]
+fn is_at_end(text: &[u8], at: usize) -> bool
+    requires { at ≤ length text.now }
+    ensures { result ≡ true → quote_unit false (drop at text.now) ≡ 0 }
+{
+    byte_at(text, at) == b'"' || is_at_opening(text, at)
+}
+
+/// Skips bytes that are units of quoted text whatever follows them, up to 16.
+#[inline(always)]
+fn skip_ordinary(text: &[u8], from: usize) -> usize
+    requires { from ≤ length text.now }
+    ensures run { result + run_length quote_unit false (drop result text.now)
+        ≡ from + run_length quote_unit false (drop from text.now) }
+    ensures within { (from ≤ result) × (result ≤ length text.now) }
+{
+    if from + 16 <= text.len() {
+        from + QuoteUnit.count_ordinary_of_16(text, from)
+    } else {
+        from
+    }
+}
+
+/// Returns the end of the longest run of units of quoted text from a place on.
+#[inline(always)]
+fn quoted_end(text: &[u8], from: usize) -> usize
+    requires { from ≤ length text.now }
+    ensures value { result ≡ from + run_length quote_unit false (drop from text.now) }
+    ensures within { result ≤ length text.now }
+{
+    let at = skip_ordinary(text, from);
+    if is_at_end(text, at) {
+        at
+    } else {
+        run_end(&QuoteUnit, text, at, false)
+    }
+}
+
+/// Returns how many bytes the longest run of units of quoted text at a place has.
+///
+/// Most such texts are short, so the first 16 bytes are looked at before a call.
+#[inline(always)]
+pub fn quoted_len(text: &[u8], at: usize) -> usize
+    requires { at ≤ length text.now }
+    ensures value { result ≡ run_length quote_unit false (drop at text.now) }
+    ensures within { at + result ≤ length text.now }
+{
+    quoted_end(text, at) - at
+}
