@@ -79,3 +79,20 @@ no_unit t ends = by_size (quote_unit false t) refl
         let begins = unit_begins t (omega (arith, e)) in
         let none : ((slice_index t 0 == 34) || is_at_opening t) ≡ false = rw (begins.0, begins.1) refl in
         absurd (false≢true (sym none ∙ ends))
+
+-- the cut goes on by quoted text
+pub literal_more : (text : List ℕ) (tokens : List Span) (at : ℕ) (modes : List Mode) (places : List ℕ) (len : ℕ)
+    → Quoted ≡ mode_of modes
+    → IsTokenizedTo text tokens at modes places
+    → len ≡ run_length quote_unit false (drop at text)
+    → 0 < len
+    → IsTokenizedTo text (tokens ++ token_at at (at + len) QuoteLit ∷ []) (at + len) modes places
+literal_more text tokens at [] places len mode state is some = absurd (cc)
+literal_more text tokens at (m ∷ ms) places len mode state is some =
+    let t : List ℕ = drop at text in
+    let begins = unit_begins t (some_unit t (omega (arith, is, some))) in
+    let filled : (run_length quote_unit false t == 0) ≡ false = ne_eqb (run_length quote_unit false t) 0 (λ z. absurd (omega (arith, is, some, z))) in
+    let found : quoted_token t ≡ Some (QuoteLit, len) = rw (begins.0, begins.1, filled) (ap (λ n. Some (QuoteLit, n)) (sym is)) in
+    let there : IsTokenizedTo text tokens at (Quoted ∷ ms) places = subst (λ (x : Mode). IsTokenizedTo text tokens at (x ∷ ms) places) (sym mode) state in
+    let more = (one_more text tokens at (Quoted ∷ ms) places at QuoteLit len there (omega arith) found).1 in
+    subst (λ (x : Mode). IsTokenizedTo text (tokens ++ token_at at (at + len) QuoteLit ∷ []) (at + len) (x ∷ ms) places) mode more

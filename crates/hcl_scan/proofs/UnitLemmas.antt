@@ -9,7 +9,7 @@ use Rattle.hcl_scan.specs.Characters.{is_at_line_end, is_sigil, sigil_length}
 use Rattle.hcl_scan.specs.Closing.{is_closing_line, heredoc_unit}
 use Rattle.hcl_scan.specs.Lexeme.{comment_unit, inline_unit, quote_unit, is_simple_escape, has_four_hex, escape_length}
 use Rattle.hcl_scan.specs.Inner.Openings.{is_not_line_break}
-use Rattle.hcl_scan.specs.Inner.RunLength.{is_ordinary_inline, is_ordinary_quoted, is_ordinary_heredoc, IsOrdinary}
+use Rattle.hcl_scan.specs.Inner.RunLength.{run_length, is_ordinary_inline, is_ordinary_quoted, is_ordinary_heredoc, IsOrdinary}
 use Rattle.hcl_scan.proofs.TextLemmas.{in_text}
 
 -- ---- a unit fits into its text
@@ -102,6 +102,10 @@ byte_unit_any passes at_line_start (b ∷ t) = refl
 pub quote_unit_any : (at_line_start : Bool) (t : List ℕ) → quote_unit at_line_start t ≡ quote_unit false t
 quote_unit_any at_line_start [] = refl
 quote_unit_any at_line_start (b ∷ t) = refl
+
+pub quote_run_any : (at_line_start : Bool) (t : List ℕ) → run_length quote_unit at_line_start t ≡ run_length quote_unit false t
+quote_run_any at_line_start [] = refl
+quote_run_any at_line_start (b ∷ t) = refl
 
 -- ---- the unit of quoted text at a place
 

@@ -236,7 +236,7 @@ fn set_line_start<'t>(
 }
 
 /// Opens a template sequence.
-#[inline(never)]
+#[inline(always)]
 fn open_sequence<'t>(
     openings: &mut Vec<Opening<'t>>,
     region: Region,

@@ -12,6 +12,7 @@ ghost use Rattle.hcl_token.specs.declared.kind.Kind.TheVariants.{QuoteOpen};
 ghost use Rattle.hcl_scan.specs.Tokenization.{MAX_TEXT};
 ghost use Rattle.hcl_scan.specs.Modes as spec;
 ghost use Rattle.hcl_scan.specs.Modes.{mode_of, is_literal};
+ghost use Rattle.hcl_scan.specs.Modes.Mode.{Quoted};
 ghost use Rattle.hcl_scan.specs.Lexeme.{quote_unit};
 ghost use Rattle.hcl_scan.specs.Inner.NextToken.{gap_length, token};
 ghost use Rattle.hcl_scan.specs.Inner.MarkToken.{token_at};
@@ -21,13 +22,15 @@ ghost use Rattle.hcl_scan.specs.Inner.TokenizedTo.{IsTokenizedTo};
 
 use crate::bytes::byte_at;
 use crate::mode::{Mode, Opening, Region, can_change_openings_in, mode_in};
-use crate::quoted::quoted_len;
-use crate::token::{NextToken, is_literal, next_plain_token, next_plain_token_apart, next_token};
+use crate::quoted::{is_at_end, quoted_len};
+use crate::token::{
+    NextToken, next_plain_token, next_plain_token_apart, next_quoted_token, next_token,
+};
 use hcl_token::{Kind, MAX_TEXT, Span};
 
 /// Adds a token in reserved memory.
 #[inline(always)]
-fn put(tokens: &mut Vec<Span>, start: usize, stop: usize, kind: Kind)
+pub fn put(tokens: &mut Vec<Span>, start: usize, stop: usize, kind: Kind)
     requires start { start < MAX_TEXT }
     requires stop { stop ≤ MAX_TEXT }
     requires reserved { vec_len tokens.old < vec_capacity tokens.old }
@@ -47,6 +50,7 @@ fn put_text(tokens: &mut Vec<Span>, text: &[u8], start: usize, first: usize, len
     requires within { start + first + len < length text.now }
     requires short { length text.now ≤ MAX_TEXT }
     requires reserved { vec_len tokens.old + 3 ≤ vec_capacity tokens.old }
+    ensures capacity { vec_capacity tokens.new ≡ vec_capacity tokens.old }
     ensures state { (at : ℕ) (modes : List spec.Mode) (places : List ℕ)
         → start ≡ at + gap_length (mode_of modes) (drop at text.now)
         → token (mode_of modes) (drop start text.now) ≡ Some (QuoteOpen, first)
@@ -62,6 +66,28 @@ fn put_text(tokens: &mut Vec<Span>, text: &[u8], start: usize, first: usize, len
     let to = from + len;
     put(tokens, from, to, Kind::QuoteLit);
     put(tokens, to, to + 1, Kind::QuoteClose);
+}
+
+/// Adds the quoted text at a place, if there is any and memory is reserved, and returns where it
+/// stops.
+#[inline(always)]
+fn put_quoted(tokens: &mut Vec<Span>, text: &[u8], from: usize) -> usize
+    requires within { from ≤ length text.now }
+    requires short { length text.now ≤ MAX_TEXT }
+    ensures onward { from ≤ result }
+    ensures state { (modes : List spec.Mode) (places : List ℕ) → Quoted ≡ mode_of modes
+        → IsTokenizedTo text.now tokens.old.items from modes places
+        → IsTokenizedTo text.now tokens.new.items result modes places }
+{
+    if tokens.len() == tokens.capacity() || is_at_end(text, from) {
+        return from;
+    }
+    let len = quoted_len(text, from);
+    if len == 0 {
+        return from;
+    }
+    put(tokens, from, from + len, Kind::QuoteLit);
+    from + len
 }
 
 /// Adds a token that leaves the openings as they are, or quoted text in quotes, and returns where
@@ -80,6 +106,7 @@ fn put_plain(
     requires within { start + len ≤ length text.now }
     requires reserved { vec_len tokens.old + 3 ≤ vec_capacity tokens.old }
     ensures none { result ≡ None → tokens.new.items ≡ tokens.old.items }
+    ensures capacity { vec_capacity tokens.new ≡ vec_capacity tokens.old }
     ensures onward { IfSome result (λ stop. start < stop) }
     ensures state { IfSome result (λ stop. (at : ℕ) (modes : List spec.Mode) (places : List ℕ)
         → mode_view mode.entry ≡ mode_of modes
@@ -107,6 +134,19 @@ fn put_plain(
                 Some(stop)
             }
         }
+    }
+}
+
+/// The mode, which is not literal, so that no marker is kept in registers for it.
+#[inline(always)]
+fn without_marker<'t>(mode: Mode<'t>) -> Mode<'t>
+    requires { is_literal (mode_view mode) ≡ false }
+    ensures { mode_view result ≡ mode_view mode.entry }
+{
+    match mode {
+        Mode::Sequence => Mode::Sequence,
+        Mode::Braces => Mode::Braces,
+        _ => Mode::Expression,
     }
 }
 
@@ -138,7 +178,8 @@ fn push_in_mode(
     let bytes = text.as_bytes();
     let mut tokens = buffer;
     let mut at = from;
-    while tokens.capacity() - tokens.len() >= 3 {
+    let limit = tokens.capacity().saturating_sub(2);
+    while tokens.len() < limit {
         let next = next_plain_token(text, at, mode);
         let Some((kind, len)) = next.token else {
             return (tokens, at, next);
@@ -148,7 +189,36 @@ fn push_in_mode(
             None => return (tokens, at, next),
         }
     }
-    let next = next_plain_token_apart(text, at, mode);
+    let next = next_plain_token_apart(text, at, without_marker(mode));
+    (tokens, at, next)
+}
+
+/// `push_plain_tokens` in quoted text.
+#[inline(always)]
+fn push_in_quotes(
+    buffer: Vec<Span>,
+    text: &str,
+    from: usize,
+    openings: &Vec<Opening<'_>>,
+) -> (Vec<Span>, usize, NextToken)
+    requires short { length text.now ≤ MAX_TEXT }
+    requires state { IsTokenizedTo text.now buffer.items from
+        (modes_of openings.now.items) (places_of openings.now.items) }
+    requires mode { Quoted ≡ mode_of (modes_of openings.now.items) }
+    ensures state { IsTokenizedTo text.now result.0.items result.1
+        (modes_of openings.now.items) (places_of openings.now.items) }
+    ensures onward { from ≤ result.1 }
+    ensures gap { result.2.start
+        ≡ result.1 + gap_length (mode_of (modes_of openings.now.items)) (drop result.1 text.now) }
+    ensures start { result.2.start ≤ length text.now }
+    ensures token { result.2.token
+        ≡ token (mode_of (modes_of openings.now.items)) (drop result.2.start text.now) }
+    ensures within { IfSome result.2.token
+        (λ found. (0 < found.1) × (result.2.start + found.1 ≤ length text.now)) }
+{
+    let mut tokens = buffer;
+    let at = put_quoted(&mut tokens, text.as_bytes(), from);
+    let next = next_quoted_token(text, at);
     (tokens, at, next)
 }
 
@@ -178,10 +248,15 @@ pub fn push_plain_tokens(
         (λ found. (0 < found.1) × (result.2.start + found.1 ≤ length text.now)) }
 {
     let mode = mode_in(region, openings);
-    if is_literal(mode) {
-        let next = next_token(text, from, mode);
-        (buffer, from, next)
-    } else {
-        push_in_mode(buffer, text, from, mode, openings)
+    match mode {
+        Mode::Quoted => push_in_quotes(buffer, text, from, openings),
+        Mode::Heredoc {
+            marker: _,
+            at_line_start: _,
+        } => {
+            let next = next_token(text, from, mode);
+            (buffer, from, next)
+        }
+        _ => push_in_mode(buffer, text, from, mode, openings),
     }
 }

@@ -6,11 +6,11 @@ ghost use Rattle.hcl_scan.specs.Inner.RunLength.{run_length};
 
 use crate::bytes::byte_at;
 use crate::heredoc::is_at_opening;
-use crate::runs::{QuoteUnit, Unit, run_end};
+use crate::runs::{QuoteUnit, Unit, ordinary_end};
 
 /// Whether a `"` or the opening of a template sequence is at the place, where quoted text ends.
 #[inline(always)]
-fn is_at_end(text: &[u8], at: usize) -> bool
+pub fn is_at_end(text: &[u8], at: usize) -> bool
     requires { at ≤ length text.now }
     ensures { result ≡ true → quote_unit false (drop at text.now) ≡ 0 }
 {
@@ -32,6 +32,25 @@ fn skip_ordinary(text: &[u8], from: usize) -> usize
     }
 }
 
+/// Returns the end of the longest run of units of quoted text from a place on, whose first byte most
+/// often is not ordinary.
+#[inline(never)]
+pub fn rest_end(text: &[u8], from: usize) -> usize
+    requires { from ≤ length text.now }
+    ensures value { result ≡ from + run_length quote_unit false (drop from text.now) }
+    ensures within { result ≤ length text.now }
+{
+    let mut at = from;
+    while at < text.len() {
+        let len = QuoteUnit.len_at(text, at, false);
+        if len == 0 {
+            return at;
+        }
+        at = ordinary_end(&QuoteUnit, text, at + len);
+    }
+    at
+}
+
 /// Returns the end of the longest run of units of quoted text from a place on.
 #[inline(always)]
 fn quoted_end(text: &[u8], from: usize) -> usize
@@ -43,7 +62,7 @@ fn quoted_end(text: &[u8], from: usize) -> usize
     if is_at_end(text, at) {
         at
     } else {
-        run_end(&QuoteUnit, text, at, false)
+        rest_end(text, at)
     }
 }
 

@@ -8,6 +8,7 @@ ghost use Rattle.hcl_scan.specs.Inner.NextToken.{inline_comment, dot_token, punc
 ghost use Rattle.hcl_scan.specs.Inner.Markers.{HasMarker};
 ghost use Rattle.hcl_scan.specs.Inner.Openings.{mode_view};
 ghost use Rattle.hcl_scan.specs.Modes.{can_close_sequence, is_literal};
+ghost use Rattle.hcl_scan.specs.Modes.Mode.{Quoted};
 
 use crate::bytes::{byte_at, digits_end, is_letter, skip_whitespace};
 use crate::heredoc::{here_open, heredoc_token, is_at_heredoc_start, is_at_opening, opening};
@@ -15,7 +16,8 @@ use crate::ident::{identifier, is_word_start, word_len};
 use crate::mode::Mode;
 use crate::number::number_len;
 use crate::operator::{equal, operator};
-use crate::runs::{CommentUnit, InlineUnit, QuoteUnit, run_end};
+use crate::quoted::rest_end;
+use crate::runs::{CommentUnit, InlineUnit, run_end};
 use hcl_token::Kind;
 
 /// Returns the comment whose `/*` is before the place.
@@ -193,6 +195,7 @@ fn heredoc_or_less(found: Option<(Kind, usize)>) -> Option<(Kind, usize)>
 }
 
 /// Returns the token in quoted text.
+#[inline(always)]
 fn quoted_token(text: &[u8], at: usize) -> Option<(Kind, usize)>
     requires { at ≤ length text.now }
     ensures { result ≡ quoted_token (drop at text.now) }
@@ -203,7 +206,7 @@ fn quoted_token(text: &[u8], at: usize) -> Option<(Kind, usize)>
     if is_at_opening(text, at) {
         return Some(opening(text, at));
     }
-    let end = run_end(&QuoteUnit, text, at, false);
+    let end = rest_end(text, at);
     if end == at {
         None
     } else {
@@ -250,10 +253,7 @@ pub fn next_token(text: &str, at: usize, mode: Mode<'_>) -> NextToken
 {
     let bytes = text.as_bytes();
     match mode {
-        Mode::Quoted => NextToken {
-            start: at,
-            token: quoted_token(bytes, at),
-        },
+        Mode::Quoted => next_quoted_token(text, at),
         Mode::Heredoc {
             marker,
             at_line_start,
@@ -263,6 +263,21 @@ pub fn next_token(text: &str, at: usize, mode: Mode<'_>) -> NextToken
         },
         _ => next_plain_token_apart(text, at, mode),
     }
+}
+
+/// `next_token` in quoted text.
+#[inline(always)]
+pub fn next_quoted_token(text: &str, at: usize) -> NextToken
+    requires within { at ≤ length text.now }
+    requires utf8 { IsUtf8 (drop at text.now) }
+    ensures gap { result.start ≡ at + gap_length Quoted (drop at text.now) }
+    ensures start { result.start ≤ length text.now }
+    ensures token { result.token ≡ token Quoted (drop result.start text.now) }
+    ensures within { IfSome result.token
+        (λ found. (0 < found.1) × (result.start + found.1 ≤ length text.now)) }
+{
+    let token = quoted_token(text.as_bytes(), at);
+    NextToken { start: at, token }
 }
 
 /// `next_token` outside of literal text.

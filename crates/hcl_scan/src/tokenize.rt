@@ -1,6 +1,6 @@
 //! The tokens of a whole text.
 
-ghost use Rattle.std.specs.Prelude.{◌≡◌, ◌+◌, ◌<◌, ◌≤◌, ◌++◌, ◌∷◌, length, drop, IfOk, IfErr, IsOk, OnOk, IsTrue, ◌↔◌, [], ◌⊎◌};
+ghost use Rattle.std.specs.Prelude.{◌≡◌, ◌+◌, ◌<◌, ◌≤◌, ◌++◌, ◌∷◌, length, drop, vec_len, vec_capacity, IfOk, IfErr, IsOk, OnOk, IsTrue, ◌↔◌, [], ◌⊎◌};
 ghost use Rattle.hcl_token.specs.Pairs.{pairs_of, InOrder};
 ghost use Rattle.hcl_scan.specs.Characters.{is_prefix_of};
 ghost use Rattle.hcl_scan.specs.Tokenization.{IsTokenization, MAX_TEXT, byte_order_mark};
@@ -15,7 +15,7 @@ use crate::fault::ScanFault;
 use crate::mode::{
     Mode, Opening, Region, can_change_openings, innermost_template_start, mode_in, update_openings,
 };
-use crate::plain::push_plain_tokens;
+use crate::plain::{push_plain_tokens, put};
 use hcl_token::{Kind, MAX_TEXT, Span};
 use std::alloc::{AllocError, Global};
 
@@ -86,20 +86,39 @@ fn push_mark(tokens: &mut Vec<Span>, text: &[u8]) -> Result<usize, AllocError>
     Ok(3)
 }
 
+/// Returns a list with memory for one more token.
+#[inline(never)]
+fn grown(buffer: Vec<Span>) -> Result<Vec<Span>, AllocError>
+    ensures items { IfOk result (λ tokens. tokens.items ≡ buffer.items) }
+    ensures reserved { IfOk result (λ tokens. vec_len tokens < vec_capacity tokens) }
+{
+    let mut tokens = buffer;
+    tokens.reserve(1)?;
+    Ok(tokens)
+}
+
 /// Adds a token.
+///
+/// The list is handed on by value, so that it is in registers where it need not grow.
+#[inline(always)]
 fn push_token(
-    tokens: &mut Vec<Span>,
+    buffer: Vec<Span>,
     start: usize,
     stop: usize,
     kind: Kind,
-) -> Result<(), AllocError>
+) -> Result<Vec<Span>, AllocError>
     requires start { start < MAX_TEXT }
     requires stop { stop ≤ MAX_TEXT }
-    ensures { OnOk result (tokens.new.items ≡ tokens.old.items ++ token_at start stop kind ∷ []) }
+    ensures { IfOk result (λ tokens. tokens.items ≡ buffer.items ++ token_at start stop kind ∷ []) }
 {
-    tokens.reserve(1)?;
-    tokens.push_reserved(Span::new(start as u32, stop as u32, kind));
-    Ok(())
+    let mut tokens = buffer;
+    if tokens.len() == tokens.capacity() {
+        tokens = grown(tokens)?;
+        put(&mut tokens, start, stop, kind);
+    } else {
+        put(&mut tokens, start, stop, kind);
+    }
+    Ok(tokens)
 }
 
 /// Returns the tokens of a text, in a buffer, and where its last gap begins.
@@ -137,7 +156,7 @@ fn tokenize_str(
             }
             Some((kind, len)) => {
                 let stop = start + len;
-                push_token(&mut tokens, start, stop, kind)?;
+                tokens = push_token(tokens, start, stop, kind)?;
                 if can_change_openings(kind) {
                     let spelling = slice(bytes, start, stop);
                     update_openings(&mut openings, &mut region, kind, spelling, start)?;

@@ -1,4 +1,4 @@
-use Rattle.std.proofs.Common.{sym, ◌∙◌, arith}
+use Rattle.std.proofs.Common.{◌-◌, sym, ap, ◌∙◌, arith}
 use Rattle.hcl_scan.specs.Inner.Openings.{modes_of, places_of}
 use Rattle.hcl_scan.proofs.plain.push_in_mode.Goals as goal
 
@@ -22,4 +22,5 @@ loop-bytes-preserved c =
     record {
       state = step c.loop-bytes.at (modes_of openings) (places_of openings) c.requires.mode gap found c.loop-bytes.invariant.state;
       onward = omega (arith, gap, c.in-Some-put_plain.ensures.onward, c.loop-bytes.invariant.onward);
+      room = c.loop-bytes.invariant.room ∙ ap (λ n. n - 2) (sym c.in-Some-put_plain.ensures.capacity);
     }

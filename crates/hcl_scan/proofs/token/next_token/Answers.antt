@@ -1,11 +1,6 @@
-use Rattle.hcl_scan.specs.Modes.Mode.{Quoted, Heredoc}
+use Rattle.hcl_scan.specs.Modes.Mode.{Heredoc}
 use Rattle.hcl_scan.proofs.Steps.{token_within}
 use Rattle.hcl_scan.proofs.token.next_token.Goals as goal
-
-pub returns-in-Quoted-clause-within : goal.returns-in-Quoted-clause-within
-returns-in-Quoted-clause-within c =
-    let found = rw c.as_bytes-bytes.ensures.value at c.quoted_token.ensures in
-    token_within Quoted c.args.text.now c.args.at tt c.requires.within c.requires.utf8 _ found
 
 pub returns-in-Heredoc-clause-within : goal.returns-in-Heredoc-clause-within
 returns-in-Heredoc-clause-within c =

@@ -69,7 +69,7 @@ scan-preserved c =
     let found = sym plain.ensures.token ∙ c.in-Some.is in
     let more = one_more text plain.result.0.items at modes places start kind c.in-Some.len plain.ensures.state plain.ensures.gap found in
     let item : Span = record { start = start; stop = stop; kind = kind } in
-    let pushed = c.in_ok-push_token-in-Some.ensures in
+    let pushed = c.in_ok-tokens-in-Some.ensures in
     let shifted = c.can_change_openings.ensures.modes (slice_range text start stop) modes c.if-can_change_openings.false in
     let placed = c.can_change_openings.ensures.places start modes places c.if-can_change_openings.false in
     let tokens = plain.result.0.items ++ item ∷ [] in
@@ -93,7 +93,7 @@ scan-preserved-in_ok-update_openings-in-Some c =
     let found = sym plain.ensures.token ∙ c.in-Some.is in
     let more = one_more text plain.result.0.items at modes places start kind c.in-Some.len plain.ensures.state plain.ensures.gap found in
     let item : Span = record { start = start; stop = stop; kind = kind } in
-    let pushed = c.in_ok-push_token-in-Some.ensures in
+    let pushed = c.in_ok-tokens-in-Some.ensures in
     let spelling = rw same at c.slice-spelling.ensures in
     let shifted = c.in_ok-update_openings-in-Some.ensures.modes ∙ ap (λ (s : List ℕ). modes_after kind s modes) spelling in
     let placed = c.in_ok-update_openings-in-Some.ensures.places in
