@@ -88,7 +88,7 @@ fn push_mark(tokens: &mut Vec<Span>, text: &[u8]) -> Result<usize, AllocError>
 
 /// Returns a list with memory for one more token.
 #[inline(never)]
-fn grown(buffer: Vec<Span>) -> Result<Vec<Span>, AllocError>
+fn reserve_one(buffer: Vec<Span>) -> Result<Vec<Span>, AllocError>
     ensures items { IfOk result (λ tokens. tokens.items ≡ buffer.items) }
     ensures reserved { IfOk result (λ tokens. vec_len tokens < vec_capacity tokens) }
 {
@@ -113,7 +113,7 @@ fn push_token(
 {
     let mut tokens = buffer;
     if tokens.len() == tokens.capacity() {
-        tokens = grown(tokens)?;
+        tokens = reserve_one(tokens)?;
         put(&mut tokens, start, stop, kind);
     } else {
         put(&mut tokens, start, stop, kind);
