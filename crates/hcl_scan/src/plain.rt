@@ -8,7 +8,7 @@
 //! `tokenize_str` adds each token that is not added here.
 
 ghost use Rattle.std.specs.Prelude.{◌≡◌, ◌+◌, ◌<◌, ◌≤◌, ◌++◌, ◌∷◌, ℕ, List, [], false, length, drop, slice_index, None, Some, IfSome, IsUtf8, vec_len, vec_capacity};
-ghost use Rattle.hcl_token.specs.declared.kind.Kind.TheVariants.{QuoteOpen};
+ghost use Rattle.hcl_token.specs.declared.kind.Kind.TheVariants.{QuoteOpen, QuoteLit, QuoteClose};
 ghost use Rattle.hcl_scan.specs.Tokenization.{MAX_TEXT};
 ghost use Rattle.hcl_scan.specs.Modes as spec;
 ghost use Rattle.hcl_scan.specs.Modes.{mode_of, is_literal};
@@ -41,9 +41,41 @@ pub fn put(tokens: &mut Vec<Span>, start: usize, stop: usize, kind: Kind)
     tokens.push_reserved(Span::new(start as u32, stop as u32, kind));
 }
 
+/// Adds a `"`, the text from a place up to another, and the `"` after it.
+#[inline(always)]
+fn put_text(tokens: &mut Vec<Span>, start: usize, from: usize, to: usize)
+    requires ordered { (start < from) × (from ≤ to) }
+    requires short { to < MAX_TEXT }
+    requires reserved { vec_len tokens.old + 3 ≤ vec_capacity tokens.old }
+    ensures items { tokens.new.items
+        ≡ ((tokens.old.items ++ token_at start from QuoteOpen ∷ [])
+        ++ token_at from to QuoteLit ∷ [])
+        ++ token_at to (to + 1) QuoteClose ∷ [] }
+    ensures capacity { vec_capacity tokens.new ≡ vec_capacity tokens.old }
+{
+    put(tokens, start, from, Kind::QuoteOpen);
+    put(tokens, from, to, Kind::QuoteLit);
+    put(tokens, to, to + 1, Kind::QuoteClose);
+}
+
+/// Adds a `"` and the `"` after it.
+#[inline(always)]
+fn put_empty(tokens: &mut Vec<Span>, start: usize, from: usize)
+    requires ordered { start < from }
+    requires short { from < MAX_TEXT }
+    requires reserved { vec_len tokens.old + 2 ≤ vec_capacity tokens.old }
+    ensures items { tokens.new.items
+        ≡ (tokens.old.items ++ token_at start from QuoteOpen ∷ [])
+        ++ token_at from (from + 1) QuoteClose ∷ [] }
+    ensures capacity { vec_capacity tokens.new ≡ vec_capacity tokens.old }
+{
+    put(tokens, start, from, Kind::QuoteOpen);
+    put(tokens, from, from + 1, Kind::QuoteClose);
+}
+
 /// Adds the `"` at a place, the text after it, if there is any, and the `"` after that.
 #[inline(always)]
-fn put_text(tokens: &mut Vec<Span>, text: &[u8], start: usize, first: usize, len: usize)
+fn put_string(tokens: &mut Vec<Span>, text: &[u8], start: usize, first: usize, len: usize)
     requires first { 0 < first }
     requires len { len ≡ run_length quote_unit false (drop (start + first) text.now) }
     requires quote { slice_index text.now (start + first + len) ≡ 34 }
@@ -58,14 +90,11 @@ fn put_text(tokens: &mut Vec<Span>, text: &[u8], start: usize, first: usize, len
         → IsTokenizedTo text.now tokens.new.items (start + first + len + 1) modes places }
 {
     let from = start + first;
-    put(tokens, start, from, Kind::QuoteOpen);
     if len == 0 {
-        put(tokens, from, from + 1, Kind::QuoteClose);
+        put_empty(tokens, start, from);
         return;
     }
-    let to = from + len;
-    put(tokens, from, to, Kind::QuoteLit);
-    put(tokens, to, to + 1, Kind::QuoteClose);
+    put_text(tokens, start, from, from + len);
 }
 
 /// Adds the quoted text at a place, if there is any and memory is reserved, and returns where it
@@ -120,7 +149,7 @@ fn put_plain(
         Kind::QuoteOpen => {
             let text_len = quoted_len(text, stop);
             if byte_at(text, stop + text_len) == b'"' {
-                put_text(tokens, text, start, len, text_len);
+                put_string(tokens, text, start, len, text_len);
                 Some(stop + text_len + 1)
             } else {
                 None

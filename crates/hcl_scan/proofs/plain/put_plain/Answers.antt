@@ -9,7 +9,7 @@ use Rattle.hcl_scan.proofs.plain.put_plain.Goals as goal
 pub returns-then-byte_at-eq34-clause-state : goal.returns-then-byte_at-eq34-clause-state
 returns-then-byte_at-eq34-clause-state c = λ at modes places mode start_is found state.
     let quote = found ∙ ap (λ k. Some (k, c.args.len)) c.in-QuoteOpen.is in
-    c.put_text.ensures.state at modes places start_is quote state
+    c.put_string.ensures.state at modes places start_is quote state
 
 pub returns-else-can_change_openings_in-clause-state : goal.returns-else-can_change_openings_in-clause-state
 returns-else-can_change_openings_in-clause-state c = λ at modes places mode start_is found state.
