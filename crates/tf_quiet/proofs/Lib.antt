@@ -11,4 +11,3 @@ mod QuietBlocks
 mod QuietNodes
 mod QuietMembers
 mod QuietHeads
-mod SnakeCaseLemmas

@@ -10,10 +10,10 @@ ghost use Rattle.tf_rules.specs.SnakeCase.{is_snake_case};
 ghost use Rattle.tf_rules.specs.Spelling.{token_text};
 
 use crate::heads::{is_kind, is_snake_label, is_spelled, token_text};
-use crate::snake_case::is_snake_case;
 use crate::tokens::{is_quiet, quiet_line_end};
 use hcl_scan::Scanned;
 use hcl_token::Kind;
+use tf_rules::is_snake_case;
 
 /// What was seen of some members: where they end, and whether there is an attribute `type` and one
 /// `description` among them.

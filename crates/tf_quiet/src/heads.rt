@@ -7,9 +7,9 @@ ghost use Rattle.std.specs.Str.{bytes_eq};
 ghost use Rattle.tf_quiet.specs.QuietHeads.{is_text_label, is_snake_label, is_quiet_after_word, is_quiet_head};
 ghost use Rattle.tf_rules.specs.Spelling.{token_text};
 
-use crate::snake_case::is_snake_case;
 use hcl_scan::Scanned;
 use hcl_token::Kind;
+use tf_rules::is_snake_case;
 
 /// Returns whether a token is there, of this kind.
 #[tactic(auto, unfolding(hcl_grammar::specs::Tokens::same_kind))]

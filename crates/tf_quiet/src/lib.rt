@@ -4,7 +4,6 @@
 mod blocks;
 mod heads;
 pub mod laws;
-mod snake_case;
 mod tokens;
 
 pub use blocks::quiet_block_end;
