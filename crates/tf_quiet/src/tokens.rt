@@ -4,7 +4,8 @@ ghost use Rattle.std.specs.Prelude.{◌≡◌, ◌<◌, ◌+◌, ◌-◌, ◌^�
 ghost use Rattle.hcl_scan.specs.Follows.{tokens_of};
 ghost use Rattle.hcl_token.specs.declared.kind.Kind.TheVariants.{LineEnd};
 ghost use Rattle.hcl_token.specs.TokenizedText.{kind_of, spelling_of};
-ghost use Rattle.tf_quiet.specs.LineEnds.{depth_after, is_line_end, line_end_from};
+ghost use Rattle.tf_quiet.specs.Inner.TokenClasses.{class_of};
+ghost use Rattle.tf_quiet.specs.LineEnds.{depth_after, line_end_from};
 ghost use Rattle.tf_quiet.specs.QuietTokens.{continues, continues_after, is_quiet_after_quote, is_quiet_operand, is_no_equality, is_quiet_at, AreQuiet};
 ghost use Rattle.tf_rules.specs.Rules.Lookup.{is_lookup_token};
 
@@ -26,6 +27,7 @@ fn continues(scanned: &Scanned<'_>, n: usize) -> bool
 
 /// Returns whether no template is in an interpolation, from token `from` on, and quoted text goes on
 /// after its end.
+#[inline(never)]
 fn continues_after(scanned: &Scanned<'_>, from: usize) -> bool
     ensures { result ≡ continues_after (drop from scanned.now.pairs) }
 {
@@ -91,52 +93,84 @@ fn is_lookup(scanned: &Scanned<'_>, n: usize) -> bool
     scanned.spelling(n) == b"lookup".as_slice()
 }
 
-/// Returns whether no rule at a node can find anything at this token.
-pub fn is_quiet(scanned: &Scanned<'_>, n: usize) -> bool
-    requires { n < length scanned.now.pairs }
-    ensures { result ≡ is_quiet_at scanned.now.pairs n }
+/// Returns the number of brackets, if a token is quiet.
+#[inline(always)]
+fn depth_if(is_quiet: bool, depth: usize) -> Option<usize>
+    ensures { IfSome result (λ d. (is_quiet ≡ true) × (d ≡ depth)) }
+{
+    if is_quiet { Some(depth) } else { None }
+}
+
+/// Returns how many brackets are open after this token, of this kind, if no rule at a node can find
+/// anything at it.
+#[inline(always)]
+fn depth_after_quiet(scanned: &Scanned<'_>, n: usize, kind: Kind, depth: usize) -> Option<usize>
+    requires here { Some kind ≡ kind_of scanned.now.pairs n }
+    requires fits { depth + 1 < 2 ^ 64 }
+    ensures quiet { IfSome result (λ _. is_quiet_at scanned.now.pairs n ≡ true) }
+    ensures depth { IfSome result (λ d. d ≡ depth_after kind depth) }
 {
     let _count = scanned.len();
-    match scanned.kind(n) {
-        Kind::DotIndex => false,
-        Kind::DoubleEqual | Kind::NotEqual => is_quiet_operand(scanned, n + 1),
-        Kind::CloseBracket | Kind::InlineComment | Kind::LineEnd | Kind::LineComment => {
-            is_no_equality(scanned, n + 1)
-        }
-        Kind::Identifier => !is_lookup(scanned, n),
-        Kind::QuoteOpen => is_quiet_after_quote(scanned, n + 1),
-        _ => true,
-    }
-}
-
-fn is_line_end(kind: Kind) -> bool
-    ensures { result ≡ is_line_end kind }
-{
     match kind {
-        Kind::LineEnd => true,
-        _ => false,
-    }
-}
-
-/// Returns how many brackets are open after a token of this kind.
-fn depth_after(kind: Kind, depth: usize) -> usize
-    requires { depth + 1 < 2 ^ 64 }
-    ensures { result ≡ depth_after kind depth }
-{
-    match kind {
+        Kind::DotIndex => None,
+        Kind::DoubleEqual | Kind::NotEqual => depth_if(is_quiet_operand(scanned, n + 1), depth),
+        Kind::InlineComment | Kind::LineEnd | Kind::LineComment => depth_if(
+            is_no_equality(scanned, n + 1),
+            depth,
+        ),
+        Kind::CloseBracket => depth_if(is_no_equality(scanned, n + 1), depth.saturating_sub(1)),
+        Kind::Identifier => depth_if(!is_lookup(scanned, n), depth),
+        Kind::QuoteOpen => depth_if(is_quiet_after_quote(scanned, n + 1), depth),
         Kind::OpenParen
         | Kind::OpenBracket
         | Kind::OpenBrace
         | Kind::InterpOpen
-        | Kind::DirectiveOpen => depth + 1,
-        Kind::CloseParen | Kind::CloseBracket | Kind::CloseBrace | Kind::SeqClose =>
-            depth.saturating_sub(1),
-        _ => depth,
+        | Kind::DirectiveOpen => Some(depth + 1),
+        Kind::CloseParen | Kind::CloseBrace | Kind::SeqClose => Some(depth.saturating_sub(1)),
+        _ => Some(depth),
+    }
+}
+
+/// Returns whether no rule at a node can find anything at this token; it errs to one side alone.
+pub fn is_quiet(scanned: &Scanned<'_>, n: usize) -> bool
+    requires { n < length scanned.now.pairs }
+    ensures { result ≡ true → is_quiet_at scanned.now.pairs n ≡ true }
+{
+    depth_after_quiet(scanned, n, scanned.kind(n), 0).is_some()
+}
+
+/// Tokens that are quiet whatever is after them, and that open and close nothing.
+const PLAIN: u8 = 0;
+
+/// Names.
+const NAME: u8 = 1;
+
+/// Line ends.
+const LINE_END: u8 = 2;
+
+/// All others.
+const OTHER: u8 = 3;
+
+/// Returns the class of a token of this kind.
+#[inline(always)]
+fn class_of(kind: Kind) -> u8
+    ensures { result ≡ class_of kind }
+{
+    match kind {
+        Kind::Identifier => NAME,
+        Kind::LineEnd => LINE_END,
+        Kind::LineComment | Kind::InlineComment | Kind::DotIndex => OTHER,
+        Kind::DoubleEqual | Kind::NotEqual => OTHER,
+        Kind::OpenBracket | Kind::CloseBracket | Kind::OpenParen | Kind::CloseParen => OTHER,
+        Kind::OpenBrace | Kind::CloseBrace | Kind::QuoteOpen => OTHER,
+        Kind::SeqClose | Kind::InterpOpen | Kind::DirectiveOpen => OTHER,
+        _ => PLAIN,
     }
 }
 
 /// Returns the place after the first line end that is outside of brackets, if all tokens from
 /// number `from` up to there are quiet. There a member ends that begins at `from`, if one does.
+#[inline(never)]
 pub fn quiet_line_end(scanned: &Scanned<'_>, from: usize) -> Option<usize>
     ensures quiet { IfSome result (λ to. AreQuiet scanned.now.pairs from to) }
     ensures line { IfSome result (λ to. kind_of scanned.now.pairs (to - 1) ≡ Some LineEnd) }
@@ -145,15 +179,27 @@ pub fn quiet_line_end(scanned: &Scanned<'_>, from: usize) -> Option<usize>
     let mut depth = 0;
     let mut n = from;
     'quiet: while n < scanned.len() {
-        if !is_quiet(scanned, n) {
-            return None;
-        }
         let kind = scanned.kind(n);
-        n += 1;
-        if is_line_end(kind) && depth == 0 {
-            return Some(n);
+        let class = class_of(kind);
+        if class == PLAIN {
+            n += 1;
+            continue;
         }
-        depth = depth_after(kind, depth);
+        if class == NAME {
+            if is_lookup(scanned, n) {
+                return None;
+            }
+            n += 1;
+            continue;
+        }
+        if class == LINE_END && depth == 0 {
+            if !is_no_equality(scanned, n + 1) {
+                return None;
+            }
+            return Some(n + 1);
+        }
+        depth = depth_after_quiet(scanned, n, kind, depth)?;
+        n += 1;
     }
     None
 }
