@@ -11,3 +11,4 @@ mod QuietBlocks
 mod QuietNodes
 mod QuietMembers
 mod QuietHeads
+mod QuietLines

@@ -10,7 +10,7 @@ ghost use Rattle.tf_rules.specs.SnakeCase.{is_snake_case};
 ghost use Rattle.tf_rules.specs.Spelling.{token_text};
 
 use crate::heads::{is_kind, is_snake_label, is_spelled, token_text};
-use crate::tokens::{is_quiet, quiet_line_end};
+use crate::tokens::{is_no_equality, quiet_line_end};
 use hcl_scan::Scanned;
 use hcl_token::Kind;
 use tf_rules::is_snake_case;
@@ -22,20 +22,6 @@ struct Seen {
     end: usize,
     typed: bool,
     described: bool,
-}
-
-/// Returns whether these tokens are there and quiet.
-fn are_quiet(scanned: &Scanned<'_>, from: usize, to: usize) -> bool
-    ensures { result ≡ true → AreQuiet scanned.now.pairs from to }
-{
-    let mut n = from;
-    'each: while n < to {
-        if n >= scanned.len() || !is_quiet(scanned, n) {
-            return false;
-        }
-        n += 1;
-    }
-    true
 }
 
 /// Returns whether a line end is here.
@@ -64,10 +50,10 @@ fn past_line(scanned: &Scanned<'_>, n: usize) -> Option<usize>
     ensures line { IfSome result (λ to. IsLine scanned.now.pairs n to) }
     ensures later { IfSome result (λ to. n < to) }
 {
-    if is_line(scanned, n) && are_quiet(scanned, n, n + 1) {
+    if is_line(scanned, n) && is_no_equality(scanned, n + 1) {
         return Some(n + 1);
     }
-    if is_comment_line(scanned, n) && are_quiet(scanned, n, n + 2) {
+    if is_comment_line(scanned, n) && is_no_equality(scanned, n + 2) {
         return Some(n + 2);
     }
     None
@@ -178,17 +164,16 @@ fn members(scanned: &Scanned<'_>, from: usize, names: bool) -> Option<Seen>
 }
 
 /// Returns what is seen of a block whose opening brace is token `brace`, and which begins with
-/// token `from`: its members, and the place after its last line.
+/// token `from`, whose tokens before the brace are quiet: its members, and the place after its last
+/// line.
 fn block(scanned: &Scanned<'_>, from: usize, brace: usize, names: bool) -> Option<Seen>
-    requires { length scanned.now.pairs + 8 < 2 ^ 64 }
+    requires fits { length scanned.now.pairs + 8 < 2 ^ 64 }
+    requires head { AreQuiet scanned.now.pairs from brace }
     ensures quiet { IfSome result (λ s. AreQuiet scanned.now.pairs from s.end) }
     ensures line { IfSome result (λ s. kind_of scanned.now.pairs (s.end - 1) ≡ Some LineEnd) }
     ensures body { IfSome result (λ s. IsSeenBody scanned.now.pairs names brace s.typed s.described) }
 {
-    if brace >= scanned.len()
-        || !is_kind(scanned, brace, Kind::OpenBrace)
-        || !are_quiet(scanned, from, brace + 1)
-    {
+    if brace >= scanned.len() || !is_kind(scanned, brace, Kind::OpenBrace) {
         return None;
     }
     let start = past_line(scanned, brace + 1)?;
@@ -246,6 +231,9 @@ fn quiet_declaration_end(scanned: &Scanned<'_>, from: usize, word: &[u8]) -> Opt
     ensures line { IfSome result (λ to. kind_of scanned.now.pairs (to - 1) ≡ Some LineEnd) }
     ensures nothing { IfSome result (λ to. HasNoBlockFindings scanned.now.pairs from) }
 {
+    if !is_complete(word, true, true) {
+        return None;
+    }
     if !is_snake_label(scanned, from + 1) || !is_kind(scanned, from + 3, Kind::QuoteClose) {
         return None;
     }

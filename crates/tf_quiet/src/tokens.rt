@@ -73,7 +73,7 @@ fn is_quiet_operand(scanned: &Scanned<'_>, n: usize) -> bool
 }
 
 /// Returns whether a token is neither `==` nor `!=`.
-fn is_no_equality(scanned: &Scanned<'_>, n: usize) -> bool
+pub fn is_no_equality(scanned: &Scanned<'_>, n: usize) -> bool
     ensures { result ≡ is_no_equality (kind_of scanned.now.pairs n) }
 {
     if n >= scanned.len() {
@@ -129,14 +129,6 @@ fn depth_after_quiet(scanned: &Scanned<'_>, n: usize, kind: Kind, depth: usize) 
         Kind::CloseParen | Kind::CloseBrace | Kind::SeqClose => Some(depth.saturating_sub(1)),
         _ => Some(depth),
     }
-}
-
-/// Returns whether no rule at a node can find anything at this token; it errs to one side alone.
-pub fn is_quiet(scanned: &Scanned<'_>, n: usize) -> bool
-    requires { n < length scanned.now.pairs }
-    ensures { result ≡ true → is_quiet_at scanned.now.pairs n ≡ true }
-{
-    depth_after_quiet(scanned, n, scanned.kind(n), 0).is_some()
 }
 
 /// Tokens that are quiet whatever is after them, and that open and close nothing.

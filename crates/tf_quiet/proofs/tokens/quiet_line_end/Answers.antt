@@ -2,7 +2,7 @@ use Rattle.std.proofs.Common.{◌≡◌, ◌+◌, ℕ, Option, Some, suc, inl, i
 use Rattle.hcl_scan.specs.Follows.{tokens_of}
 use Rattle.hcl_token.specs.TokenizedText.{kind_of}
 use Rattle.hcl_token.specs.declared.kind.Kind.TheVariants.{LineEnd}
-use Rattle.tf_quiet.specs.LineEnds.{is_line_end, line_end_by, line_end_from}
+use Rattle.tf_quiet.specs.LineEnds.{line_end_by, line_end_from}
 use Rattle.tf_quiet.proofs.QuietRuns.{one_more}
 use Rattle.tf_quiet.proofs.LineWalks.{line_class, other_class, ends_here, goes_on, by_other, by_inner, depth_fits, plain_passed, name_passed, line_end_at}
 use Rattle.tf_quiet.proofs.tokens.quiet_line_end.Goals as goal
