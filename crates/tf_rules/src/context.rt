@@ -3,7 +3,8 @@
 ghost use Rattle.std.specs.Prelude.{◌≡◌, ◌++◌, length, OnOk};
 ghost use Rattle.tf_rules.specs.Findings.{finding_at, valid_findings};
 
-use crate::{Finding, Fix, Message, Rule, RuleSet, add_finding};
+use crate::finding::is_valid_at;
+use crate::{Finding, Fix, Message, Rule, RuleSet};
 use hcl_scan::Scanned;
 use std::alloc::AllocError;
 
@@ -31,7 +32,12 @@ impl<'s, 't> LintContext<'s, 't> {
             ++ valid_findings (length self.now.scanned.now.pairs)
             (finding_at rule first past message fix)) }
     {
+        // what is given is tested: a finding would have to be unpacked again
+        let is_valid = is_valid_at(self.scanned.len(), first, past, &fix);
         let finding = Finding::new(rule, first, past, message, fix)?;
-        add_finding(found, self.scanned.len(), finding)
+        if is_valid {
+            found.push(finding)?;
+        }
+        Ok(())
     }
 }

@@ -1,6 +1,6 @@
 //! What a rule finds.
 
-ghost use Rattle.std.specs.Prelude.{◌≡◌, ◌++◌, ℕ, true, false, IfOk, IfErr, OnOk, OnErr};
+ghost use Rattle.std.specs.Prelude.{◌≡◌, ◌++◌, ◌&&◌, ℕ, nat_lt, nat_le, true, false, IfOk, IfErr, OnOk, OnErr};
 ghost use Rattle.std.specs.Prelude.{filter, List, ◌∷◌, []};
 ghost use Rattle.tf_rules.specs.declared.finding.Finding.{Finding};
 ghost use Rattle.tf_rules.specs.Findings.{is_fix_valid, is_fixable, is_valid, IsValidFinding};
@@ -100,6 +100,13 @@ fn is_fix_valid(first: usize, past: usize, fix: &Option<Fix>) -> bool
     }
 }
 
+/// Whether a finding of these tokens with this fix is valid in a text that has `count` tokens.
+pub fn is_valid_at(count: usize, first: usize, past: usize, fix: &Option<Fix>) -> bool
+    ensures { result ≡ (nat_lt first past && (nat_le past count && is_fix_valid first past fix.now)) }
+{
+    first < past && past <= count && is_fix_valid(first, past, fix)
+}
+
 impl Finding {
     /// Creates a finding.
     ///
@@ -197,9 +204,7 @@ impl Finding {
     pub fn is_valid(&self, count: usize) -> bool
         ensures { result ≡ is_valid count self.now }
     {
-        self.first() < self.past()
-            && self.past() <= count
-            && is_fix_valid(self.first(), self.past(), &self.fix())
+        is_valid_at(count, self.first(), self.past(), &self.fix())
     }
 }
 
