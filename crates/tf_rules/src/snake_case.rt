@@ -27,6 +27,11 @@ fn is_valid_rest(rest: &[u8]) -> bool
 {
     let mut after_underscore = false;
     for c in rest {
+        // most are letters
+        if is_lower(*c) {
+            after_underscore = false;
+            continue;
+        }
         if !is_valid_next(after_underscore, *c) {
             return false;
         }
