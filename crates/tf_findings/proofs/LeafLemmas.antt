@@ -1,4 +1,4 @@
--- Terms at which no rule finds anything, and in which no nodes stand.
+-- Terms at which no rule finds anything.
 use Rattle.std.proofs.Common.{◌≡◌, Bool, true, false, List, [], ◌∷◌, ◌++◌, length, None, refl, sym, ap, ◌∙◌, append-nil}
 use Rattle.std.specs.Prelude.{if◌then◌else◌}
 use Rattle.hcl_grammar.specs.declared.tree.Primary.{out-Primary}
@@ -29,8 +29,14 @@ nothing_found : (rules : RuleSet) (pairs : List Pair) (role : Role) (t : Term) �
 nothing_found rules pairs role t sole called =
     both _ _ (chosen (has_rule rules DeprecatedInterpolation) _ (ap (interpolation_findings pairs role t.first t.past) sole)) (chosen (has_rule rules DeprecatedLookup) _ called)
 
+-- a term at which nothing is found, with what stands in it
+pub branch : (rules : RuleSet) (pairs : List Pair) (role : Role) (t : Term) {xs ys : List Finding} → sole_interpolation (out-Primary t.kind) ≡ None
+    → lookup_findings pairs t.first t.past (out-Primary t.kind) ≡ [] → Collects rules pairs (primary_children (out-Primary t.kind)) xs ys
+    → Collects rules pairs (term role t ∷ []) xs ys
+branch rules pairs role t {xs} sole called inside =
+    whole (term role t) (sym (ap (λ fs. xs ++ valid_findings (length pairs) fs) (nothing_found rules pairs role t sole called) ∙ append-nil xs)) inside
+
 pub leaf : (rules : RuleSet) (pairs : List Pair) (role : Role) (t : Term) (xs : List Finding) → sole_interpolation (out-Primary t.kind) ≡ None
     → lookup_findings pairs t.first t.past (out-Primary t.kind) ≡ [] → primary_children (out-Primary t.kind) ≡ []
     → Collects rules pairs (term role t ∷ []) xs xs
-leaf rules pairs role t xs sole called inside =
-    whole (term role t) (sym (ap (λ fs. xs ++ valid_findings (length pairs) fs) (nothing_found rules pairs role t sole called) ∙ append-nil xs)) (nowhere inside)
+leaf rules pairs role t xs sole called inside = branch rules pairs role t sole called (nowhere inside)

@@ -236,6 +236,10 @@ fn walk_term(
         // no rule finds anything here, and no nodes are inside
         Primary::Number => Ok(()),
         Primary::Identifier => Ok(()),
+        // nor here, and what is known of the tokens stays
+        Primary::Tuple(elements) => walk_exprs(cx, Role::Element, elements.get(), found),
+        Primary::Object(elements) => walk_elems(cx, elements.get(), found),
+        Primary::Parens(inner) => walk_boxed(cx, Role::Parentheses, inner, found),
         _ => {
             let mut unbroken = cx.unbroken;
             check_term_beyond(&cx.lint, &mut unbroken, role, t, found)?;
