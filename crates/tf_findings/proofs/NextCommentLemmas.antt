@@ -1,5 +1,5 @@
 -- Tokens that are no comments are passed by without a look at each.
-use Rattle.std.proofs.Common.{◌≡◌, ℕ, zero, suc, ◌+◌, ◌-◌, ◌<◌, ◌≤◌, true, List, [], length, drop, Some, None, refl, ap, sym, subst, ◌∙◌, inl, inr, arith}
+use Rattle.std.proofs.Common.{◌≡◌, ℕ, zero, suc, ◌+◌, ◌-◌, ◌<◌, ◌≤◌, not, ◌&&◌, Bool, true, false, List, [], length, drop, Some, None, refl, ap, sym, subst, ◌∙◌, inl, inr, arith}
 use Rattle.std.proofs.lemmas.Bool.{cases_lt}
 use Rattle.std.proofs.lemmas.Option.{slice_get_cases, slice_get_past}
 use Rattle.std.specs.Option.{option_map}
@@ -14,6 +14,11 @@ use Rattle.tf_findings.specs.Silencing.{silenced_from}
 use Rattle.tf_findings.specs.Inner.NextComment.{IsNoComment, AreNoComments}
 use Rattle.tf_findings.proofs.CommentLemmas.{found_from, found_step, other_adds}
 use Rattle.tf_findings.proofs.LineLemmas.{quiet_kind, quiet_step}
+
+pub both_hold : (a b : Bool) → (a && not b) ≡ true → (a ≡ true) × (b ≡ false)
+both_hold true true h = absurd (cc)
+both_hold true false h = (refl, refl)
+both_hold false b h = absurd (cc)
 
 pub some_inj : (a b : Kind) → Some a ≡ Some b → a ≡ b
 some_inj a b e = cc e
@@ -32,6 +37,22 @@ none_more pairs from i h here = record { each = λ n below above kind is. by_pla
       | inl l ↦ h.each n below l kind is
       | inr more ↦ let e : n ≡ i = omega (arith, above, more) in here kind (subst (λ (m : ℕ). Some kind ≡ kind_of pairs m) e is)
     ]
+
+-- tokens, and those after them
+pub none_joined : (pairs : List Pair) (from middle to : ℕ) → AreNoComments pairs from middle → AreNoComments pairs middle to → AreNoComments pairs from to
+none_joined pairs from middle to a b = record {
+  each = λ n below above kind is. elim (cases_lt n middle) [
+    | inl l ↦ a.each n below l kind is
+    | inr more ↦ b.each n (omega (arith, more)) above kind is
+  ];
+}
+
+-- at a token, or after the last
+pub comment_or_past : (pairs : List Pair) (i : ℕ) → (i < length pairs → (kind : Kind) → Some kind ≡ kind_of pairs i → is_comment kind ≡ true) → (kind : Kind) → Some kind ≡ kind_of pairs i → is_comment kind ≡ true
+comment_or_past pairs i there kind is = elim (cases_lt i (length pairs)) [
+  | inl l ↦ there l kind is
+  | inr more ↦ none_past pairs i kind (omega (arith, more)) is
+]
 
 -- at and after the two places the same is found and silenced
 pub record GoesOn (pairs : List Pair) (i j : ℕ) : Type 0 where

@@ -1,16 +1,19 @@
-use Rattle.std.proofs.Common.{◌≡◌, ◌∙◌, ℕ, subst, sym, arith}
-use Rattle.tf_findings.specs.Inner.NextComment.{IsNoComment, AreNoComments}
-use Rattle.tf_findings.proofs.NextCommentLemmas.{none_more, none_past, some_inj}
+use Rattle.std.proofs.Common.{◌≡◌, ◌+◌, ℕ, length, subst, sym, arith}
+use Rattle.tf_findings.specs.Inner.NextComment.{AreNoComments}
+use Rattle.tf_findings.proofs.NextCommentLemmas.{none_joined, comment_or_past}
 use Rattle.tf_findings.proofs.next_comment.next_comment.Goals as goal
-
-pub loop-i-preserved : goal.loop-i-preserved
-loop-i-preserved c =
-    none_more c.args.scanned.now.pairs c.args.from c.loop-i.i c.loop-i.invariant (λ kind is. subst IsNoComment (some_inj c.kind.result kind (c.kind.ensures ∙ sym is)) (c.is_comment_kind.ensures.none c.if-is_comment_kind.false))
 
 pub returns-clause-none : goal.returns-clause-none
 returns-clause-none c =
-    let end : c.loop-i.i ≡ c.len.result = omega (arith, c.loop-i-test.false, c.loop-i.auto.i-end (omega (arith, c.requires, c.len-i-end.ensures.value)), c.len.ensures.value, c.len-i-end.ensures.value) in
-    subst (λ (n : ℕ). AreNoComments c.args.scanned.now.pairs c.args.from n) end c.loop-i.invariant
+    let pairs = c.args.scanned.now.pairs in
+    let from = c.args.from in
+    let near = from + c.min.result in
+    let end : c.first_comment-first.result ≡ near = omega (arith, c.if-first-near.false, c.first_comment-first.ensures.within) in
+    let first = subst (λ (n : ℕ). AreNoComments pairs from n) end c.first_comment-first.ensures.none in
+    let start = c.past_blocks-start.result in
+    none_joined pairs from start c.first_comment.result (none_joined pairs from near start first c.past_blocks-start.ensures.none) c.first_comment.ensures.none
 
 pub returns-clause-comment : goal.returns-clause-comment
-returns-clause-comment c = λ kind is. none_past c.args.scanned.now.pairs c.len.result kind (omega (arith, c.len.ensures.value)) is
+returns-clause-comment c =
+    let pairs = c.args.scanned.now.pairs in
+    comment_or_past pairs c.first_comment.result (λ within. c.first_comment.ensures.comment (omega (arith, within, c.len-count.ensures.value)))
