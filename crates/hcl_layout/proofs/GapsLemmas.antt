@@ -21,3 +21,4 @@ pub mod SplitLaw
 pub mod LineFlagLemmas
 pub mod LinePass
 pub mod FlagLemmas
+pub mod TextBytes

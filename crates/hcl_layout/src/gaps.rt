@@ -21,6 +21,7 @@ mod lines;
 mod space;
 mod spacing_flags;
 mod text;
+mod text_bytes;
 
 pub use fault::LayoutFault;
 pub use format::{formatted_text, is_laid_out, layout};

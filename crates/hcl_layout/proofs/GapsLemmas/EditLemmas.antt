@@ -42,8 +42,9 @@ gap_goes g i h n = let test : (get_or g i 0 == 32) ≡ true = grind (arith, nat_
 pub gap_ends : (g : List ℕ) (i : ℕ) → length g ≤ i → bytes_eq (drop i g) (spaces (length g - i)) ≡ true
 gap_ends g i h = let none : length g - i ≡ 0 = omega arith in ap₂ (λ (t : List ℕ) n. bytes_eq t (spaces n)) (drop_all i g h) none
 
-pub stays_kept : (g : List ℕ) (n : ℕ) → n ≡ KEEP_GAP → bytes_eq g (resolved_gap n g) ≡ true
-stays_kept g n h = let test : (n == KEEP_GAP) ≡ true = grind (arith, nat_tests) in rw test (same_self_bytes g)
+-- a gap of spaces alone
+pub all_spaces : (g : List ℕ) (n : ℕ) → g ≡ spaces (length g) → length g ≡ n → true ≡ bytes_eq g (spaces n)
+all_spaces g n h e = sym (same_self_bytes g) ∙ ap (bytes_eq g) (h ∙ ap spaces e)
 
 pub stays_spaced : (g : List ℕ) (n : ℕ) → bytes_eq g (spaces n) ≡ true → bytes_eq g (resolved_gap n g) ≡ true
 stays_spaced g n h = elim (n == KEEP_GAP) as (λ b. bytes_eq g (if b then g else spaces n) ≡ true) [

@@ -5,12 +5,12 @@ ghost use Rattle.hcl_scan.specs.Tokenization.{MAX_TEXT};
 ghost use Rattle.std.specs.List.{list_any};
 ghost use Rattle.hcl_token.specs.Place.{is_lf};
 ghost use Rattle.hcl_token.specs.Tokens.{Pair};
-ghost use Rattle.hcl_token.specs.TokenizedText.{AreUtf8};
+ghost use Rattle.hcl_token.specs.TokenizedText.{clusters_of};
 ghost use Rattle.hcl_layout.specs.Gaps.Kinds.{is_inline_comment};
 ghost use Rattle.hcl_layout.specs.Gaps.Lines.{pairs_in};
 ghost use Rattle.hcl_layout.specs.Gaps.Cells.{index_after_first, is_balanced, width, width_before, aligned};
 ghost use Rattle.hcl_layout.specs.Gaps.Inner.Stages.{widths, greatest, lines_from, with_gaps, AreAtMost, set_cell_gaps, cell_gaps_from_width};
-ghost use Rattle.hcl_layout.specs.Gaps.Inner.CodeViews.{starts_cell, cell_of, is_valid_cell, is_cell, without_repeats, AreStarts, widths_of, tokens_in, width_in, token_in, can_have_cell, is_bracket, is_comment, are_some, HasFlags, AreInside, AreLines};
+ghost use Rattle.hcl_layout.specs.Gaps.Inner.CodeViews.{starts_cell, cell_of, is_valid_cell, is_cell, without_repeats, AreStarts, widths_of, tokens_in, width_in, token_in, can_have_cell, is_bracket, is_comment, are_some, HasFlags, AreInside, AreLines, AreByteClusters};
 
 use crate::gaps::base_gaps::KEEP_GAP;
 use crate::gaps::indent::count_brackets;
@@ -205,17 +205,36 @@ fn current_gap_len(scanned: &Scanned<'_>, gaps: &[u32], i: usize) -> usize
     len as usize
 }
 
+/// Returns how many clusters token `i` has; the token is not read if each byte is known to be one.
+fn cluster_count(scanned: &Scanned<'_>, i: usize, byte_clusters: bool) -> usize
+    requires within { i < length scanned.now.pairs }
+    requires bytes { AreByteClusters byte_clusters scanned.now.pairs }
+    ensures { Some result ≡ clusters_of scanned.now.pairs i }
+{
+    if byte_clusters {
+        return scanned.spelling(i).len();
+    }
+    scanned.clusters(i)
+}
+
 /// Returns the width of the tokens `at..to`.
-fn width(scanned: &Scanned<'_>, gaps: &[u32], at: usize, to: usize) -> u32
+fn width(
+    scanned: &Scanned<'_>,
+    gaps: &[u32],
+    at: usize,
+    to: usize,
+    byte_clusters: bool,
+) -> u32
     requires same { length gaps.now ≡ length scanned.now.pairs }
     requires ordered { at ≤ to }
     requires within { to ≤ length scanned.now.pairs }
+    requires bytes { AreByteClusters byte_clusters scanned.now.pairs }
     requires bounded { width (slice_range (with_gaps gaps.now scanned.now.pairs) at to) < 2 ^ 31 }
     ensures { result ≡ width (slice_range (with_gaps gaps.now scanned.now.pairs) at to) }
 {
     let mut width = 0;
     for i in at..to {
-        width += current_gap_len(scanned, gaps, i) + scanned.clusters(i);
+        width += current_gap_len(scanned, gaps, i) + cluster_count(scanned, i, byte_clusters);
     }
     width as u32
 }
@@ -228,8 +247,10 @@ fn cell_start(
     at: usize,
     frozen: bool,
     line: LineSpan,
+    byte_clusters: bool,
 ) -> Option<CellStart>
     requires same { length gaps.now ≡ length scanned.now.pairs }
+    requires bytes { AreByteClusters byte_clusters scanned.now.pairs }
     requires ordered { at < line.past }
     requires within { line.past ≤ length scanned.now.pairs }
     requires flags { HasFlags scanned.now.pairs at line }
@@ -258,7 +279,7 @@ fn cell_start(
         None => None,
         Some(i) => Some(CellStart {
             token: i as u32,
-            width: width(scanned, gaps, at, i),
+            width: width(scanned, gaps, at, i, byte_clusters),
         }),
     }
 }
@@ -293,8 +314,10 @@ fn cell_starts(
     gaps: &[u32],
     lines: &[LineSpan],
     first: usize,
+    byte_clusters: bool,
 ) -> Result<Vec<Option<CellStart>>, AllocError>
     requires same { length gaps.now ≡ length scanned.now.pairs }
+    requires bytes { AreByteClusters byte_clusters scanned.now.pairs }
     requires within_limit { length scanned.now.pairs ≤ MAX_TEXT }
     requires within { first ≤ length scanned.now.pairs }
     requires lines { AreLines scanned.now.pairs first false lines.now }
@@ -308,7 +331,7 @@ fn cell_starts(
     let mut frozen = false;
     let mut at = first;
     for line in lines {
-        let start = cell_start(scanned, cell, gaps, at, frozen, *line);
+        let start = cell_start(scanned, cell, gaps, at, frozen, *line, byte_clusters);
         push_start(&mut starts, in_run, start)?;
         in_run = is_cell(start);
         frozen = line.next_frozen;
@@ -391,8 +414,10 @@ pub(crate) fn align(
     lines: &[LineSpan],
     gaps: &mut Vec<u32>,
     first: usize,
+    byte_clusters: bool,
 ) -> Result<(), AllocError>
     requires same { length gaps.old.items ≡ length scanned.now.pairs }
+    requires bytes { AreByteClusters byte_clusters scanned.now.pairs }
     requires within_limit { length scanned.now.pairs ≤ MAX_TEXT }
     requires within { first ≤ length scanned.now.pairs }
     requires lines { AreLines scanned.now.pairs first false lines.now }
@@ -408,7 +433,7 @@ pub(crate) fn align(
         ≡ take first (with_gaps gaps.old.items scanned.now.pairs)) }
     ensures same { OnOk result (length gaps.new.items ≡ length scanned.now.pairs) }
 {
-    let starts = cell_starts(alloc, scanned, cell, gaps, lines, first)?;
+    let starts = cell_starts(alloc, scanned, cell, gaps, lines, first, byte_clusters)?;
     set_cell_gaps(gaps, &starts);
     Ok(())
 }

@@ -1,6 +1,6 @@
 //! The edits that give a text its new gaps.
 
-ghost use Rattle.std.specs.Prelude.{◌≡◌, ◌+◌, ◌*◌, ◌<◌, ◌≤◌, ◌++◌, [], ◌∷◌, Some, length, take, replicate, slice_get, slice_index, slice_index_or, nat_lt, IfOk, OnOk};
+ghost use Rattle.std.specs.Prelude.{true, ◌≡◌, ◌+◌, ◌*◌, ◌<◌, ◌≤◌, ◌++◌, [], ◌∷◌, Some, length, take, replicate, slice_get, slice_index, slice_index_or, nat_lt, IfOk, OnOk};
 ghost use Rattle.hcl_scan.specs.Tokenization.{MAX_TEXT};
 ghost use Rattle.std.specs.Str.{bytes_eq};
 ghost use Rattle.std.specs.Option.{option_map};
@@ -11,16 +11,21 @@ ghost use Rattle.hcl_layout.specs.Gaps.Layout.{gap_piece, pieces};
 ghost use Rattle.hcl_layout.specs.Gaps.Inner.Stages.{unchanged, resolved_gap, with_gaps};
 
 use crate::gaps::base_gaps::KEEP_GAP;
+use crate::gaps::text_bytes::has_no_tab;
 use edit_record::lists::Edit;
 use hcl_scan::Scanned;
 use std::alloc::{AllocError, Global};
 
-/// Returns whether a gap is that many spaces.
-fn is_spaces(gap: &[u8], len: u32) -> bool
+/// Returns whether a gap is that many spaces. Its bytes are not read if it is known to be spaces.
+fn is_spaces(gap: &[u8], len: u32, all_spaces: bool) -> bool
+    requires { all_spaces ≡ true → gap.now ≡ spaces (length gap.now) }
     ensures { result ≡ bytes_eq gap.now (spaces len) }
 {
     if gap.len() != len as usize {
         return false;
+    }
+    if all_spaces {
+        return true;
     }
     for b in gap {
         if *b != b' ' {
@@ -30,12 +35,13 @@ fn is_spaces(gap: &[u8], len: u32) -> bool
     true
 }
 
-/// Returns whether a gap stays.
-pub(crate) fn is_unchanged(gap: &[u8], new: u32) -> bool
+/// Returns whether a gap stays; its bytes are not read if it is known to be spaces.
+pub(crate) fn is_unchanged(gap: &[u8], new: u32, all_spaces: bool) -> bool
+    requires { all_spaces ≡ true → gap.now ≡ spaces (length gap.now) }
     ensures { result ≡ bytes_eq gap.now (resolved_gap new gap.now) }
 {
     // of few gaps the number is `KEEP_GAP`, so that is tested last
-    if is_spaces(gap, new) {
+    if is_spaces(gap, new, all_spaces) {
         return true;
     }
     new == KEEP_GAP
@@ -64,7 +70,7 @@ fn push_gap(
         ≡ edits.old.items
         ++ changed_entries at (gap_piece gap.now (resolved_gap new gap.now) ∷ [])) }
 {
-    if is_unchanged(gap, new) {
+    if is_unchanged(gap, new, false) {
         return Ok(());
     }
     let spaces = spaces(alloc, new)?;
@@ -85,9 +91,10 @@ pub(crate) fn gap_edits(
         (with_gaps gaps.now scanned.now.pairs) scanned.now.last)) }
 {
     let mut edits = Vec::new(alloc);
+    let all_spaces = has_no_tab(scanned);
     for i in 0..scanned.len() {
         // most gaps stay, and this test is inlined
-        if is_unchanged(scanned.gap(i), gaps[i]) {
+        if is_unchanged(scanned.gap(i), gaps[i], all_spaces) {
             continue;
         }
         let item = scanned.item(i);
@@ -120,12 +127,13 @@ pub(crate) fn all_unchanged(scanned: &Scanned<'_>, gaps: &[u32]) -> bool
     if len == 0 {
         return scanned.last_gap().is_empty();
     }
-    if !is_unchanged(scanned.gap(0), gaps[0]) {
+    let all_spaces = has_no_tab(scanned);
+    if !is_unchanged(scanned.gap(0), gaps[0], all_spaces) {
         return false;
     }
     // from the second token on each gap has a token before it, so the loop need not ask for one
     for i in 1..len {
-        if !is_unchanged(scanned.gap(i), gaps[i]) {
+        if !is_unchanged(scanned.gap(i), gaps[i], all_spaces) {
             return false;
         }
     }

@@ -8,6 +8,7 @@ ghost use Rattle.hcl_layout.specs.Gaps.Inner.Stages.{with_gaps, mark_count};
 
 use crate::gaps::base_gaps::{fill_base_gaps, kept_gaps};
 use crate::gaps::cells::{Cell, align};
+use crate::gaps::text_bytes::has_byte_clusters;
 use hcl_scan::Scanned;
 use hcl_token::Kind;
 use std::alloc::{AllocError, Global};
@@ -37,7 +38,16 @@ pub(crate) fn layout_gaps(alloc: Global, scanned: &Scanned<'_>) -> Result<Vec<u3
     let first = mark_count(scanned);
     let mut gaps = kept_gaps(alloc, scanned)?;
     let lines = fill_base_gaps(alloc, scanned, &mut gaps, first)?;
-    align(alloc, scanned, Cell::Assignment, &lines, &mut gaps, first)?;
+    let byte_clusters = has_byte_clusters(scanned);
+    align(
+        alloc,
+        scanned,
+        Cell::Assignment,
+        &lines,
+        &mut gaps,
+        first,
+        byte_clusters,
+    )?;
     align(
         alloc,
         scanned,
@@ -45,6 +55,7 @@ pub(crate) fn layout_gaps(alloc: Global, scanned: &Scanned<'_>) -> Result<Vec<u3
         &lines,
         &mut gaps,
         first,
+        byte_clusters,
     )?;
     Ok(gaps)
 }

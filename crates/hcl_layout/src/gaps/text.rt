@@ -4,10 +4,12 @@
 ghost use Rattle.std.specs.Prelude.{◌≡◌, ◌≤◌, ◌++◌, [], length, slice_range, OnOk, IfOk};
 ghost use Rattle.hcl_token.specs.Tokens.{whole_text};
 ghost use Rattle.hcl_layout.specs.Gaps.Space.{spaces};
+ghost use Rattle.hcl_layout.specs.Gaps.Inner.CodeViews.{AreSpaces};
 ghost use Rattle.hcl_layout.specs.Gaps.Inner.Stages.{resolved_gap, with_gaps, AreUnchanged};
 
 use crate::gaps::base_gaps::KEEP_GAP;
 use crate::gaps::edits::is_unchanged;
+use crate::gaps::text_bytes::has_no_tab;
 use hcl_scan::Scanned;
 use std::alloc::{AllocError, Global};
 
@@ -42,7 +44,8 @@ fn slice(text: &[u8], from: usize, to: usize) -> &[u8]
 
 /// Returns the first token from number `from` on whose gap changes, or the number of tokens.
 #[inline(never)]
-fn next_change(scanned: &Scanned<'_>, gaps: &[u32], from: usize) -> usize
+fn next_change(scanned: &Scanned<'_>, gaps: &[u32], from: usize, all_spaces: bool) -> usize
+    requires spaces { AreSpaces all_spaces scanned.now.pairs }
     requires same { length gaps.now ≡ length scanned.now.pairs }
     requires within { from ≤ length scanned.now.pairs }
     ensures later { from ≤ result }
@@ -50,7 +53,7 @@ fn next_change(scanned: &Scanned<'_>, gaps: &[u32], from: usize) -> usize
     ensures stay { AreUnchanged scanned.now.pairs gaps.now from result }
 {
     for i in from..scanned.len() {
-        if !is_unchanged(scanned.gap(i), gaps[i]) {
+        if !is_unchanged(scanned.gap(i), gaps[i], all_spaces) {
             return i;
         }
     }
@@ -71,15 +74,16 @@ pub(crate) fn text_with_gaps(
 {
     let source = scanned.text();
     let mut text = Vec::with_capacity(alloc, capacity)?;
+    let all_spaces = has_no_tab(scanned);
     let mut from = 0;
-    let mut i = next_change(scanned, gaps, 0);
+    let mut i = next_change(scanned, gaps, 0, all_spaces);
     while i < scanned.len() {
         let gap = scanned.gap(i);
         let item = scanned.item(i);
         text.extend_from_slice(slice(source, from, item.gap_at as usize))?;
         push_gap(&mut text, gap, gaps[i])?;
         from = item.start as usize;
-        let next = next_change(scanned, gaps, i + 1);
+        let next = next_change(scanned, gaps, i + 1, all_spaces);
         i = next;
     }
     let end = source.len() - scanned.last_gap().len();

@@ -1,14 +1,16 @@
 -- What the code keeps of tokens and cells, as lists. For proofs: nothing here has to be believed.
-use Rattle.std.specs.Prelude.{◌≡◌, ℕ, Bool, true, false, slice_range, List, [], ◌∷◌, ◌++◌, length, map, drop, reverse, ◌<◌, Option, Some, None, ⊤}
-use Rattle.std.specs.List.{list_any}
+use Rattle.std.specs.Prelude.{◌≡◌, ◌==◌, ℕ, Bool, true, false, not, slice_range, List, [], ◌∷◌, ◌++◌, length, map, drop, reverse, ◌<◌, Option, Some, None, ⊤}
+use Rattle.std.specs.List.{list_any, list_all}
 use Rattle.hcl_token.specs.declared.kind.Kind.{Kind}
 use Rattle.hcl_token.specs.declared.kind.Kind.TheVariants.{LineEnd, HereOpen, HereClose, HereLit, Equal, LineComment, InlineComment, OpenBrace, CloseBrace, OpenBracket, CloseBracket, OpenParen, CloseParen, SeqClose, InterpOpen, DirectiveOpen}
 use Rattle.hcl_layout.specs.Gaps.Kinds.{is_equal, is_line_comment}
 use Rattle.hcl_layout.specs.Gaps.Lines.{Line}
 use Rattle.hcl_token.specs.Tokens.{Pair}
+use Rattle.hcl_token.specs.TokenizedText.{gap_of, spelling_of}
+use Rattle.hcl_token.specs.Place.{clusters}
 use Rattle.hcl_layout.specs.Gaps.Cells.{is_balanced, assignment, closing_comment}
 use Rattle.hcl_layout.specs.Gaps.Inner.Stages.{prev_kinds_of, SplitsLine, lines_from, open_heredocs_of, all_gap_lens, widths, cell_tokens, with_gaps}
-use Rattle.hcl_layout.specs.Gaps.Space.{prev_after_all}
+use Rattle.hcl_layout.specs.Gaps.Space.{prev_after_all, spaces}
 use Rattle.hcl_layout.specs.declared.gaps.lines.LineSpan.{LineSpan}
 use Rattle.hcl_layout.specs.declared.gaps.space.PrevKinds.{PrevKinds}
 use Rattle.hcl_layout.specs.declared.gaps.cells.Cell.{Cell}
@@ -146,3 +148,17 @@ pub record AreStarts (cell : Cell) (gaps : List ℕ) (pairs : List Pair) (first 
   pub sizes : widths_of all ≡ widths (cell_of cell) (lines_from 0 (drop first (with_gaps gaps pairs)))
   pub numbers : tokens_in all ≡ cell_tokens first (cell_of cell) (lines_from 0 (drop first (with_gaps gaps pairs)))
   pub inside : AreInside (length pairs) all
+
+-- ---- what all bytes of a text say
+
+abbrev pub is_without_tab : List ℕ → Bool
+is_without_tab text = list_all (λ b. not (b == 9)) text
+
+-- if this is so, each gap is spaces
+abbrev pub AreSpaces : Bool → List Pair → Type 0
+AreSpaces known pairs = (i : ℕ) (g : List ℕ) → Some g ≡ gap_of pairs i → known ≡ true → g ≡ spaces (length g)
+
+-- if this is so, each byte of a token is a cluster
+abbrev pub AreByteClusters : Bool → List Pair → Type 0
+AreByteClusters known pairs =
+    (i : ℕ) (s : List ℕ) → Some s ≡ spelling_of pairs i → known ≡ true → clusters s ≡ length s

@@ -1,11 +1,14 @@
 use Rattle.std.proofs.Common.{sym, ap, ◌∙◌}
 use Rattle.std.specs.Str.{bytes_eq}
 use Rattle.hcl_layout.specs.Gaps.Space.{spaces}
-use Rattle.hcl_layout.proofs.GapsLemmas.EditLemmas.{other_length, gap_differs, gap_goes, gap_ends}
+use Rattle.hcl_layout.proofs.GapsLemmas.EditLemmas.{other_length, all_spaces, gap_differs, gap_goes, gap_ends}
 use Rattle.hcl_layout.proofs.gaps.edits.is_spaces.Goals as goal
 
 pub returns-then-gap-len : goal.returns-then-gap-len
 returns-then-gap-len c = sym (other_length c.args.gap.now c.args.len c.if-gap-len.true)
+
+pub returns-then-all_spaces : goal.returns-then-all_spaces
+returns-then-all_spaces c = all_spaces c.args.gap.now c.args.len (c.requires c.if-all_spaces.true) c.if-gap-len.false
 
 pub returns-then-b-ne32 : goal.returns-then-b-ne32
 returns-then-b-ne32 c =
