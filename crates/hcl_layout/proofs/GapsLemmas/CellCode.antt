@@ -8,7 +8,7 @@ use Rattle.hcl_layout.proofs.GapsLemmas.CellLaw.{aligned_is}
 use Rattle.hcl_layout.proofs.GapsLemmas.GapLaw.{pairs_of_lines}
 use Rattle.std.proofs.Common.{take_at, drop_at, inl, inr, length-take, map, ◌++◌, append_assoc}
 use Rattle.std.specs.Option.{IfSome}
-use Rattle.std.proofs.lemmas.Bool.{cases_lt}
+use Rattle.std.proofs.lemmas.Bool.{cases_lt, not-true}
 use Rattle.std.proofs.lemmas.List.{take-append-drop, drop_more, append-nil, length-take-le, length-drop, drop_all, drop-drop, drop-take, take-take}
 use Rattle.hcl_token.specs.declared.kind.Kind.{Kind}
 use Rattle.hcl_token.specs.Tokens.{Pair}
@@ -17,7 +17,8 @@ use Rattle.hcl_token.specs.TokenizedText.{kind_of, spelling_of}
 use Rattle.hcl_layout.specs.Gaps.Kinds.{is_inline_comment, is_equal, is_line_comment}
 use Rattle.hcl_layout.specs.Gaps.Lines.{Line, pairs_in}
 use Rattle.hcl_layout.specs.Gaps.Cells.{index_of_first, index_after_first, has_cells, is_balanced}
-use Rattle.hcl_layout.specs.Gaps.Inner.CodeViews.{starts_cell, cell_of, is_valid_cell, width_in, token_in, widths_of, tokens_in, AreInside}
+use Rattle.hcl_layout.specs.Gaps.Inner.CodeViews.{starts_cell, cell_of, is_valid_cell, width_in, token_in, widths_of, tokens_in, can_have_cell, are_some, HasFlags, AreInside}
+use Rattle.hcl_layout.specs.declared.gaps.lines.LineSpan.{LineSpan}
 use Rattle.hcl_layout.specs.declared.gaps.cells.CellStart.{CellStart}
 use Rattle.hcl_layout.specs.declared.gaps.cells.Cell.{Cell}
 use Rattle.hcl_layout.specs.declared.gaps.cells.Cell.TheVariants.{Assignment, ClosingComment}
@@ -26,6 +27,7 @@ use Rattle.hcl_layout.specs.Gaps.Inner.Stages.{widths, greatest, lines_from, set
 use Rattle.hcl_layout.proofs.GapsLemmas.TokensKept.{SameTokens}
 use Rattle.hcl_layout.proofs.GapsLemmas.CellGaps.{AreInLines, AreSmall, moved_gaps, greatest_within, within_drop, gaps_same, gaps_length, splits_same, same_range, assignment_same, comment_same}
 use Rattle.hcl_layout.proofs.GapsLemmas.LineLemmas.{turn, kind_is, spelling_is}
+use Rattle.hcl_layout.proofs.GapsLemmas.LineFlagLemmas.{none_later, quiet_comments}
 
 none_left : (pairs : List Pair) (i past : ℕ) → past ≤ i → slice_range pairs i past ≡ []
 none_left pairs i past h = let none : past - i ≡ 0 = omega arith in ap (λ n. take n (drop i pairs)) none
@@ -223,6 +225,16 @@ pub broken_none : (cell : Cell) (pairs : List Pair) (at past : ℕ) (frozen b : 
 broken_none cell pairs at past frozen b e f h =
     sym (ap (option_map (λ n. at + n)) (blocked cell frozen b (slice_range pairs at past) e (ap₂ (λ x y. x || y) f h)))
 
+pub none_begins : (cell : Cell) (pairs : List Pair) (at : ℕ) (line : LineSpan) → HasFlags pairs at line → can_have_cell cell line ≡ false → are_some (starts_cell cell) (slice_range pairs at line.past) ≡ false
+none_begins Assignment pairs at line m h = sym m.has_equals ∙ h
+none_begins ClosingComment pairs at line m h = quiet_comments (slice_range pairs at line.past) (sym m.has_comment ∙ h)
+
+pub none_found : (cell : Cell) (pairs : List Pair) (at past : ℕ) (frozen b : Bool) → b ≡ broken (slice_range pairs at past) → frozen ≡ false
+    → None ≡ option_map (λ n. at + n) (index_after_first (λ (p : Pair). starts_cell cell p.kind) (slice_range pairs at past))
+    → None ≡ option_map (λ n. at + n) (cell_of cell (record { frozen = frozen; pairs = slice_range pairs at past }))
+none_found cell pairs at past frozen true e f found = broken_none cell pairs at past frozen true e f refl
+none_found cell pairs at past frozen false e f found = no_cell cell pairs at past frozen false e (ap (λ x. x || false) f) found
+
 -- ---- where a cell begins
 
 pub cell_gaps : (cell : Cell) (f : Bool) (ps qs : List Pair) → SameTokens ps qs → cell_of cell (record { frozen = f; pairs = ps }) ≡ cell_of cell (record { frozen = f; pairs = qs })
@@ -248,6 +260,14 @@ pub no_start : (cell : Cell) (ns : List ℕ) (ps : List Pair) (at past : ℕ) (f
 no_start cell ns ps at past f size h =
     let none : cell_of cell (gapped_line ns ps at past f) ≡ None = sym (same_cell cell ns ps at past f size) ∙ found_none_is at (cell_of cell (plain_line ps at past f)) h in
     (sym (ap (option_map (λ n. width (take n (slice_range (with_gaps ns ps) at past)))) none), sym (ap (option_map (λ n. at + n)) none))
+
+-- a line that is frozen, or has no token that can begin one
+pub lacks_start : (cell : Cell) (ns : List ℕ) (ps : List Pair) (at : ℕ) (line : LineSpan) (f : Bool) → length ns ≡ length ps → HasFlags ps at line → (f || not (can_have_cell cell line)) ≡ true
+    → (None ≡ width_before (cell_of cell) (gapped_line ns ps at line.past f)) × (None ≡ option_map (λ n. at + n) (cell_of cell (gapped_line ns ps at line.past f)))
+lacks_start cell ns ps at line true size flags h = no_start cell ns ps at line.past true size (frozen_none cell ps at line.past true refl)
+lacks_start cell ns ps at line false size flags h =
+    let none = none_later (starts_cell cell) at (slice_range ps at line.past) (none_begins cell ps at line flags (not-true (can_have_cell cell line) h)) in
+    no_start cell ns ps at line.past false size (none_found cell ps at line.past false (broken (slice_range ps at line.past)) refl refl none)
 
 found_some_is : (at i : ℕ) (o : Option ℕ) → Some i ≡ option_map (λ n. at + n) o → at ≤ i → o ≡ Some (i - at)
 found_some_is at i None h le = absurd (cc)

@@ -1,6 +1,6 @@
 //! Alignment: the cells of a run of lines in one column.
 
-ghost use Rattle.std.specs.Prelude.{take, false, [], ◌∷◌, Some, slice_get, ◌≡◌, ◌==◌, ◌&&◌, ◌+◌, ◌-◌, ◌*◌, ◌<◌, ◌≤◌, ◌^◌, ◌++◌, length, drop, slice_range, option_map, OnOk, IfOk, IfSome};
+ghost use Rattle.std.specs.Prelude.{take, true, false, not, [], ◌∷◌, Some, None, slice_get, ◌≡◌, ◌==◌, ◌&&◌, ◌||◌, ◌+◌, ◌-◌, ◌*◌, ◌<◌, ◌≤◌, ◌^◌, ◌++◌, length, drop, slice_range, option_map, OnOk, IfOk, IfSome};
 ghost use Rattle.hcl_scan.specs.Tokenization.{MAX_TEXT};
 ghost use Rattle.std.specs.List.{list_any};
 ghost use Rattle.hcl_token.specs.Place.{is_lf};
@@ -284,6 +284,32 @@ fn cell_start(
     }
 }
 
+/// Returns whether a line is known to have no such cell before its tokens are read.
+fn lacks_cell(
+    scanned: &Scanned<'_>,
+    cell: Cell,
+    gaps: &[u32],
+    at: usize,
+    frozen: bool,
+    line: LineSpan,
+) -> bool
+    requires same { length gaps.now ≡ length scanned.now.pairs }
+    requires flags { HasFlags scanned.now.pairs at line }
+    ensures value { result ≡ (frozen || not (can_have_cell cell line)) }
+    ensures width { result ≡ true → None ≡ width_before (cell_of cell)
+        (record {
+          frozen = frozen;
+          pairs = slice_range (with_gaps gaps.now scanned.now.pairs) at line.past;
+        }) }
+    ensures token { result ≡ true → None ≡ option_map (λ n. at + n)
+        (cell_of cell (record {
+          frozen = frozen;
+          pairs = slice_range (with_gaps gaps.now scanned.now.pairs) at line.past;
+        })) }
+{
+    frozen | !can_have_cell(cell, line)
+}
+
 fn is_cell(start: Option<CellStart>) -> bool
     ensures { result ≡ is_cell start }
 {
@@ -331,6 +357,14 @@ fn cell_starts(
     let mut frozen = false;
     let mut at = first;
     for line in lines {
+        // most lines have no such cell
+        if lacks_cell(scanned, cell, gaps, at, frozen, *line) {
+            push_start(&mut starts, in_run, None)?;
+            in_run = false;
+            frozen = line.next_frozen;
+            at = line.past as usize;
+            continue;
+        }
         let start = cell_start(scanned, cell, gaps, at, frozen, *line, byte_clusters);
         push_start(&mut starts, in_run, start)?;
         in_run = is_cell(start);

@@ -1,6 +1,6 @@
 use Rattle.std.proofs.Common.{arith, rules, ◌≡◌, ◌+◌, ℕ, Bool, true, false, refl, List, slice_range, Some, None, Option, cond, ◌||◌, sym, ap, ap₂, ◌∙◌}
-use Rattle.hcl_layout.proofs.GapsLemmas.CellCode.{broken, counted_cell, no_cell, frozen_none, broken_none}
-use Rattle.hcl_layout.proofs.GapsLemmas.LineFlagLemmas.{quiet_later, quiet_comments}
+use Rattle.hcl_layout.proofs.GapsLemmas.CellCode.{broken, counted_cell, none_begins, none_found, frozen_none, broken_none}
+use Rattle.hcl_layout.proofs.GapsLemmas.LineFlagLemmas.{quiet_later}
 use Rattle.hcl_token.specs.Tokens.{Pair}
 use Rattle.hcl_layout.specs.declared.gaps.lines.LineSpan.{LineSpan}
 use Rattle.hcl_layout.specs.declared.gaps.cells.Cell.{Cell}
@@ -30,21 +30,11 @@ pub is_valid_cell-requires-clause-has_bracket : goal.is_valid_cell-requires-clau
 is_valid_cell-requires-clause-has_bracket c = λ h.
     quiet_later is_bracket c.args.scanned.now.pairs c.args.at c.in_ok-i.i c.args.line.past (omega (arith, c.in_ok-i.ensures.inside.0)) (omega (arith, c.in_ok-i.ensures.inside.1)) (sym c.requires.flags.has_bracket ∙ h)
 
-none_begins : (cell : Cell) (pairs : List Pair) (at : ℕ) (line : LineSpan) → HasFlags pairs at line → can_have_cell cell line ≡ false → are_some (starts_cell cell) (slice_range pairs at line.past) ≡ false
-none_begins Assignment pairs at line m h = sym m.has_equals ∙ h
-none_begins ClosingComment pairs at line m h = quiet_comments (slice_range pairs at line.past) (sym m.has_comment ∙ h)
-
 pub cell_token_after_first-requires-clause-none : goal.cell_token_after_first-requires-clause-none
 cell_token_after_first-requires-clause-none c = λ h. none_begins c.args.cell c.args.scanned.now.pairs c.args.at c.args.line c.requires.flags (sym c.can_have_cell.ensures ∙ h)
 
 pub has_multiline_comment-requires-clause-has_comment : goal.has_multiline_comment-requires-clause-has_comment
 has_multiline_comment-requires-clause-has_comment c = λ h. sym c.requires.flags.has_comment ∙ h
-
-none_found : (cell : Cell) (pairs : List Pair) (at past : ℕ) (frozen b : Bool) → b ≡ broken (slice_range pairs at past) → frozen ≡ false
-    → None ≡ option_map (λ n. at + n) (index_after_first (λ (p : Pair). starts_cell cell p.kind) (slice_range pairs at past))
-    → None ≡ option_map (λ n. at + n) (cell_of cell (record { frozen = frozen; pairs = slice_range pairs at past }))
-none_found cell pairs at past frozen true e f found = broken_none cell pairs at past frozen true e f refl
-none_found cell pairs at past frozen false e f found = no_cell cell pairs at past frozen false e (ap (λ x. x || false) f) found
 
 pub returns-in_err-i-clause-cell : goal.returns-in_err-i-clause-cell
 returns-in_err-i-clause-cell c =

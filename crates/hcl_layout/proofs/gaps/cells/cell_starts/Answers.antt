@@ -1,4 +1,4 @@
-use Rattle.std.proofs.Common.{get_or, refl, arith}
+use Rattle.std.proofs.Common.{get_or, false, None, refl, arith}
 use Rattle.hcl_layout.specs.declared.gaps.lines.LineSpan.{LineSpan}
 use Rattle.hcl_layout.proofs.GapsLemmas.LineLemmas.{no_span, line_at, no_line}
 use Rattle.hcl_layout.proofs.GapsLemmas.CellCode.{starts_narrow}
@@ -20,8 +20,8 @@ loop-line-preserved c =
     let split = this.split in
     record {
       starts =
-          kept_turn c.args.cell c.args.gaps.now c.args.scanned.now.pairs c.args.first c.loop-line.at c.loop-line.frozen c.loop-line.in_run c.loop-line.starts.items c.push_start.new.starts.items line.past line.next_frozen c.is_cell-in_run.result c.cell_start-start.result
-          c.requires.same split c.loop-line.invariant.starts c.in_ok-push_start.ensures c.is_cell-in_run.ensures c.cell_start-start.ensures.width c.cell_start-start.ensures.token c.cell_start-start.ensures.inside;
+          kept_turn c.args.cell c.args.gaps.now c.args.scanned.now.pairs c.args.first c.loop-line.at c.loop-line.frozen c.loop-line.in_run c.loop-line.starts.items c.push_start-in-loop-line.new.starts.items line.past line.next_frozen c.is_cell-in_run.result c.cell_start-start.result
+          c.requires.same split c.loop-line.invariant.starts c.in_ok-push_start-2.ensures c.is_cell-in_run.ensures c.cell_start-start.ensures.width c.cell_start-start.ensures.token c.cell_start-start.ensures.inside;
       lines = more;
     }
 
@@ -42,3 +42,19 @@ pub cell_start-start-requires-clause-flags : goal.cell_start-start-requires-clau
 cell_start-start-requires-clause-flags c =
     let (this, more) = line_at c.args.scanned.now.pairs c.loop-line.at c.loop-line.frozen c.args.lines.now c.loop-line.line-index c.loop-line-test.true c.loop-line.invariant.lines in
     this.flags
+
+pub lacks_cell-requires-clause-flags : goal.lacks_cell-requires-clause-flags
+lacks_cell-requires-clause-flags c =
+    let (this, more) = line_at c.args.scanned.now.pairs c.loop-line.at c.loop-line.frozen c.args.lines.now c.loop-line.line-index c.loop-line-test.true c.loop-line.invariant.lines in
+    this.flags
+
+pub loop-line-preserved-then-lacks_cell : goal.loop-line-preserved-then-lacks_cell
+loop-line-preserved-then-lacks_cell c =
+    let line : LineSpan = get_or c.args.lines.now c.loop-line.line-index no_span in
+    let (this, more) = line_at c.args.scanned.now.pairs c.loop-line.at c.loop-line.frozen c.args.lines.now c.loop-line.line-index c.loop-line-test.true c.loop-line.invariant.lines in
+    record {
+      starts =
+          kept_turn c.args.cell c.args.gaps.now c.args.scanned.now.pairs c.args.first c.loop-line.at c.loop-line.frozen c.loop-line.in_run c.loop-line.starts.items c.push_start.new.starts.items line.past line.next_frozen false None
+          c.requires.same this.split c.loop-line.invariant.starts c.in_ok-push_start.ensures refl (c.lacks_cell.ensures.width c.if-lacks_cell.true) (c.lacks_cell.ensures.token c.if-lacks_cell.true) tt;
+      lines = more;
+    }
