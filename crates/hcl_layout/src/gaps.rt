@@ -15,7 +15,6 @@ mod indent;
 mod kinds;
 pub mod laws;
 mod limit;
-mod line_flags;
 mod line_pass;
 mod lines;
 mod space;

@@ -1,5 +1,8 @@
 -- Looking for cells, token by token.
-use Rattle.std.proofs.Common.{◌≡◌, ℕ, zero, suc, ◌+◌, ◌-◌, ◌<◌, ◌≤◌, Bool, true, false, not, ◌&&◌, ◌||◌, List, [], ◌∷◌, length, take, drop, slice_range, Some, None, Option, if◌then◌else◌, refl, sym, ap, ap₂, subst, ◌∙◌, arith}
+use Rattle.std.proofs.lemmas.List.Sums.{sum_by-append}
+use Rattle.std.proofs.lemmas.Bool.Decides.{nat_tests}
+use Rattle.hcl_layout.specs.Gaps.Indent.{is_opening, is_closing, openings, closings}
+use Rattle.std.proofs.Common.{cond, ◌==◌, ◌≡◌, ℕ, zero, suc, ◌+◌, ◌-◌, ◌<◌, ◌≤◌, Bool, true, false, not, ◌&&◌, ◌||◌, List, [], ◌∷◌, length, take, drop, slice_range, Some, None, Option, if◌then◌else◌, refl, sym, ap, ap₂, subst, ◌∙◌, arith}
 use Rattle.std.specs.Prelude.{slice_get, slice_set}
 use Rattle.std.proofs.lemmas.Option.{slice_get_cases}
 use Rattle.std.specs.Option.{option_map}
@@ -26,7 +29,7 @@ use Rattle.hcl_layout.specs.Gaps.Cells.{width, width_before, aligned}
 use Rattle.hcl_layout.specs.Gaps.Inner.Stages.{widths, greatest, lines_from, set_cell_gaps, cell_gaps_from_width, with_gaps, AreAtMost, SplitsLine, open_heredocs_of, cell_tokens}
 use Rattle.hcl_layout.proofs.GapsLemmas.TokensKept.{SameTokens}
 use Rattle.hcl_layout.proofs.GapsLemmas.CellGaps.{AreInLines, AreSmall, moved_gaps, greatest_within, within_drop, gaps_same, gaps_length, splits_same, same_range, assignment_same, comment_same}
-use Rattle.hcl_layout.proofs.GapsLemmas.LineLemmas.{turn, kind_is, spelling_is}
+use Rattle.hcl_layout.proofs.GapsLemmas.LineLemmas.{turn, kind_is, spelling_is, range_split}
 use Rattle.hcl_layout.proofs.GapsLemmas.LineFlagLemmas.{none_later, quiet_comments}
 
 none_left : (pairs : List Pair) (i past : ℕ) → past ≤ i → slice_range pairs i past ≡ []
@@ -140,6 +143,23 @@ found_begins cell pairs at past m less within e =
     ∙ sym (shift_suc at (at + 1) rest refl)
     ∙ shift_is at (option_map suc rest)
     ∙ ap (λ ps. option_map (λ n. at + n) (index_after_first (λ (p : Pair). starts_cell cell p.kind) ps)) (sym t.range)
+
+-- ---- what a cell opens and closes
+
+same_sum : (n x y : ℕ) → (n + x == n + y) ≡ (x == y)
+same_sum n x y = grind (arith, nat_tests)
+
+-- after tokens that close what they open, it is balanced if the line is
+pub balanced_after : (pairs : List Pair) (at i past opened closed : ℕ) (line : Bool) → at ≤ i → i ≤ past → opened ≡ openings (slice_range pairs at i) → closed ≡ closings (slice_range pairs at i) → opened ≡ closed
+    → line ≡ is_balanced (slice_range pairs at past) → line ≡ is_balanced (slice_range pairs i past)
+balanced_after pairs at i past opened closed line later less opened_is closed_is same line_is =
+    let front : List Pair = slice_range pairs at i in
+    let rest : List Pair = slice_range pairs i past in
+    let whole = range_split pairs at i past later less in
+    let opens : openings (slice_range pairs at past) ≡ openings front + openings rest = ap openings whole ∙ sum_by-append (λ (p : Pair). cond (is_opening p.kind) 1 0) front rest in
+    let closes : closings (slice_range pairs at past) ≡ closings front + closings rest = ap closings whole ∙ sum_by-append (λ (p : Pair). cond (is_closing p.kind) 1 0) front rest in
+    let even : closings (slice_range pairs at past) ≡ openings front + closings rest = omega (arith, closes, opened_is, closed_is, same) in
+    line_is ∙ ap₂ (λ x y. x == y) opens even ∙ same_sum (openings front) (openings rest) (closings rest)
 
 -- ---- the cell of a line
 
@@ -262,11 +282,11 @@ no_start cell ns ps at past f size h =
     (sym (ap (option_map (λ n. width (take n (slice_range (with_gaps ns ps) at past)))) none), sym (ap (option_map (λ n. at + n)) none))
 
 -- a line that is frozen, or has no token that can begin one
-pub lacks_start : (cell : Cell) (ns : List ℕ) (ps : List Pair) (at : ℕ) (line : LineSpan) (f : Bool) → length ns ≡ length ps → HasFlags ps at line → (f || not (can_have_cell cell line)) ≡ true
+pub lacks_start : (cell : Cell) (ns : List ℕ) (ps : List Pair) (at : ℕ) (line : LineSpan) (f : Bool) → length ns ≡ length ps → (f ≡ false → HasFlags ps at line) → (f || not (can_have_cell cell line)) ≡ true
     → (None ≡ width_before (cell_of cell) (gapped_line ns ps at line.past f)) × (None ≡ option_map (λ n. at + n) (cell_of cell (gapped_line ns ps at line.past f)))
 lacks_start cell ns ps at line true size flags h = no_start cell ns ps at line.past true size (frozen_none cell ps at line.past true refl)
 lacks_start cell ns ps at line false size flags h =
-    let none = none_later (starts_cell cell) at (slice_range ps at line.past) (none_begins cell ps at line flags (not-true (can_have_cell cell line) h)) in
+    let none = none_later (starts_cell cell) at (slice_range ps at line.past) (none_begins cell ps at line (flags refl) (not-true (can_have_cell cell line) h)) in
     no_start cell ns ps at line.past false size (none_found cell ps at line.past false (broken (slice_range ps at line.past)) refl refl none)
 
 found_some_is : (at i : ℕ) (o : Option ℕ) → Some i ≡ option_map (λ n. at + n) o → at ≤ i → o ≡ Some (i - at)

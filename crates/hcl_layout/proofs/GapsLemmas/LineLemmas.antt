@@ -222,7 +222,7 @@ lines_whole pairs at frozen (l ∷ lines) to next (first, rest) end = (first, li
 
 -- what a list of spans answers past its end
 abbrev pub no_span : LineSpan
-no_span = record { past = 0; next_frozen = false; has_bracket = false; has_comment = false; has_equals = false }
+no_span = record { past = 0; next_frozen = false; is_balanced = false; has_comment = false; has_equals = false }
 
 -- the line of number i, and those behind it
 pub line_at : (pairs : List Pair) (at : ℕ) (frozen : Bool) (lines : List LineSpan) (i : ℕ) → i < length lines

@@ -4,19 +4,20 @@ use Rattle.std.proofs.lemmas.List.{drop_all, append-nil, length-drop, length-tak
 use Rattle.std.proofs.lemmas.List.Sums.{sum_by-append, sum_by-cons}
 use Rattle.std.proofs.Math.Seq.{set-append_seam}
 use Rattle.hcl_token.specs.declared.kind.Kind.{Kind}
-use Rattle.hcl_token.specs.declared.kind.Kind.TheVariants.{HereOpen, HereClose, OpenBrace, CloseBrace, OpenBracket, CloseBracket, OpenParen, CloseParen, SeqClose, InterpOpen, DirectiveOpen}
+use Rattle.hcl_token.specs.declared.kind.Kind.TheVariants.{HereOpen, HereClose}
 use Rattle.hcl_token.specs.Tokens.{Pair}
 use Rattle.hcl_token.specs.TokenizedText.{kind_of}
 use Rattle.hcl_layout.specs.Gaps.Kinds.{is_equal, is_line_end}
 use Rattle.hcl_layout.specs.Gaps.Indent.{is_opening, is_closing, openings, closings}
 use Rattle.hcl_layout.specs.Gaps.Lines.{heredocs_after, ends_line}
+use Rattle.hcl_layout.specs.Gaps.Cells.{is_balanced}
 use Rattle.hcl_layout.specs.Gaps.Space.{prev_after_all}
-use Rattle.hcl_layout.specs.Gaps.Inner.CodeViews.{is_bracket, is_comment, is_here_open, are_some, IsLine, gaps_left}
+use Rattle.hcl_layout.specs.Gaps.Inner.CodeViews.{is_comment, is_here_open, are_some, IsLine, gaps_left}
 use Rattle.hcl_layout.specs.Gaps.Inner.Stages.{SplitsLine, lines_from, open_heredocs_of, KEEP_GAP, spaces_from, line_gap_lens, base_gap_lens, all_gap_lens}
 use Rattle.hcl_layout.specs.declared.gaps.lines.LineSpan.{LineSpan}
 use Rattle.std.proofs.lemmas.Bool.Decides.{nat_tests}
 use Rattle.hcl_layout.proofs.GapsLemmas.LineLemmas.{turn, kind_is, range_split, none_there, counted, IsInLine, in_line_goes, line_ends, text_ends}
-use Rattle.hcl_layout.proofs.GapsLemmas.LineFlagLemmas.{some_if, quiet}
+use Rattle.hcl_layout.proofs.GapsLemmas.LineFlagLemmas.{some_if}
 
 -- ---- what tokens say
 
@@ -128,40 +129,6 @@ some_test f (p ∷ ps) = by_test (some_test f ps) (f p.kind) refl
         let more : count_by (λ (q : Pair). f q.kind) (p ∷ ps) ≡ count_by (λ (q : Pair). f q.kind) ps = omega (arith, whole, none) in
         ap (λ n. not (n == 0)) more ∙ rest ∙ sym (some_if f p ps false e)
 
-abbrev own_number : Kind → ℕ
-own_number k = (if is_opening k then 1 else 0) + 4294967296 * (if is_closing k then 1 else 0)
-
-loud : (k : Kind) → is_bracket k ≡ true → 0 < own_number k
-loud OpenBrace h = omega arith
-loud CloseBrace h = omega arith
-loud OpenBracket h = omega arith
-loud CloseBracket h = omega arith
-loud OpenParen h = omega arith
-loud CloseParen h = omega arith
-loud SeqClose h = omega arith
-loud InterpOpen h = omega arith
-loud DirectiveOpen h = omega arith
-loud k h = absurd (cc)
-
-bracket_test : (ps : List Pair) → not (openings ps + 4294967296 * closings ps == 0) ≡ are_some is_bracket ps
-bracket_test [] = refl
-bracket_test (p ∷ ps) = by_test (bracket_test ps) (is_bracket p.kind) refl
-  where
-    by_test : not (openings ps + 4294967296 * closings ps == 0) ≡ are_some is_bracket ps → (b : Bool) → is_bracket p.kind ≡ b → not (openings (p ∷ ps) + 4294967296 * closings (p ∷ ps) == 0) ≡ are_some is_bracket (p ∷ ps)
-    by_test rest true e =
-        let opens : openings (p ∷ ps) ≡ cond (is_opening p.kind) 1 0 + openings ps = sum_by-cons (λ (r : Pair). cond (is_opening r.kind) 1 0) p ps in
-        let closes : closings (p ∷ ps) ≡ cond (is_closing p.kind) 1 0 + closings ps = sum_by-cons (λ (r : Pair). cond (is_closing r.kind) 1 0) p ps in
-        let some : 0 < openings (p ∷ ps) + 4294967296 * closings (p ∷ ps) = omega (arith, opens, closes, loud p.kind e) in
-        let test : (openings (p ∷ ps) + 4294967296 * closings (p ∷ ps) == 0) ≡ false = grind (arith, nat_tests, some) in
-        ap not test ∙ sym (some_if is_bracket p ps true e)
-    by_test rest false e =
-        let (no_opening, no_closing) = quiet p.kind e in
-        let none_opens : cond {A = ℕ} (is_opening p.kind) 1 0 ≡ 0 = ap {B = ℕ} (λ b. cond b 1 0) no_opening in
-        let none_closes : cond {A = ℕ} (is_closing p.kind) 1 0 ≡ 0 = ap {B = ℕ} (λ b. cond b 1 0) no_closing in
-        let opens : openings (p ∷ ps) ≡ openings ps = let whole = sum_by-cons (λ (r : Pair). cond (is_opening r.kind) 1 0) p ps in omega (arith, whole, none_opens) in
-        let closes : closings (p ∷ ps) ≡ closings ps = let whole = sum_by-cons (λ (r : Pair). cond (is_closing r.kind) 1 0) p ps in omega (arith, whole, none_closes) in
-        ap₂ (λ m n. not (m + 4294967296 * n == 0)) opens closes ∙ rest ∙ sym (some_if is_bracket p ps false e)
-
 -- ---- where the line ends
 
 none_open : (k : Kind) → ends_line 0 k ≡ false → heredocs_after 0 k ≡ 0
@@ -196,16 +163,18 @@ ends_last pairs at i j k l begins end last is = subst (λ n. SplitsLine pairs at
         (text_ends pairs at false (i + 1) (heredocs_after 0 k) (in_line_goes pairs at false i 0 k l (omega arith) is e) begins end)
 
 pub line_passed : (pairs : List Pair) (at past brackets marks ends : ℕ) (next : Bool) (line : LineSpan) → past ≤ 16777216 → SplitsLine pairs at false past next → CountsTo pairs at past brackets marks ends
-    → line.past ≡ past → line.next_frozen ≡ next → line.has_bracket ≡ not (brackets == 0) → line.has_comment ≡ not (marks % 1073741824 == 0) → line.has_equals ≡ not (marks / 1073741824 % 1073741824 == 0)
+    → line.past ≡ past → line.next_frozen ≡ next → line.is_balanced ≡ (brackets % 4294967296 == brackets / 4294967296) → line.has_comment ≡ not (marks % 1073741824 == 0) → line.has_equals ≡ not (marks / 1073741824 % 1073741824 == 0)
     → IsLine pairs at false line
-line_passed pairs at past brackets marks ends next line few split counts past_is next_is bracket comment equal =
+line_passed pairs at past brackets marks ends next line few split counts past_is next_is balanced comment equal =
     let ps : List Pair = slice_range pairs at past in
+    let opened : brackets % 4294967296 ≡ openings ps = omega (arith, counts.all_brackets, few, counts.few_opened) in
+    let closed : brackets / 4294967296 ≡ closings ps = omega (arith, counts.all_brackets, few, counts.few_opened) in
     let comments : marks % 1073741824 ≡ number_of is_comment ps = omega (arith, counts.all_marks, few, counts.few_comments, counts.few_equals) in
     let equals : marks / 1073741824 % 1073741824 ≡ number_of is_equal ps = omega (arith, counts.all_marks, few, counts.few_comments, counts.few_equals) in
     record {
       split = subst (λ n. SplitsLine pairs at false n line.next_frozen) (sym past_is) (subst (λ b. SplitsLine pairs at false past b) (sym next_is) split);
-      flags = record {
-        has_bracket = bracket ∙ ap (λ n. not (n == 0)) counts.all_brackets ∙ bracket_test ps ∙ ap (λ n. are_some is_bracket (slice_range pairs at n)) (sym past_is);
+      flags = λ h. record {
+        is_balanced = balanced ∙ ap₂ (λ x y. x == y) opened closed ∙ ap (λ n. is_balanced (slice_range pairs at n)) (sym past_is);
         has_comment = comment ∙ ap (λ n. not (n == 0)) comments ∙ some_test is_comment ps ∙ ap (λ n. are_some is_comment (slice_range pairs at n)) (sym past_is);
         has_equals = equal ∙ ap (λ n. not (n == 0)) equals ∙ some_test is_equal ps ∙ ap (λ n. are_some is_equal (slice_range pairs at n)) (sym past_is);
       };

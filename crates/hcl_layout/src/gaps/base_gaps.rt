@@ -58,9 +58,9 @@ fn fill_frozen_line(
     ensures small { IfOk result (λ line. length surplus.new.items ≤ line.past) }
     ensures same { length gaps.new.items ≡ length gaps.old.items }
 {
-    let line = line_at(scanned, at, true);
+    let line = line_at(scanned, at);
     let past = line.past as usize;
-    let (opened, closed) = count_brackets(scanned, at, past, line.has_bracket);
+    let (opened, closed) = count_brackets(scanned, at, past);
     close_earlier(surplus, opened, closed);
     fill_kept(gaps, at, past);
     push_opened(surplus, opened, closed)?;

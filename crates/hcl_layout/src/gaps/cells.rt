@@ -10,7 +10,7 @@ ghost use Rattle.hcl_layout.specs.Gaps.Kinds.{is_inline_comment};
 ghost use Rattle.hcl_layout.specs.Gaps.Lines.{pairs_in};
 ghost use Rattle.hcl_layout.specs.Gaps.Cells.{index_after_first, is_balanced, width, width_before, aligned};
 ghost use Rattle.hcl_layout.specs.Gaps.Inner.Stages.{widths, greatest, lines_from, with_gaps, AreAtMost, set_cell_gaps, cell_gaps_from_width};
-ghost use Rattle.hcl_layout.specs.Gaps.Inner.CodeViews.{starts_cell, cell_of, is_valid_cell, is_cell, without_repeats, AreStarts, widths_of, tokens_in, width_in, token_in, can_have_cell, is_bracket, is_comment, are_some, HasFlags, AreInside, AreLines, AreByteClusters};
+ghost use Rattle.hcl_layout.specs.Gaps.Inner.CodeViews.{starts_cell, cell_of, is_valid_cell, is_cell, without_repeats, AreStarts, widths_of, tokens_in, width_in, token_in, can_have_cell, is_comment, are_some, HasFlags, AreInside, AreLines, AreByteClusters};
 
 use crate::gaps::base_gaps::KEEP_GAP;
 use crate::gaps::indent::count_brackets;
@@ -123,15 +123,27 @@ fn cell_token_after_first(
     None
 }
 
-fn is_balanced(scanned: &Scanned<'_>, at: usize, past: usize, has_bracket: bool) -> bool
-    requires ordered { at ≤ past }
+/// Returns whether what begins at token `i` of a line closes what it opens. What is before, mostly
+/// one token, is counted: if it is balanced, the rest is as the line is.
+fn is_balanced(
+    scanned: &Scanned<'_>,
+    at: usize,
+    i: usize,
+    past: usize,
+    is_line_balanced: bool,
+) -> bool
+    requires later { at ≤ i }
+    requires ordered { i ≤ past }
     requires within { past ≤ length scanned.now.pairs }
-    requires has_bracket { has_bracket ≡ false
-        → are_some is_bracket (slice_range scanned.now.pairs at past) ≡ false }
     requires within_limit { length scanned.now.pairs ≤ MAX_TEXT }
-    ensures { result ≡ is_balanced (slice_range scanned.now.pairs at past) }
+    requires line { is_line_balanced ≡ is_balanced (slice_range scanned.now.pairs at past) }
+    ensures { result ≡ is_balanced (slice_range scanned.now.pairs i past) }
 {
-    let (opened, closed) = count_brackets(scanned, at, past, has_bracket);
+    let (opened_before, closed_before) = count_brackets(scanned, at, i);
+    if opened_before == closed_before {
+        return is_line_balanced;
+    }
+    let (opened, closed) = count_brackets(scanned, i, past);
     opened == closed
 }
 
@@ -139,19 +151,20 @@ fn is_balanced(scanned: &Scanned<'_>, at: usize, past: usize, has_bracket: bool)
 fn is_valid_cell(
     scanned: &Scanned<'_>,
     cell: Cell,
+    at: usize,
     i: usize,
     past: usize,
-    has_bracket: bool,
+    is_line_balanced: bool,
 ) -> bool
+    requires later { at ≤ i }
     requires ordered { i ≤ past }
     requires within { past ≤ length scanned.now.pairs }
-    requires has_bracket { has_bracket ≡ false
-        → are_some is_bracket (slice_range scanned.now.pairs i past) ≡ false }
     requires within_limit { length scanned.now.pairs ≤ MAX_TEXT }
+    requires line { is_line_balanced ≡ is_balanced (slice_range scanned.now.pairs at past) }
     ensures { result ≡ is_valid_cell cell (slice_range scanned.now.pairs i past) }
 {
     match cell {
-        Cell::Assignment => is_balanced(scanned, i, past, has_bracket),
+        Cell::Assignment => is_balanced(scanned, at, i, past, is_line_balanced),
         Cell::ClosingComment => true,
     }
 }
@@ -166,7 +179,7 @@ fn cell_of(
 ) -> Option<usize>
     requires ordered { at < line.past }
     requires within { line.past ≤ length scanned.now.pairs }
-    requires flags { HasFlags scanned.now.pairs at line }
+    requires flags { frozen ≡ false → HasFlags scanned.now.pairs at line }
     requires within_limit { length scanned.now.pairs ≤ MAX_TEXT }
     ensures cell { result
         ≡ option_map (λ n. at + n)
@@ -184,7 +197,7 @@ fn cell_of(
     if has_multiline_comment(scanned, at, past, line.has_comment) {
         return None;
     }
-    if is_valid_cell(scanned, cell, i, past, line.has_bracket) {
+    if is_valid_cell(scanned, cell, at, i, past, line.is_balanced) {
         return Some(i);
     }
     None
@@ -253,7 +266,7 @@ fn cell_start(
     requires bytes { AreByteClusters byte_clusters scanned.now.pairs }
     requires ordered { at < line.past }
     requires within { line.past ≤ length scanned.now.pairs }
-    requires flags { HasFlags scanned.now.pairs at line }
+    requires flags { frozen ≡ false → HasFlags scanned.now.pairs at line }
     requires within_limit { length scanned.now.pairs ≤ MAX_TEXT }
     requires bounded { AreAtMost 1073741824
         (width_before (cell_of cell)
@@ -294,7 +307,7 @@ fn lacks_cell(
     line: LineSpan,
 ) -> bool
     requires same { length gaps.now ≡ length scanned.now.pairs }
-    requires flags { HasFlags scanned.now.pairs at line }
+    requires flags { frozen ≡ false → HasFlags scanned.now.pairs at line }
     ensures value { result ≡ (frozen || not (can_have_cell cell line)) }
     ensures width { result ≡ true → None ≡ width_before (cell_of cell)
         (record {

@@ -3,7 +3,6 @@
 ghost use Rattle.std.specs.Prelude.{◌≡◌, false, ◌∷◌, ◌+◌, ◌-◌, ◌*◌, nat_lt, if◌then◌else◌, OnOk, ◌<◌, ◌≤◌, length, reverse, slice_range};
 ghost use Rattle.hcl_scan.specs.Tokenization.{MAX_TEXT};
 ghost use Rattle.hcl_layout.specs.Gaps.Indent.{is_opening, is_closing, openings, closings};
-ghost use Rattle.hcl_layout.specs.Gaps.Inner.CodeViews.{is_bracket, are_some};
 ghost use Rattle.hcl_layout.specs.Gaps.Inner.Stages.{close_brackets, close_earlier};
 
 use hcl_scan::Scanned;
@@ -31,23 +30,14 @@ pub(crate) fn bracket_number(kind: Kind) -> u64
 }
 
 /// Returns how many brackets and template sequences open among the tokens `from..to`, and how many
-/// close. It does not read the tokens of a line without brackets.
-pub(crate) fn count_brackets(
-    scanned: &Scanned<'_>,
-    from: usize,
-    to: usize,
-    has_bracket: bool,
-) -> (u32, u32)
+/// close.
+pub(crate) fn count_brackets(scanned: &Scanned<'_>, from: usize, to: usize) -> (u32, u32)
     requires ordered { from ≤ to }
     requires within { to ≤ length scanned.now.pairs }
     requires within_limit { length scanned.now.pairs ≤ MAX_TEXT }
-    requires has_bracket { has_bracket ≡ false → are_some is_bracket (slice_range scanned.now.pairs from to) ≡ false }
     ensures opened { result.0 ≡ openings (slice_range scanned.now.pairs from to) }
     ensures closed { result.1 ≡ closings (slice_range scanned.now.pairs from to) }
 {
-    if !has_bracket {
-        return (0, 0);
-    }
     let mut brackets: u64 = 0;
     for i in from..to {
         brackets += bracket_number(scanned.kind(i));

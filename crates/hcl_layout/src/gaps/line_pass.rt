@@ -50,7 +50,7 @@ fn passed_line(brackets: u64, marks: u64, past: usize, next_frozen: bool) -> Pas
     requires { past ≤ MAX_TEXT }
     ensures past { result.line.past ≡ past }
     ensures next_frozen { result.line.next_frozen ≡ next_frozen }
-    ensures has_bracket { result.line.has_bracket ≡ not (brackets == 0) }
+    ensures is_balanced { result.line.is_balanced ≡ (brackets % 4294967296 == brackets / 4294967296) }
     ensures has_comment { result.line.has_comment ≡ not (marks % 1073741824 == 0) }
     ensures has_equals { result.line.has_equals ≡ not (marks / 1073741824 % 1073741824 == 0) }
     ensures opened { result.opened ≡ brackets % 4294967296 }
@@ -60,7 +60,7 @@ fn passed_line(brackets: u64, marks: u64, past: usize, next_frozen: bool) -> Pas
         line: LineSpan {
             past: past as u32,
             next_frozen,
-            has_bracket: brackets != 0,
+            is_balanced: brackets % CLOSING == brackets / CLOSING,
             has_comment: marks % EQUALS != 0,
             has_equals: marks / EQUALS % EQUALS != 0,
         },

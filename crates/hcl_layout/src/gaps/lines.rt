@@ -1,12 +1,11 @@
 //! The lines of a text.
 
-ghost use Rattle.std.specs.Prelude.{◌≡◌, ◌+◌, ◌<◌, ◌≤◌, length};
+ghost use Rattle.std.specs.Prelude.{true, ◌≡◌, ◌+◌, ◌<◌, ◌≤◌, length};
 ghost use Rattle.hcl_scan.specs.Tokenization.{MAX_TEXT};
 ghost use Rattle.hcl_layout.specs.Gaps.Lines.{heredocs_after, ends_line};
 ghost use Rattle.hcl_layout.specs.Gaps.Inner.CodeViews.{IsLine};
 
-use crate::gaps::kinds::{is_equal, is_here_open};
-use crate::gaps::line_flags::{has_no_line_effect, is_bracket, is_comment};
+use crate::gaps::kinds::is_here_open;
 use hcl_scan::Scanned;
 use hcl_token::Kind;
 
@@ -17,8 +16,8 @@ pub(crate) struct LineSpan {
     pub past: u32,
     /// Whether the next line begins in a heredoc.
     pub next_frozen: bool,
-    /// Whether it has a bracket or a template sequence.
-    pub has_bracket: bool,
+    /// Whether its brackets and template sequences close as often as they open.
+    pub is_balanced: bool,
     /// Whether it has a comment.
     pub has_comment: bool,
     /// Whether it has a `=`.
@@ -46,46 +45,31 @@ fn ends_line(open_heredocs: usize, kind: Kind) -> bool
     }
 }
 
-/// Returns the line that begins at token `at`, in a heredoc or not.
-pub(crate) fn line_at(scanned: &Scanned<'_>, at: usize, frozen: bool) -> LineSpan
+/// Returns the line that begins at token `at` in a heredoc. Its flags are not read.
+pub(crate) fn line_at(scanned: &Scanned<'_>, at: usize) -> LineSpan
     requires within { at < length scanned.now.pairs }
     requires within_limit { length scanned.now.pairs ≤ MAX_TEXT }
-    ensures { IsLine scanned.now.pairs at frozen result }
+    ensures { IsLine scanned.now.pairs at true result }
 {
-    let mut open_heredocs = usize::from(frozen);
-    let mut has_bracket = false;
-    let mut has_comment = false;
-    let mut has_equals = false;
+    let mut open_heredocs = 1;
     for i in at..scanned.len() {
         let kind = scanned.kind(i);
-        if has_no_line_effect(kind) {
-            continue;
-        }
         if ends_line(open_heredocs, kind) {
             return LineSpan {
                 past: (i + 1) as u32,
                 next_frozen: is_here_open(kind),
-                has_bracket,
-                has_comment,
-                has_equals,
+                is_balanced: false,
+                has_comment: false,
+                has_equals: false,
             };
         }
-        if is_bracket(kind) {
-            has_bracket = true;
-            continue;
-        }
-        if is_equal(kind) {
-            has_equals = true;
-            continue;
-        }
-        has_comment = has_comment | is_comment(kind);
         open_heredocs = heredocs_after(open_heredocs, kind);
     }
     LineSpan {
         past: scanned.len() as u32,
         next_frozen: false,
-        has_bracket,
-        has_comment,
-        has_equals,
+        is_balanced: false,
+        has_comment: false,
+        has_equals: false,
     }
 }

@@ -2,7 +2,7 @@
 use Rattle.std.specs.Prelude.{◌≡◌, ◌==◌, ℕ, Bool, true, false, not, slice_range, List, [], ◌∷◌, ◌++◌, length, map, drop, reverse, ◌<◌, Option, Some, None, ⊤}
 use Rattle.std.specs.List.{list_any, list_all}
 use Rattle.hcl_token.specs.declared.kind.Kind.{Kind}
-use Rattle.hcl_token.specs.declared.kind.Kind.TheVariants.{LineEnd, HereOpen, HereClose, HereLit, Equal, LineComment, InlineComment, OpenBrace, CloseBrace, OpenBracket, CloseBracket, OpenParen, CloseParen, SeqClose, InterpOpen, DirectiveOpen}
+use Rattle.hcl_token.specs.declared.kind.Kind.TheVariants.{HereOpen, LineComment, InlineComment}
 use Rattle.hcl_layout.specs.Gaps.Kinds.{is_equal, is_line_comment}
 use Rattle.hcl_layout.specs.Gaps.Lines.{Line}
 use Rattle.hcl_token.specs.Tokens.{Pair}
@@ -53,19 +53,6 @@ AreInside count [] = ⊤
 AreInside count (None ∷ starts) = AreInside count starts
 AreInside count (Some p ∷ starts) = (p.token < count) × AreInside count starts
 
--- brackets and template sequences
-abbrev pub is_bracket : Kind → Bool
-is_bracket OpenBrace = true
-is_bracket CloseBrace = true
-is_bracket OpenBracket = true
-is_bracket CloseBracket = true
-is_bracket OpenParen = true
-is_bracket CloseParen = true
-is_bracket SeqClose = true
-is_bracket InterpOpen = true
-is_bracket DirectiveOpen = true
-is_bracket kind = false
-
 abbrev pub is_comment : Kind → Bool
 is_comment LineComment = true
 is_comment InlineComment = true
@@ -75,33 +62,13 @@ abbrev pub is_here_open : Kind → Bool
 is_here_open HereOpen = true
 is_here_open kind = false
 
--- a token of this kind neither ends a line nor raises a flag of it, and is none of a heredoc's
-abbrev pub has_no_line_effect : Kind → Bool
-has_no_line_effect LineEnd = false
-has_no_line_effect HereOpen = false
-has_no_line_effect HereClose = false
-has_no_line_effect HereLit = false
-has_no_line_effect LineComment = false
-has_no_line_effect InlineComment = false
-has_no_line_effect Equal = false
-has_no_line_effect OpenBrace = false
-has_no_line_effect CloseBrace = false
-has_no_line_effect OpenBracket = false
-has_no_line_effect CloseBracket = false
-has_no_line_effect OpenParen = false
-has_no_line_effect CloseParen = false
-has_no_line_effect SeqClose = false
-has_no_line_effect InterpOpen = false
-has_no_line_effect DirectiveOpen = false
-has_no_line_effect kind = true
-
 -- a token that meets the test is among these
 abbrev pub are_some : (Kind → Bool) → List Pair → Bool
 are_some test pairs = list_any (λ (p : Pair). test p.kind) pairs
 
 -- what the flags of a line that begins at a token say of its tokens
 pub record HasFlags (pairs : List Pair) (at : ℕ) (line : LineSpan) : Type 0 where
-  pub has_bracket : line.has_bracket ≡ are_some is_bracket (slice_range pairs at line.past)
+  pub is_balanced : line.is_balanced ≡ is_balanced (slice_range pairs at line.past)
   pub has_comment : line.has_comment ≡ are_some is_comment (slice_range pairs at line.past)
   pub has_equals : line.has_equals ≡ are_some is_equal (slice_range pairs at line.past)
 
@@ -110,10 +77,10 @@ abbrev pub can_have_cell : Cell → LineSpan → Bool
 can_have_cell Assignment line = line.has_equals
 can_have_cell ClosingComment line = line.has_comment
 
--- a line that begins at a token, in a heredoc or not
+-- a line that begins at a token, in a heredoc or not; of a frozen line nobody asks for flags
 pub record IsLine (pairs : List Pair) (at : ℕ) (frozen : Bool) (line : LineSpan) : Type 0 where
   pub split : SplitsLine pairs at frozen line.past line.next_frozen
-  pub flags : HasFlags pairs at line
+  pub flags : frozen ≡ false → HasFlags pairs at line
 
 -- the lines of a text from a token on, where that begins in a heredoc or not
 abbrev pub AreLines : List Pair → ℕ → Bool → List LineSpan → Type 0

@@ -1,11 +1,8 @@
-use Rattle.std.proofs.Common.{length, reverse, slice_range, take, [], refl, true, sym, ◌∙◌}
+use Rattle.std.proofs.Common.{length, reverse, slice_range, take, [], refl, true}
 use Rattle.hcl_layout.specs.Gaps.Space.{prev_after_all}
 use Rattle.hcl_layout.proofs.GapsLemmas.LinePass.{kept_line}
 use Rattle.hcl_layout.proofs.GapsLemmas.NearLemmas.{set_turn}
 use Rattle.hcl_layout.proofs.gaps.base_gaps.fill_frozen_line.Goals as goal
-
-pub count_brackets-opened-requires-clause-has_bracket : goal.count_brackets-opened-requires-clause-has_bracket
-count_brackets-opened-requires-clause-has_bracket c = λ h. sym c.line_at-line.ensures.flags.has_bracket ∙ h
 
 pub returns-clause-gaps : goal.returns-clause-gaps
 returns-clause-gaps c =

@@ -1,13 +1,12 @@
 use Rattle.std.proofs.Common.{arith, rules, ◌≡◌, ◌+◌, ℕ, Bool, true, false, refl, List, slice_range, Some, None, Option, cond, ◌||◌, sym, ap, ap₂, ◌∙◌}
 use Rattle.hcl_layout.proofs.GapsLemmas.CellCode.{broken, counted_cell, none_begins, none_found, frozen_none, broken_none}
-use Rattle.hcl_layout.proofs.GapsLemmas.LineFlagLemmas.{quiet_later}
 use Rattle.hcl_token.specs.Tokens.{Pair}
 use Rattle.hcl_layout.specs.declared.gaps.lines.LineSpan.{LineSpan}
 use Rattle.hcl_layout.specs.declared.gaps.cells.Cell.{Cell}
 use Rattle.hcl_layout.specs.declared.gaps.cells.Cell.TheVariants.{Assignment, ClosingComment}
 use Rattle.std.specs.Option.{option_map}
 use Rattle.hcl_layout.specs.Gaps.Cells.{index_after_first}
-use Rattle.hcl_layout.specs.Gaps.Inner.CodeViews.{starts_cell, cell_of, can_have_cell, is_bracket, are_some, HasFlags}
+use Rattle.hcl_layout.specs.Gaps.Inner.CodeViews.{starts_cell, cell_of}
 use Rattle.hcl_layout.proofs.gaps.cells.cell_of.Goals as goal
 
 pub returns-then-frozen-clause-cell : goal.returns-then-frozen-clause-cell
@@ -26,15 +25,14 @@ returns-clause-cell c =
     sym (ap {B = Option ℕ} (λ v. cond v (Some c.in_ok-i.i) None) (sym c.is_valid_cell.ensures ∙ c.if-is_valid_cell.false))
     ∙ counted_cell c.args.cell c.args.scanned.now.pairs c.args.at c.args.line.past c.args.frozen c.has_multiline_comment.result c.in_ok-i.i c.has_multiline_comment.ensures (ap₂ (λ x y. x || y) c.if-frozen.false c.if-has_multiline_comment.false) c.in_ok-i.ensures.found
 
-pub is_valid_cell-requires-clause-has_bracket : goal.is_valid_cell-requires-clause-has_bracket
-is_valid_cell-requires-clause-has_bracket c = λ h.
-    quiet_later is_bracket c.args.scanned.now.pairs c.args.at c.in_ok-i.i c.args.line.past (omega (arith, c.in_ok-i.ensures.inside.0)) (omega (arith, c.in_ok-i.ensures.inside.1)) (sym c.requires.flags.has_bracket ∙ h)
+pub is_valid_cell-requires-clause-line : goal.is_valid_cell-requires-clause-line
+is_valid_cell-requires-clause-line c = (c.requires.flags c.if-frozen.false).is_balanced
 
 pub cell_token_after_first-requires-clause-none : goal.cell_token_after_first-requires-clause-none
-cell_token_after_first-requires-clause-none c = λ h. none_begins c.args.cell c.args.scanned.now.pairs c.args.at c.args.line c.requires.flags (sym c.can_have_cell.ensures ∙ h)
+cell_token_after_first-requires-clause-none c = λ h. none_begins c.args.cell c.args.scanned.now.pairs c.args.at c.args.line (c.requires.flags c.if-frozen.false) (sym c.can_have_cell.ensures ∙ h)
 
 pub has_multiline_comment-requires-clause-has_comment : goal.has_multiline_comment-requires-clause-has_comment
-has_multiline_comment-requires-clause-has_comment c = λ h. sym c.requires.flags.has_comment ∙ h
+has_multiline_comment-requires-clause-has_comment c = λ h. sym (c.requires.flags c.if-frozen.false).has_comment ∙ h
 
 pub returns-in_err-i-clause-cell : goal.returns-in_err-i-clause-cell
 returns-in_err-i-clause-cell c =

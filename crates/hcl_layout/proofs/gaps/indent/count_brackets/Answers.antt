@@ -1,7 +1,6 @@
 use Rattle.std.proofs.Common.{slice_range, ◌≡◌, ◌≤◌, ◌<◌, length, ap, ◌∙◌, arith}
 use Rattle.hcl_layout.specs.Gaps.Indent.{is_opening, is_closing, openings, closings}
 use Rattle.hcl_layout.proofs.GapsLemmas.LineLemmas.{none_there}
-use Rattle.hcl_layout.proofs.GapsLemmas.LineFlagLemmas.{quiet_openings, quiet_closings}
 use Rattle.hcl_layout.proofs.GapsLemmas.LinePass.{count_more, one_at_most}
 use Rattle.hcl_layout.proofs.gaps.indent.count_brackets.Goals as goal
 
@@ -30,9 +29,3 @@ loop-i-preserved c =
       few_opened = omega (arith, opens, one_at_most (is_opening kind), old.few_opened);
       few_closed = omega (arith, closes, one_at_most (is_closing kind), old.few_closed);
     }
-
-pub returns-then-not-has_bracket-clause-opened : goal.returns-then-not-has_bracket-clause-opened
-returns-then-not-has_bracket-clause-opened c = quiet_openings (slice_range c.args.scanned.now.pairs c.args.from c.args.to) (c.requires.has_bracket c.if-not-has_bracket.true)
-
-pub returns-then-not-has_bracket-clause-closed : goal.returns-then-not-has_bracket-clause-closed
-returns-then-not-has_bracket-clause-closed c = quiet_closings (slice_range c.args.scanned.now.pairs c.args.from c.args.to) (c.requires.has_bracket c.if-not-has_bracket.true)

@@ -33,7 +33,7 @@ returns-then-marks-ge-LINE_END-clause-line c =
     let ends = ends_if ps c.args.at i _ _ c.loop-i.a few counts c.if-marks-ge-LINE_END.true in
     let split = ends_here ps c.args.at (i - 1) i c.loop-i.a old.line c.requires.within inside step old.a ends in
     line_passed ps c.args.at i _ _ _ (is_here_open c.loop-i.a) c.passed_line.result.line few split counts
-    c.passed_line.ensures.past (c.passed_line.ensures.next_frozen ∙ c.is_here_open.ensures) c.passed_line.ensures.has_bracket c.passed_line.ensures.has_comment c.passed_line.ensures.has_equals
+    c.passed_line.ensures.past (c.passed_line.ensures.next_frozen ∙ c.is_here_open.ensures) c.passed_line.ensures.is_balanced c.passed_line.ensures.has_comment c.passed_line.ensures.has_equals
 
 pub returns-then-marks-ge-LINE_END-clause-opened : goal.returns-then-marks-ge-LINE_END-clause-opened
 returns-then-marks-ge-LINE_END-clause-opened c =
@@ -104,7 +104,7 @@ returns-clause-line c =
     let counts = counts_more ps c.args.at (i - 1) c.len.result c.loop-i.a c.loop-i.brackets c.loop-i.marks c.bracket_number-brackets-2.result c.mark_number-marks-2.result (omega (arith, c.loop-i.auto.i)) inside step old.a c.bracket_number-brackets-2.ensures c.mark_number-marks-2.ensures old.counts in
     let split = ends_last ps c.args.at (i - 1) c.len.result c.loop-i.a old.line c.requires.within (omega (arith, end, c.loop-i.auto.i)) c.len.ensures.value old.a in
     line_passed ps c.args.at c.len.result _ _ _ (is_here_open c.loop-i.a) c.passed_line-2.result.line few split counts
-    c.passed_line-2.ensures.past (c.passed_line-2.ensures.next_frozen ∙ c.is_here_open-2.ensures) c.passed_line-2.ensures.has_bracket c.passed_line-2.ensures.has_comment c.passed_line-2.ensures.has_equals
+    c.passed_line-2.ensures.past (c.passed_line-2.ensures.next_frozen ∙ c.is_here_open-2.ensures) c.passed_line-2.ensures.is_balanced c.passed_line-2.ensures.has_comment c.passed_line-2.ensures.has_equals
 
 pub returns-clause-opened : goal.returns-clause-opened
 returns-clause-opened c =
