@@ -29,7 +29,7 @@ number_of f ps = count_by (λ (p : Pair). f p.kind) ps
 -- or without
 pub record CountsTo (pairs : List Pair) (at i brackets marks ends : ℕ) : Type 0 where
   pub all_brackets : brackets ≡ openings (slice_range pairs at i) + 4294967296 * closings (slice_range pairs at i)
-  pub all_marks : marks ≡ number_of is_comment (slice_range pairs at i) + 1073741824 * number_of is_equal (slice_range pairs at i) + 1152921504606846976 * ends
+  pub all_marks : marks ≡ number_of is_comment (slice_range pairs at i) + 1073741824 * number_of is_equal (slice_range pairs at i) + 9223372036854775808 * ends
   pub few_opened : openings (slice_range pairs at i) + at ≤ i
   pub few_closed : closings (slice_range pairs at i) + at ≤ i
   pub few_comments : number_of is_comment (slice_range pairs at i) + at ≤ i
@@ -72,7 +72,7 @@ no_counts pairs at i e =
 -- one token more
 pub counts_more : (pairs : List Pair) (at i j : ℕ) (k : Kind) (brackets marks own mark : ℕ) → at ≤ i → i < length pairs → j ≡ i + 1 → Some k ≡ kind_of pairs i
     → own ≡ (if is_opening k then 1 else 0) + 4294967296 * (if is_closing k then 1 else 0)
-    → mark ≡ (if is_comment k then 1 else 0) + 1073741824 * (if is_equal k then 1 else 0) + 1152921504606846976 * (if ends_line 0 k then 1 else 0)
+    → mark ≡ (if is_comment k then 1 else 0) + 1073741824 * (if is_equal k then 1 else 0) + 9223372036854775808 * (if ends_line 0 k then 1 else 0)
     → CountsTo pairs at i brackets marks 0 → CountsTo pairs at j (brackets + own) (marks + mark) (if ends_line 0 k then 1 else 0)
 counts_more pairs at i j k brackets marks own mark later inside step is own_is mark_is counts =
     subst (λ n. CountsTo pairs at n (brackets + own) (marks + mark) (if ends_line 0 k then 1 else 0)) (sym step)
@@ -93,18 +93,18 @@ counts_more pairs at i j k brackets marks own mark later inside step is own_is m
 
 -- it ends the line if and only if the mark of that is among them
 pub ends_if : (pairs : List Pair) (at i brackets marks : ℕ) (k : Kind) → i ≤ 16777216 → CountsTo pairs at i brackets marks (if ends_line 0 k then 1 else 0)
-    → 1152921504606846976 ≤ marks → ends_line 0 k ≡ true
+    → 9223372036854775808 ≤ marks → ends_line 0 k ≡ true
 ends_if pairs at i brackets marks k few counts most = by_test (ends_line 0 k) counts.all_marks
   where
-    by_test : (b : Bool) → marks ≡ number_of is_comment (slice_range pairs at i) + 1073741824 * number_of is_equal (slice_range pairs at i) + 1152921504606846976 * (if b then 1 else 0) → b ≡ true
+    by_test : (b : Bool) → marks ≡ number_of is_comment (slice_range pairs at i) + 1073741824 * number_of is_equal (slice_range pairs at i) + 9223372036854775808 * (if b then 1 else 0) → b ≡ true
     by_test true e = refl
     by_test false e = absurd (omega (arith, e, most, few, counts.few_comments, counts.few_equals))
 
 pub goes_if : (pairs : List Pair) (at i brackets marks : ℕ) (k : Kind) → CountsTo pairs at i brackets marks (if ends_line 0 k then 1 else 0)
-    → marks < 1152921504606846976 → ends_line 0 k ≡ false
+    → marks < 9223372036854775808 → ends_line 0 k ≡ false
 goes_if pairs at i brackets marks k counts less = by_test (ends_line 0 k) counts.all_marks
   where
-    by_test : (b : Bool) → marks ≡ number_of is_comment (slice_range pairs at i) + 1073741824 * number_of is_equal (slice_range pairs at i) + 1152921504606846976 * (if b then 1 else 0) → b ≡ false
+    by_test : (b : Bool) → marks ≡ number_of is_comment (slice_range pairs at i) + 1073741824 * number_of is_equal (slice_range pairs at i) + 9223372036854775808 * (if b then 1 else 0) → b ≡ false
     by_test true e = absurd (omega (arith, e, less))
     by_test false e = refl
 

@@ -21,7 +21,7 @@ use hcl_token::Kind;
 const EQUALS: u64 = 1_073_741_824;
 
 /// What ends a line counts so much, which is more than all comments and `=` of a text.
-const LINE_END: u64 = 1_152_921_504_606_846_976;
+const LINE_END: u64 = 9_223_372_036_854_775_808;
 
 /// A line, and its brackets.
 #[derive(Clone, Copy)]
@@ -35,7 +35,7 @@ pub(crate) struct PassedLine {
 /// `LINE_END` for its end are one number.
 fn mark_number(kind: Kind) -> u64
     ensures { result ≡ (if is_comment kind then 1 else 0) + 1073741824 * (if is_equal kind then 1 else 0)
-        + 1152921504606846976 * (if ends_line 0 kind then 1 else 0) }
+        + 9223372036854775808 * (if ends_line 0 kind then 1 else 0) }
 {
     match kind {
         Kind::LineComment | Kind::InlineComment => 1,
