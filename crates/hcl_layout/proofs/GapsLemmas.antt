@@ -22,3 +22,4 @@ pub mod LineFlagLemmas
 pub mod LinePass
 pub mod FlagLemmas
 pub mod TextBytes
+pub mod GapLengths

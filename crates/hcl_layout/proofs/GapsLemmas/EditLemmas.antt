@@ -201,6 +201,10 @@ pub still_first : (ps qs : List Pair) (last : List ℕ) → still_so ps qs last 
 unfolding still_so
 still_first ps qs last = refl
 
+pub still_at : (ps qs : List Pair) (last : List ℕ) (i : ℕ) → still_so ps qs last i ≡ unchanged (drop i ps) (drop i qs) last
+unfolding still_so
+still_at ps qs last i = refl
+
 pub still_turn : (ps : List Pair) (ns last : List ℕ) (i : ℕ) (g : List ℕ) → length ns ≡ length ps → i < length ps → Some g ≡ gap_of ps i
     → still_so ps (with_gaps ns ps) last i ≡ (bytes_eq g (resolved_gap (get_or ns i 0) g) && still_so ps (with_gaps ns ps) last (i + 1))
 unfolding still_so
@@ -222,7 +226,7 @@ pub still_not : (ps : List Pair) (ns last : List ℕ) (i : ℕ) (g : List ℕ) �
     → still_so ps (with_gaps ns ps) last i ≡ false
 still_not ps ns last i g size inside g_is h = still_turn ps ns last i g size inside g_is ∙ ap (λ b. b && still_so ps (with_gaps ns ps) last (i + 1)) h
 
-no_bytes : (last : List ℕ) → (length last == 0) ≡ bytes_eq last []
+pub no_bytes : (last : List ℕ) → (length last == 0) ≡ bytes_eq last []
 no_bytes [] = refl
 no_bytes (b ∷ last) = let test : (suc (length last) == 0) ≡ false = grind (arith, nat_tests) in test
 

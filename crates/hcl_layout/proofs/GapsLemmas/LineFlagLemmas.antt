@@ -1,22 +1,15 @@
 -- The flags of a line, and what is not searched for where none is set. For speed alone.
-use Rattle.std.proofs.Common.{◌≡◌, ℕ, zero, suc, ◌+◌, ◌<◌, ◌≤◌, Bool, true, false, List, [], ◌∷◌, length, slice_range, Some, refl, sym, ap, ap₂, ◌∙◌, arith}
+use Rattle.std.proofs.Common.{◌≡◌, ℕ, ◌+◌, Bool, true, false, List, [], ◌∷◌, refl, sym, ◌∙◌}
 use Rattle.std.specs.Option.{option_map}
-use Rattle.std.proofs.Common.{cond, ◌++◌}
-use Rattle.std.proofs.lemmas.List.Sums.{sum_by-cons}
 use Rattle.hcl_token.specs.declared.kind.Kind.{Kind}
-use Rattle.hcl_token.specs.declared.kind.Kind.TheVariants.{LineEnd, HereOpen, HereClose}
 use Rattle.hcl_token.specs.Tokens.{Pair}
-use Rattle.hcl_token.specs.TokenizedText.{kind_of}
-use Rattle.hcl_layout.specs.Gaps.Lines.{heredocs_after, ends_line}
 use Rattle.hcl_layout.specs.Gaps.Inner.CodeViews.{is_comment, are_some}
 use Rattle.std.proofs.Common.{◌||◌, ◌&&◌, None}
 use Rattle.std.specs.List.{list_any}
 use Rattle.hcl_token.specs.Place.{is_lf}
-use Rattle.hcl_token.specs.declared.kind.Kind.TheVariants.{Equal, LineComment, InlineComment, OpenBrace, CloseBrace, OpenBracket, CloseBracket, OpenParen, CloseParen, SeqClose, InterpOpen, DirectiveOpen}
-use Rattle.hcl_layout.specs.Gaps.Kinds.{is_line_comment, is_inline_comment, is_equal}
-use Rattle.hcl_layout.specs.Gaps.Indent.{is_opening, is_closing, openings, closings}
+use Rattle.hcl_token.specs.declared.kind.Kind.TheVariants.{LineComment, InlineComment}
+use Rattle.hcl_layout.specs.Gaps.Kinds.{is_line_comment, is_inline_comment}
 use Rattle.hcl_layout.specs.Gaps.Cells.{index_of_first, index_after_first}
-use Rattle.hcl_layout.proofs.GapsLemmas.LineLemmas.{turn, kind_is, range_split, none_there}
 
 pub some_if : (f : Kind → Bool) (p : Pair) (ps : List Pair) (b : Bool) → f p.kind ≡ b → are_some f (p ∷ ps) ≡ (b || are_some f ps)
 some_if f p ps true h = rw h refl

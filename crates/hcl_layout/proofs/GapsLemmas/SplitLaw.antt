@@ -1,5 +1,5 @@
 -- Lines token by token, where each adds to the line after it, are lines that are split first.
-use Rattle.std.proofs.Common.{◌≡◌, ℕ, Bool, true, false, nat_lt, List, [], ◌∷◌, if◌then◌else◌, refl, ap, ◌∙◌}
+use Rattle.std.proofs.Common.{◌≡◌, ℕ, true, false, nat_lt, List, [], ◌∷◌, if◌then◌else◌, refl, ap, ◌∙◌}
 use Rattle.hcl_token.specs.Tokens.{Pair}
 use Rattle.hcl_layout.specs.Gaps.Lines.{Line, heredocs_after, ends_line, prepend, split_lines, with_frozen, lines_of, pairs_in}
 use Rattle.hcl_layout.specs.Gaps.Inner.Stages.{prepend_to_first, lines_from}

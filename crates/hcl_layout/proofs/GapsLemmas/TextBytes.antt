@@ -1,5 +1,5 @@
 -- What the bytes of a text say of its gaps and tokens. For speed alone.
-use Rattle.std.proofs.Common.{◌≡◌, ◌==◌, ℕ, zero, suc, Bool, true, false, not, ◌&&◌, ◌||◌, List, [], ◌∷◌, ◌++◌, length, Option, Some, None, if◌then◌else◌, refl, sym, ap, ap₂, subst, ◌∙◌, arith}
+use Rattle.std.proofs.Common.{◌≡◌, ◌==◌, ℕ, zero, suc, Bool, true, false, not, nat_le, nat_lt, ◌&&◌, ◌||◌, List, [], ◌∷◌, ◌++◌, length, Option, Some, None, if◌then◌else◌, refl, sym, ap, ap₂, subst, ◌∙◌, arith}
 use Rattle.std.specs.List.{list_all}
 use Rattle.std.proofs.lemmas.Bool.{and_parts, and_from}
 use Rattle.std.proofs.lemmas.Bool.Decides.{nat_tests}
@@ -14,9 +14,26 @@ use Rattle.hcl_scan.specs.Modes.{Mode, modes_after}
 use Rattle.hcl_scan.specs.Tokenization.{TokenizesFrom, IsTokenization, byte_order_mark, mark_prefix}
 use Rattle.hcl_token.specs.declared.kind.Kind.TheVariants.{Mark}
 use Rattle.hcl_layout.specs.Gaps.Space.{spaces}
-use Rattle.hcl_layout.specs.Gaps.Inner.CodeViews.{is_without_tab, AreSpaces, AreByteClusters}
+use Rattle.hcl_layout.specs.Gaps.Inner.CodeViews.{is_plain, is_without_tab, AreSpaces, AreByteClusters}
 use Rattle.std.specs.Prelude.{slice_get, ⊤}
 use Rattle.std.specs.Option.{option_map}
+
+-- ---- printable ASCII and LF
+
+plain_byte : (b : ℕ) → ((nat_le 32 b && nat_lt b 128) || b == 10) ≡ true → (not (b == 9) ≡ true) × ((nat_lt b 128 && not (b == 13)) ≡ true)
+plain_byte b h = (grind (arith, nat_tests), grind (arith, nat_tests))
+
+pub plain_no_tab : (t : List ℕ) → is_plain t ≡ true → is_without_tab t ≡ true
+plain_no_tab [] h = refl
+plain_no_tab (b ∷ t) h =
+    let parts = and_parts ((nat_le 32 b && nat_lt b 128) || b == 10) (is_plain t) h in
+    and_from (not (b == 9)) (is_without_tab t) (plain_byte b parts.0).0 (plain_no_tab t parts.1)
+
+pub plain_ascii : (t : List ℕ) → is_plain t ≡ true → is_ascii_without_cr t ≡ true
+plain_ascii [] h = refl
+plain_ascii (b ∷ t) h =
+    let parts = and_parts ((nat_le 32 b && nat_lt b 128) || b == 10) (is_plain t) h in
+    and_from (nat_lt b 128 && not (b == 13)) (is_ascii_without_cr t) (plain_byte b parts.0).1 (plain_ascii t parts.1)
 
 -- ---- gaps without a tab
 
@@ -61,10 +78,10 @@ spaces_at (p ∷ ps) last h k zero g e =
 spaces_at (p ∷ ps) last h k (suc i) g e = spaces_at ps last h.1 (tab_parts p ps last k).1 i g e
 
 -- where a text has no tab, each gap is spaces
-pub gaps_are_spaces : (text : List ℕ) (pairs : List Pair) (last : List ℕ) (known : Bool) → IsTokenization text pairs last → known ≡ is_without_tab text → AreSpaces known pairs
+pub gaps_are_spaces : (text : List ℕ) (pairs : List Pair) (last : List ℕ) (known : Bool) → IsTokenization text pairs last → (known ≡ true → is_without_tab text ≡ true) → AreSpaces known pairs
 gaps_are_spaces text pairs last known c known_is = λ i g e h.
     let white = after_mark text c.tokenizes.body (whitespace_from [] c.tokenizes.body last [] c.tokenizes.tokenizes) in
-    let none : is_without_tab (whole_text pairs last) ≡ true = ap is_without_tab (sym c.tokenizes.text_is) ∙ sym known_is ∙ h in
+    let none : is_without_tab (whole_text pairs last) ≡ true = ap is_without_tab (sym c.tokenizes.text_is) ∙ known_is h in
     spaces_at pairs last (subst AreWhitespace (sym c.tokenizes.prefix) white) none i g e
 
 -- ---- tokens in ASCII
@@ -83,9 +100,9 @@ clusters_at (p ∷ ps) last k zero s e =
 clusters_at (p ∷ ps) last k (suc i) s e = clusters_at ps last (ascii_parts p ps last k).1 i s e
 
 -- where a text is ASCII without CR, each byte of a token is a cluster
-pub bytes_are_clusters : (text : List ℕ) (pairs : List Pair) (last : List ℕ) (known : Bool) → IsTokenization text pairs last → known ≡ is_ascii_without_cr text → AreByteClusters known pairs
+pub bytes_are_clusters : (text : List ℕ) (pairs : List Pair) (last : List ℕ) (known : Bool) → IsTokenization text pairs last → (known ≡ true → is_ascii_without_cr text ≡ true) → AreByteClusters known pairs
 bytes_are_clusters text pairs last known c known_is = λ i s e h.
-    clusters_at pairs last (ap is_ascii_without_cr (sym c.tokenizes.text_is) ∙ sym known_is ∙ h) i s e
+    clusters_at pairs last (ap is_ascii_without_cr (sym c.tokenizes.text_is) ∙ known_is h) i s e
 
 mapped : (o : Option Pair) → option_map clusters (option_map (λ (p : Pair). p.spelling) o) ≡ option_map (λ (p : Pair). clusters p.spelling) o
 mapped None = refl

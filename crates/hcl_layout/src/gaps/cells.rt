@@ -231,13 +231,7 @@ fn cluster_count(scanned: &Scanned<'_>, i: usize, byte_clusters: bool) -> usize
 }
 
 /// Returns the width of the tokens `at..to`.
-fn width(
-    scanned: &Scanned<'_>,
-    gaps: &[u32],
-    at: usize,
-    to: usize,
-    byte_clusters: bool,
-) -> u32
+fn width(scanned: &Scanned<'_>, gaps: &[u32], at: usize, to: usize, byte_clusters: bool) -> u32
     requires same { length gaps.now ≡ length scanned.now.pairs }
     requires ordered { at ≤ to }
     requires within { to ≤ length scanned.now.pairs }

@@ -1,6 +1,6 @@
 //! The edits that give a text its new gaps.
 
-ghost use Rattle.std.specs.Prelude.{true, ◌≡◌, ◌+◌, ◌*◌, ◌<◌, ◌≤◌, ◌++◌, [], ◌∷◌, Some, length, take, replicate, slice_get, slice_index, slice_index_or, nat_lt, IfOk, OnOk};
+ghost use Rattle.std.specs.Prelude.{true, drop, ◌||◌, ◌≡◌, ◌+◌, ◌*◌, ◌<◌, ◌≤◌, ◌++◌, [], ◌∷◌, Some, length, take, replicate, slice_get, slice_index, slice_index_or, nat_lt, IfOk, OnOk};
 ghost use Rattle.hcl_scan.specs.Tokenization.{MAX_TEXT};
 ghost use Rattle.std.specs.Str.{bytes_eq};
 ghost use Rattle.std.specs.Option.{option_map};
@@ -8,7 +8,8 @@ ghost use Rattle.hcl_token.specs.Tokens.{Pair, whole_text};
 ghost use Rattle.edit_record.specs.Lists.Pieces.{changed_entries};
 ghost use Rattle.hcl_layout.specs.Gaps.Space.{spaces};
 ghost use Rattle.hcl_layout.specs.Gaps.Layout.{gap_piece, pieces};
-ghost use Rattle.hcl_layout.specs.Gaps.Inner.Stages.{unchanged, resolved_gap, with_gaps};
+ghost use Rattle.hcl_layout.specs.Gaps.Inner.CodeViews.{is_without_tab, AreSpaces};
+ghost use Rattle.hcl_layout.specs.Gaps.Inner.Stages.{unchanged, resolved_gap, with_gaps, have_lengths};
 
 use crate::gaps::base_gaps::KEEP_GAP;
 use crate::gaps::text_bytes::has_no_tab;
@@ -83,15 +84,16 @@ pub(crate) fn gap_edits(
     alloc: Global,
     scanned: &Scanned<'_>,
     gaps: &[u32],
+    all_spaces: bool,
 ) -> Result<Vec<Edit>, AllocError>
-    requires { length gaps.now ≡ length scanned.now.pairs }
+    requires spaces { AreSpaces all_spaces scanned.now.pairs }
+    requires same { length gaps.now ≡ length scanned.now.pairs }
     ensures { IfOk result
         (λ edits. edits.items
         ≡ changed_entries 0 (pieces scanned.now.pairs
         (with_gaps gaps.now scanned.now.pairs) scanned.now.last)) }
 {
     let mut edits = Vec::new(alloc);
-    let all_spaces = has_no_tab(scanned);
     for i in 0..scanned.len() {
         // most gaps stay, and this test is inlined
         if is_unchanged(scanned.gap(i), gaps[i], all_spaces) {
@@ -117,9 +119,45 @@ pub(crate) fn gap_edits(
     Ok(edits)
 }
 
-/// Returns whether no gap differs.
-pub(crate) fn all_unchanged(scanned: &Scanned<'_>, gaps: &[u32]) -> bool
+/// Returns the number of bytes of the gap before token `i`.
+fn old_gap_len(scanned: &Scanned<'_>, i: usize) -> u32
+    requires { i < length scanned.now.pairs }
+    ensures { Some result ≡ option_map (λ (p : Pair). length p.gap) (slice_get scanned.now.pairs i) }
+{
+    let item = scanned.item(i);
+    item.start - item.gap_at
+}
+
+/// Returns whether each gap but the first stays or has as many bytes as it has spaces in the
+/// layout.
+fn have_lengths(scanned: &Scanned<'_>, gaps: &[u32]) -> bool
     requires { length gaps.now ≡ length scanned.now.pairs }
+    ensures { result ≡ have_lengths (drop 1 gaps.now) (drop 1 scanned.now.pairs) }
+{
+    // no early end, so that several are compared at once
+    let mut same = true;
+    for i in 1..scanned.len() {
+        same &= (old_gap_len(scanned, i) == gaps[i]) | (gaps[i] == KEEP_GAP);
+    }
+    same
+}
+
+/// Returns whether each gap is spaces; the text is read if that is not known.
+fn are_spaces(scanned: &Scanned<'_>, all_spaces: bool) -> bool
+    requires { AreSpaces all_spaces scanned.now.pairs }
+    ensures value { result ≡ (all_spaces || is_without_tab scanned.now.text) }
+    ensures spaces { AreSpaces result scanned.now.pairs }
+{
+    if all_spaces {
+        return true;
+    }
+    has_no_tab(scanned)
+}
+
+/// Returns whether no gap differs. Bytes are compared where the text has a tab, else lengths alone.
+pub(crate) fn all_unchanged(scanned: &Scanned<'_>, gaps: &[u32], all_spaces: bool) -> bool
+    requires spaces { AreSpaces all_spaces scanned.now.pairs }
+    requires same { length gaps.now ≡ length scanned.now.pairs }
     ensures { result ≡ unchanged scanned.now.pairs
         (with_gaps gaps.now scanned.now.pairs) scanned.now.last }
 {
@@ -127,13 +165,18 @@ pub(crate) fn all_unchanged(scanned: &Scanned<'_>, gaps: &[u32]) -> bool
     if len == 0 {
         return scanned.last_gap().is_empty();
     }
-    let all_spaces = has_no_tab(scanned);
     if !is_unchanged(scanned.gap(0), gaps[0], all_spaces) {
+        return false;
+    }
+    if are_spaces(scanned, all_spaces) {
+        if have_lengths(scanned, gaps) {
+            return scanned.last_gap().is_empty();
+        }
         return false;
     }
     // from the second token on each gap has a token before it, so the loop need not ask for one
     for i in 1..len {
-        if !is_unchanged(scanned.gap(i), gaps[i], all_spaces) {
+        if !is_unchanged(scanned.gap(i), gaps[i], false) {
             return false;
         }
     }

@@ -5,6 +5,7 @@ ghost use Rattle.edit_record.specs.Lists.Pieces.{Transforms};
 ghost use Rattle.hcl_token.specs.TokenizedText.{AreUtf8};
 ghost use Rattle.hcl_scan.specs.Tokenization.{IsTokenization, MAX_TEXT};
 ghost use Rattle.hcl_layout.specs.Gaps.Layout.{layout_pairs, layout_text, layout_edits, IsLaidOut};
+ghost use Rattle.hcl_layout.specs.Gaps.Inner.CodeViews.{AreByteClusters};
 ghost use Rattle.hcl_layout.specs.Gaps.Inner.Stages.{with_gaps};
 ghost use Rattle.hcl_layout.specs.Gaps.Errors.{IsMemoryOrTooLong};
 
@@ -13,6 +14,7 @@ use crate::gaps::fault::LayoutFault;
 use crate::gaps::gaps::layout_gaps;
 use crate::gaps::limit::capacity_within_limit;
 use crate::gaps::text::text_with_gaps;
+use crate::gaps::text_bytes::is_plain_text;
 use edit_record::lists::{Edit, Edits};
 use hcl_scan::Scanned;
 use std::alloc::Global;
@@ -22,7 +24,12 @@ use std::alloc::Global;
 /// # Errors
 ///
 /// `TooLong` if the layout has more than `MAX_TEXT` bytes; `Memory` if an allocation fails.
-fn gaps_within_limit(alloc: Global, scanned: &Scanned<'_>) -> Result<Vec<u32>, LayoutFault>
+fn gaps_within_limit(
+    alloc: Global,
+    scanned: &Scanned<'_>,
+    is_plain: bool,
+) -> Result<Vec<u32>, LayoutFault>
+    requires clusters { AreByteClusters is_plain scanned.now.pairs }
     requires tokenization { IsTokenization scanned.now.text scanned.now.pairs scanned.now.last }
     requires utf8 { AreUtf8 scanned.now.pairs }
     ensures layout { IfOk result
@@ -32,7 +39,7 @@ fn gaps_within_limit(alloc: Global, scanned: &Scanned<'_>) -> Result<Vec<u32>, L
     ensures err { IfErr result
         (IsMemoryOrTooLong (MAX_TEXT < length (layout_text scanned.now))) }
 {
-    let gaps = layout_gaps(alloc, scanned)?;
+    let gaps = layout_gaps(alloc, scanned, is_plain)?;
     capacity_within_limit(scanned, &gaps)?;
     Ok(gaps)
 }
@@ -50,8 +57,9 @@ fn edits_of(alloc: Global, scanned: &Scanned<'_>) -> Result<Vec<Edit>, LayoutFau
     ensures err { IfErr result
         (IsMemoryOrTooLong (MAX_TEXT < length (layout_text scanned.now))) }
 {
-    let gaps = gaps_within_limit(alloc, scanned)?;
-    Ok(gap_edits(alloc, scanned, &gaps)?)
+    let is_plain = is_plain_text(scanned);
+    let gaps = gaps_within_limit(alloc, scanned, is_plain)?;
+    Ok(gap_edits(alloc, scanned, &gaps, is_plain)?)
 }
 
 /// Returns the edits that format a text: the gaps that differ, each from the whole old one to the
@@ -92,9 +100,10 @@ pub fn formatted_text(alloc: Global, scanned: &Scanned<'_>) -> Result<Vec<u8>, L
         (IsMemoryOrTooLong (MAX_TEXT < length (layout_text scanned.now))) }
 {
     let _text = scanned.text();
-    let gaps = layout_gaps(alloc, scanned)?;
+    let is_plain = is_plain_text(scanned);
+    let gaps = layout_gaps(alloc, scanned, is_plain)?;
     let capacity = capacity_within_limit(scanned, &gaps)?;
-    Ok(text_with_gaps(alloc, scanned, &gaps, capacity)?)
+    Ok(text_with_gaps(alloc, scanned, &gaps, capacity, is_plain)?)
 }
 
 /// Returns whether a text is formatted: whether each gap is that of its layout.
@@ -109,9 +118,10 @@ pub fn is_laid_out(alloc: Global, scanned: &Scanned<'_>) -> Result<bool, LayoutF
         (IsMemoryOrTooLong (MAX_TEXT < length (layout_text scanned.now))) }
 {
     let _text = scanned.text();
-    let gaps = layout_gaps(alloc, scanned)?;
+    let is_plain = is_plain_text(scanned);
+    let gaps = layout_gaps(alloc, scanned, is_plain)?;
     // a layout that is the text is no longer than the text
-    if all_unchanged(scanned, &gaps) {
+    if all_unchanged(scanned, &gaps, is_plain) {
         return Ok(true);
     }
     capacity_within_limit(scanned, &gaps)?;

@@ -4,11 +4,11 @@ ghost use Rattle.std.specs.Prelude.{◌≡◌, ◌≤◌, length, IfOk};
 ghost use Rattle.hcl_token.specs.TokenizedText.{AreUtf8};
 ghost use Rattle.hcl_scan.specs.Tokenization.{IsTokenization};
 ghost use Rattle.hcl_layout.specs.Gaps.Layout.{layout_pairs};
+ghost use Rattle.hcl_layout.specs.Gaps.Inner.CodeViews.{AreByteClusters};
 ghost use Rattle.hcl_layout.specs.Gaps.Inner.Stages.{with_gaps, mark_count};
 
 use crate::gaps::base_gaps::{fill_base_gaps, kept_gaps};
 use crate::gaps::cells::{Cell, align};
-use crate::gaps::text_bytes::has_byte_clusters;
 use hcl_scan::Scanned;
 use hcl_token::Kind;
 use std::alloc::{AllocError, Global};
@@ -28,7 +28,12 @@ fn mark_count(scanned: &Scanned<'_>) -> usize
 }
 
 /// Returns the gaps of the layout of a text.
-pub(crate) fn layout_gaps(alloc: Global, scanned: &Scanned<'_>) -> Result<Vec<u32>, AllocError>
+pub(crate) fn layout_gaps(
+    alloc: Global,
+    scanned: &Scanned<'_>,
+    is_plain: bool,
+) -> Result<Vec<u32>, AllocError>
+    requires clusters { AreByteClusters is_plain scanned.now.pairs }
     requires tokenization { IsTokenization scanned.now.text scanned.now.pairs scanned.now.last }
     requires utf8 { AreUtf8 scanned.now.pairs }
     ensures layout { IfOk result
@@ -38,7 +43,6 @@ pub(crate) fn layout_gaps(alloc: Global, scanned: &Scanned<'_>) -> Result<Vec<u3
     let first = mark_count(scanned);
     let mut gaps = kept_gaps(alloc, scanned)?;
     let lines = fill_base_gaps(alloc, scanned, &mut gaps, first)?;
-    let byte_clusters = has_byte_clusters(scanned);
     align(
         alloc,
         scanned,
@@ -46,7 +50,7 @@ pub(crate) fn layout_gaps(alloc: Global, scanned: &Scanned<'_>) -> Result<Vec<u3
         &lines,
         &mut gaps,
         first,
-        byte_clusters,
+        is_plain,
     )?;
     align(
         alloc,
@@ -55,7 +59,7 @@ pub(crate) fn layout_gaps(alloc: Global, scanned: &Scanned<'_>) -> Result<Vec<u3
         &lines,
         &mut gaps,
         first,
-        byte_clusters,
+        is_plain,
     )?;
     Ok(gaps)
 }

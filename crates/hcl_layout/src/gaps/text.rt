@@ -9,7 +9,6 @@ ghost use Rattle.hcl_layout.specs.Gaps.Inner.Stages.{resolved_gap, with_gaps, Ar
 
 use crate::gaps::base_gaps::KEEP_GAP;
 use crate::gaps::edits::is_unchanged;
-use crate::gaps::text_bytes::has_no_tab;
 use hcl_scan::Scanned;
 use std::alloc::{AllocError, Global};
 
@@ -67,14 +66,15 @@ pub(crate) fn text_with_gaps(
     scanned: &Scanned<'_>,
     gaps: &[u32],
     capacity: usize,
+    all_spaces: bool,
 ) -> Result<Vec<u8>, AllocError>
-    requires { length gaps.now ≡ length scanned.now.pairs }
+    requires spaces { AreSpaces all_spaces scanned.now.pairs }
+    requires same { length gaps.now ≡ length scanned.now.pairs }
     ensures { IfOk result (λ text.
         text.items ≡ whole_text (with_gaps gaps.now scanned.now.pairs) []) }
 {
     let source = scanned.text();
     let mut text = Vec::with_capacity(alloc, capacity)?;
-    let all_spaces = has_no_tab(scanned);
     let mut from = 0;
     let mut i = next_change(scanned, gaps, 0, all_spaces);
     while i < scanned.len() {

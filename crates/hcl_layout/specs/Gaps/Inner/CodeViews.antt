@@ -1,5 +1,5 @@
 -- What the code keeps of tokens and cells, as lists. For proofs: nothing here has to be believed.
-use Rattle.std.specs.Prelude.{◌≡◌, ◌==◌, ℕ, Bool, true, false, not, slice_range, List, [], ◌∷◌, ◌++◌, length, map, drop, reverse, ◌<◌, Option, Some, None, ⊤}
+use Rattle.std.specs.Prelude.{◌≡◌, ◌==◌, ◌&&◌, ◌||◌, nat_le, nat_lt, ℕ, Bool, true, false, not, slice_range, List, [], ◌∷◌, ◌++◌, length, map, drop, reverse, ◌<◌, Option, Some, None, ⊤}
 use Rattle.std.specs.List.{list_any, list_all}
 use Rattle.hcl_token.specs.declared.kind.Kind.{Kind}
 use Rattle.hcl_token.specs.declared.kind.Kind.TheVariants.{HereOpen, LineComment, InlineComment}
@@ -77,7 +77,7 @@ abbrev pub can_have_cell : Cell → LineSpan → Bool
 can_have_cell Assignment line = line.has_equals
 can_have_cell ClosingComment line = line.has_comment
 
--- a line that begins at a token, in a heredoc or not; of a frozen line nobody asks for flags
+-- a line that begins at a token, in a heredoc or not; the flags of a frozen line say nothing
 pub record IsLine (pairs : List Pair) (at : ℕ) (frozen : Bool) (line : LineSpan) : Type 0 where
   pub split : SplitsLine pairs at frozen line.past line.next_frozen
   pub flags : frozen ≡ false → HasFlags pairs at line
@@ -117,6 +117,10 @@ pub record AreStarts (cell : Cell) (gaps : List ℕ) (pairs : List Pair) (first 
   pub inside : AreInside (length pairs) all
 
 -- ---- what all bytes of a text say
+
+-- printable ASCII and LF alone
+abbrev pub is_plain : List ℕ → Bool
+is_plain text = list_all (λ b. (nat_le 32 b && nat_lt b 128) || b == 10) text
 
 abbrev pub is_without_tab : List ℕ → Bool
 is_without_tab text = list_all (λ b. not (b == 9)) text

@@ -221,3 +221,8 @@ mark_count (p ∷ ps) = if is_mark p.kind then 1 else 0
 abbrev pub unchanged : List Pair → List Pair → List ℕ → Bool
 unchanged (p ∷ ps) (q ∷ qs) last = bytes_eq p.gap q.gap && unchanged ps qs last
 unchanged ps qs last = bytes_eq last []
+
+-- each gap stays, or has as many bytes as its number says
+abbrev pub have_lengths : List ℕ → List Pair → Bool
+have_lengths (n ∷ ns) (p ∷ ps) = (length p.gap == n || n == KEEP_GAP) && have_lengths ns ps
+have_lengths ns ps = true

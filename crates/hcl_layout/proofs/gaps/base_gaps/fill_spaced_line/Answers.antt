@@ -1,4 +1,4 @@
-use Rattle.std.proofs.Common.{◌≡◌, length, reverse, slice_range, slice_set, take, [], refl, false, sym, arith}
+use Rattle.std.proofs.Common.{◌≡◌, length, reverse, slice_range, slice_set, take, [], false, sym, arith}
 use Rattle.std.proofs.lemmas.List.{length-reverse, length-take-le}
 use Rattle.std.proofs.Math.Seq.{take-set-lt}
 use Rattle.hcl_layout.specs.Gaps.Space.{prev_after_all}

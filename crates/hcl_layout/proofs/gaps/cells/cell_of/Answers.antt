@@ -1,12 +1,5 @@
-use Rattle.std.proofs.Common.{arith, rules, ◌≡◌, ◌+◌, ℕ, Bool, true, false, refl, List, slice_range, Some, None, Option, cond, ◌||◌, sym, ap, ap₂, ◌∙◌}
+use Rattle.std.proofs.Common.{rules, ℕ, refl, slice_range, Some, None, Option, cond, ◌||◌, sym, ap, ap₂, ◌∙◌}
 use Rattle.hcl_layout.proofs.GapsLemmas.CellCode.{broken, counted_cell, none_begins, none_found, frozen_none, broken_none}
-use Rattle.hcl_token.specs.Tokens.{Pair}
-use Rattle.hcl_layout.specs.declared.gaps.lines.LineSpan.{LineSpan}
-use Rattle.hcl_layout.specs.declared.gaps.cells.Cell.{Cell}
-use Rattle.hcl_layout.specs.declared.gaps.cells.Cell.TheVariants.{Assignment, ClosingComment}
-use Rattle.std.specs.Option.{option_map}
-use Rattle.hcl_layout.specs.Gaps.Cells.{index_after_first}
-use Rattle.hcl_layout.specs.Gaps.Inner.CodeViews.{starts_cell, cell_of}
 use Rattle.hcl_layout.proofs.gaps.cells.cell_of.Goals as goal
 
 pub returns-then-frozen-clause-cell : goal.returns-then-frozen-clause-cell

@@ -8,13 +8,13 @@ use Rattle.hcl_layout.proofs.gaps.edits.gap_edits.Goals as goal
 
 pub loop-i-preserved : goal.loop-i-preserved
 loop-i-preserved c =
-    come_push c.args.scanned.now.pairs c.args.gaps.now c.args.scanned.now.last c.loop-i.i c.loop-i.edits.items c.push_gap.new.edits.items c.item-item.result c.gap-in-loop-i.result.now c.requires
+    come_push c.args.scanned.now.pairs c.args.gaps.now c.args.scanned.now.last c.loop-i.i c.loop-i.edits.items c.push_gap.new.edits.items c.item-item.result c.gap-in-loop-i.result.now c.requires.same
     (omega (arith, c.loop-i-test.true, c.len-i-end.ensures.value)) c.item-item.ensures c.gap-in-loop-i.ensures.value c.in_ok-push_gap.ensures
     ∙ c.loop-i.invariant
 
 pub loop-i-preserved-then-is_unchanged : goal.loop-i-preserved-then-is_unchanged
 loop-i-preserved-then-is_unchanged c =
-    come_stays c.args.scanned.now.pairs c.args.gaps.now c.args.scanned.now.last c.loop-i.i c.loop-i.edits.items c.gap.result.now c.requires
+    come_stays c.args.scanned.now.pairs c.args.gaps.now c.args.scanned.now.last c.loop-i.i c.loop-i.edits.items c.gap.result.now c.requires.same
     (omega (arith, c.loop-i-test.true, c.len-i-end.ensures.value)) c.gap.ensures.value (sym c.is_unchanged.ensures ∙ c.if-is_unchanged.true)
     ∙ c.loop-i.invariant
 
@@ -30,6 +30,6 @@ returns c =
     omega (arith, last_at ps last c.args.scanned.now.text c.text.ensures.tokenization.tokenizes.text_is, ap length c.text.ensures.text, ap length c.last_gap-last.ensures) in
     let edit = ap₂ (λ n (g : List ℕ). changed_entries n (gap_piece g [] ∷ [])) at c.last_gap-last.ensures in
     c.in_ok-push_gap-2.ensures
-    ∙ ap (λ (es : List EditEntry). c.loop-i.edits.items ++ es) (edit ∙ sym (come_last ps c.args.gaps.now last c.loop-i.i c.requires (omega (arith, c.loop-i-test.false, c.len-i-end.ensures.value))))
+    ∙ ap (λ (es : List EditEntry). c.loop-i.edits.items ++ es) (edit ∙ sym (come_last ps c.args.gaps.now last c.loop-i.i c.requires.same (omega (arith, c.loop-i-test.false, c.len-i-end.ensures.value))))
     ∙ c.loop-i.invariant
     ∙ come_first ps (with_gaps c.args.gaps.now ps) last

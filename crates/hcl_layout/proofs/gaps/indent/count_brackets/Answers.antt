@@ -1,4 +1,4 @@
-use Rattle.std.proofs.Common.{slice_range, ◌≡◌, ◌≤◌, ◌<◌, length, ap, ◌∙◌, arith}
+use Rattle.std.proofs.Common.{◌≤◌, ◌<◌, length, ap, arith}
 use Rattle.hcl_layout.specs.Gaps.Indent.{is_opening, is_closing, openings, closings}
 use Rattle.hcl_layout.proofs.GapsLemmas.LineLemmas.{none_there}
 use Rattle.hcl_layout.proofs.GapsLemmas.LinePass.{count_more, one_at_most}
