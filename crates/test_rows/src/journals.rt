@@ -6,7 +6,7 @@ use crate::row::Row;
 use edit_record::laws::{
     migration_preserves_meaning, text_is_unambiguous, text_prefix_is_unambiguous,
 };
-use edit_record::{Journal, RecordFault, decode, encode, encoded_len};
+use edit_record::{Journal, Record, RecordFault, decode, decode_owned, encode, encoded_len};
 use std::alloc::Global;
 use std::fmt::Write;
 
@@ -17,6 +17,9 @@ pub fn answer(row: &Row, out: &mut Answer) {
         "fronts" => check_prefixes(row.text(1), out),
         "marks" => marks(row.text(1), row.text(2), out),
         "bytes" => bytes(row.text(1), out),
+        "popped" => popped(row.text(1), out),
+        "replaced" => replaced(row.text(1), row.number(2), row.text(3), out),
+        "shown" => shown(row.text(1), out),
         _ => out.show(&RecordFault::Memory),
     }
 }
@@ -40,6 +43,63 @@ fn written(journal: &Journal, out: &mut Answer) {
             out.hold(has_len, "the text has another length");
         }
         Err(fault) => out.refuse(&fault),
+    }
+}
+
+/// The journal of a text, which it keeps.
+fn kept(text: &[u8], out: &mut Answer) -> Option<Journal> {
+    let Ok(owned) = Vec::from_slice(out.alloc, text) else {
+        out.refuse(&RecordFault::Memory);
+        return None;
+    };
+    match decode_owned(out.alloc, owned) {
+        Ok(journal) => Some(journal),
+        Err(fault) => {
+            out.refuse(&fault);
+            None
+        }
+    }
+}
+
+/// What is written of a text's journal without its last record.
+fn popped(text: &[u8], out: &mut Answer) {
+    if let Some(mut journal) = kept(text, out) {
+        let _ = journal.pop();
+        written(&journal, out);
+    }
+}
+
+/// The records of a text.
+fn records_of(text: &[u8], out: &mut Answer) -> Vec<Record> {
+    let mut records = Vec::new(out.alloc);
+    if let Some(journal) = kept(text, out) {
+        for record in journal.records() {
+            let is_put = match record.clone() {
+                Ok(record) => records.push(record).is_ok(),
+                Err(_) => false,
+            };
+            out.hold(is_put, "no memory");
+        }
+    }
+    records
+}
+
+/// What is written of a text's journal with other records from this number on.
+fn replaced(text: &[u8], from: usize, others: &[u8], out: &mut Answer) {
+    let others = records_of(others, out);
+    if let Some(mut journal) = kept(text, out) {
+        if from.saturating_add(others.len()) > journal.records().len() {
+            return out.put("too many records");
+        }
+        journal.replace_from(from, others);
+        written(&journal, out);
+    }
+}
+
+/// How a text's journal is printed for a developer, on a line and on many.
+fn shown(text: &[u8], out: &mut Answer) {
+    if let Some(journal) = kept(text, out) {
+        let _ = write!(out, "{journal:?} {journal:#?}");
     }
 }
 
