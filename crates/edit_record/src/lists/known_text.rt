@@ -1,7 +1,8 @@
 //! The text that the first records of a journal were read from, kept for speed alone: where these
 //! records are written again it is copied.
-ghost use Rattle.std.specs.Prelude.{◌≤◌};
+ghost use Rattle.std.specs.Prelude.{◌≤◌, ◌/◌, length, vec_capacity};
 ghost use Rattle.edit_record.specs.Inner.KnownText.{IsKnownText};
+ghost use Rattle.edit_record.specs.declared.lists.known_text.TheConstants.{MOST_SPARE};
 
 use crate::encoder::records_len;
 use crate::lists::Record;
@@ -20,6 +21,8 @@ pub(crate) fn shorten_known_text(
     requires { IsKnownText records.now known text.old.items }
     ensures known { IsKnownText records.now result text.new.items }
     ensures within { result ≤ to }
+    ensures spare { vec_capacity text.old / MOST_SPARE ≤ length text.old.items
+        → vec_capacity text.new / MOST_SPARE ≤ length text.new.items }
 {
     if known <= to {
         return known;
