@@ -7,8 +7,10 @@ pub mod ShortEdits
 pub mod Pushes
 pub mod PairTable
 pub mod Making
+pub mod EditSums
 pub mod Records
 pub mod Allocating
+pub mod ReadEdits
 pub mod Steps
 pub mod Journals
 pub mod LawsOfText

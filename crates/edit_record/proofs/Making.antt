@@ -16,7 +16,7 @@ pub valid_again : (e : EditList) → IsValidList e → make_edits e.old_len e.en
 valid_again e m = (make_is_exact e.old_len e.entries e).1 (refl, m)
 
 -- edits remove no more bytes than there are
-room : (old_len from : ℕ) (es : List EditEntry) → AreDisjoint old_len from es → from + removed_len es ≤ old_len
+pub room : (old_len from : ℕ) (es : List EditEntry) → AreDisjoint old_len from es → from + removed_len es ≤ old_len
 room old_len from [] p = omega (arith, p)
 room old_len from (e ∷ es) p = let r = room old_len (e.at + length e.removed) es p.1 in let q = p.0.later in omega arith
 

@@ -6,5 +6,6 @@ pub mod Faults
 pub mod OldHead
 pub mod Digits
 pub mod EditLengths
+pub mod EditSums
 pub mod PartText
 pub mod KnownText

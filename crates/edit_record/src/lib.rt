@@ -9,6 +9,7 @@
 
 mod decoder;
 mod digits;
+mod edit_sums;
 mod encoder;
 mod fault;
 pub mod laws;

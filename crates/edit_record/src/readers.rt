@@ -1,19 +1,21 @@
 //! Readers of the parts of a record. Each returns the part that a text begins with, and the rest of
 //! the text.
-ghost use Rattle.std.specs.Prelude.{◌≡◌, ◌<◌, ◌^◌, option_map, IfOk, IfErr, ◌≤◌, is_ok};
+ghost use Rattle.std.specs.Prelude.{◌≡◌, ◌<◌, ◌^◌, option_map, IfOk, IfErr, ◌≤◌, is_ok, length, drop};
 ghost use Rattle.edit_record.specs.Inner.ParseResults.{IsParsed, IsRead, IsStop, IsPushed};
 ghost use Rattle.edit_record.specs.Inner.Allocating.{edits_allocate, edit_list_allocates};
 ghost use Rattle.edit_record.specs.Inner.EditLengths.{after_head_at};
+ghost use Rattle.edit_record.specs.Inner.EditSums.{AreSummedUp};
 ghost use Rattle.edit_record.specs.Lists.Validity.{make_edits};
 ghost use Rattle.edit_record.specs.Text.{max_number, space};
 ghost use Rattle.edit_record.specs.Parsing.{strip, expect, number_at, bytes_at, edit_head_at, edit_at, edits_at, if_valid, list_head_at, edit_list_at, bare_word_at, word_at};
 ghost use Rattle.edit_record.specs.declared.fault.FaultKind.{FaultKind};
 
+use crate::edit_sums::EditSums;
 use crate::fault::{DecodeStop, FaultKind, TextError};
 use crate::list_capacity::push_edit;
 use crate::lists::{Edit, Edits, Word};
 use crate::short_edits::{
-    plain_head, plain_lengths, plain_list_head, quick_edit, short_edit, short_place,
+    next_edit, plain_head, plain_lengths, plain_list_head, quick_edit, short_edit, short_place,
 };
 use std::alloc::Global;
 
@@ -156,8 +158,8 @@ fn any_edit(alloc: Global, text: &[u8]) -> Result<(Edit, &[u8]), DecodeStop>
     after_head(alloc, at, removed, added, rest)
 }
 
-/// Reads any edit, as `push_next` does. It is not inlined, so that the loop over quick ones keeps
-/// its registers.
+/// Reads any edit, pushes it, and returns the rest of the text. It allocates only after the edit is
+/// read.
 #[inline(never)]
 fn push_any<'t>(
     alloc: Global,
@@ -183,7 +185,7 @@ fn push_any<'t>(
     Ok(after)
 }
 
-/// Reads an edit of which the place is read, as `push_next` does: `text` follows it in `whole`.
+/// Reads an edit of which the place is read, as `push_any` does: `text` follows it in `whole`.
 #[inline(never)]
 #[tactic(auto, using(crate::proofs::ShortEdits::head_read))]
 fn push_placed<'t>(
@@ -211,75 +213,108 @@ fn push_placed<'t>(
     Ok(after)
 }
 
-/// Reads an edit that may be the first one, or for which there is no capacity, as `push_next` does.
+/// Reads an edit that may be the first one, or for which there is no capacity, as `push_placed` does.
 #[inline(never)]
 fn push_allocating<'t>(
     alloc: Global,
     edits: &mut Vec<Edit>,
     count: usize,
+    whole: &'t [u8],
+    at: usize,
     text: &'t [u8],
 ) -> Result<&'t [u8], DecodeStop>
-    ensures pushed { IfOk result (λ rest. IsPushed edits.old.items edits.new.items text.now rest.now) }
+    requires { number_at 0 max_number space whole.now ≡ Ok (at, text.now) }
+    ensures pushed { IfOk result (λ rest. IsPushed edits.old.items edits.new.items whole.now rest.now) }
     ensures stops { IfErr result
-        (λ stop. IsStop (is_ok (edit_at text.now)) stop (edit_at text.now)) }
+        (λ stop. IsStop (is_ok (edit_at whole.now)) stop (edit_at whole.now)) }
 {
-    let Some((at, rest)) = short_place(text) else {
-        return push_any(alloc, edits, count, text);
-    };
-    if let Some((next, after)) = quick_edit(at, rest) {
+    if let Some((removed, added, texts, after)) = quick_edit(text) {
+        let next = Edit::from_adjacent(at, removed, added, *texts);
         push_edit(edits, next, count, after.len())?;
         return Ok(after);
     }
-    push_placed(alloc, edits, count, text, at, rest)
+    push_placed(alloc, edits, count, whole, at, text)
 }
 
-/// Reads an edit, pushes it, and returns the rest of the text. It allocates only after the edit is
-/// read. A short edit is pushed where it is read, so that it is moved once, and where there is
-/// capacity no call comes between, so that its parts stay in registers.
+/// Reads an edit as `push_any` does, of which the place is read: the text goes on at `start`.
 #[inline(always)]
 fn push_next<'t>(
     alloc: Global,
     edits: &mut Vec<Edit>,
     count: usize,
+    at: usize,
+    start: usize,
     text: &'t [u8],
 ) -> Result<&'t [u8], DecodeStop>
+    requires within { start ≤ length text.now }
+    requires read { number_at 0 max_number space text.now ≡ Ok (at, drop start text.now) }
     ensures pushed { IfOk result (λ rest. IsPushed edits.old.items edits.new.items text.now rest.now) }
     ensures stops { IfErr result
         (λ stop. IsStop (is_ok (edit_at text.now)) stop (edit_at text.now)) }
 {
-    if edits.len() >= edits.capacity() {
-        return push_allocating(alloc, edits, count, text);
+    let rest = &text[start..];
+    if edits.len() < edits.capacity() {
+        return push_placed(alloc, edits, count, text, at, rest);
     }
-    let Some((at, rest)) = short_place(text) else {
-        return push_any(alloc, edits, count, text);
-    };
-    if let Some((next, after)) = quick_edit(at, rest) {
-        edits.push_reserved(next);
-        return Ok(after);
-    }
-    push_placed(alloc, edits, count, text, at, rest)
+    push_allocating(alloc, edits, count, text, at, rest)
 }
 
-/// Reads `count` edits. It allocates only after the first of them is read.
+/// Reads `count` edits, and returns their sums too. It allocates only after the first of them is
+/// read. A short edit is pushed where it is read, if there is capacity, so that its parts stay in
+/// registers.
 #[tactic(auto, unfolding(crate::specs::Parsing::edits_at))]
-fn edits(alloc: Global, count: usize, text: &[u8]) -> Result<(Vec<Edit>, &[u8]), DecodeStop>
-    ensures { IsRead (λ x. (x.0.items, x.1.now)) (edits_allocate count text.now) result
+fn edits(
+    alloc: Global,
+    count: usize,
+    text: &[u8],
+) -> Result<(Vec<Edit>, EditSums, &[u8]), DecodeStop>
+    ensures read { IsRead (λ x. (x.0.items, x.2.now)) (edits_allocate count text.now) result
         (edits_at count text.now) }
+    ensures summed { IfOk result (λ x. AreSummedUp x.0.items x.1) }
 {
     let mut edits = Vec::new(alloc);
+    let mut sums = EditSums::none();
     let mut rest = text;
     for _ in 0..count {
-        rest = push_next(alloc, &mut edits, count, rest)?;
+        match short_place(rest) {
+            Some((at, start)) => {
+                let has_capacity = edits.len() < edits.capacity();
+                match next_edit(has_capacity, sums, at, start, rest) {
+                    Some((removed, added, texts, after)) => {
+                        sums = sums.with_next(at, removed, added, texts);
+                        edits.push_reserved(Edit::from_adjacent(at, removed, added, *texts));
+                        rest = after;
+                    }
+                    None => {
+                        rest = push_next(alloc, &mut edits, count, at, start, rest)?;
+                        sums = sums.with_last(&edits);
+                    }
+                }
+            }
+            None => {
+                rest = push_any(alloc, &mut edits, count, rest)?;
+                sums = sums.with_last(&edits);
+            }
+        }
     }
-    Ok((edits, rest))
+    Ok((edits, sums, rest))
 }
 
-/// Makes a list of the edits. If `Edits::make` refuses them, the error is `left` bytes before the
-/// end of the text.
-fn checked_list(old_len: usize, edits: Vec<Edit>, left: usize) -> Result<Edits, TextError>
+/// Makes a list of the edits, which have these sums. If `Edits::make` refuses them, the error is
+/// `left` bytes before the end of the text.
+fn checked_list(
+    old_len: usize,
+    edits: Vec<Edit>,
+    sums: EditSums,
+    left: usize,
+) -> Result<Edits, TextError>
+    requires { AreSummedUp edits.items sums }
     ensures { (rest : _) → IsParsed (λ x. (x, rest)) result
         (if_valid left (make_edits old_len edits.items) rest) }
 {
+    if let Some(new_len) = sums.new_len(old_len) {
+        return Ok(Edits::from_valid(old_len, new_len, edits));
+    }
     match Edits::make(old_len, edits) {
         Ok(list) => Ok(list),
         Err(_) => Err(TextError {
@@ -315,8 +350,8 @@ pub(crate) fn list_of_edits(
         (edit_list_at left text.now) }
 {
     let ((old_len, count), rest) = list_head(text)?;
-    let (edits, rest) = edits(alloc, count, rest)?;
-    let list = checked_list(old_len, edits, left)?;
+    let (edits, sums, rest) = edits(alloc, count, rest)?;
+    let list = checked_list(old_len, edits, sums, left)?;
     Ok((list, rest))
 }
 

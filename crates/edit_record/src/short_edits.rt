@@ -1,11 +1,15 @@
 //! Reading numbers and short edits in one straight pass, for speed alone. What is unusual (an error,
 //! a long edit, the end of the text near) is left to the readers of each part.
-ghost use Rattle.std.specs.Prelude.{◌≡◌, ◌+◌, ◌∷◌, false, ℕ, List, length, IfSome};
+ghost use Rattle.std.specs.Prelude.{◌≡◌, ◌+◌, ◌<◌, ◌≤◌, ◌∷◌, true, false, ℕ, List, length, take, drop, IfSome};
 ghost use Rattle.edit_record.specs.Text.{max_number, space};
 ghost use Rattle.edit_record.specs.Parsing.{is_digit, number_at, list_head_at, edit_at};
 ghost use Rattle.edit_record.specs.Inner.EditLengths.{lengths_at, after_head_at};
+ghost use Rattle.edit_record.specs.Inner.EditSums.{Follows};
+ghost use Rattle.edit_record.specs.declared.lists.edit.TheConstants.{INLINE_CAPACITY};
+ghost use Rattle.edit_record.specs.declared.short_edits.TheConstants.{QUICK_BYTES};
 
-use crate::lists::{Edit, INLINE_CAPACITY};
+use crate::edit_sums::EditSums;
+use crate::lists::{Edit, INLINE_CAPACITY, MAX_TEXT};
 use crate::readers::MAX_NUMBER;
 
 /// Reads a number that `terminator` follows, and skips both.
@@ -84,16 +88,15 @@ fn short_lengths(text: &[u8]) -> Option<((usize, usize), &[u8])>
     let [removed, space, added, end, rest @ ..] = text else {
         return None;
     };
-    let (removed, added) = (*removed, *added);
+    let removed = *removed as usize;
+    let added = *added as usize;
     if *space != b' ' || *end != b'\n' {
         return None;
     }
-    if !removed.is_ascii_digit() || !added.is_ascii_digit() {
+    if removed < 48 || removed > 57 || added < 48 || added > 57 {
         return None;
     }
-    let removed = (removed - b'0') as usize;
-    let added = (added - b'0') as usize;
-    Some(((removed, added), rest))
+    Some(((removed - 48, added - 48), rest))
 }
 
 /// Reads how many bytes an edit removes and adds.
@@ -128,15 +131,20 @@ pub(crate) fn plain_head(text: &[u8]) -> Option<((usize, usize, usize), &[u8])>
     Some(((at, removed, added), rest))
 }
 
-/// Reads what follows the head of an edit that stores its bytes inline.
+/// Reads what follows the head of an edit that stores its bytes inline: an array that begins with
+/// these bytes.
 #[inline(always)]
-pub(crate) fn short_edit(
-    at: usize,
-    removed: usize,
-    added: usize,
-    text: &[u8],
-) -> Option<(Edit, &[u8])>
-    ensures { IfSome result (λ x. after_head_at at removed added text.now ≡ Ok (x.0, x.1.now)) }
+fn short_texts(removed: usize, added: usize, text: &[u8]) -> Option<(&[u8; INLINE_CAPACITY], &[u8])>
+    ensures few { IfSome result (λ _. removed + added ≤ INLINE_CAPACITY) }
+    ensures read { IfSome result (λ x. (at : ℕ) → after_head_at at removed added text.now
+        ≡ Ok (
+          record {
+            at = at;
+            removed = take removed x.0.now;
+            added = take added (drop removed x.0.now);
+          },
+          x.1.now,
+        )) }
 {
     if removed > INLINE_CAPACITY || added > INLINE_CAPACITY - removed {
         return None;
@@ -151,48 +159,126 @@ pub(crate) fn short_edit(
     if text[len] != b'\n' {
         return None;
     }
-    let after = &text[len + 1..];
-    Some((Edit::from_adjacent(at, removed, added, texts), after))
+    Some((texts, &text[len + 1..]))
 }
 
-/// Reads a place of at most six digits, the first of which is not 0, and the space that follows it.
+/// Reads what follows the head of an edit that stores its bytes inline.
 #[inline(always)]
-#[tactic(auto, unfolding(crate::specs::Parsing::number_at))]
-pub(crate) fn short_place(text: &[u8]) -> Option<(usize, &[u8])>
-    ensures { IfSome result (λ x. number_at 0 max_number space text.now ≡ Ok (x.0, x.1.now)) }
+pub(crate) fn short_edit(
+    at: usize,
+    removed: usize,
+    added: usize,
+    text: &[u8],
+) -> Option<(Edit, &[u8])>
+    ensures { IfSome result (λ x. after_head_at at removed added text.now ≡ Ok (x.0, x.1.now)) }
 {
-    let Some((digits, _others)) = text.split_first_chunk::<7>() else {
+    let Some((texts, after)) = short_texts(removed, added, text) else {
         return None;
     };
-    let first = digits[0];
+    Some((Edit::from_adjacent(at, removed, added, *texts), after))
+}
+
+/// No edit that is read at once has a longer text: seven digits, two times one, four ends, and its
+/// bytes.
+const QUICK_BYTES: usize = 26;
+
+/// Reads a place of at most seven digits, the first of which is not 0, and the space that follows
+/// it, unless fewer bytes are left than an edit can have. Returns the place, and where the text goes
+/// on.
+#[inline(always)]
+#[tactic(auto, unfolding(crate::specs::Parsing::number_at))]
+pub(crate) fn short_place(text: &[u8]) -> Option<(usize, usize)>
+    ensures read { IfSome result
+        (λ x. number_at 0 max_number space text.now ≡ Ok (x.0, drop x.1 text.now)) }
+    ensures near { IfSome result (λ x. x.0 < 10000000) }
+    ensures within { IfSome result (λ x. x.1 ≤ 8) }
+    ensures left { IfSome result (λ _. QUICK_BYTES ≤ length text.now) }
+{
+    if text.len() < QUICK_BYTES {
+        return None;
+    }
+    let first = text[0];
     if !first.is_ascii_digit() || first == b'0' {
         return None;
     }
     let mut value = (first - b'0') as usize;
     for i in 1..7 {
-        let digit = digits[i];
+        let digit = text[i];
         if !digit.is_ascii_digit() {
             return if digit == b' ' {
-                Some((value, &text[i + 1..]))
+                Some((value, i + 1))
             } else {
                 None
             };
         }
         value = value * 10 + (digit - b'0') as usize;
     }
-    None
+    if text[7] != b' ' {
+        return None;
+    }
+    Some((value, 8))
 }
 
 /// Reads a short edit, of which the place is read, with lengths of one digit each, as nearly every
-/// edit has.
+/// edit has: how many bytes it removes, how many it adds, and an array that begins with these. The
+/// edit is made of them where it is stored, so that it isn't moved.
 #[inline(always)]
-pub(crate) fn quick_edit(at: usize, text: &[u8]) -> Option<(Edit, &[u8])>
-    ensures { IfSome result (λ x. (whole : List ℕ)
+pub(crate) fn quick_edit(text: &[u8]) -> Option<(usize, usize, &[u8; INLINE_CAPACITY], &[u8])>
+    ensures few { IfSome result (λ x. x.0 + x.1 ≤ INLINE_CAPACITY) }
+    ensures read { IfSome result (λ x. (whole : List ℕ) (at : ℕ)
         → number_at 0 max_number space whole ≡ Ok (at, text.now)
-        → edit_at whole ≡ Ok (x.0, x.1.now)) }
+        → edit_at whole
+        ≡ Ok (
+          record {
+            at = at;
+            removed = take x.0 x.2.now;
+            added = take x.1 (drop x.0 x.2.now);
+          },
+          x.3.now,
+        )) }
 {
     let Some(((removed, added), rest)) = short_lengths(text) else {
         return None;
     };
-    short_edit(at, removed, added, rest)
+    let Some((texts, after)) = short_texts(removed, added, rest) else {
+        return None;
+    };
+    Some((removed, added, texts, after))
+}
+
+/// Reads a short edit at this place, after which the text goes on at `start`, as `quick_edit` does,
+/// if there is capacity for it, and it follows the edits before it.
+#[inline(always)]
+pub(crate) fn next_edit(
+    has_capacity: bool,
+    sums: EditSums,
+    at: usize,
+    start: usize,
+    text: &[u8],
+) -> Option<(usize, usize, &[u8; INLINE_CAPACITY], &[u8])>
+    requires { start ≤ length text.now }
+    ensures capacity { IfSome result (λ _. has_capacity ≡ true) }
+    ensures follows { IfSome result (λ x. Follows sums at x.0 x.1) }
+    ensures few { IfSome result (λ x. x.0 + x.1 ≤ INLINE_CAPACITY) }
+    ensures read { IfSome result (λ x. number_at 0 max_number space text.now ≡ Ok (at, drop start text.now)
+        → edit_at text.now
+        ≡ Ok (
+          record {
+            at = at;
+            removed = take x.0 x.2.now;
+            added = take x.1 (drop x.0 x.2.now);
+          },
+          x.3.now,
+        )) }
+{
+    if !has_capacity {
+        return None;
+    }
+    let Some((removed, added, texts, after)) = quick_edit(&text[start..]) else {
+        return None;
+    };
+    if at < sums.end || sums.added > MAX_TEXT || removed == 0 && added == 0 {
+        return None;
+    }
+    Some((removed, added, texts, after))
 }

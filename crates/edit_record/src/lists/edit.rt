@@ -77,22 +77,18 @@ impl Edit {
         at: usize,
         removed: usize,
         added: usize,
-        texts: &[u8; INLINE_CAPACITY],
+        texts: [u8; INLINE_CAPACITY],
     ) -> Self
         requires { removed + added ≤ INLINE_CAPACITY }
         ensures { result
-            ≡ record {
-              at = at;
-              removed = take removed texts.now;
-              added = take added (drop removed texts.now);
-            } }
+            ≡ record { at = at; removed = take removed texts; added = take added (drop removed texts) } }
     {
         Edit {
             at,
             storage: Storage::Inline {
                 removed_end: removed as u8,
                 len: (removed + added) as u8,
-                bytes: *texts,
+                bytes: texts,
             },
         }
     }

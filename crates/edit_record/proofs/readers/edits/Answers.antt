@@ -1,26 +1,52 @@
-use Rattle.std.proofs.Common.{◌≡◌, ◌++◌, ◌∷◌, [], inr}
+use Rattle.std.proofs.Common.{◌++◌, ◌∷◌, [], ap, ◌∙◌}
 use Rattle.std.proofs.lemmas.Result.{err_from_is_err_and}
 use Rattle.edit_record.specs.Parsing.{repeat_at, edit_at, edits_at}
-use Rattle.edit_record.proofs.Allocating.{one_allocates, edit_taken}
-use Rattle.edit_record.proofs.Many.{one_more, no_more, all_done}
+use Rattle.edit_record.proofs.Allocating.{one_allocates}
+use Rattle.edit_record.proofs.Many.{no_more, all_done}
+use Rattle.edit_record.proofs.ReadEdits.{read_one}
 use Rattle.edit_record.proofs.readers.edits.Goals as goal
+use Rattle.edit_record.proofs.readers.edits.Goals.{in-Some+in-Some-next_edit, in-None+in_ok-rest-in-None, in-Some+in-None-next_edit+in_ok-rest-in-None-next_edit}
 
-pub returns-in_err-rest : goal.returns-in_err-rest
+pub returns-in_err-rest-in-None-clause-read : goal.returns-in_err-rest-in-None-clause-read
 unfolding edits_at
-returns-in_err-rest c =
+returns-in_err-rest-in-None-clause-read c =
+    let p = err_from_is_err_and c.from_residual-in_err-rest-in-None.result c.from_residual-in_err-rest-in-None.ensures.1 in
+    rw (p.1, p.2) (no_more edit_at c.loop.edits.items c.args.count c.loop.counter c.loop.rest.now (repeat_at edit_at c.args.count c.args.text.now) _ _ c.in_err-rest-in-None.field-0.0 c.loop-test.true
+    (one_allocates c.loop.counter c.args.count c.loop.rest.now c.args.text.now c.loop-test.true c.loop.invariant.begun) c.in_err-rest-in-None.ensures.stops c.loop.invariant.same)
+
+pub returns-in_err-rest-in-None-next_edit-clause-read : goal.returns-in_err-rest-in-None-next_edit-clause-read
+unfolding edits_at
+returns-in_err-rest-in-None-next_edit-clause-read c =
     let p = err_from_is_err_and c.from_residual.result c.from_residual.ensures.1 in
-    rw (p.1, p.2) (no_more edit_at c.loop.edits.items c.args.count c.loop.counter c.loop.rest.now (repeat_at edit_at c.args.count c.args.text.now) _ _ c.in_err-rest.field-0.0 c.loop-test.true
-    (one_allocates c.loop.counter c.args.count c.loop.rest.now c.args.text.now c.loop-test.true c.loop.invariant.begun) c.in_err-rest.ensures.stops c.loop.invariant.same)
+    rw (p.1, p.2) (no_more edit_at c.loop.edits.items c.args.count c.loop.counter c.loop.rest.now (repeat_at edit_at c.args.count c.args.text.now) _ _ c.in_err-rest-in-None-next_edit.field-0.0 c.loop-test.true
+    (one_allocates c.loop.counter c.args.count c.loop.rest.now c.args.text.now c.loop-test.true c.loop.invariant.begun) c.in_err-rest-in-None-next_edit.ensures.stops c.loop.invariant.same)
 
 pub loop-preserved : goal.loop-preserved
 loop-preserved c =
-    let pushed = c.in_ok-rest.ensures.pushed in
-    let e : c.push_next.new.edits.items ≡ c.loop.edits.items ++ pushed.0 ∷ [] = pushed.1 in
-    rw e (record {
-      same = one_more edit_at c.loop.edits.items c.args.count c.loop.counter c.loop.rest.now (repeat_at edit_at c.args.count c.args.text.now) pushed.0 c.in_ok-rest.rest.now c.loop-test.true pushed.2 c.loop.invariant.same;
-      begun = inr (edit_taken c.loop.counter c.args.count c.loop.rest.now c.args.text.now _ c.loop-test.true c.loop.invariant.begun pushed.2);
-    })
+    let count = c.args.count in
+    let text = c.args.text.now in
+    let i = c.loop.counter in
+    let rest = c.loop.rest.now in
+    let es = c.loop.edits.items in
+    let lt = c.loop-test.true in
+    elim c.match-short_place.branch [
+      | in-Some+in-Some-next_edit w ↦
+          rw (w.edits-is, w.sums-is, w.rest-is) (read_one count i text rest w.in-Some-next_edit.after.now es w.push_reserved.new.self.items _ c.loop.sums w.with_next-sums.result c.loop.invariant lt
+          (w.push_reserved.ensures.items ∙ ap (λ x. es ++ x ∷ []) w.from_adjacent.ensures) (w.in-Some-next_edit.ensures.read w.in-Some.ensures.read) w.with_next-sums.ensures.fewer (w.with_next-sums.ensures.summed es))
+      | in-Some+in-None-next_edit+in_ok-rest-in-None-next_edit w ↦
+          let x = w.in_ok-rest-in-None-next_edit.ensures.pushed.0 in
+          let pushed = w.in_ok-rest-in-None-next_edit.ensures.pushed.1 in
+          let lent = w.deref.ensures.value ∙ pushed in
+          rw (w.edits-is, w.sums-is, w.rest-is) (read_one count i text rest w.in_ok-rest-in-None-next_edit.rest.now es w.push_next.new.edits.items x c.loop.sums w.with_last-sums.result c.loop.invariant lt
+          pushed w.in_ok-rest-in-None-next_edit.ensures.pushed.2 (w.with_last-sums.ensures.fewer c.loop.invariant.fewer) (λ h. rw lent at (w.with_last-sums.ensures.summed es x lent h)))
+      | in-None+in_ok-rest-in-None w ↦
+          let x = w.in_ok-rest-in-None.ensures.pushed.0 in
+          let pushed = w.in_ok-rest-in-None.ensures.pushed.1 in
+          let lent = w.deref-in-None.ensures.value ∙ pushed in
+          rw (w.edits-is, w.sums-is, w.rest-is) (read_one count i text rest w.in_ok-rest-in-None.rest.now es w.push_any.new.edits.items x c.loop.sums w.with_last-sums-in-None.result c.loop.invariant lt
+          pushed w.in_ok-rest-in-None.ensures.pushed.2 (w.with_last-sums-in-None.ensures.fewer c.loop.invariant.fewer) (λ h. rw lent at (w.with_last-sums-in-None.ensures.summed es x lent h)))
+    ]
 
-pub returns : goal.returns
+pub returns-clause-read : goal.returns-clause-read
 unfolding edits_at
-returns c = all_done edit_at c.loop.edits.items c.args.count c.loop.counter c.loop.rest.now (repeat_at edit_at c.args.count c.args.text.now) c.loop-test.false c.loop.invariant.same
+returns-clause-read c = all_done edit_at c.loop.edits.items c.args.count c.loop.counter c.loop.rest.now (repeat_at edit_at c.args.count c.args.text.now) c.loop-test.false c.loop.invariant.same

@@ -1,7 +1,6 @@
 use Rattle.std.proofs.Common.{◌≡◌, ℕ, ◌-◌, ◌≤◌, List, [], ◌∷◌, length, take, drop, get_or, ap, sym, arith, ◌∙◌}
 use Rattle.std.proofs.lemmas.List.{take_rest}
 use Rattle.edit_record.specs.Text.{space, newline}
-use Rattle.edit_record.proofs.Numbers.{digit_bounds}
 use Rattle.edit_record.proofs.ShortEdits.{two_digits_read}
 use Rattle.edit_record.proofs.short_edits.short_lengths.Goals as goal
 
@@ -21,6 +20,4 @@ ends t le e f =
 pub returns-clause-lengths : goal.returns-clause-lengths
 returns-clause-lengths c =
     let t = c.args.text.now in
-    let r = digit_bounds (get_or t 0 0) (sym c.is_ascii_digit.ensures.value ∙ c.if-not-is_ascii_digit.false) in
-    let a = digit_bounds (get_or t 2 0) (sym c.is_ascii_digit-else-not-is_ascii_digit.ensures.value ∙ c.if-not-is_ascii_digit-2.false) in
-    two_digits_read (get_or t 0 0) (get_or t 2 0) t (take (length t - 4) (drop 4 t)) (ends t c.in-len4-up.len_at_least c.if-space-ne32.false c.if-end-ne10.false) r.0 r.1 a.0 a.1
+    two_digits_read (get_or t 0 0) (get_or t 2 0) t (take (length t - 4) (drop 4 t)) (ends t c.in-len4-up.len_at_least c.if-space-ne32.false c.if-end-ne10.false) (omega (arith, c.if-removed-lt48.false)) (omega (arith, c.if-removed-gt57.false)) (omega (arith, c.if-added-lt48.false)) (omega (arith, c.if-added-gt57.false))
