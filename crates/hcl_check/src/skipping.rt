@@ -26,5 +26,5 @@ pub fn skip_member(alloc: Global, scanned: &Scanned<'_>, at: &mut usize) -> Resu
         Skips (bodies.member_of ts MAX_NESTING (bodies.deeper_members ts MAX_NESTING) at.old) result at.new }
     ensures no_memory { IfErr result (λ e. e ≢ Memory) }
 {
-    member(&Reader::new(alloc, scanned), at)
+    member(scanned, &Reader::new(alloc, scanned), at)
 }
