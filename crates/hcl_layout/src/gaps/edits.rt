@@ -1,6 +1,6 @@
 //! The edits that give a text its new gaps.
 
-ghost use Rattle.std.specs.Prelude.{true, drop, ◌||◌, ◌≡◌, ◌+◌, ◌*◌, ◌<◌, ◌≤◌, ◌++◌, [], ◌∷◌, Some, length, take, replicate, slice_get, slice_index, slice_index_or, nat_lt, IfOk, OnOk};
+ghost use Rattle.std.specs.Prelude.{true, drop, ◌≡◌, ◌+◌, ◌*◌, ◌<◌, ◌≤◌, ◌++◌, [], ◌∷◌, Some, length, take, replicate, slice_get, slice_index, slice_index_or, nat_lt, IfOk, OnOk};
 ghost use Rattle.hcl_scan.specs.Tokenization.{MAX_TEXT};
 ghost use Rattle.std.specs.Str.{bytes_eq};
 ghost use Rattle.std.specs.Option.{option_map};
@@ -8,11 +8,11 @@ ghost use Rattle.hcl_token.specs.Tokens.{Pair, whole_text};
 ghost use Rattle.edit_record.specs.Lists.Pieces.{changed_entries};
 ghost use Rattle.hcl_layout.specs.Gaps.Space.{spaces};
 ghost use Rattle.hcl_layout.specs.Gaps.Layout.{gap_piece, pieces};
-ghost use Rattle.hcl_layout.specs.Gaps.Inner.CodeViews.{is_without_tab, AreSpaces};
+ghost use Rattle.hcl_layout.specs.Gaps.Inner.CodeViews.{AreSpaces};
 ghost use Rattle.hcl_layout.specs.Gaps.Inner.Stages.{unchanged, resolved_gap, with_gaps, have_lengths};
 
 use crate::gaps::base_gaps::KEEP_GAP;
-use crate::gaps::text_bytes::has_no_tab;
+use crate::gaps::text_bytes::are_spaces;
 use edit_record::lists::Edit;
 use hcl_scan::Scanned;
 use std::alloc::{AllocError, Global};
@@ -122,7 +122,8 @@ pub(crate) fn gap_edits(
 /// Returns the number of bytes of the gap before token `i`.
 fn old_gap_len(scanned: &Scanned<'_>, i: usize) -> u32
     requires { i < length scanned.now.pairs }
-    ensures { Some result ≡ option_map (λ (p : Pair). length p.gap) (slice_get scanned.now.pairs i) }
+    ensures { Some result
+        ≡ option_map (λ (p : Pair). length p.gap) (slice_get scanned.now.pairs i) }
 {
     let item = scanned.item(i);
     item.start - item.gap_at
@@ -140,18 +141,6 @@ fn have_lengths(scanned: &Scanned<'_>, gaps: &[u32]) -> bool
         same &= (old_gap_len(scanned, i) == gaps[i]) | (gaps[i] == KEEP_GAP);
     }
     same
-}
-
-/// Returns whether each gap is spaces; the text is read if that is not known.
-fn are_spaces(scanned: &Scanned<'_>, all_spaces: bool) -> bool
-    requires { AreSpaces all_spaces scanned.now.pairs }
-    ensures value { result ≡ (all_spaces || is_without_tab scanned.now.text) }
-    ensures spaces { AreSpaces result scanned.now.pairs }
-{
-    if all_spaces {
-        return true;
-    }
-    has_no_tab(scanned)
 }
 
 /// Returns whether no gap differs. Bytes are compared where the text has a tab, else lengths alone.

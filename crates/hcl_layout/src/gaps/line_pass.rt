@@ -1,5 +1,5 @@
 //! A line in one pass: its end, its flags, its brackets and the gaps inside it. For speed alone:
-//! `lines::line_at` and `indent::count_brackets` say the same of its tokens.
+//! `indent::count_brackets` says the same of its tokens.
 
 ghost use Rattle.std.specs.Prelude.{◌≡◌, ◌==◌, ◌+◌, ◌*◌, ◌/◌, ◌%◌, ◌<◌, ◌≤◌, ◌++◌, not, [], ◌∷◌, false, length, slice_range, take, if◌then◌else◌};
 ghost use Rattle.hcl_scan.specs.Tokenization.{MAX_TEXT};

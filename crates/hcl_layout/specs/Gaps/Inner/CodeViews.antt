@@ -1,5 +1,5 @@
 -- What the code keeps of tokens and cells, as lists. For proofs: nothing here has to be believed.
-use Rattle.std.specs.Prelude.{◌≡◌, ◌==◌, ◌&&◌, ◌||◌, nat_le, nat_lt, ℕ, Bool, true, false, not, slice_range, List, [], ◌∷◌, ◌++◌, length, map, drop, reverse, ◌<◌, Option, Some, None, ⊤}
+use Rattle.std.specs.Prelude.{◌≡◌, ◌==◌, ◌&&◌, ◌||◌, ◌/◌, nat_le, nat_lt, ℕ, Bool, true, false, not, slice_range, List, [], ◌∷◌, ◌++◌, length, map, drop, reverse, ◌<◌, Option, Some, None, ⊤}
 use Rattle.std.specs.List.{list_any, list_all}
 use Rattle.hcl_token.specs.declared.kind.Kind.{Kind}
 use Rattle.hcl_token.specs.declared.kind.Kind.TheVariants.{HereOpen, LineComment, InlineComment}
@@ -118,7 +118,11 @@ pub record AreStarts (cell : Cell) (gaps : List ℕ) (pairs : List Pair) (first 
 
 -- ---- what all bytes of a text say
 
--- printable ASCII and LF alone
+-- it has many tokens for its length
+abbrev pub has_short_tokens : List ℕ → List Pair → Bool
+has_short_tokens text pairs = nat_le (length text / 32) (length pairs)
+
+-- ASCII from the space on and LF alone
 abbrev pub is_plain : List ℕ → Bool
 is_plain text = list_all (λ b. (nat_le 32 b && nat_lt b 128) || b == 10) text
 

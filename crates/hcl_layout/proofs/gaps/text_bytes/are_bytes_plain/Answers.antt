@@ -1,7 +1,7 @@
 use Rattle.std.proofs.Common.{sym, ap, ◌∙◌}
 use Rattle.hcl_layout.specs.Gaps.Inner.CodeViews.{is_plain}
 use Rattle.hcl_layout.proofs.GapsLemmas.TextBytes.{plain_no_tab, plain_ascii, gaps_are_spaces, bytes_are_clusters}
-use Rattle.hcl_layout.proofs.gaps.text_bytes.is_plain_text.Goals as goal
+use Rattle.hcl_layout.proofs.gaps.text_bytes.are_bytes_plain.Goals as goal
 
 pub returns-clause-spaces : goal.returns-clause-spaces
 returns-clause-spaces c =
