@@ -34,7 +34,8 @@ impl EditSums {
     #[inline(always)]
     fn with(self, at: usize, removes: usize, adds: usize) -> EditSums
         ensures fewer { self.removed ≤ self.end → result.removed ≤ result.end }
-        ensures summed { (es : List EditEntry) (x : EditEntry) → x.at ≡ at → length x.removed ≡ removes
+        ensures summed { (es : List EditEntry) (x : EditEntry) → x.at ≡ at
+            → length x.removed ≡ removes
             → length x.added ≡ adds
             → AreSummedUp es self
             → AreSummedUp (es ++ x ∷ []) result }
@@ -87,7 +88,8 @@ impl EditSums {
     #[inline(always)]
     pub(crate) fn with_last(self, edits: &[Edit]) -> EditSums
         ensures fewer { self.removed ≤ self.end → result.removed ≤ result.end }
-        ensures summed { (es : List EditEntry) (x : EditEntry) → edits.now ≡ es ++ x ∷ [] → AreSummedUp es self
+        ensures summed { (es : List EditEntry) (x : EditEntry) → edits.now ≡ es ++ x ∷ []
+            → AreSummedUp es self
             → AreSummedUp edits.now result }
     {
         match edits {

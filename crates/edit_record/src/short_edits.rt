@@ -183,8 +183,8 @@ pub(crate) fn short_edit(
 const QUICK_BYTES: usize = 26;
 
 /// Reads a place of at most seven digits, the first of which is not 0, and the space that follows
-/// it, unless fewer bytes are left than an edit can have. Returns the place, and where the text goes
-/// on.
+/// it, if as many bytes are left as the longest text of a short edit has. Returns the place, and
+/// where the text goes on.
 #[inline(always)]
 #[tactic(auto, unfolding(crate::specs::Parsing::number_at))]
 pub(crate) fn short_place(text: &[u8]) -> Option<(usize, usize)>
@@ -260,7 +260,8 @@ pub(crate) fn next_edit(
     ensures capacity { IfSome result (λ _. has_capacity ≡ true) }
     ensures follows { IfSome result (λ x. Follows sums at x.0 x.1) }
     ensures few { IfSome result (λ x. x.0 + x.1 ≤ INLINE_CAPACITY) }
-    ensures read { IfSome result (λ x. number_at 0 max_number space text.now ≡ Ok (at, drop start text.now)
+    ensures read { IfSome result
+        (λ x. number_at 0 max_number space text.now ≡ Ok (at, drop start text.now)
         → edit_at text.now
         ≡ Ok (
           record {

@@ -1,6 +1,6 @@
 -- What a journal keeps of the text that it was read from.
 use Rattle.std.specs.Prelude.{◌≡◌, ℕ, ◌≤◌, List, ◌++◌, length, take}
-use Rattle.edit_record.specs.CurrentText.{IsCurrentText, journal_text}
+use Rattle.edit_record.specs.CurrentText.{IsCurrentText}
 use Rattle.edit_record.specs.Lists.Journal.{JournalEntry}
 
 -- the text of the first `known` records is kept

@@ -1,5 +1,5 @@
 -- Edits, lists, records and journals are equal if and only if they are one.
-use Rattle.std.proofs.Common.{◌≡◌, List, Bool, true, false, refl, sym, ap, true≢false}
+use Rattle.std.proofs.Common.{◌≡◌, List, Bool, refl, sym, ap, true≢false}
 use Rattle.std.specs.Bool.{Decides}
 use Rattle.std.specs.Cmp.{IsEquivalence, both_ways}
 use Rattle.std.specs.Cmp.Lexicographic.{pointwise_decides}

@@ -1,4 +1,4 @@
-use Rattle.std.proofs.Common.{◌≡◌, ◌<◌, ◌-◌, arith, ap, length, ◌∙◌}
+use Rattle.std.proofs.Common.{◌≡◌, ◌-◌, arith, length}
 use Rattle.edit_record.specs.Text.{journal_text}
 use Rattle.std.specs.List.{slice_range}
 use Rattle.edit_record.proofs.KnownText.{cut_fits, cut_known}
