@@ -83,7 +83,8 @@ pub(crate) fn plain_list_head(text: &[u8]) -> Option<((usize, usize), &[u8])>
 #[inline(always)]
 fn short_lengths(text: &[u8]) -> Option<((usize, usize), &[u8])>
     ensures lengths { IfSome result (λ x. lengths_at text.now ≡ Ok (x.0, x.1.now)) }
-    ensures rest { IfSome result (λ x. length x.1.now + 4 ≡ length text.now) }
+    ensures rest { IfSome result (λ x. x.1.now ≡ drop 4 text.now) }
+    ensures left { IfSome result (λ x. length x.1.now + 4 ≡ length text.now) }
 {
     let [removed, space, added, end, rest @ ..] = text else {
         return None;
@@ -145,17 +146,16 @@ fn short_texts(removed: usize, added: usize, text: &[u8]) -> Option<(&[u8; INLIN
           },
           x.1.now,
         )) }
+    ensures rest { IfSome result (λ x. x.1.now ≡ drop (removed + added + 1) text.now) }
+    ensures within { IfSome result (λ _. removed + added < length text.now) }
 {
-    if removed > INLINE_CAPACITY || added > INLINE_CAPACITY - removed {
-        return None;
-    }
-    if text.len() <= INLINE_CAPACITY {
+    let len = removed.saturating_add(added);
+    if len > INLINE_CAPACITY || text.len() <= INLINE_CAPACITY {
         return None;
     }
     let Some((texts, _others)) = text.split_first_chunk::<INLINE_CAPACITY>() else {
         return None;
     };
-    let len = removed + added;
     if text[len] != b'\n' {
         return None;
     }
@@ -236,6 +236,8 @@ pub(crate) fn quick_edit(text: &[u8]) -> Option<(usize, usize, &[u8; INLINE_CAPA
           },
           x.3.now,
         )) }
+    ensures rest { IfSome result (λ x. x.3.now ≡ drop (x.0 + x.1 + 5) text.now) }
+    ensures within { IfSome result (λ x. x.0 + x.1 + 5 ≤ length text.now) }
 {
     let Some(((removed, added), rest)) = short_lengths(text) else {
         return None;
@@ -275,11 +277,12 @@ pub(crate) fn next_edit(
     if !has_capacity {
         return None;
     }
-    let Some((removed, added, texts, after)) = quick_edit(&text[start..]) else {
+    let Some((removed, added, texts, _after)) = quick_edit(&text[start..]) else {
         return None;
     };
-    if at < sums.end || sums.added > MAX_TEXT || removed == 0 && added == 0 {
+    let len = removed + added;
+    if len == 0 || at < sums.end || sums.added > MAX_TEXT {
         return None;
     }
-    Some((removed, added, texts, after))
+    Some((removed, added, texts, &text[start + len + 5..]))
 }

@@ -16,9 +16,11 @@ returns-clause-read c =
     let removed = c.args.removed in
     let added = c.args.added in
     let text = c.args.text.now in
-    let after = take (length text - (removed + added + 1)) (drop (removed + added + 1) text) in
+    let len = c.saturating_add-len.result in
+    let after = take (length text - (len + 1)) (drop (len + 1) text) in
     let few : removed + added ≤ 13 = omega arith in
-    let spare : removed + added < length text = omega arith in
-    let end : drop (removed + added) text ≡ newline ∷ after = from_end text (removed + added) spare c.if-text-len-ne10.false in
+    let len_is : len ≡ removed + added = omega arith in
+    let spare : removed + added ≤ length text = omega arith in
+    let end : drop (removed + added) text ≡ newline ∷ after = ap (λ n. drop n text) (sym len_is) ∙ from_end text len (omega arith) c.if-text-len-ne10.false in
     let p = in_first removed added 13 text c.in-Some.texts.now c.in-Some.ensures.cases.0 few in
-    λ at. rw (p.0, p.1) (edit_read at removed added text after (omega (arith, spare)) end)
+    λ at. rw (p.0, p.1) (edit_read at removed added text after spare end)
