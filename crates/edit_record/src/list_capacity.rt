@@ -22,10 +22,24 @@ pub(crate) fn push_edit(
 ) -> Result<(), AllocError>
     ensures { OnOk result (edits.new.items ≡ edits.old.items ++ next ∷ []) }
 {
+    reserve_next(edits, count, left)?;
+    edits.push_reserved(next);
+    Ok(())
+}
+
+/// Reserves memory for an edit that is read, as `push_edit` does, if there is none.
+#[inline(always)]
+pub(crate) fn reserve_next(
+    edits: &mut Vec<Edit>,
+    count: usize,
+    left: usize,
+) -> Result<(), AllocError>
+    ensures items { edits.new.items ≡ edits.old.items }
+    ensures spare { OnOk result (vec_len edits.new < vec_capacity edits.new) }
+{
     if edits.len() >= edits.capacity() {
         reserve_edits(edits, count, left)?;
     }
-    edits.push_reserved(next);
     Ok(())
 }
 

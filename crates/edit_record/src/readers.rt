@@ -1,6 +1,6 @@
 //! Readers of the parts of a record. Each returns the part that a text begins with, and the rest of
 //! the text.
-ghost use Rattle.std.specs.Prelude.{◌≡◌, ◌<◌, ◌^◌, option_map, IfOk, IfErr, ◌≤◌, is_ok, length, drop};
+ghost use Rattle.std.specs.Prelude.{◌≡◌, ◌<◌, ◌^◌, option_map, IfOk, IfErr, OnOk, ◌≤◌, is_ok, true, vec_len, vec_capacity};
 ghost use Rattle.edit_record.specs.Inner.ParseResults.{IsParsed, IsRead, IsStop, IsPushed};
 ghost use Rattle.edit_record.specs.Inner.Allocating.{edits_allocate, edit_list_allocates};
 ghost use Rattle.edit_record.specs.Inner.EditLengths.{after_head_at};
@@ -12,10 +12,10 @@ ghost use Rattle.edit_record.specs.declared.fault.FaultKind.{FaultKind};
 
 use crate::edit_sums::EditSums;
 use crate::fault::{DecodeStop, FaultKind, TextError};
-use crate::list_capacity::push_edit;
+use crate::list_capacity::{push_edit, reserve_next};
 use crate::lists::{Edit, Edits, Word};
 use crate::short_edits::{
-    next_edit, plain_head, plain_lengths, plain_list_head, quick_edit, short_edit, short_place,
+    next_edit, plain_head, plain_lengths, plain_list_head, short_edit, short_place,
 };
 use std::alloc::Global;
 
@@ -213,55 +213,27 @@ fn push_placed<'t>(
     Ok(after)
 }
 
-/// Reads an edit that may be the first one, or for which there is no capacity, as `push_placed` does.
-#[inline(never)]
-fn push_allocating<'t>(
-    alloc: Global,
-    edits: &mut Vec<Edit>,
-    count: usize,
-    whole: &'t [u8],
-    at: usize,
-    text: &'t [u8],
-) -> Result<&'t [u8], DecodeStop>
-    requires { number_at 0 max_number space whole.now ≡ Ok (at, text.now) }
-    ensures pushed { IfOk result (λ rest. IsPushed edits.old.items edits.new.items whole.now rest.now) }
-    ensures stops { IfErr result
-        (λ stop. IsStop (is_ok (edit_at whole.now)) stop (edit_at whole.now)) }
-{
-    if let Some((removed, added, texts, after)) = quick_edit(text) {
-        let next = Edit::from_adjacent(at, removed, added, *texts);
-        push_edit(edits, next, count, after.len())?;
-        return Ok(after);
-    }
-    push_placed(alloc, edits, count, whole, at, text)
-}
-
-/// Reads an edit as `push_any` does, of which the place is read: the text goes on at `start`.
+/// Reserves memory for an edit that is read, which `text` begins with, if there is none.
 #[inline(always)]
-fn push_next<'t>(
-    alloc: Global,
+fn reserve_read(
     edits: &mut Vec<Edit>,
     count: usize,
-    at: usize,
-    start: usize,
-    text: &'t [u8],
-) -> Result<&'t [u8], DecodeStop>
-    requires within { start ≤ length text.now }
-    requires read { number_at 0 max_number space text.now ≡ Ok (at, drop start text.now) }
-    ensures pushed { IfOk result (λ rest. IsPushed edits.old.items edits.new.items text.now rest.now) }
+    left: usize,
+    text: &[u8],
+) -> Result<(), DecodeStop>
+    requires { is_ok (edit_at text.now) ≡ true }
+    ensures items { edits.new.items ≡ edits.old.items }
+    ensures spare { OnOk result (vec_len edits.new < vec_capacity edits.new) }
     ensures stops { IfErr result
         (λ stop. IsStop (is_ok (edit_at text.now)) stop (edit_at text.now)) }
 {
-    let rest = &text[start..];
-    if edits.len() < edits.capacity() {
-        return push_placed(alloc, edits, count, text, at, rest);
-    }
-    push_allocating(alloc, edits, count, text, at, rest)
+    let _ = text;
+    reserve_next(edits, count, left)?;
+    Ok(())
 }
 
 /// Reads `count` edits, and returns their sums too. It allocates only after the first of them is
-/// read. A short edit is pushed where it is read, if there is capacity, so that its parts stay in
-/// registers.
+/// read. A short edit is pushed where it is read, so that its parts stay in registers.
 #[tactic(auto, unfolding(crate::specs::Parsing::edits_at))]
 fn edits(
     alloc: Global,
@@ -277,20 +249,19 @@ fn edits(
     let mut rest = text;
     for _ in 0..count {
         match short_place(rest) {
-            Some((at, start)) => {
-                let has_capacity = edits.len() < edits.capacity();
-                match next_edit(has_capacity, sums, at, start, rest) {
-                    Some((removed, added, texts, after)) => {
-                        sums = sums.with_next(at, removed, added, texts);
-                        edits.push_reserved(Edit::from_adjacent(at, removed, added, *texts));
-                        rest = after;
-                    }
-                    None => {
-                        rest = push_next(alloc, &mut edits, count, at, start, rest)?;
-                        sums = sums.with_last(&edits);
-                    }
+            Some((at, start)) => match next_edit(sums, at, start, rest) {
+                Some((removed, added, texts, after)) => {
+                    reserve_read(&mut edits, count, after.len(), rest)?;
+                    sums = sums.with_next(at, removed, added, texts);
+                    edits.push_reserved(Edit::from_adjacent(at, removed, added, *texts));
+                    rest = after;
                 }
-            }
+                None => {
+                    let lengths = &rest[start..];
+                    rest = push_placed(alloc, &mut edits, count, rest, at, lengths)?;
+                    sums = sums.with_last(&edits);
+                }
+            },
             None => {
                 rest = push_any(alloc, &mut edits, count, rest)?;
                 sums = sums.with_last(&edits);

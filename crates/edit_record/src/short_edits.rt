@@ -1,6 +1,6 @@
 //! Reading numbers and short edits in one straight pass, for speed alone. What is unusual (an error,
 //! a long edit, the end of the text near) is left to the readers of each part.
-ghost use Rattle.std.specs.Prelude.{◌≡◌, ◌+◌, ◌<◌, ◌≤◌, ◌∷◌, true, false, ℕ, List, length, take, drop, IfSome};
+ghost use Rattle.std.specs.Prelude.{◌≡◌, ◌+◌, ◌<◌, ◌≤◌, ◌∷◌, false, ℕ, List, length, take, drop, IfSome};
 ghost use Rattle.edit_record.specs.Text.{max_number, space};
 ghost use Rattle.edit_record.specs.Parsing.{is_digit, number_at, list_head_at, edit_at};
 ghost use Rattle.edit_record.specs.Inner.EditLengths.{lengths_at, after_head_at};
@@ -223,7 +223,7 @@ pub(crate) fn short_place(text: &[u8]) -> Option<(usize, usize)>
 /// edit has: how many bytes it removes, how many it adds, and an array that begins with these. The
 /// edit is made of them where it is stored, so that it isn't moved.
 #[inline(always)]
-pub(crate) fn quick_edit(text: &[u8]) -> Option<(usize, usize, &[u8; INLINE_CAPACITY], &[u8])>
+fn quick_edit(text: &[u8]) -> Option<(usize, usize, &[u8; INLINE_CAPACITY], &[u8])>
     ensures few { IfSome result (λ x. x.0 + x.1 ≤ INLINE_CAPACITY) }
     ensures read { IfSome result (λ x. (whole : List ℕ) (at : ℕ)
         → number_at 0 max_number space whole ≡ Ok (at, text.now)
@@ -249,17 +249,15 @@ pub(crate) fn quick_edit(text: &[u8]) -> Option<(usize, usize, &[u8; INLINE_CAPA
 }
 
 /// Reads a short edit at this place, after which the text goes on at `start`, as `quick_edit` does,
-/// if there is capacity for it, and it follows the edits before it.
+/// if it follows the edits before it.
 #[inline(always)]
 pub(crate) fn next_edit(
-    has_capacity: bool,
     sums: EditSums,
     at: usize,
     start: usize,
     text: &[u8],
 ) -> Option<(usize, usize, &[u8; INLINE_CAPACITY], &[u8])>
     requires { start ≤ length text.now }
-    ensures capacity { IfSome result (λ _. has_capacity ≡ true) }
     ensures follows { IfSome result (λ x. Follows sums at x.0 x.1) }
     ensures few { IfSome result (λ x. x.0 + x.1 ≤ INLINE_CAPACITY) }
     ensures read { IfSome result
@@ -274,9 +272,6 @@ pub(crate) fn next_edit(
           x.3.now,
         )) }
 {
-    if !has_capacity {
-        return None;
-    }
     let Some((removed, added, texts, _after)) = quick_edit(&text[start..]) else {
         return None;
     };
