@@ -11,7 +11,7 @@ use Rattle.tf_rules.specs.declared.rule.Rule.{Rule}
 use Rattle.tf_rules.specs.declared.rule_set.RuleSet.{RuleSet}
 use Rattle.tf_findings.specs.Comments.{is_comment}
 use Rattle.tf_findings.specs.Silencing.{silenced_from}
-use Rattle.tf_findings.specs.Inner.NextComment.{IsNoComment, AreNoComments}
+use Rattle.tf_findings.specs.Inner.NextComment.{IsNoComment, AreNoComments, HasComment}
 use Rattle.tf_findings.proofs.CommentLemmas.{found_from, found_step, other_adds}
 use Rattle.tf_findings.proofs.LineLemmas.{quiet_kind, quiet_step}
 
@@ -37,6 +37,16 @@ none_more pairs from i h here = record { each = λ n below above kind is. by_pla
       | inl l ↦ h.each n below l kind is
       | inr more ↦ let e : n ≡ i = omega (arith, above, more) in here kind (subst (λ (m : ℕ). Some kind ≡ kind_of pairs m) e is)
     ]
+
+-- the same where one of them, or that one, is a comment
+pub has_more : (pairs : List Pair) (from i : ℕ) (kind : Kind) (free here : Bool) → (free && not here) ≡ false → from ≤ i
+    → (free ≡ false → HasComment pairs from i) → Some kind ≡ kind_of pairs i → is_comment kind ≡ here → HasComment pairs from (i + 1)
+has_more pairs from i kind false here h below before is comment =
+    let b = before refl in
+    record { place = b.place; later = b.later; before = omega (arith, b.before); kind = b.kind; here = b.here; comment = b.comment }
+has_more pairs from i kind true true h below before is comment =
+    record { place = i; later = below; before = omega arith; kind = kind; here = is; comment = comment }
+has_more pairs from i kind true false h below before is comment = absurd (cc)
 
 -- tokens, and those after them
 pub none_joined : (pairs : List Pair) (from middle to : ℕ) → AreNoComments pairs from middle → AreNoComments pairs middle to → AreNoComments pairs from to

@@ -6,7 +6,7 @@ ghost use Rattle.hcl_token.specs.TokenizedText.{kind_of};
 ghost use Rattle.hcl_token.specs.declared.kind.Kind.{Kind};
 ghost use Rattle.tf_findings.specs.Comments.{is_comment};
 ghost use Rattle.tf_findings.specs.declared.next_comment.TheConstants.{BLOCK};
-ghost use Rattle.tf_findings.specs.Inner.NextComment.{IsNoComment, AreNoComments};
+ghost use Rattle.tf_findings.specs.Inner.NextComment.{IsNoComment, AreNoComments, HasComment};
 
 use crate::silencing::is_comment;
 use hcl_scan::Scanned;
@@ -51,7 +51,8 @@ const BLOCK: usize = 32;
 #[inline(always)]
 fn is_free_block(scanned: &Scanned<'_>, from: usize) -> bool
     requires { from + BLOCK ≤ length scanned.now.pairs }
-    ensures { result ≡ true → AreNoComments scanned.now.pairs from (from + BLOCK) }
+    ensures free { result ≡ true → AreNoComments scanned.now.pairs from (from + BLOCK) }
+    ensures comment { result ≡ false → HasComment scanned.now.pairs from (from + BLOCK) }
 {
     let _count = scanned.len();
     let mut is_free = true;
@@ -62,12 +63,14 @@ fn is_free_block(scanned: &Scanned<'_>, from: usize) -> bool
 }
 
 /// Returns the number of a token from number `from` on, before which there is no comment: blocks
-/// without one are passed.
+/// without one are passed, up to one with a comment or the last tokens, fewer than a block.
 fn past_blocks(scanned: &Scanned<'_>, from: usize) -> usize
     requires { from ≤ length scanned.now.pairs }
     ensures later { from ≤ result }
     ensures within { result ≤ length scanned.now.pairs }
     ensures none { AreNoComments scanned.now.pairs from result }
+    ensures all { result + BLOCK ≤ length scanned.now.pairs
+        → HasComment scanned.now.pairs result (result + BLOCK) }
 {
     let mut at = from;
     'free: while scanned.len() - at >= BLOCK {

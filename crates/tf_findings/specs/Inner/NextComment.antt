@@ -1,11 +1,11 @@
 -- Tokens that are no comments.
-use Rattle.std.specs.Prelude.{◌≡◌, ℕ, ◌≤◌, ◌<◌, List, false, Some}
+use Rattle.std.specs.Prelude.{◌≡◌, ℕ, ◌≤◌, ◌<◌, List, true, false, Some}
 use Rattle.hcl_token.specs.TokenizedText.{kind_of}
 use Rattle.hcl_token.specs.Tokens.{Pair}
 use Rattle.hcl_token.specs.declared.kind.Kind.{Kind}
 use Rattle.tf_rules.specs.Rules.CommentSyntax.{is_line_comment}
 use Rattle.tf_rules.specs.declared.rule.Rule.{Rule}
-use Rattle.tf_findings.specs.Comments.{silences}
+use Rattle.tf_findings.specs.Comments.{is_comment, silences}
 
 -- at a token of this kind the rule on comments finds nothing, and it silences nothing
 pub record IsNoComment (kind : Kind) : Type 0 where
@@ -15,3 +15,12 @@ pub record IsNoComment (kind : Kind) : Type 0 where
 -- so it is with the tokens from number `from` on up to number `to`
 pub record AreNoComments (pairs : List Pair) (from to : ℕ) : Type 0 where
   pub each : (n : ℕ) → from ≤ n → n < to → (kind : Kind) → Some kind ≡ kind_of pairs n → IsNoComment kind
+
+-- one of these tokens is a comment
+pub record HasComment (pairs : List Pair) (from to : ℕ) : Type 0 where
+  pub place : ℕ
+  pub later : from ≤ place
+  pub before : place < to
+  pub kind : Kind
+  pub here : Some kind ≡ kind_of pairs place
+  pub comment : is_comment kind ≡ true

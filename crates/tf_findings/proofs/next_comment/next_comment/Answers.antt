@@ -1,4 +1,4 @@
-use Rattle.std.proofs.Common.{◌≡◌, ◌+◌, ℕ, length, subst, sym, arith}
+use Rattle.std.proofs.Common.{◌≡◌, ◌+◌, ℕ, subst, arith}
 use Rattle.tf_findings.specs.Inner.NextComment.{AreNoComments}
 use Rattle.tf_findings.proofs.NextCommentLemmas.{none_joined, comment_or_past}
 use Rattle.tf_findings.proofs.next_comment.next_comment.Goals as goal

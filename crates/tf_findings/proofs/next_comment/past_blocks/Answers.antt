@@ -8,5 +8,5 @@ free-preserved c =
     record {
       later = omega (arith, c.free.invariant.later);
       within = omega (arith, c.free-test.true, c.free.invariant.within, c.len.ensures.value);
-      none = none_joined c.args.scanned.now.pairs c.args.from at (at + 32) c.free.invariant.none (c.is_free_block.ensures c.if-not-is_free_block.false);
+      none = none_joined c.args.scanned.now.pairs c.args.from at (at + 32) c.free.invariant.none (c.is_free_block.ensures.free c.if-not-is_free_block.false);
     }
