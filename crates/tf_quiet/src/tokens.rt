@@ -1,6 +1,6 @@
 //! Which tokens are quiet.
 
-ghost use Rattle.std.specs.Prelude.{◌≡◌, ◌<◌, ◌+◌, ◌-◌, ◌^◌, true, length, drop, Some, IfSome};
+ghost use Rattle.std.specs.Prelude.{◌≡◌, ◌<◌, ◌+◌, ◌-◌, ◌^◌, true, false, length, drop, Some, None, IfSome};
 ghost use Rattle.hcl_scan.specs.Follows.{tokens_of};
 ghost use Rattle.hcl_token.specs.declared.kind.Kind.TheVariants.{LineEnd};
 ghost use Rattle.hcl_token.specs.TokenizedText.{kind_of, spelling_of};
@@ -96,7 +96,8 @@ fn is_lookup(scanned: &Scanned<'_>, n: usize) -> bool
 /// Returns the number of brackets, if a token is quiet.
 #[inline(always)]
 fn depth_if(is_quiet: bool, depth: usize) -> Option<usize>
-    ensures { IfSome result (λ d. (is_quiet ≡ true) × (d ≡ depth)) }
+    ensures quiet { IfSome result (λ d. (is_quiet ≡ true) × (d ≡ depth)) }
+    ensures other { result ≡ None → is_quiet ≡ false }
 {
     if is_quiet { Some(depth) } else { None }
 }
@@ -109,6 +110,7 @@ fn depth_after_quiet(scanned: &Scanned<'_>, n: usize, kind: Kind, depth: usize) 
     requires fits { depth + 1 < 2 ^ 64 }
     ensures quiet { IfSome result (λ _. is_quiet_at scanned.now.pairs n ≡ true) }
     ensures depth { IfSome result (λ d. d ≡ depth_after kind depth) }
+    ensures other { result ≡ None → is_quiet_at scanned.now.pairs n ≡ false }
 {
     let _count = scanned.len();
     match kind {
