@@ -3,6 +3,7 @@ mod TokenLemmas
 mod BodyLemmas
 mod FileLemmas
 mod LineLists
+mod LineWords
 mod CachedPlace
 pub mod OneFixLemmas
 pub mod RunLemmas
