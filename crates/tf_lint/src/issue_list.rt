@@ -1,6 +1,7 @@
 //! All issues of a text.
 
 ghost use Rattle.std.specs.Prelude.{◌≡◌, ◌++◌, [], ◌∷◌, ◌<◌, length, map, string_bytes, IfOk, IfErr};
+ghost use Rattle.hcl_token.specs.Place.{place_of};
 ghost use Rattle.tf_rules.specs.Findings.{AreValidFindings};
 ghost use Rattle.tf_lint.specs.Issues.{reports, AreIssues};
 ghost use Rattle.tf_lint.specs.Reports.{report_of, lines_of};
@@ -9,7 +10,8 @@ ghost use Rattle.tf_fix.specs.declared.fault.LintFault.TheVariants.{Memory};
 use crate::issue::Issue;
 use crate::report_line::add_line;
 use hcl_grammar::tree::Tree;
-use hcl_scan::Scanned;
+use hcl_scan::{Places, Scanned};
+use hcl_token::Place;
 use std::alloc::{AllocError, Global};
 use tf_findings::findings;
 use tf_fix::LintFault;
@@ -74,6 +76,20 @@ fn with_line_capacity(alloc: Global, name: &str, count: usize) -> Result<String,
     String::with_capacity(alloc, capacity)
 }
 
+/// The place of token `first`, where `place` is that of token `last`: several findings may begin at
+/// one token.
+fn next_place(places: &mut Places<'_>, last: usize, place: Place, first: usize) -> Place
+    requires place { place ≡ place_of places.old last }
+    requires within { first < length places.old }
+    ensures place { result ≡ place_of places.old first }
+    ensures same { places.new ≡ places.old }
+{
+    if first == last {
+        return place;
+    }
+    places.of(first)
+}
+
 /// A report on the file of this name: the line of the issue of each of these findings in a text, in
 /// their order, each followed by LF. No issue is made for it.
 pub fn lines_of_findings(
@@ -93,8 +109,12 @@ pub fn lines_of_findings(
     }
     let mut lines = with_line_capacity(alloc, name, found.len())?;
     let mut places = scanned.places();
+    let mut last = found[0].first();
+    let mut place = places.of(last);
     for finding in found {
-        let place = places.of(finding.first());
+        let first = finding.first();
+        place = next_place(&mut places, last, place, first);
+        last = first;
         add_line(name, scanned, finding, place, &mut lines)?;
     }
     Ok(lines)
