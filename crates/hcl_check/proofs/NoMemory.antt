@@ -1,5 +1,5 @@
 -- A parser that makes no nodes takes no memory, so that none of its errors is Memory.
-use Rattle.std.proofs.Common.{◌≡◌, ◌≢◌, ℕ, zero, suc, ◌||◌, Bool, true, false, if◌then◌else◌, List, length, Option, Some, None, Ok, Err}
+use Rattle.std.proofs.Common.{◌≢◌, ℕ, zero, suc, ◌||◌, Bool, true, false, if◌then◌else◌, List, length, Option, Some, None, Ok, Err}
 use Rattle.hcl_token.specs.declared.kind.Kind.{Kind}
 use Rattle.hcl_token.specs.declared.kind.Kind.TheVariants as k
 use Rattle.hcl_grammar.specs.declared.fault.TokenFault.{TokenFault}
