@@ -153,6 +153,32 @@ pub fn eat_plain_expr(reader: &Reader<'_, '_>, at: &mut usize) -> bool
     }
 }
 
+/// Takes the rest of an `Interp`, after its opening, which is token `first`, if what it encloses is
+/// such an expression.
+#[inline(always)]
+#[tactic(auto, unfolding(crate::specs::Passes::enclosed, hcl_grammar::specs::Pure::Reading::expect, hcl_grammar::specs::Pure::Reading::after_if_next))]
+pub fn eat_plain_interp(reader: &Reader<'_, '_>, first: usize, at: &mut usize) -> bool
+    ensures taken { result ≡ true
+        → spec.enclosed reader.now k.SeqClose first at.old ≡ Ok (tt, at.new) }
+    ensures kept { result ≡ false → at.new ≡ at.old }
+{
+    let mut end = *at;
+    match enter(reader, first, &mut end) {
+        Ok(inner) => {
+            let inside = inner.in_brackets();
+            if !eat_plain_expr(&inside, &mut end) {
+                return false;
+            }
+            if !inside.eat(Kind::SeqClose, &mut end) {
+                return false;
+            }
+            *at = end;
+            true
+        }
+        Err(_too_deep) => false,
+    }
+}
+
 /// Takes the rest of an `Attr`, after its name and `=`, if its value is such an expression and a
 /// line end comes after it, with a comment or without.
 #[inline(always)]
