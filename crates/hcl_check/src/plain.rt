@@ -3,7 +3,7 @@
 //!
 //! For speed alone: what is taken here `whole` takes, too, with more looks at each token.
 
-ghost use Rattle.std.specs.Prelude.{◌≡◌, ℕ, true, false, Ok, None};
+ghost use Rattle.std.specs.Prelude.{◌≡◌, ◌<◌, ◌+◌, ◌^◌, ℕ, true, false, Ok, None, OnSome};
 ghost use Rattle.hcl_token.specs.declared.kind.Kind.TheVariants as k;
 ghost use Rattle.hcl_grammar.specs.Operators as operators;
 ghost use Rattle.hcl_grammar.specs.Pure.Reading.{and_then};
@@ -12,6 +12,7 @@ ghost use Rattle.hcl_check.specs.Passes.{under};
 ghost use Rattle.hcl_check.specs.Rules as spec;
 ghost use Rattle.hcl_check.specs.Rules.{IsRead};
 
+use crate::looks::Next;
 use crate::opens::enter;
 use hcl_expr::Reader;
 use hcl_token::Kind;
@@ -129,15 +130,19 @@ fn eat_term(reader: &Reader<'_, '_>, first: usize, kind: Kind, at: &mut usize) -
     }
 }
 
-/// Takes an `Expr` that is one such term, if what comes next shows that it is.
+/// Takes an `Expr` that is one such term, if what comes after it shows that it is. Its first token
+/// is `next`.
 #[inline(always)]
 #[tactic(auto, unfolding(hcl_grammar::specs::Tokens::after_next))]
-pub fn eat_plain_expr(reader: &Reader<'_, '_>, at: &mut usize) -> bool
+pub fn eat_plain_expr(reader: &Reader<'_, '_>, next: Next, at: &mut usize) -> bool
+    requires number { next.0 ≡ tokens.next_index reader.now at.old }
+    requires kind { next.1 ≡ tokens.next_kind reader.now at.old }
+    requires fits { OnSome next.1 (next.0 + 1 < 2 ^ 64) }
     ensures taken { result ≡ true → spec.expr reader.now at.old ≡ Ok (tt, at.new) }
     ensures kept { result ≡ false → at.new ≡ at.old }
 {
-    let (first, next) = reader.next_token(*at);
-    match next {
+    let (first, found) = next;
+    match found {
         Some(kind) => {
             let mut end = first + 1;
             if !eat_term(reader, first, kind, &mut end) {
@@ -166,7 +171,8 @@ pub fn eat_plain_interp(reader: &Reader<'_, '_>, first: usize, at: &mut usize) -
     match enter(reader, first, &mut end) {
         Ok(inner) => {
             let inside = inner.in_brackets();
-            if !eat_plain_expr(&inside, &mut end) {
+            let next = inside.next_token(end);
+            if !eat_plain_expr(&inside, next, &mut end) {
                 return false;
             }
             if !inside.eat(Kind::SeqClose, &mut end) {
@@ -189,7 +195,8 @@ pub fn eat_plain_attr(reader: &Reader<'_, '_>, at: &mut usize) -> bool
 {
     let lines = reader.outside_brackets();
     let mut end = *at;
-    if !eat_plain_expr(&lines, &mut end) {
+    let next = lines.next_token(end);
+    if !eat_plain_expr(&lines, next, &mut end) {
         return false;
     }
     if !lines.eat_newline(&mut end) {

@@ -10,6 +10,6 @@ returns-else-not-ends_expr-clause-taken c = λ _.
     let read = c.eat_term.ensures.read c.if-not-eat_term.false in
     let ended = c.if-not-ends_expr.false in
     let tails = no_tails here.tokens here.depth inner here.skip_newlines read.turns c.eat_term.new.at (c.ends_expr.ensures.tail ended) in
-    whole_is here.tokens here.depth here.skip_newlines c.args.at.now ∙ plain_whole here.tokens here.depth inner here.skip_newlines c.args.at.now c.next_token-first.result.0 c.eat_term.new.at c.in-Some.kind
-    c.next_token-first.ensures.number (sym c.next_token-first.ensures.kind ∙ c.in-Some.is) (c.eat_term.ensures.first c.if-not-eat_term.false)
+    whole_is here.tokens here.depth here.skip_newlines c.args.at.now ∙ plain_whole here.tokens here.depth inner here.skip_newlines c.args.at.now c.args.next.0 c.eat_term.new.at c.in-Some.kind
+    c.requires.number (sym c.requires.kind ∙ c.in-Some.is) (c.eat_term.ensures.first c.if-not-eat_term.false)
     (read.rest (c.ends_expr.ensures.called ended) ∙ tails) (c.ends_expr.ensures.operator ended) (c.ends_expr.ensures.question ended)
