@@ -115,3 +115,41 @@ pub fn eat_newline_next(reader: &Reader<'_, '_>, next: Next, at: &mut usize) -> 
         _ => false,
     }
 }
+
+/// Returns whether neither a line end comes next nor a comment up to one.
+#[inline(always)]
+#[tactic(auto, unfolding(hcl_grammar::specs::Pure::Reading::next_is, hcl_grammar::specs::Tokens::same_kind))]
+fn is_in_line(lines: &Reader<'_, '_>, at: usize) -> bool
+    ensures comment { result ≡ true → tokens.next_is lines.now k.LineComment at ≡ false }
+    ensures line { result ≡ true → tokens.next_is lines.now k.LineEnd at ≡ false }
+{
+    match lines.next_kind(at) {
+        Some(Kind::LineEnd) | Some(Kind::LineComment) => false,
+        _ => true,
+    }
+}
+
+/// Takes a separator of elements, else the closing brace, as `Reader::eat_separator_or_brace` does;
+/// most often by two looks.
+#[inline(always)]
+#[tactic(auto, unfolding(hcl_grammar::specs::Tokens::after_next))]
+pub fn eat_separator_or_brace(reader: &Reader<'_, '_>, at: &mut usize) -> Result<bool, TokenFault>
+    ensures { ReadsExactly (tokens.eat_separator_or_brace reader.now at.old) result at.new }
+{
+    let lines = reader.outside_brackets();
+    let (number, next) = lines.next_token(*at);
+    match next {
+        Some(Kind::CloseBrace) => {
+            *at = number + 1;
+            Ok(false)
+        }
+        Some(Kind::Comma) | Some(Kind::LineEnd) => {
+            if !is_in_line(&lines, number + 1) {
+                return reader.eat_separator_or_brace(at);
+            }
+            *at = number + 1;
+            Ok(true)
+        }
+        _ => reader.eat_separator_or_brace(at),
+    }
+}
