@@ -1,6 +1,6 @@
 //! Indents and spaces: the gaps of the lines before alignment.
 
-ghost use Rattle.std.specs.Prelude.{◌≡◌, ◌+◌, ◌-◌, ◌*◌, ◌<◌, ◌≤◌, ◌++◌, [], true, false, drop, length, replicate, reverse, slice_range, take, if◌then◌else◌, OnOk, IfOk};
+ghost use Rattle.std.specs.Prelude.{◌≡◌, ◌+◌, ◌-◌, ◌*◌, ◌<◌, ◌≤◌, ◌++◌, [], true, false, drop, length, replicate, take, if◌then◌else◌, OnOk, IfOk};
 ghost use Rattle.hcl_scan.specs.Tokenization.{MAX_TEXT};
 ghost use Rattle.hcl_layout.specs.Gaps.Kinds.{is_line_end};
 ghost use Rattle.hcl_layout.specs.Gaps.Inner.CodeViews.{IsLine, AreLines, gaps_left};

@@ -1,10 +1,9 @@
 //! The edits that give a text its new gaps.
 
-ghost use Rattle.std.specs.Prelude.{true, drop, ◌≡◌, ◌+◌, ◌*◌, ◌<◌, ◌≤◌, ◌++◌, [], ◌∷◌, Some, length, take, replicate, slice_get, slice_index, slice_index_or, nat_lt, IfOk, OnOk};
-ghost use Rattle.hcl_scan.specs.Tokenization.{MAX_TEXT};
+ghost use Rattle.std.specs.Prelude.{true, drop, ◌≡◌, ◌+◌, ◌*◌, ◌<◌, ◌++◌, [], ◌∷◌, Some, length, slice_get, IfOk, OnOk};
 ghost use Rattle.std.specs.Str.{bytes_eq};
 ghost use Rattle.std.specs.Option.{option_map};
-ghost use Rattle.hcl_token.specs.Tokens.{Pair, whole_text};
+ghost use Rattle.hcl_token.specs.Tokens.{Pair};
 ghost use Rattle.edit_record.specs.Lists.Pieces.{changed_entries};
 ghost use Rattle.hcl_layout.specs.Gaps.Space.{spaces};
 ghost use Rattle.hcl_layout.specs.Gaps.Layout.{gap_piece, pieces};

@@ -1,6 +1,6 @@
 //! Indentation: the levels of lines.
 
-ghost use Rattle.std.specs.Prelude.{◌≡◌, false, ◌∷◌, ◌+◌, ◌-◌, ◌*◌, nat_lt, if◌then◌else◌, OnOk, ◌<◌, ◌≤◌, length, reverse, slice_range};
+ghost use Rattle.std.specs.Prelude.{◌≡◌, ◌∷◌, ◌+◌, ◌-◌, ◌*◌, nat_lt, if◌then◌else◌, OnOk, ◌<◌, ◌≤◌, length, reverse, slice_range};
 ghost use Rattle.hcl_scan.specs.Tokenization.{MAX_TEXT};
 ghost use Rattle.hcl_layout.specs.Gaps.Indent.{is_opening, is_closing, openings, closings};
 ghost use Rattle.hcl_layout.specs.Gaps.Inner.Stages.{close_brackets, close_earlier};

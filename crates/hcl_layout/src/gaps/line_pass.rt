@@ -1,5 +1,5 @@
-//! A line in one pass: its end, its flags, its brackets and the gaps inside it. For speed alone:
-//! `indent::count_brackets` says the same of its tokens.
+//! A line in one pass: its end, its flags, its brackets and the gaps inside it. For speed alone: it
+//! counts what `indent::count_brackets` counts, and sets what `spacing_flags::gap_len` returns.
 
 ghost use Rattle.std.specs.Prelude.{◌≡◌, ◌==◌, ◌+◌, ◌*◌, ◌/◌, ◌%◌, ◌<◌, ◌≤◌, ◌++◌, not, [], ◌∷◌, false, length, slice_range, take, if◌then◌else◌};
 ghost use Rattle.hcl_scan.specs.Tokenization.{MAX_TEXT};

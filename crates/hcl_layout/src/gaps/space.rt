@@ -1,6 +1,6 @@
 //! The gaps inside a line: the table of spaces.
 
-ghost use Rattle.std.specs.Prelude.{◌≡◌, None, Bool, ◌<◌, ◌≤◌, ◌-◌, [], take, length, slice_range, Some};
+ghost use Rattle.std.specs.Prelude.{◌≡◌, None, ◌<◌, ◌≤◌, ◌-◌, [], take, length, slice_range, Some};
 ghost use Rattle.hcl_token.specs.TokenizedText.{kind_of};
 ghost use Rattle.hcl_scan.specs.Follows.{has_no_gap_before};
 ghost use Rattle.hcl_layout.specs.Gaps.Space.{is_splat_star, is_after_identifier, is_after_operand, is_in_keyword, is_spaced, prev_after_all};
