@@ -7,6 +7,7 @@
 
 mod base_gaps;
 mod cells;
+mod changes;
 mod edits;
 mod fault;
 mod format;

@@ -15,7 +15,7 @@ use Rattle.hcl_layout.proofs.GapsLemmas.Narrow.{bytes_joining}
 use Rattle.edit_record.specs.Lists.Pieces.Piece.{Kept, Changed}
 use Rattle.hcl_layout.specs.Gaps.Space.{spaces}
 use Rattle.hcl_layout.specs.Gaps.Layout.{gap_piece, pieces}
-use Rattle.hcl_layout.specs.Gaps.Inner.Stages.{unchanged, KEEP_GAP, resolved_gap, with_gaps}
+use Rattle.hcl_layout.specs.Gaps.Inner.Stages.{unchanged, KEEP_GAP, resolved_gap, with_gaps, AreUnchanged, IsChanged}
 use Rattle.hcl_layout.proofs.GapsLemmas.LineLemmas.{Turn, turn, spelling_is, gap_is}
 use Rattle.hcl_layout.proofs.GapsLemmas.CellGaps.{gapped, gaps_length}
 use Rattle.hcl_layout.proofs.GapsLemmas.LayoutPieces.{same_self_bytes}
@@ -186,6 +186,17 @@ come_stays ps ns last i es g size inside g_is same =
     come_turn ps ns last i t size inside ∙ ap (λ (xs : List EditEntry). xs ++ to_come ps (with_gaps ns ps) last (i + 1)) none in
     ap (λ (xs : List EditEntry). es ++ xs) (sym step)
 
+-- past gaps that stay
+pub come_stay_to : (ps : List Pair) (ns last : List ℕ) (es : List EditEntry) → length ns ≡ length ps → (n from to : ℕ) → to ≡ from + n → to ≤ length ps → AreUnchanged ps ns from to
+    → es ++ to_come ps (with_gaps ns ps) last to ≡ es ++ to_come ps (with_gaps ns ps) last from
+come_stay_to ps ns last es size zero from to e within stay = ap (λ i. es ++ to_come ps (with_gaps ns ps) last i) (omega arith)
+come_stay_to ps ns last es size (suc n) from to e within stay =
+    let inside : from < length ps = omega arith in
+    let t = turn ps from (length ps) inside (omega arith) in
+    let there : Some t.pair.gap ≡ gap_of ps from = sym (ap (option_map (λ (p : Pair). p.gap)) t.at) in
+    come_stay_to ps ns last es size n (from + 1) to (omega arith) within (λ k g later before g_is. stay k g (omega arith) before g_is)
+    ∙ come_stays ps ns last from es t.pair.gap size inside there (stay from t.pair.gap (omega arith) (omega arith) there)
+
 pub last_at : (ps : List Pair) (last text : List ℕ) → text ≡ whole_text ps last → length text - length last ≡ length (whole_text ps [])
 last_at ps last text is = omega (arith, ap length is, bytes_joining ps last, bytes_joining ps [])
 
@@ -200,10 +211,6 @@ still_so ps qs last i = unchanged (drop i ps) (drop i qs) last
 pub still_first : (ps qs : List Pair) (last : List ℕ) → still_so ps qs last 0 ≡ unchanged ps qs last
 unfolding still_so
 still_first ps qs last = refl
-
-pub still_at : (ps qs : List Pair) (last : List ℕ) (i : ℕ) → still_so ps qs last i ≡ unchanged (drop i ps) (drop i qs) last
-unfolding still_so
-still_at ps qs last i = refl
 
 pub still_turn : (ps : List Pair) (ns last : List ℕ) (i : ℕ) (g : List ℕ) → length ns ≡ length ps → i < length ps → Some g ≡ gap_of ps i
     → still_so ps (with_gaps ns ps) last i ≡ (bytes_eq g (resolved_gap (get_or ns i 0) g) && still_so ps (with_gaps ns ps) last (i + 1))
@@ -229,6 +236,24 @@ still_not ps ns last i g size inside g_is h = still_turn ps ns last i g size ins
 pub no_bytes : (last : List ℕ) → (length last == 0) ≡ bytes_eq last []
 no_bytes [] = refl
 no_bytes (b ∷ last) = let test : (suc (length last) == 0) ≡ false = grind (arith, nat_tests) in test
+
+-- past gaps that stay
+pub still_to : (ps : List Pair) (ns last : List ℕ) → length ns ≡ length ps → (n from to : ℕ) → to ≡ from + n → to ≤ length ps → AreUnchanged ps ns from to
+    → still_so ps (with_gaps ns ps) last from ≡ still_so ps (with_gaps ns ps) last to
+still_to ps ns last size zero from to e within stay = ap (still_so ps (with_gaps ns ps) last) (omega arith)
+still_to ps ns last size (suc n) from to e within stay =
+    let inside : from < length ps = omega arith in
+    let t = turn ps from (length ps) inside (omega arith) in
+    let there : Some t.pair.gap ≡ gap_of ps from = sym (ap (option_map (λ (p : Pair). p.gap)) t.at) in
+    still_stays ps ns last from t.pair.gap size inside there (stay from t.pair.gap (omega arith) (omega arith) there)
+    ∙ still_to ps ns last size n (from + 1) to (omega arith) within (λ k g later before g_is. stay k g (omega arith) before g_is)
+
+-- a gap that changes
+pub still_changed : (ps : List Pair) (ns last : List ℕ) (i : ℕ) → length ns ≡ length ps → i < length ps → IsChanged ps ns i → still_so ps (with_gaps ns ps) last i ≡ false
+still_changed ps ns last i size inside changed =
+    let t = turn ps i (length ps) inside (omega arith) in
+    let there : Some t.pair.gap ≡ gap_of ps i = sym (ap (option_map (λ (p : Pair). p.gap)) t.at) in
+    still_not ps ns last i t.pair.gap size inside there (changed t.pair.gap there)
 
 pub still_end : (ps : List Pair) (ns last : List ℕ) (i : ℕ) → length ns ≡ length ps → length ps ≤ i → still_so ps (with_gaps ns ps) last i ≡ (length last == 0)
 unfolding still_so

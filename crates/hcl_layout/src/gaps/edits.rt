@@ -1,6 +1,6 @@
 //! The edits that give a text its new gaps.
 
-ghost use Rattle.std.specs.Prelude.{true, drop, ◌≡◌, ◌+◌, ◌*◌, ◌<◌, ◌++◌, [], ◌∷◌, Some, length, slice_get, IfOk, OnOk};
+ghost use Rattle.std.specs.Prelude.{true, ◌≡◌, ◌≤◌, ◌<◌, ◌&&◌, ◌++◌, [], ◌∷◌, Some, length, nat_lt, slice_get, slice_range, IfOk, OnOk};
 ghost use Rattle.std.specs.Str.{bytes_eq};
 ghost use Rattle.std.specs.Option.{option_map};
 ghost use Rattle.hcl_token.specs.Tokens.{Pair};
@@ -11,6 +11,7 @@ ghost use Rattle.hcl_layout.specs.Gaps.Inner.CodeViews.{AreSpaces};
 ghost use Rattle.hcl_layout.specs.Gaps.Inner.Stages.{unchanged, resolved_gap, with_gaps, have_lengths};
 
 use crate::gaps::base_gaps::KEEP_GAP;
+use crate::gaps::changes::next_change;
 use crate::gaps::text_bytes::are_spaces;
 use edit_record::lists::Edit;
 use hcl_scan::Scanned;
@@ -93,11 +94,8 @@ pub(crate) fn gap_edits(
         (with_gaps gaps.now scanned.now.pairs) scanned.now.last)) }
 {
     let mut edits = Vec::new(alloc);
-    for i in 0..scanned.len() {
-        // most gaps stay, and this test is inlined
-        if is_unchanged(scanned.gap(i), gaps[i], all_spaces) {
-            continue;
-        }
+    let mut i = next_change(scanned, gaps, 0, all_spaces);
+    while i < scanned.len() {
         let item = scanned.item(i);
         push_gap(
             alloc,
@@ -106,6 +104,8 @@ pub(crate) fn gap_edits(
             scanned.gap(i),
             gaps[i],
         )?;
+        let next = next_change(scanned, gaps, i + 1, all_spaces);
+        i = next;
     }
     let last = scanned.last_gap();
     push_gap(
@@ -128,15 +128,22 @@ fn old_gap_len(scanned: &Scanned<'_>, i: usize) -> u32
     item.start - item.gap_at
 }
 
-/// Returns whether each gap but the first stays or has as many bytes as it has spaces in the
-/// layout.
-fn have_lengths(scanned: &Scanned<'_>, gaps: &[u32]) -> bool
-    requires { length gaps.now ≡ length scanned.now.pairs }
-    ensures { result ≡ have_lengths (drop 1 gaps.now) (drop 1 scanned.now.pairs) }
+/// Returns whether the gaps of the tokens `from..to`, which are not the first token's, stay or have
+/// as many bytes as they have spaces in the layout.
+pub(crate) fn have_lengths(scanned: &Scanned<'_>, gaps: &[u32], from: usize, to: usize) -> bool
+    requires same { length gaps.now ≡ length scanned.now.pairs }
+    requires ordered { from ≤ to }
+    requires within { to ≤ length scanned.now.pairs }
+    ensures { result ≡ (nat_lt 0 from
+        && have_lengths (slice_range gaps.now from to) (slice_range scanned.now.pairs from to)) }
 {
+    // so that the loop need not ask whether a token is before the gap
+    if from == 0 {
+        return false;
+    }
     // no early end, so that several are compared at once
     let mut same = true;
-    for i in 1..scanned.len() {
+    for i in from..to {
         same &= (old_gap_len(scanned, i) == gaps[i]) | (gaps[i] == KEEP_GAP);
     }
     same
@@ -149,24 +156,9 @@ pub(crate) fn all_unchanged(scanned: &Scanned<'_>, gaps: &[u32], all_spaces: boo
     ensures { result ≡ unchanged scanned.now.pairs
         (with_gaps gaps.now scanned.now.pairs) scanned.now.last }
 {
-    let len = scanned.len();
-    if len == 0 {
-        return scanned.last_gap().is_empty();
-    }
-    if !is_unchanged(scanned.gap(0), gaps[0], all_spaces) {
+    let all_spaces = are_spaces(scanned, all_spaces);
+    if next_change(scanned, gaps, 0, all_spaces) < scanned.len() {
         return false;
-    }
-    if are_spaces(scanned, all_spaces) {
-        if have_lengths(scanned, gaps) {
-            return scanned.last_gap().is_empty();
-        }
-        return false;
-    }
-    // from the second token on each gap has a token before it, so the loop need not ask for one
-    for i in 1..len {
-        if !is_unchanged(scanned.gap(i), gaps[i], false) {
-            return false;
-        }
     }
     scanned.last_gap().is_empty()
 }

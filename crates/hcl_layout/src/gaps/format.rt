@@ -1,6 +1,6 @@
 //! The layout of a text: as edits, as a text, and whether the text has it.
 
-ghost use Rattle.std.specs.Prelude.{◌≡◌, ◌<◌, ◌≤◌, ◌↔◌, [], length, IsTrue, IfOk, IfErr};
+ghost use Rattle.std.specs.Prelude.{◌≡◌, ◌<◌, ◌≤◌, ◌↔◌, length, IsTrue, IfOk, IfErr};
 ghost use Rattle.edit_record.specs.Lists.Pieces.{Transforms};
 ghost use Rattle.hcl_token.specs.TokenizedText.{AreUtf8};
 ghost use Rattle.hcl_scan.specs.Tokenization.{IsTokenization, MAX_TEXT};

@@ -5,10 +5,10 @@ ghost use Rattle.std.specs.Prelude.{◌≡◌, ◌≤◌, ◌++◌, [], length, 
 ghost use Rattle.hcl_token.specs.Tokens.{whole_text};
 ghost use Rattle.hcl_layout.specs.Gaps.Space.{spaces};
 ghost use Rattle.hcl_layout.specs.Gaps.Inner.CodeViews.{AreSpaces};
-ghost use Rattle.hcl_layout.specs.Gaps.Inner.Stages.{resolved_gap, with_gaps, AreUnchanged};
+ghost use Rattle.hcl_layout.specs.Gaps.Inner.Stages.{resolved_gap, with_gaps};
 
 use crate::gaps::base_gaps::KEEP_GAP;
-use crate::gaps::edits::is_unchanged;
+use crate::gaps::changes::next_change;
 use hcl_scan::Scanned;
 use std::alloc::{AllocError, Global};
 
@@ -39,24 +39,6 @@ fn slice(text: &[u8], from: usize, to: usize) -> &[u8]
     ensures { result.now ≡ slice_range text.now from to }
 {
     &text[from..to]
-}
-
-/// Returns the first token from number `from` on whose gap changes, or the number of tokens.
-#[inline(never)]
-fn next_change(scanned: &Scanned<'_>, gaps: &[u32], from: usize, all_spaces: bool) -> usize
-    requires spaces { AreSpaces all_spaces scanned.now.pairs }
-    requires same { length gaps.now ≡ length scanned.now.pairs }
-    requires within { from ≤ length scanned.now.pairs }
-    ensures later { from ≤ result }
-    ensures within { result ≤ length scanned.now.pairs }
-    ensures stay { AreUnchanged scanned.now.pairs gaps.now from result }
-{
-    for i in from..scanned.len() {
-        if !is_unchanged(scanned.gap(i), gaps[i], all_spaces) {
-            return i;
-        }
-    }
-    scanned.len()
 }
 
 /// Returns the text with its new gaps, with this capacity. What is between two gaps that change is

@@ -1,5 +1,5 @@
 -- The layout as the code works it out, stage by stage. For proofs: nothing here has to be believed.
-use Rattle.std.specs.Prelude.{◌≡◌, ◌<◌, ◌≤◌, drop, slice_range, ℕ, suc, ◌+◌, ◌-◌, ◌*◌, ◌==◌, Bool, true, ◌&&◌, nat_lt, max, List, [], ◌∷◌, length, get_or, replicate, slice_get, slice_set, ◌||◌, ◌++◌, Option, Some, None, option_map, option_and_then, if◌then◌else◌, ⊤}
+use Rattle.std.specs.Prelude.{◌≡◌, ◌<◌, ◌≤◌, drop, slice_range, ℕ, suc, ◌+◌, ◌-◌, ◌*◌, ◌==◌, Bool, true, false, ◌&&◌, nat_lt, max, List, [], ◌∷◌, length, get_or, replicate, slice_get, slice_set, ◌||◌, ◌++◌, Option, Some, None, option_map, option_and_then, if◌then◌else◌, ⊤}
 use Rattle.std.specs.Str.{bytes_eq}
 use Rattle.hcl_token.specs.declared.kind.Kind.{Kind}
 use Rattle.hcl_token.specs.declared.item.Item.{Item}
@@ -209,6 +209,11 @@ abbrev pub AreUnchanged : List Pair → List ℕ → ℕ → ℕ → Type 0
 AreUnchanged pairs gaps from to =
     (k : ℕ) (g : List ℕ) → from ≤ k → k < to → Some g ≡ gap_of pairs k
     → bytes_eq g (resolved_gap (get_or gaps k 0) g) ≡ true
+
+-- the gap before this token is not
+abbrev pub IsChanged : List Pair → List ℕ → ℕ → Type 0
+IsChanged pairs gaps i =
+    (g : List ℕ) → Some g ≡ gap_of pairs i → bytes_eq g (resolved_gap (get_or gaps i 0) g) ≡ false
 
 -- how many tokens belong to no line: the byte order mark
 abbrev pub mark_count : List Pair → ℕ

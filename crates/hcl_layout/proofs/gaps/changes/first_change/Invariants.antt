@@ -1,6 +1,6 @@
 use Rattle.std.proofs.Common.{◌≤◌}
 use Rattle.hcl_layout.specs.Gaps.Inner.Stages.{AreUnchanged}
-use Rattle.hcl_layout.proofs.gaps.text.next_change.Given as goal
+use Rattle.hcl_layout.proofs.gaps.changes.first_change.Given as goal
 
 abbrev pub invariant-loop-i : goal.invariant-loop-i
 invariant-loop-i l = record {
