@@ -6,6 +6,7 @@ pub mod CellLaw
 pub mod LineLemmas
 pub mod NearLemmas
 pub mod Repeats
+pub mod LineStarts
 pub mod RowLemmas
 pub mod TokensKept
 pub mod WidthLemmas

@@ -1,6 +1,6 @@
 //! Alignment: the cells of a run of lines in one column.
 
-ghost use Rattle.std.specs.Prelude.{take, true, false, not, [], ◌∷◌, Some, None, slice_get, ◌≡◌, ◌==◌, ◌&&◌, ◌||◌, ◌+◌, ◌-◌, ◌*◌, ◌<◌, ◌≤◌, ◌^◌, ◌++◌, length, drop, slice_range, option_map, OnOk, IfOk, IfSome};
+ghost use Rattle.std.specs.Prelude.{take, true, false, [], ◌∷◌, Some, None, slice_get, ◌≡◌, ◌==◌, ◌&&◌, ◌+◌, ◌-◌, ◌*◌, ◌<◌, ◌≤◌, ◌^◌, ◌++◌, length, drop, slice_range, option_map, OnOk, IfOk, IfSome};
 ghost use Rattle.hcl_scan.specs.Tokenization.{MAX_TEXT};
 ghost use Rattle.std.specs.List.{list_any};
 ghost use Rattle.hcl_token.specs.Place.{is_lf};
@@ -10,7 +10,7 @@ ghost use Rattle.hcl_layout.specs.Gaps.Kinds.{is_inline_comment};
 ghost use Rattle.hcl_layout.specs.Gaps.Lines.{pairs_in};
 ghost use Rattle.hcl_layout.specs.Gaps.Cells.{index_after_first, is_balanced, width, width_before, aligned};
 ghost use Rattle.hcl_layout.specs.Gaps.Inner.Stages.{widths, greatest, lines_from, with_gaps, AreAtMost, set_cell_gaps, cell_gaps_from_width};
-ghost use Rattle.hcl_layout.specs.Gaps.Inner.CodeViews.{starts_cell, cell_of, is_valid_cell, is_cell, without_repeats, AreStarts, widths_of, tokens_in, width_in, token_in, can_have_cell, is_comment, are_some, HasFlags, AreInside, AreLines, AreByteClusters};
+ghost use Rattle.hcl_layout.specs.Gaps.Inner.CodeViews.{starts_cell, cell_of, is_valid_cell, is_cell, without_repeats, AreStarts, widths_of, tokens_in, width_in, token_in, can_have_cell, is_comment, line_start, is_start_frozen, LackCell, are_some, HasFlags, AreInside, AreLines, AreByteClusters};
 
 use crate::gaps::base_gaps::KEEP_GAP;
 use crate::gaps::indent::count_brackets;
@@ -291,30 +291,33 @@ fn cell_start(
     }
 }
 
-/// Returns whether a line is known to have no such cell before its tokens are read.
-fn lacks_cell(
-    scanned: &Scanned<'_>,
-    cell: Cell,
-    gaps: &[u32],
-    at: usize,
-    frozen: bool,
-    line: LineSpan,
-) -> bool
-    requires same { length gaps.now ≡ length scanned.now.pairs }
-    requires flags { frozen ≡ false → HasFlags scanned.now.pairs at line }
-    ensures value { result ≡ (frozen || not (can_have_cell cell line)) }
-    ensures width { result ≡ true → None ≡ width_before (cell_of cell)
-        (record {
-          frozen = frozen;
-          pairs = slice_range (with_gaps gaps.now scanned.now.pairs) at line.past;
-        }) }
-    ensures token { result ≡ true → None ≡ option_map (λ n. at + n)
-        (cell_of cell (record {
-          frozen = frozen;
-          pairs = slice_range (with_gaps gaps.now scanned.now.pairs) at line.past;
-        })) }
+/// Returns the first line from number `from` on that can have such a cell, or the number of lines.
+fn next_with_cell(cell: Cell, lines: &[LineSpan], from: usize) -> usize
+    requires { from ≤ length lines.now }
+    ensures later { from ≤ result }
+    ensures within { result ≤ length lines.now }
+    ensures lacking { LackCell cell lines.now from result }
 {
-    frozen | !can_have_cell(cell, line)
+    for i in from..lines.len() {
+        if can_have_cell(cell, lines[i]) {
+            return i;
+        }
+    }
+    lines.len()
+}
+
+/// Returns the token that line `i` begins at, where the first line begins at token `first`, and
+/// whether it begins in a heredoc.
+fn line_start(lines: &[LineSpan], first: usize, i: usize) -> (usize, bool)
+    requires { i ≤ length lines.now }
+    ensures at { result.0 ≡ line_start first lines.now i }
+    ensures frozen { result.1 ≡ is_start_frozen false lines.now i }
+{
+    if i == 0 {
+        return (first, false);
+    }
+    let line = lines[i - 1];
+    (line.past as usize, line.next_frozen)
 }
 
 fn is_cell(start: Option<CellStart>) -> bool
@@ -361,22 +364,19 @@ fn cell_starts(
 {
     let mut starts = Vec::with_capacity(alloc, lines.len())?;
     let mut in_run = false;
-    let mut frozen = false;
-    let mut at = first;
-    for line in lines {
-        // most lines have no such cell
-        if lacks_cell(scanned, cell, gaps, at, frozen, *line) {
-            push_start(&mut starts, in_run, None)?;
-            in_run = false;
-            frozen = line.next_frozen;
-            at = line.past as usize;
-            continue;
-        }
-        let start = cell_start(scanned, cell, gaps, at, frozen, *line, byte_clusters);
+    // most lines have no such cell
+    let mut i = next_with_cell(cell, lines, 0);
+    while i < lines.len() {
+        let (at, frozen) = line_start(lines, first, i);
+        let start = cell_start(scanned, cell, gaps, at, frozen, lines[i], byte_clusters);
         push_start(&mut starts, in_run, start)?;
         in_run = is_cell(start);
-        frozen = line.next_frozen;
-        at = line.past as usize;
+        let next = next_with_cell(cell, lines, i + 1);
+        if i + 1 < next {
+            push_start(&mut starts, in_run, None)?;
+            in_run = false;
+        }
+        i = next;
     }
     Ok(starts)
 }

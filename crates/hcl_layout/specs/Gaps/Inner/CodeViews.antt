@@ -1,5 +1,5 @@
 -- What the code keeps of tokens and cells, as lists. For proofs: nothing here has to be believed.
-use Rattle.std.specs.Prelude.{◌≡◌, ◌==◌, ◌&&◌, ◌||◌, ◌/◌, nat_le, nat_lt, ℕ, Bool, true, false, not, slice_range, List, [], ◌∷◌, ◌++◌, length, map, drop, reverse, ◌<◌, Option, Some, None, ⊤}
+use Rattle.std.specs.Prelude.{◌≡◌, ◌==◌, ◌&&◌, ◌||◌, ◌/◌, ◌≤◌, nat_le, nat_lt, ℕ, suc, Bool, true, false, not, slice_get, slice_range, List, [], ◌∷◌, ◌++◌, length, map, drop, reverse, ◌<◌, Option, Some, None, ⊤}
 use Rattle.std.specs.List.{list_any, list_all}
 use Rattle.hcl_token.specs.declared.kind.Kind.{Kind}
 use Rattle.hcl_token.specs.declared.kind.Kind.TheVariants.{HereOpen, LineComment, InlineComment}
@@ -87,6 +87,21 @@ abbrev pub AreLines : List Pair → ℕ → Bool → List LineSpan → Type 0
 AreLines pairs at frozen [] = at ≡ length pairs
 AreLines pairs at frozen (line ∷ lines) =
     IsLine pairs at frozen line × AreLines pairs line.past line.next_frozen lines
+
+-- the token that line i begins at, where the first line begins at this one, and whether it begins in
+-- a heredoc
+abbrev pub line_start : ℕ → List LineSpan → ℕ → ℕ
+line_start at (line ∷ lines) (suc i) = line_start line.past lines i
+line_start at lines i = at
+
+abbrev pub is_start_frozen : Bool → List LineSpan → ℕ → Bool
+is_start_frozen frozen (line ∷ lines) (suc i) = is_start_frozen line.next_frozen lines i
+is_start_frozen frozen lines i = frozen
+
+-- by their flags these lines have no token that begins such a cell
+abbrev pub LackCell : Cell → List LineSpan → ℕ → ℕ → Type 0
+LackCell cell lines from to =
+    (k : ℕ) (line : LineSpan) → from ≤ k → k < to → Some line ≡ slice_get lines k → can_have_cell cell line ≡ false
 
 -- the numbers of gaps up to a token, with those of the lines from there on, where these lines are
 -- open before it

@@ -1,10 +1,13 @@
-use Rattle.std.proofs.Common.{drop}
-use Rattle.hcl_layout.specs.Gaps.Inner.CodeViews.{AreLines}
+use Rattle.std.proofs.Common.{◌≤◌, ◌-◌, false, length}
+use Rattle.hcl_layout.specs.Gaps.Inner.CodeViews.{line_start, is_start_frozen}
 use Rattle.hcl_layout.proofs.GapsLemmas.Repeats.{KeptSoFar}
 use Rattle.hcl_layout.proofs.gaps.cells.cell_starts.Given as goal
 
-abbrev pub invariant-loop-line : goal.invariant-loop-line
-invariant-loop-line l = record {
-  starts : KeptSoFar l.cell l.gaps l.scanned.pairs l.first l.at l.frozen l.in_run l.starts.items;
-  lines : AreLines l.scanned.pairs l.at l.frozen (drop l.line-index l.lines);
+abbrev pub invariant-loop-i : goal.invariant-loop-i
+invariant-loop-i l = record {
+  within : l.i ≤ length l.lines;
+  starts : KeptSoFar l.cell l.gaps l.scanned.pairs l.first (line_start l.first l.lines l.i) (is_start_frozen false l.lines l.i) l.in_run l.starts.items;
 }
+
+abbrev pub decreases-loop-i : goal.decreases-loop-i
+decreases-loop-i l = length l.lines - l.i
