@@ -1,11 +1,8 @@
 -- Each text has a cut or a fault.
-use Rattle.std.proofs.Common.{◌≡◌, ◌≢◌, ℕ, zero, suc, ◌+◌, ◌-◌, ◌<◌, ◌≤◌, ◌⊎◌, Bool, true, false, List, [], ◌∷◌, ◌++◌, length, take, drop, slice_range, IsUtf8, Some, None, refl, sym, ap, subst, ◌∙◌, inl, inr, ⊎_elim, arith, take_all}
-use Rattle.std.proofs.lemmas.Bool.{cases_Bool, cases_lt, cases_eq, cond-true, cond-false, true≢false}
-use Rattle.std.proofs.lemmas.Str.{IsUtf8-from_is_utf8, is_utf8-from_IsUtf8}
-use Rattle.std.specs.Str.{IsValidUpTo, is_utf8}
-use Rattle.std.specs.Str.Lossy.{valid_len_up_to, utf8_valid_len}
+use Rattle.std.proofs.Common.{◌≡◌, ℕ, zero, suc, ◌+◌, ◌<◌, ◌≤◌, ◌⊎◌, List, [], ◌∷◌, ◌++◌, length, drop, slice_range, IsUtf8, Some, None, refl, ap, inl, inr, ⊎_elim, arith}
+use Rattle.std.proofs.lemmas.Bool.{cases_lt, cases_eq}
+use Rattle.std.specs.Str.Lossy.{utf8_valid_len}
 use Rattle.bstr.proofs.lemmas.LossyLemmas.{utf8_valid_len-cases}
-use Rattle.hcl_token.specs.declared.kind.Kind.{Kind}
 use Rattle.hcl_token.specs.declared.span.Span.{Span}
 use Rattle.hcl_token.specs.Pairs.{pairs_of}
 use Rattle.hcl_token.specs.Tokens.{Pair}
@@ -13,9 +10,9 @@ use Rattle.hcl_scan.specs.declared.fault.ScanFault.{ScanFault}
 use Rattle.hcl_scan.specs.declared.fault.ScanFault.TheVariants.{TooLong, NotUtf8}
 use Rattle.hcl_scan.specs.Modes.{Mode, mode_of, modes_after}
 use Rattle.hcl_scan.specs.Tokenization.{IsTokenization, MAX_TEXT}
-use Rattle.hcl_scan.specs.Fault.{IsFault, EndsInFault}
+use Rattle.hcl_scan.specs.Fault.{IsFault}
 use Rattle.hcl_scan.specs.Inner.OpeningPlaces.{opening_places_after}
-use Rattle.hcl_scan.specs.Inner.NextToken.{LexedToken, token, gap_length}
+use Rattle.hcl_scan.specs.Inner.NextToken.{token, gap_length}
 use Rattle.hcl_scan.specs.Inner.MarkToken.{mark_tokens, mark_length}
 use Rattle.hcl_scan.specs.Inner.TokenizedTo.{IsTokenizedTo}
 use Rattle.hcl_scan.proofs.MarkLemmas.{started}

@@ -1,4 +1,5 @@
-//! The tokens outside of literal text that leave the openings as they are, one after the other.
+//! The tokens that leave the openings as they are, one after the other: those outside of literal
+//! text, and the text in quotes.
 //!
 //! Most tokens are such, and a `"`, its text and the `"` after it are so together. Here no call is
 //! given the address of the list, so its place and its length are in registers, and a token's kind is
@@ -24,7 +25,7 @@ use crate::bytes::byte_at;
 use crate::mode::{Mode, Opening, Region, can_change_openings_in, mode_in};
 use crate::quoted::{is_at_end, quoted_len};
 use crate::token::{
-    NextToken, next_plain_token, next_plain_token_apart, next_quoted_token, next_token,
+    NextToken, next_heredoc_token, next_plain_token, next_plain_token_apart, next_quoted_token,
 };
 use hcl_token::{Kind, MAX_TEXT, Span};
 
@@ -280,10 +281,10 @@ pub fn push_plain_tokens(
     match mode {
         Mode::Quoted => push_in_quotes(buffer, text, from, openings),
         Mode::Heredoc {
-            marker: _,
-            at_line_start: _,
+            marker,
+            at_line_start,
         } => {
-            let next = next_token(text, from, mode);
+            let next = next_heredoc_token(text, from, marker, at_line_start);
             (buffer, from, next)
         }
         _ => push_in_mode(buffer, text, from, mode, openings),

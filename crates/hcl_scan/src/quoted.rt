@@ -1,7 +1,8 @@
 //! The end of quoted text.
 
-ghost use Rattle.std.specs.Prelude.{◌≡◌, ◌+◌, ◌≤◌, true, false, length, drop};
+ghost use Rattle.std.specs.Prelude.{◌≡◌, ◌==◌, ◌||◌, ◌+◌, ◌≤◌, true, false, length, drop, slice_index};
 ghost use Rattle.hcl_scan.specs.Lexeme.{quote_unit};
+ghost use Rattle.hcl_scan.specs.Inner.LexemeStarts.{is_at_opening};
 ghost use Rattle.hcl_scan.specs.Inner.RunLength.{run_length};
 
 use crate::bytes::byte_at;
@@ -12,7 +13,9 @@ use crate::runs::{QuoteUnit, Unit, ordinary_end};
 #[inline(always)]
 pub fn is_at_end(text: &[u8], at: usize) -> bool
     requires { at ≤ length text.now }
-    ensures { result ≡ true → quote_unit false (drop at text.now) ≡ 0 }
+    ensures value { result
+        ≡ ((slice_index (drop at text.now) 0 == 34) || is_at_opening (drop at text.now)) }
+    ensures unit { result ≡ true → quote_unit false (drop at text.now) ≡ 0 }
 {
     byte_at(text, at) == b'"' || is_at_opening(text, at)
 }

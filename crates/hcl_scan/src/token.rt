@@ -8,7 +8,7 @@ ghost use Rattle.hcl_scan.specs.Inner.NextToken.{inline_comment, dot_token, punc
 ghost use Rattle.hcl_scan.specs.Inner.Markers.{HasMarker};
 ghost use Rattle.hcl_scan.specs.Inner.Openings.{mode_view};
 ghost use Rattle.hcl_scan.specs.Modes.{can_close_sequence, is_literal};
-ghost use Rattle.hcl_scan.specs.Modes.Mode.{Quoted};
+ghost use Rattle.hcl_scan.specs.Modes.Mode.{Quoted, Heredoc};
 
 use crate::bytes::{byte_at, digits_end, is_letter, skip_whitespace};
 use crate::heredoc::{here_open, heredoc_token, is_at_heredoc_start, is_at_opening, opening};
@@ -230,42 +230,24 @@ pub struct NextToken {
     pub token: Option<(Kind, usize)>,
 }
 
-/// Whether the text is literal: every blank counts.
-pub fn is_literal(mode: Mode<'_>) -> bool
-    ensures { result ≡ is_literal (mode_view mode.entry) }
-{
-    match mode {
-        Mode::Expression | Mode::Sequence | Mode::Braces => false,
-        _ => true,
-    }
-}
-
-/// Returns the gap from a place on and the token after it; no token if none begins there.
-pub fn next_token(text: &str, at: usize, mode: Mode<'_>) -> NextToken
+/// Returns the gap from a place in the text of a heredoc with this marker on and the token after it;
+/// no token if none begins there. `at_line_start` says whether a line begins at the place.
+pub fn next_heredoc_token(text: &str, at: usize, marker: &[u8], at_line_start: bool) -> NextToken
     requires within { at ≤ length text.now }
     requires utf8 { IsUtf8 (drop at text.now) }
-    requires marker { HasMarker (mode_view mode) }
-    ensures gap { result.start ≡ at + gap_length (mode_view mode.entry) (drop at text.now) }
+    requires marker { HasMarker (Heredoc marker.now at_line_start) }
+    ensures gap { result.start ≡ at + gap_length (Heredoc marker.now at_line_start) (drop at text.now) }
     ensures start { result.start ≤ length text.now }
-    ensures token { result.token ≡ token (mode_view mode.entry) (drop result.start text.now) }
+    ensures token { result.token
+        ≡ token (Heredoc marker.now at_line_start) (drop result.start text.now) }
     ensures within { IfSome result.token
         (λ found. (0 < found.1) × (result.start + found.1 ≤ length text.now)) }
 {
-    let bytes = text.as_bytes();
-    match mode {
-        Mode::Quoted => next_quoted_token(text, at),
-        Mode::Heredoc {
-            marker,
-            at_line_start,
-        } => NextToken {
-            start: at,
-            token: heredoc_token(bytes, at, marker, at_line_start),
-        },
-        _ => next_plain_token_apart(text, at, mode),
-    }
+    let token = heredoc_token(text.as_bytes(), at, marker, at_line_start);
+    NextToken { start: at, token }
 }
 
-/// `next_token` in quoted text.
+/// `next_heredoc_token` in quoted text.
 #[inline(always)]
 pub fn next_quoted_token(text: &str, at: usize) -> NextToken
     requires within { at ≤ length text.now }
@@ -280,7 +262,7 @@ pub fn next_quoted_token(text: &str, at: usize) -> NextToken
     NextToken { start: at, token }
 }
 
-/// `next_token` outside of literal text.
+/// `next_heredoc_token` outside of literal text.
 #[inline(always)]
 pub fn next_plain_token(text: &str, at: usize, mode: Mode<'_>) -> NextToken
     requires within { at ≤ length text.now }

@@ -1,5 +1,5 @@
 use Rattle.std.proofs.Common.{◌≡◌, ◌+◌, List, [], ◌∷◌, ◌++◌, slice_index, sym, ap, subst, ◌∙◌, arith}
-use Rattle.hcl_token.specs.declared.kind.Kind.TheVariants.{QuoteOpen, QuoteLit, QuoteClose}
+use Rattle.hcl_token.specs.declared.kind.Kind.TheVariants.{QuoteOpen, QuoteClose}
 use Rattle.hcl_token.specs.declared.span.Span.{Span}
 use Rattle.hcl_scan.specs.Inner.MarkToken.{token_at}
 use Rattle.hcl_scan.specs.Inner.TokenizedTo.{IsTokenizedTo}
