@@ -1,6 +1,7 @@
 -- Quoted text in quotes is three tokens, after which the openings are as before.
-use Rattle.std.proofs.Common.{◌≡◌, ℕ, zero, suc, ◌+◌, ◌<◌, true, false, ◌||◌, ◌==◌, List, [], ◌∷◌, ◌++◌, drop, slice_index, Some, refl, sym, ap, subst, ◌∙◌, arith, get_or-drop, drop-drop}
+use Rattle.std.proofs.Common.{◌≡◌, ℕ, zero, suc, ◌+◌, ◌<◌, true, false, ◌||◌, ◌==◌, List, [], ◌∷◌, ◌++◌, drop, slice_index, slice_range, Some, refl, sym, ap, subst, subst₂, ◌∙◌, arith, get_or-drop, drop-drop}
 use Rattle.std.proofs.lemmas.Bool.{ne_eqb, false≢true}
+use Rattle.hcl_token.specs.declared.kind.Kind.{Kind}
 use Rattle.hcl_token.specs.declared.kind.Kind.TheVariants.{QuoteOpen, QuoteLit, QuoteClose}
 use Rattle.hcl_token.specs.declared.span.Span.{Span}
 use Rattle.hcl_scan.specs.Lexeme.{quote_unit}
@@ -9,6 +10,7 @@ use Rattle.hcl_scan.specs.Modes.Mode.{Quoted}
 use Rattle.hcl_scan.specs.Inner.RunLength.{run_length}
 use Rattle.hcl_scan.specs.Inner.NextToken.{is_at_opening, quoted_token, token, gap_length}
 use Rattle.hcl_scan.specs.Inner.MarkToken.{token_at}
+use Rattle.hcl_scan.specs.Inner.OpeningPlaces.{LeavesOpenings}
 use Rattle.hcl_scan.specs.Inner.TokenizedTo.{IsTokenizedTo}
 use Rattle.hcl_scan.proofs.RunLemmas.{run_length-none}
 use Rattle.hcl_scan.proofs.Beats.{unit_begins}
@@ -96,3 +98,16 @@ literal_more text tokens at (m ∷ ms) places len mode state is some =
     let there : IsTokenizedTo text tokens at (Quoted ∷ ms) places = subst (λ (x : Mode). IsTokenizedTo text tokens at (x ∷ ms) places) (sym mode) state in
     let more = (one_more text tokens at (Quoted ∷ ms) places at QuoteLit len there (omega arith) found).1 in
     subst (λ (x : Mode). IsTokenizedTo text (tokens ++ token_at at (at + len) QuoteLit ∷ []) (at + len) (x ∷ ms) places) mode more
+
+-- the cut goes on by a token that leaves the openings as they are
+pub free_more : (text : List ℕ) (tokens : List Span) (at : ℕ) (modes : List Mode) (places : List ℕ) (start : ℕ) (kind : Kind) (len : ℕ)
+    → IsTokenizedTo text tokens at modes places
+    → start ≡ at + gap_length (mode_of modes) (drop at text)
+    → token (mode_of modes) (drop start text) ≡ Some (kind, len)
+    → LeavesOpenings kind
+    → IsTokenizedTo text (tokens ++ token_at start (start + len) kind ∷ []) (start + len) modes places
+free_more text tokens at modes places start kind len state start_is found leaves =
+    let more = one_more text tokens at modes places start kind len state start_is found in
+    let longer : List Span = tokens ++ token_at start (start + len) kind ∷ [] in
+    let spelling : List ℕ = slice_range text start (start + len) in
+    subst₂ (λ (m : List Mode) (o : List ℕ). IsTokenizedTo text longer (start + len) m o) (leaves.0 spelling modes) (leaves.1 start modes places) more.1

@@ -1,7 +1,8 @@
 //! The operators.
 
-ghost use Rattle.std.specs.Prelude.{◌≡◌, Some, if◌then◌else◌};
+ghost use Rattle.std.specs.Prelude.{◌≡◌, Some, IfSome, if◌then◌else◌};
 ghost use Rattle.hcl_scan.specs.Inner.NextToken.{single, compound, operator};
+ghost use Rattle.hcl_scan.specs.Inner.OpeningPlaces.{LeavesOpenings};
 
 use hcl_token::Kind;
 
@@ -66,7 +67,8 @@ fn compound(first: u8, second: u8, third: u8) -> Option<(Kind, usize)>
 
 /// An operator that begins with `=`.
 pub fn equal(second: u8) -> Option<(Kind, usize)>
-    ensures { result ≡ compound 61 second 0 }
+    ensures value { result ≡ compound 61 second 0 }
+    ensures kind { IfSome result (λ found. LeavesOpenings found.0) }
 {
     match second {
         b'=' => Some((Kind::DoubleEqual, 2)),

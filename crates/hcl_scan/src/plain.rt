@@ -8,7 +8,7 @@
 //! How many tokens are added here is not fixed by a clause: it decides only how long a scan takes.
 //! `tokenize_str` adds each token that is not added here.
 
-ghost use Rattle.std.specs.Prelude.{◌≡◌, ◌+◌, ◌<◌, ◌≤◌, ◌++◌, ◌∷◌, ℕ, List, [], false, length, drop, slice_index, None, Some, IfSome, IsUtf8, vec_len, vec_capacity};
+ghost use Rattle.std.specs.Prelude.{◌≡◌, ◌+◌, ◌<◌, ◌≤◌, ◌++◌, ◌∷◌, ℕ, List, [], true, false, length, drop, slice_index, None, Some, IfSome, IsUtf8, vec_len, vec_capacity};
 ghost use Rattle.hcl_token.specs.declared.kind.Kind.TheVariants.{QuoteOpen, QuoteLit, QuoteClose};
 ghost use Rattle.hcl_scan.specs.Tokenization.{MAX_TEXT};
 ghost use Rattle.hcl_scan.specs.Modes as spec;
@@ -17,6 +17,7 @@ ghost use Rattle.hcl_scan.specs.Modes.Mode.{Quoted};
 ghost use Rattle.hcl_scan.specs.Lexeme.{quote_unit};
 ghost use Rattle.hcl_scan.specs.Inner.NextToken.{gap_length, token};
 ghost use Rattle.hcl_scan.specs.Inner.MarkToken.{token_at};
+ghost use Rattle.hcl_scan.specs.Inner.OpeningPlaces.{LeavesOpenings};
 ghost use Rattle.hcl_scan.specs.Inner.Openings.{mode_view, region_of, modes_of, places_of};
 ghost use Rattle.hcl_scan.specs.Inner.RunLength.{run_length};
 ghost use Rattle.hcl_scan.specs.Inner.TokenizedTo.{IsTokenizedTo};
@@ -121,7 +122,7 @@ fn put_quoted(tokens: &mut Vec<Span>, text: &[u8], from: usize) -> usize
 }
 
 /// Adds a token that leaves the openings as they are, or quoted text in quotes, and returns where
-/// it stops. Adds nothing if the token is another.
+/// it stops. Adds nothing if the token is another. Where `is_free` it is known to leave them so.
 #[inline(always)]
 fn put_plain(
     tokens: &mut Vec<Span>,
@@ -130,11 +131,13 @@ fn put_plain(
     kind: Kind,
     len: usize,
     mode: Mode<'_>,
+    is_free: bool,
 ) -> Option<usize>
     requires short { length text.now ≤ MAX_TEXT }
     requires some { 0 < len }
     requires within { start + len ≤ length text.now }
     requires reserved { vec_len tokens.old + 3 ≤ vec_capacity tokens.old }
+    requires free { is_free ≡ true → LeavesOpenings kind }
     ensures none { result ≡ None → tokens.new.items ≡ tokens.old.items }
     ensures capacity { vec_capacity tokens.new ≡ vec_capacity tokens.old }
     ensures onward { IfSome result (λ stop. start < stop) }
@@ -146,6 +149,10 @@ fn put_plain(
         → IsTokenizedTo text.now tokens.new.items stop modes places) }
 {
     let stop = start + len;
+    if is_free {
+        put(tokens, start, stop, kind);
+        return Some(stop);
+    }
     match kind {
         Kind::QuoteOpen => {
             let text_len = quoted_len(text, stop);
@@ -210,11 +217,11 @@ fn push_in_mode(
     let mut at = from;
     let limit = tokens.capacity().saturating_sub(2);
     while tokens.len() < limit {
-        let next = next_plain_token(text, at, mode);
+        let (next, is_free) = next_plain_token(text, at, mode);
         let Some((kind, len)) = next.token else {
             return (tokens, at, next);
         };
-        match put_plain(&mut tokens, bytes, next.start, kind, len, mode) {
+        match put_plain(&mut tokens, bytes, next.start, kind, len, mode, is_free) {
             Some(stop) => at = stop,
             None => return (tokens, at, next),
         }

@@ -1,12 +1,13 @@
 //! The token at a place.
 
-ghost use Rattle.std.specs.Prelude.{◌≡◌, ◌+◌, ◌<◌, ◌≤◌, false, length, drop, slice_index, IsUtf8, Some, IfSome, if◌then◌else◌};
+ghost use Rattle.std.specs.Prelude.{◌≡◌, ◌+◌, ◌<◌, ◌≤◌, true, false, length, drop, slice_index, IsUtf8, Some, IfSome, if◌then◌else◌};
 ghost use Rattle.hcl_token.specs.declared.kind.Kind.TheVariants.{SeqClose, CloseBrace};
 ghost use Rattle.hcl_scan.specs.Lexeme.{comment_unit};
 ghost use Rattle.hcl_scan.specs.Inner.RunLength.{run_length};
 ghost use Rattle.hcl_scan.specs.Inner.NextToken.{inline_comment, dot_token, punctuation, heredoc_or_less, expression_token, quoted_token, gap_length, token};
 ghost use Rattle.hcl_scan.specs.Inner.Markers.{HasMarker};
 ghost use Rattle.hcl_scan.specs.Inner.Openings.{mode_view};
+ghost use Rattle.hcl_scan.specs.Inner.OpeningPlaces.{LeavesOpenings};
 ghost use Rattle.hcl_scan.specs.Modes.{can_close_sequence, is_literal};
 ghost use Rattle.hcl_scan.specs.Modes.Mode.{Quoted, Heredoc};
 
@@ -87,7 +88,8 @@ fn comment_len(text: &[u8], at: usize) -> usize
 /// Returns the token that begins with a `.`.
 fn dot_token(text: &[u8], at: usize) -> Option<(Kind, usize)>
     requires { at < length text.now }
-    ensures { result ≡ dot_token (drop at text.now) }
+    ensures value { result ≡ dot_token (drop at text.now) }
+    ensures kind { IfSome result (λ found. LeavesOpenings found.0) }
 {
     let second = byte_at(text, at + 1);
     if second.is_ascii_digit() {
@@ -100,42 +102,76 @@ fn dot_token(text: &[u8], at: usize) -> Option<(Kind, usize)>
     }
 }
 
+/// A token or none, and whether its first byte shows that it leaves the openings as they are.
+#[derive(Clone, Copy)]
+struct Found {
+    token: Option<(Kind, usize)>,
+    is_free: bool,
+}
+
+/// A token that leaves the openings as they are.
+#[inline(always)]
+fn free(token: Option<(Kind, usize)>) -> Found
+    requires { IfSome token (λ found. LeavesOpenings found.0) }
+    ensures token { result.token ≡ token }
+    ensures free { IfSome result.token (λ found. result.is_free ≡ true → LeavesOpenings found.0) }
+{
+    Found {
+        token,
+        is_free: true,
+    }
+}
+
+/// A token that may change the openings, or none.
+#[inline(always)]
+fn other(token: Option<(Kind, usize)>) -> Found
+    ensures token { result.token ≡ token }
+    ensures free { IfSome result.token (λ found. result.is_free ≡ true → LeavesOpenings found.0) }
+{
+    Found {
+        token,
+        is_free: false,
+    }
+}
+
 /// Returns the token outside of literal text. `first` is its first byte, 0 at the end. A `}` closes
 /// a template sequence if `can_close`.
 ///
-/// The tokens that most texts are made of need no more than their first byte.
+/// The tokens that most texts are made of need no more than their first byte. Of most of these it
+/// shows too that they leave the openings as they are, so that their kind is not tested for it.
 #[inline(always)]
-fn expression_token(text: &str, at: usize, first: u8, can_close: bool) -> Option<(Kind, usize)>
+fn expression_token(text: &str, at: usize, first: u8, can_close: bool) -> Found
     requires within { at ≤ length text.now }
     requires utf8 { IsUtf8 (drop at text.now) }
     requires first { first ≡ slice_index text.now at }
     requires first_within { 0 < first → at < length text.now }
-    ensures { result ≡ expression_token can_close (drop at text.now) }
+    ensures token { result.token ≡ expression_token can_close (drop at text.now) }
+    ensures free { IfSome result.token (λ found. result.is_free ≡ true → LeavesOpenings found.0) }
 {
     if is_letter(first) {
-        return Some((Kind::Identifier, word_len(text, at)));
+        return free(Some((Kind::Identifier, word_len(text, at))));
     }
     let bytes = text.as_bytes();
     match first {
-        b'\n' => Some((Kind::LineEnd, 1)),
-        b'"' => Some((Kind::QuoteOpen, 1)),
-        b'=' => equal(byte_at(bytes, at + 1)),
-        b'.' => dot_token(bytes, at),
-        b',' => Some((Kind::Comma, 1)),
-        b'{' => Some((Kind::OpenBrace, 1)),
-        b'}' => close_brace_token(can_close),
-        b'[' => Some((Kind::OpenBracket, 1)),
-        b']' => Some((Kind::CloseBracket, 1)),
-        b'(' => Some((Kind::OpenParen, 1)),
-        b')' => Some((Kind::CloseParen, 1)),
-        b'?' => Some((Kind::Question, 1)),
-        b'+' => Some((Kind::Plus, 1)),
-        b'-' => Some((Kind::Minus, 1)),
-        b'*' => Some((Kind::Star, 1)),
-        b'%' => Some((Kind::Percent, 1)),
-        b'0'..=b'9' => Some((Kind::Number, number_len(bytes, at))),
-        b'#' => Some((Kind::LineComment, comment_len(bytes, at))),
-        _ => slow_expression_token(text, at, can_close),
+        b'\n' => free(Some((Kind::LineEnd, 1))),
+        b'"' => other(Some((Kind::QuoteOpen, 1))),
+        b'=' => free(equal(byte_at(bytes, at + 1))),
+        b'.' => free(dot_token(bytes, at)),
+        b',' => free(Some((Kind::Comma, 1))),
+        b'{' => other(Some((Kind::OpenBrace, 1))),
+        b'}' => other(close_brace_token(can_close)),
+        b'[' => free(Some((Kind::OpenBracket, 1))),
+        b']' => free(Some((Kind::CloseBracket, 1))),
+        b'(' => free(Some((Kind::OpenParen, 1))),
+        b')' => free(Some((Kind::CloseParen, 1))),
+        b'?' => free(Some((Kind::Question, 1))),
+        b'+' => free(Some((Kind::Plus, 1))),
+        b'-' => free(Some((Kind::Minus, 1))),
+        b'*' => free(Some((Kind::Star, 1))),
+        b'%' => free(Some((Kind::Percent, 1))),
+        b'0'..=b'9' => free(Some((Kind::Number, number_len(bytes, at)))),
+        b'#' => free(Some((Kind::LineComment, comment_len(bytes, at)))),
+        _ => other(slow_expression_token(text, at, can_close)),
     }
 }
 
@@ -262,22 +298,25 @@ pub fn next_quoted_token(text: &str, at: usize) -> NextToken
     NextToken { start: at, token }
 }
 
-/// `next_heredoc_token` outside of literal text.
+/// `next_heredoc_token` outside of literal text, and whether the token's first byte shows that it
+/// leaves the openings as they are.
 #[inline(always)]
-pub fn next_plain_token(text: &str, at: usize, mode: Mode<'_>) -> NextToken
+pub fn next_plain_token(text: &str, at: usize, mode: Mode<'_>) -> (NextToken, bool)
     requires within { at ≤ length text.now }
     requires utf8 { IsUtf8 (drop at text.now) }
     requires plain { is_literal (mode_view mode) ≡ false }
-    ensures gap { result.start ≡ at + gap_length (mode_view mode.entry) (drop at text.now) }
-    ensures start { result.start ≤ length text.now }
-    ensures token { result.token ≡ token (mode_view mode.entry) (drop result.start text.now) }
-    ensures within { IfSome result.token
-        (λ found. (0 < found.1) × (result.start + found.1 ≤ length text.now)) }
+    ensures gap { result.0.start ≡ at + gap_length (mode_view mode.entry) (drop at text.now) }
+    ensures start { result.0.start ≤ length text.now }
+    ensures token { result.0.token ≡ token (mode_view mode.entry) (drop result.0.start text.now) }
+    ensures within { IfSome result.0.token
+        (λ found. (0 < found.1) × (result.0.start + found.1 ≤ length text.now)) }
+    ensures free { IfSome result.0.token (λ found. result.1 ≡ true → LeavesOpenings found.0) }
 {
     let bytes = text.as_bytes();
     let (start, first) = skip_whitespace(bytes, at);
-    let token = expression_token(text, start, first, can_close_sequence(mode));
-    NextToken { start, token }
+    let found = expression_token(text, start, first, can_close_sequence(mode));
+    let token = found.token;
+    (NextToken { start, token }, found.is_free)
 }
 
 /// `next_plain_token` where it is rare.
@@ -292,5 +331,5 @@ pub fn next_plain_token_apart(text: &str, at: usize, mode: Mode<'_>) -> NextToke
     ensures within { IfSome result.token
         (λ found. (0 < found.1) × (result.start + found.1 ≤ length text.now)) }
 {
-    next_plain_token(text, at, mode)
+    next_plain_token(text, at, mode).0
 }

@@ -1,7 +1,7 @@
 -- The places of the openings that are not closed, innermost first, one for each mode, as the
 -- scanner keeps them. `OpeningPlaces` of proofs/ shows that they are those of
 -- `openings_after_pairs`.
-use Rattle.std.specs.Prelude.{ℕ, ◌+◌, List, [], ◌∷◌, length, drop, if◌then◌else◌}
+use Rattle.std.specs.Prelude.{◌≡◌, ℕ, ◌+◌, List, [], ◌∷◌, length, drop, if◌then◌else◌}
 use Rattle.hcl_token.specs.declared.kind.Kind.{Kind}
 use Rattle.hcl_token.specs.declared.kind.Kind.TheVariants.{OpenBrace, CloseBrace, QuoteOpen, QuoteClose, HereOpen, HereClose, InterpOpen, DirectiveOpen, SeqClose}
 use Rattle.hcl_token.specs.Tokens.{Pair}
@@ -33,3 +33,8 @@ abbrev pub innermost_place : List Mode → List ℕ → ℕ
 innermost_place [] places = 0
 innermost_place (mode ∷ modes) [] = 0
 innermost_place (mode ∷ modes) (at ∷ places) = if is_braces mode then innermost_place modes places else at
+
+-- a token of the kind leaves the openings as they are, whatever they are
+abbrev pub LeavesOpenings : Kind → Type 0
+LeavesOpenings kind = ((spelling : List ℕ) (modes : List Mode) → modes_after kind spelling modes ≡ modes)
+    × ((at : ℕ) (modes : List Mode) (places : List ℕ) → opening_places_after kind at modes places ≡ places)

@@ -5,7 +5,7 @@ use Rattle.hcl_scan.proofs.plain.push_in_mode.Goals as goal
 pub loop-bytes-smaller : goal.loop-bytes-smaller
 loop-bytes-smaller c =
     let openings = c.args.openings.now.items in
-    let next = c.next_plain_token-next.ensures in
+    let next = c.next_plain_token-is_free.ensures in
     let gap = rw c.requires.mode at next.gap in
     let found = sym (rw c.requires.mode at next.token) ∙ c.in-Some.is in
     let step = rw c.as_bytes-bytes.ensures.value at c.in-Some-put_plain.ensures.state in
@@ -15,7 +15,7 @@ loop-bytes-smaller c =
 pub loop-bytes-preserved : goal.loop-bytes-preserved
 loop-bytes-preserved c =
     let openings = c.args.openings.now.items in
-    let next = c.next_plain_token-next.ensures in
+    let next = c.next_plain_token-is_free.ensures in
     let gap = rw c.requires.mode at next.gap in
     let found = sym (rw c.requires.mode at next.token) ∙ c.in-Some.is in
     let step = rw c.as_bytes-bytes.ensures.value at c.in-Some-put_plain.ensures.state in

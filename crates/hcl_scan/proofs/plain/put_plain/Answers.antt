@@ -3,8 +3,15 @@ use Rattle.hcl_token.specs.declared.span.Span.{Span}
 use Rattle.hcl_scan.specs.Modes.{Mode}
 use Rattle.hcl_scan.specs.Inner.MarkToken.{token_at}
 use Rattle.hcl_scan.specs.Inner.TokenizedTo.{IsTokenizedTo}
+use Rattle.hcl_scan.proofs.PlainLemmas.{free_more}
 use Rattle.hcl_scan.proofs.Steps.{one_more}
 use Rattle.hcl_scan.proofs.plain.put_plain.Goals as goal
+
+pub returns-then-is_free-clause-state : goal.returns-then-is_free-clause-state
+returns-then-is_free-clause-state c = λ at modes places mode start_is found state.
+    let stop = c.args.start + c.args.len in
+    let more = free_more c.args.text.now c.args.tokens.now.items at modes places c.args.start c.args.kind c.args.len state start_is found (c.requires.free c.if-is_free.true) in
+    subst (λ (x : List Span). IsTokenizedTo c.args.text.now x stop modes places) (sym c.put.ensures.items) more
 
 pub returns-then-byte_at-eq34-clause-state : goal.returns-then-byte_at-eq34-clause-state
 returns-then-byte_at-eq34-clause-state c = λ at modes places mode start_is found state.
@@ -22,4 +29,4 @@ returns-else-can_change_openings_in-clause-state c = λ at modes places mode sta
     let placed = c.can_change_openings_in.ensures.places start modes places mode c.if-can_change_openings_in.false in
     let tokens = c.args.tokens.now.items ++ token_at start stop kind ∷ [] in
     let next = subst₂ (λ (m : List Mode) (o : List ℕ). IsTokenizedTo text tokens stop m o) shifted placed more.1 in
-    subst (λ (x : List Span). IsTokenizedTo text x stop modes places) (sym c.put.ensures.items) next
+    subst (λ (x : List Span). IsTokenizedTo text x stop modes places) (sym c.put-else-can_change_openings_in.ensures.items) next
