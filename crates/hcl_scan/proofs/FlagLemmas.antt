@@ -4,6 +4,7 @@ use Rattle.std.proofs.lemmas.Bool.{cases_lt, eqb-true, not-true, not-false}
 use Rattle.std.proofs.lemmas.Bool.Decides.{nat_tests}
 use Rattle.std.proofs.lemmas.List.{get_or_past, drop_more}
 use Rattle.std.proofs.lemmas.List.Sums.{prefix_len-le-length, prefix_len_passes, prefix_len-drop_yes}
+use Rattle.std.specs.Char.{is_ascii_digit}
 use Rattle.std.specs.List.{prefix_len}
 use Rattle.std.proofs.lemmas.Nat.{and_le_r}
 use Rattle.std.specs.Int.Bits.{and_zero_r}
@@ -16,7 +17,7 @@ use Rattle.hcl_scan.specs.Inner.Openings.{is_not_line_break}
 use Rattle.hcl_scan.specs.Inner.RunLength.{run_length, is_ordinary_inline, is_ordinary_quoted, is_ordinary_heredoc, IsOrdinary}
 use Rattle.hcl_scan.proofs.RunLemmas.{run_length-on}
 use Rattle.hcl_scan.specs.Inner.LexemeStarts.{is_ascii_id_continue}
-use Rattle.hcl_scan.specs.declared.sixteen.TheConstants.{ID_LOW, ID_HIGH, COMMENT_LOW, COMMENT_HIGH, INLINE_LOW, INLINE_HIGH, QUOTED_LOW, QUOTED_HIGH, HEREDOC_LOW, HEREDOC_HIGH}
+use Rattle.hcl_scan.specs.declared.sixteen.TheConstants.{ID_LOW, ID_HIGH, COMMENT_LOW, COMMENT_HIGH, INLINE_LOW, INLINE_HIGH, QUOTED_LOW, QUOTED_HIGH, HEREDOC_LOW, HEREDOC_HIGH, DIGIT_LOW, DIGIT_HIGH}
 use Rattle.hcl_scan.proofs.TableLemmas.{agree_below, agree_at}
 
 abbrev pub down : ℕ → ℕ → ℕ
@@ -104,6 +105,10 @@ pub heredoc_flags : (b : ℕ) → has_flags HEREDOC_LOW HEREDOC_HIGH b ≡ true 
 unfolding agree_below
 heredoc_flags = passing HEREDOC_LOW HEREDOC_HIGH is_ordinary_heredoc refl refl
 
+pub digit_flags : (b : ℕ) → has_flags DIGIT_LOW DIGIT_HIGH b ≡ true → is_ascii_digit b ≡ true
+unfolding agree_below
+digit_flags = passing DIGIT_LOW DIGIT_HIGH is_ascii_digit refl refl
+
 -- ---- spaces
 
 pub spaces_before : (text : List ℕ) (at n : ℕ) → at + 16 ≤ length text → n ≡ prefix_len (λ x. not (not (x == 32))) (chunk at 16 text) → (k : ℕ) → at ≤ k → k < at + n → slice_index text k ≡ 32
@@ -117,20 +122,24 @@ spaces_before text at n room count k from to =
     let byte = get_or-chunk at 16 text i 0 within ∙ ap (slice_index text) (omega arith) in
     sym byte ∙ eqb-true _ 32 (not-false _ (not-true _ passes))
 
+-- the bytes that pass, after so many of them
+pub passing_after : (passes : ℕ → Bool) (text : List ℕ) (at n : ℕ) → at + n ≤ length text → ((k : ℕ) → at ≤ k → k < at + n → passes (slice_index text k) ≡ true)
+    → prefix_len passes (drop at text) ≡ n + prefix_len passes (drop (at + n) text)
+passing_after passes text at zero h all =
+    let place : at ≡ at + 0 = omega arith in
+    let same = ap (λ k. prefix_len passes (drop k text)) place in
+    omega (arith, same)
+passing_after passes text at (suc n) h all =
+    let before = passing_after passes text at n (omega arith) (λ k from to. all k from (omega arith)) in
+    let step = prefix_len-drop_yes passes text (at + n) 0 (omega arith) (all (at + n) (omega arith) (omega arith)) in
+    let place : at + n + 1 ≡ at + suc n = omega arith in
+    let same = ap (λ k. prefix_len passes (drop k text)) place in
+    omega (arith, before, step, same)
+
 -- the run of whitespace after so many spaces
 pub whitespace_after : (text : List ℕ) (at n : ℕ) → at + n ≤ length text → ((k : ℕ) → at ≤ k → k < at + n → slice_index text k ≡ 32)
     → prefix_len is_whitespace (drop at text) ≡ n + prefix_len is_whitespace (drop (at + n) text)
-whitespace_after text at zero h spaces =
-    let place : at ≡ at + 0 = omega arith in
-    let same = ap (λ k. prefix_len is_whitespace (drop k text)) place in
-    omega (arith, same)
-whitespace_after text at (suc n) h spaces =
-    let before = whitespace_after text at n (omega arith) (λ k from to. spaces k from (omega arith)) in
-    let space = ap is_whitespace (spaces (at + n) (omega arith) (omega arith)) in
-    let step = prefix_len-drop_yes is_whitespace text (at + n) 0 (omega arith) space in
-    let place : at + n + 1 ≡ at + suc n = omega arith in
-    let same = ap (λ k. prefix_len is_whitespace (drop k text)) place in
-    omega (arith, before, step, same)
+whitespace_after text at n h spaces = passing_after is_whitespace text at n h (λ k from to. ap is_whitespace (spaces k from to))
 
 -- ---- ordinary bytes of a run
 

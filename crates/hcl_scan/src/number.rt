@@ -1,9 +1,11 @@
 //! Numbers.
 
-ghost use Rattle.std.specs.Prelude.{◌≡◌, ◌+◌, ◌≤◌, length, drop};
+ghost use Rattle.std.specs.Prelude.{◌≡◌, ◌==◌, ◌&&◌, ◌+◌, ◌≤◌, not, length, drop};
+ghost use Rattle.std.specs.Char.{is_ascii_digit};
 ghost use Rattle.hcl_scan.specs.Inner.NextToken.{is_sign, is_exponent_letter, fraction_length, exponent_length, number_length};
 
 use crate::bytes::{byte_at, digits_end};
+use crate::sixteen::count_digits;
 
 /// Returns how many bytes the `.` and the digits at a place have, 0 if there are none.
 fn fraction_len(text: &[u8], at: usize) -> usize
@@ -59,4 +61,28 @@ pub fn number_len(text: &[u8], at: usize) -> usize
     let point = digits_end(text, at);
     let letter = point + fraction_len(text, point);
     letter + exponent_len(text, letter) - at
+}
+
+/// Whether no number goes on at a byte.
+fn ends_number(b: u8) -> bool
+    ensures { result
+        ≡ (not (is_ascii_digit b) && (not (b == 46) && not (is_exponent_letter b))) }
+{
+    !(b.is_ascii_digit() | ((b == b'.') | is_exponent_letter(b)))
+}
+
+/// `number_len`, without a call where the number is whole and short, as most are.
+#[inline(always)]
+pub fn short_number_len(text: &[u8], at: usize) -> usize
+    requires { at ≤ length text.now }
+    ensures value { result ≡ number_length (drop at text.now) }
+    ensures within { at + result ≤ length text.now }
+{
+    if at + 16 <= text.len() {
+        let len = count_digits(text, at);
+        if ends_number(byte_at(text, at + len)) {
+            return len;
+        }
+    }
+    number_len(text, at)
 }

@@ -1,6 +1,7 @@
 //! Runs of bytes by two tables, 16 bytes at a time.
 
 ghost use Rattle.std.specs.Prelude.{◌≡◌, ℕ, ◌+◌, ◌==◌, ◌<◌, ◌≤◌, not, true, false, length, slice_index};
+ghost use Rattle.std.specs.Char.{is_ascii_digit};
 ghost use Rattle.std.specs.List.{prefix_len};
 ghost use Rattle.hcl_scan.specs.Inner.Flags.{flags_of};
 ghost use Rattle.hcl_scan.specs.Inner.LexemeStarts.{is_ascii_id_continue};
@@ -36,6 +37,11 @@ const QUOTED_HIGH: [u8; 16] = [1, 2, 4, 2, 2, 8, 2, 2, 2, 2, 2, 2, 2, 2, 2, 2];
 const HEREDOC_LOW: [u8; 16] = [7, 7, 7, 7, 3, 3, 7, 7, 7, 7, 6, 7, 7, 7, 7, 7];
 
 const HEREDOC_HIGH: [u8; 16] = [1, 2, 4, 2, 2, 2, 2, 2, 2, 2, 2, 2, 2, 2, 2, 2];
+
+// Of the digits of a number.
+const DIGIT_LOW: [u8; 16] = [1, 1, 1, 1, 1, 1, 1, 1, 1, 1, 0, 0, 0, 0, 0, 0];
+
+const DIGIT_HIGH: [u8; 16] = [0, 0, 0, 1, 0, 0, 0, 0, 0, 0, 0, 0, 0, 0, 0, 0];
 
 /// The bits that the two tables have in common at each byte.
 #[inline(always)]
@@ -139,6 +145,19 @@ pub fn count_heredoc_bytes(text: &[u8], at: usize) -> usize
 {
     let low = u8x16::from_array(HEREDOC_LOW);
     let high = u8x16::from_array(HEREDOC_HIGH);
+    count_flagged(text, at, low, high)
+}
+
+/// How many of the 16 bytes at a place are digits, up to the first that is not.
+#[inline(always)]
+pub fn count_digits(text: &[u8], at: usize) -> usize
+    requires { at + 16 ≤ length text.now }
+    ensures within { result ≤ 16 }
+    ensures digits { (k : ℕ) → at ≤ k → k < at + result
+        → is_ascii_digit (slice_index text.now k) ≡ true }
+{
+    let low = u8x16::from_array(DIGIT_LOW);
+    let high = u8x16::from_array(DIGIT_HIGH);
     count_flagged(text, at, low, high)
 }
 

@@ -15,7 +15,7 @@ use crate::bytes::{byte_at, digits_end, is_letter, skip_whitespace};
 use crate::heredoc::{here_open, heredoc_token, is_at_heredoc_start, is_at_opening, opening};
 use crate::ident::{identifier, is_word_start, word_len};
 use crate::mode::Mode;
-use crate::number::number_len;
+use crate::number::{number_len, short_number_len};
 use crate::operator::{equal, operator};
 use crate::quoted::rest_end;
 use crate::runs::{CommentUnit, InlineUnit, run_end};
@@ -169,7 +169,7 @@ fn expression_token(text: &str, at: usize, first: u8, can_close: bool) -> Found
         b'-' => free(Some((Kind::Minus, 1))),
         b'*' => free(Some((Kind::Star, 1))),
         b'%' => free(Some((Kind::Percent, 1))),
-        b'0'..=b'9' => free(Some((Kind::Number, number_len(bytes, at)))),
+        b'0'..=b'9' => free(Some((Kind::Number, short_number_len(bytes, at)))),
         b'#' => free(Some((Kind::LineComment, comment_len(bytes, at)))),
         _ => other(slow_expression_token(text, at, can_close)),
     }

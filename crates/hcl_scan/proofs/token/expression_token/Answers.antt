@@ -13,5 +13,5 @@ returns-then-is_letter-clause-token c =
 pub returns-in-48-to-57-clause-token : goal.returns-in-48-to-57-clause-token
 returns-in-48-to-57-clause-token c =
     let digit = rw c.requires.first at (digit_byte c.args.first (omega arith) (omega arith)) in
-    let len = rw c.as_bytes-bytes.ensures.value at c.number_len.ensures.value in
+    let len = rw c.as_bytes-bytes.ensures.value at c.short_number_len.ensures.value in
     c.free-in-48-to-57.ensures.token ∙ ap (λ n. Some (Number, n)) len ∙ sym (token_of_number c.args.text.now c.args.at c.args.can_close digit.1 digit.0)
