@@ -1,6 +1,6 @@
 //! The operators.
 
-ghost use Rattle.std.specs.Prelude.{◌≡◌, Some, IfSome, if◌then◌else◌};
+ghost use Rattle.std.specs.Prelude.{◌≡◌, Some, None, IfSome, if◌then◌else◌};
 ghost use Rattle.hcl_scan.specs.Inner.NextToken.{single, compound, operator};
 ghost use Rattle.hcl_scan.specs.Inner.OpeningPlaces.{LeavesOpenings};
 
@@ -78,12 +78,24 @@ pub fn equal(second: u8) -> Option<(Kind, usize)>
 }
 
 /// The operator of two bytes, or else that of the first byte alone.
-fn either(two: bool, long: Kind, short: Kind) -> Option<(Kind, usize)>
-    ensures { result ≡ (if two then Some (long, 2) else Some (short, 1)) }
+#[inline(always)]
+pub fn either(two: bool, long: Kind, short: Kind) -> Option<(Kind, usize)>
+    ensures value { result ≡ (if two then Some (long, 2) else Some (short, 1)) }
+    ensures kind { LeavesOpenings long → LeavesOpenings short
+        → IfSome result (λ found. LeavesOpenings found.0) }
 {
     if two {
         Some((long, 2))
     } else {
         Some((short, 1))
     }
+}
+
+/// The operator of two bytes, or none.
+#[inline(always)]
+pub fn both(two: bool, kind: Kind) -> Option<(Kind, usize)>
+    ensures value { result ≡ (if two then Some (kind, 2) else None) }
+    ensures kind { LeavesOpenings kind → IfSome result (λ found. LeavesOpenings found.0) }
+{
+    if two { Some((kind, 2)) } else { None }
 }

@@ -1,6 +1,6 @@
 //! The token at a place.
 
-ghost use Rattle.std.specs.Prelude.{◌≡◌, ◌+◌, ◌<◌, ◌≤◌, true, false, length, drop, slice_index, IsUtf8, Some, IfSome, if◌then◌else◌};
+ghost use Rattle.std.specs.Prelude.{◌≡◌, ◌==◌, ◌+◌, ◌<◌, ◌≤◌, true, false, length, drop, slice_index, IsUtf8, Some, IfSome, if◌then◌else◌};
 ghost use Rattle.hcl_token.specs.declared.kind.Kind.TheVariants.{SeqClose, CloseBrace};
 ghost use Rattle.hcl_scan.specs.Lexeme.{comment_unit};
 ghost use Rattle.hcl_scan.specs.Inner.RunLength.{run_length};
@@ -16,7 +16,7 @@ use crate::heredoc::{here_open, heredoc_token, is_at_heredoc_start, is_at_openin
 use crate::ident::{identifier, is_word_start, word_len};
 use crate::mode::Mode;
 use crate::number::{number_len, short_number_len};
-use crate::operator::{equal, operator};
+use crate::operator::{both, either, equal, operator};
 use crate::quoted::rest_end;
 use crate::runs::{CommentUnit, InlineUnit, run_end};
 use hcl_token::Kind;
@@ -134,6 +134,14 @@ fn other(token: Option<(Kind, usize)>) -> Found
     }
 }
 
+/// Whether the byte after a place is this one.
+fn is_next(text: &[u8], at: usize, b: u8) -> bool
+    requires { at ≤ length text.now }
+    ensures { result ≡ (slice_index text.now (at + 1) == b) }
+{
+    byte_at(text, at + 1) == b
+}
+
 /// Returns the token outside of literal text. `first` is its first byte, 0 at the end. A `}` closes
 /// a template sequence if `can_close`.
 ///
@@ -171,6 +179,11 @@ fn expression_token(text: &str, at: usize, first: u8, can_close: bool) -> Found
         b'%' => free(Some((Kind::Percent, 1))),
         b'0'..=b'9' => free(Some((Kind::Number, short_number_len(bytes, at)))),
         b'#' => free(Some((Kind::LineComment, comment_len(bytes, at)))),
+        b':' => free(either(is_next(bytes, at, b':'), Kind::DoubleColon, Kind::Colon)),
+        b'!' => free(either(is_next(bytes, at, b'='), Kind::NotEqual, Kind::Bang)),
+        b'>' => free(either(is_next(bytes, at, b'='), Kind::GreaterEqual, Kind::Greater)),
+        b'&' => free(both(is_next(bytes, at, b'&'), Kind::And)),
+        b'|' => free(both(is_next(bytes, at, b'|'), Kind::Or)),
         _ => other(slow_expression_token(text, at, can_close)),
     }
 }
