@@ -1,15 +1,15 @@
--- Where neither a line end nor a comment comes after a separator of elements, it is one token.
-use Rattle.std.proofs.Common.{◌≡◌, ℕ, zero, suc, ◌+◌, false, true, List, length, Some, Ok, refl}
+-- A separator of elements is a comma or a line end, and the line ends after it.
+use Rattle.std.proofs.Common.{◌≡◌, ℕ, zero, suc, ◌+◌, false, true, List, length, Some, Ok, Err, refl}
 use Rattle.hcl_token.specs.declared.kind.Kind.{Kind}
 use Rattle.hcl_token.specs.declared.kind.Kind.TheVariants as k
-use Rattle.hcl_grammar.specs.Pure.Reading.{next_is, after_if_next, expect}
+use Rattle.hcl_grammar.specs.Pure.Reading.{Outcome, next_is, after_if_next, expect, and_then, pure}
 use Rattle.hcl_grammar.specs.Pure.Parser as p
 use Rattle.hcl_grammar.specs.Tokens as tokens
 use Rattle.hcl_grammar.specs.Tokens.{Token, next_index, next_kind, after_next}
 use Rattle.hcl_check.proofs.Ends.{past}
 
 module _ (ts : List Token) where
-  in_line : (n j : ℕ) → next_is ts false k.LineComment j ≡ false → next_is ts false k.LineEnd j ≡ false → p.skip_newlines_from ts n j ≡ Ok (tt, j)
+  pub in_line : (n j : ℕ) → next_is ts false k.LineComment j ≡ false → next_is ts false k.LineEnd j ≡ false → p.skip_newlines_from ts n j ≡ Ok (tt, j)
   unfolding p.skip_newlines_from p.eat_inner_newline after_if_next
   in_line zero j comment line = refl
   in_line (suc n) j comment line = rw (comment, line) refl
@@ -27,20 +27,16 @@ module _ (ts : List Token) where
       let brace : next_is ts false k.CloseBrace i ≡ true = kind_is k.CloseBrace k.CloseBrace i next in
       rw (past ts false i a here, comma, comment, line, brace) refl
 
-  module _ (i a : ℕ) (here : a ≡ next_index ts false i) (no_comment : next_is ts false k.LineComment (a + 1) ≡ false) (no_line : next_is ts false k.LineEnd (a + 1) ≡ false) where
-    no_more : p.skip_newlines_from ts (length ts) (after_next ts false i) ≡ Ok (tt, after_next ts false i)
-    no_more = in_line (length ts) (after_next ts false i) (rw (past ts false i a here) at no_comment) (rw (past ts false i a here) at no_line)
+  module _ (i a : ℕ) (here : a ≡ next_index ts false i) where
+    skipped : (o : Outcome (Unit {0})) → p.skip_newlines_from ts (length ts) (a + 1) ≡ o → p.skip_newlines_from ts (length ts) (after_next ts false i) ≡ o
+    skipped o rest = rw (past ts false i a here) at rest
 
-    pub comma_next : next_kind ts false i ≡ Some k.Comma → p.eat_separator_or_brace ts i ≡ Ok (true, a + 1)
+    pub comma_next : (o : Outcome (Unit {0})) → p.skip_newlines_from ts (length ts) (a + 1) ≡ o → next_kind ts false i ≡ Some k.Comma → p.eat_separator_or_brace ts i ≡ and_then o (λ _. pure true)
     unfolding p.eat_separator_or_brace p.eat_separator after_if_next tokens.same_kind
-    comma_next next =
-        let comma : next_is ts false k.Comma i ≡ true = kind_is k.Comma k.Comma i next in
-        rw (past ts false i a here, comma, no_more) refl
+    comma_next (Ok (tt, j)) rest next = rw (kind_is k.Comma k.Comma i next, skipped (Ok (tt, j)) rest) refl
+    comma_next (Err fault) rest next = rw (kind_is k.Comma k.Comma i next, skipped (Err fault) rest) refl
 
-    pub line_next : next_kind ts false i ≡ Some k.LineEnd → p.eat_separator_or_brace ts i ≡ Ok (true, a + 1)
+    pub line_next : (o : Outcome (Unit {0})) → p.skip_newlines_from ts (length ts) (a + 1) ≡ o → next_kind ts false i ≡ Some k.LineEnd → p.eat_separator_or_brace ts i ≡ and_then o (λ _. pure true)
     unfolding p.eat_separator_or_brace p.eat_separator p.eat_inner_newline after_if_next tokens.same_kind
-    line_next next =
-        let comma : next_is ts false k.Comma i ≡ false = kind_is k.LineEnd k.Comma i next in
-        let comment : next_is ts false k.LineComment i ≡ false = kind_is k.LineEnd k.LineComment i next in
-        let line : next_is ts false k.LineEnd i ≡ true = kind_is k.LineEnd k.LineEnd i next in
-        rw (past ts false i a here, comma, comment, line, no_more) refl
+    line_next (Ok (tt, j)) rest next = rw (kind_is k.LineEnd k.Comma i next, kind_is k.LineEnd k.LineComment i next, kind_is k.LineEnd k.LineEnd i next, skipped (Ok (tt, j)) rest) refl
+    line_next (Err fault) rest next = rw (kind_is k.LineEnd k.Comma i next, kind_is k.LineEnd k.LineComment i next, kind_is k.LineEnd k.LineEnd i next, skipped (Err fault) rest) refl

@@ -129,6 +129,18 @@ fn is_in_line(lines: &Reader<'_, '_>, at: usize) -> bool
     }
 }
 
+/// Skips line ends with the comments before them, as `Reader::skip_newlines` does; most often one look
+/// shows that there is none.
+#[inline(always)]
+fn skip_newlines(reader: &Reader<'_, '_>, at: &mut usize) -> Result<(), TokenFault>
+    ensures { ReadsExactly (tokens.skip_newlines reader.now at.old) result at.new }
+{
+    if is_in_line(&reader.outside_brackets(), *at) {
+        return Ok(());
+    }
+    reader.skip_newlines(at)
+}
+
 /// Takes a separator of elements, else the closing brace, as `Reader::eat_separator_or_brace` does;
 /// most often by two looks.
 #[inline(always)]
@@ -144,11 +156,11 @@ pub fn eat_separator_or_brace(reader: &Reader<'_, '_>, at: &mut usize) -> Result
             Ok(false)
         }
         Some(Kind::Comma) | Some(Kind::LineEnd) => {
-            if !is_in_line(&lines, number + 1) {
-                return reader.eat_separator_or_brace(at);
-            }
             *at = number + 1;
-            Ok(true)
+            match skip_newlines(reader, at) {
+                Ok(()) => Ok(true),
+                Err(fault) => Err(fault),
+            }
         }
         _ => reader.eat_separator_or_brace(at),
     }

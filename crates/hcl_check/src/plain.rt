@@ -158,13 +158,17 @@ pub fn eat_plain_expr(reader: &Reader<'_, '_>, next: Next, at: &mut usize) -> bo
     }
 }
 
-/// Takes the rest of an `Interp`, after its opening, which is token `first`, if what it encloses is
-/// such an expression.
+/// Takes the rest of parentheses or of an `Interp`, after the opening, which is token `first`, if what
+/// they enclose is such an expression. It ends with `close`.
 #[inline(always)]
 #[tactic(auto, unfolding(crate::specs::Passes::enclosed, hcl_grammar::specs::Pure::Reading::expect, hcl_grammar::specs::Pure::Reading::after_if_next))]
-pub fn eat_plain_interp(reader: &Reader<'_, '_>, first: usize, at: &mut usize) -> bool
-    ensures taken { result ≡ true
-        → spec.enclosed reader.now k.SeqClose first at.old ≡ Ok (tt, at.new) }
+pub fn eat_plain_enclosed(
+    reader: &Reader<'_, '_>,
+    close: Kind,
+    first: usize,
+    at: &mut usize,
+) -> bool
+    ensures taken { result ≡ true → spec.enclosed reader.now close first at.old ≡ Ok (tt, at.new) }
     ensures kept { result ≡ false → at.new ≡ at.old }
 {
     let mut end = *at;
@@ -175,7 +179,7 @@ pub fn eat_plain_interp(reader: &Reader<'_, '_>, first: usize, at: &mut usize) -
             if !eat_plain_expr(&inside, next, &mut end) {
                 return false;
             }
-            if !inside.eat(Kind::SeqClose, &mut end) {
+            if !inside.eat(close, &mut end) {
                 return false;
             }
             *at = end;

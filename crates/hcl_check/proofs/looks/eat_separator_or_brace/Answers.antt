@@ -1,4 +1,4 @@
-use Rattle.std.proofs.Common.{◌≡◌, Some, rules}
+use Rattle.std.proofs.Common.{◌≡◌, ◌+◌, Some, Ok, Err, rules}
 use Rattle.hcl_token.specs.declared.kind.Kind.TheVariants as k
 use Rattle.hcl_expr.specs.ReaderRules as tokens
 use Rattle.hcl_expr.specs.ReaderRules.{outside_brackets}
@@ -14,16 +14,28 @@ returns-in-Some-CloseBrace c =
     let brace : tokens.next_kind (outside_brackets here) c.args.at.now ≡ Some k.CloseBrace = first_of (search rules, cc) in
     brace_next here.tokens c.args.at.now token.result.0 number brace
 
-pub returns-else-not-is_in_line : goal.returns-else-not-is_in_line
-returns-else-not-is_in_line c =
+pub returns-in-Ok : goal.returns-in-Ok
+returns-in-Ok c =
     let here = c.args.reader.now in
     let token = c.next_token-number in
     let number = rw c.outside_brackets-lines.ensures at token.ensures.number in
-    let comment = rw c.outside_brackets-lines.ensures at c.is_in_line.ensures.comment c.if-not-is_in_line.false in
-    let line = rw c.outside_brackets-lines.ensures at c.is_in_line.ensures.line c.if-not-is_in_line.false in
+    let skipped : tokens.skip_newlines here (token.result.0 + 1) ≡ Ok (tt, c.skip_newlines.new.at) = rw c.in-Ok.is at c.skip_newlines.ensures in
     elim c.in-Some-Comma-1.branch [
       | in-Comma-1 w ↦ (let next : tokens.next_kind (outside_brackets here) c.args.at.now ≡ Some k.Comma = first_of (search rules, cc) in
-          comma_next here.tokens c.args.at.now token.result.0 number comment line next)
+          comma_next here.tokens c.args.at.now token.result.0 number _ skipped next)
       | in-LineEnd-1 w ↦ (let next : tokens.next_kind (outside_brackets here) c.args.at.now ≡ Some k.LineEnd = first_of (search rules, cc) in
-          line_next here.tokens c.args.at.now token.result.0 number comment line next)
+          line_next here.tokens c.args.at.now token.result.0 number _ skipped next)
+    ]
+
+pub returns-in-Err : goal.returns-in-Err
+returns-in-Err c =
+    let here = c.args.reader.now in
+    let token = c.next_token-number in
+    let number = rw c.outside_brackets-lines.ensures at token.ensures.number in
+    let refused : tokens.skip_newlines here (token.result.0 + 1) ≡ Err c.in-Err.fault = rw c.in-Err.is at c.skip_newlines.ensures in
+    elim c.in-Some-Comma-1.branch [
+      | in-Comma-1 w ↦ (let next : tokens.next_kind (outside_brackets here) c.args.at.now ≡ Some k.Comma = first_of (search rules, cc) in
+          comma_next here.tokens c.args.at.now token.result.0 number _ refused next)
+      | in-LineEnd-1 w ↦ (let next : tokens.next_kind (outside_brackets here) c.args.at.now ≡ Some k.LineEnd = first_of (search rules, cc) in
+          line_next here.tokens c.args.at.now token.result.0 number _ refused next)
     ]
