@@ -213,7 +213,8 @@ fn slow_expression_token(text: &str, at: usize, can_close: bool) -> Option<(Kind
     }
 }
 
-/// `slow_expression_token` where the text does not end.
+/// `slow_expression_token` where the text does not end. Its contract is of any first byte, though
+/// `expression_token` has arms of its own for many.
 #[inline(always)]
 fn any_expression_token(text: &str, at: usize, can_close: bool) -> Option<(Kind, usize)>
     requires within { at < length text.now }
@@ -279,7 +280,7 @@ pub struct NextToken {
     pub token: Option<(Kind, usize)>,
 }
 
-/// Returns the gap from a place in the text of a heredoc with this marker on and the token after it;
+/// Returns the token at a place in the text of a heredoc with this marker, where there are no gaps;
 /// no token if none begins there. `at_line_start` says whether a line begins at the place.
 pub fn next_heredoc_token(text: &str, at: usize, marker: &[u8], at_line_start: bool) -> NextToken
     requires within { at ≤ length text.now }
@@ -296,7 +297,8 @@ pub fn next_heredoc_token(text: &str, at: usize, marker: &[u8], at_line_start: b
     NextToken { start: at, token }
 }
 
-/// `next_heredoc_token` in quoted text.
+/// Returns the token at a place in quoted text, where there are no gaps; no token if none begins
+/// there.
 #[inline(always)]
 pub fn next_quoted_token(text: &str, at: usize) -> NextToken
     requires within { at ≤ length text.now }
@@ -311,8 +313,8 @@ pub fn next_quoted_token(text: &str, at: usize) -> NextToken
     NextToken { start: at, token }
 }
 
-/// `next_heredoc_token` outside of literal text, and whether the token's first byte shows that it
-/// leaves the openings as they are.
+/// Returns the gap from a place outside of literal text on and the token after it, no token if none
+/// begins there, and whether the token's first byte shows that it leaves the openings as they are.
 #[inline(always)]
 pub fn next_plain_token(text: &str, at: usize, mode: Mode<'_>) -> (NextToken, bool)
     requires within { at ≤ length text.now }
