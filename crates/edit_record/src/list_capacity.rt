@@ -1,5 +1,5 @@
 //! Memory for the edits of a list that is read, reserved at once, for speed alone.
-ghost use Rattle.std.specs.Prelude.{◌≡◌, ◌<◌, ◌≤◌, ◌+◌, ◌/◌, ◌++◌, ◌∷◌, [], max, OnOk, vec_len, vec_capacity};
+ghost use Rattle.std.specs.Prelude.{◌≡◌, ◌<◌, ◌≤◌, ◌+◌, ◌/◌, ◌++◌, ◌∷◌, [], true, max, OnOk, is_ok, vec_len, vec_capacity};
 ghost use Rattle.edit_record.specs.declared.list_capacity.TheConstants.{LEAST_BYTES, MOST_RESERVED};
 
 use crate::lists::Edit;
@@ -11,8 +11,7 @@ const LEAST_BYTES: usize = 8;
 /// The most edits for which memory is reserved by the number that a head has.
 const MOST_RESERVED: usize = 1024;
 
-/// Pushes an edit. The first one reserves memory for `count` edits, but for no more than can be in
-/// the `left` bytes after it.
+/// Pushes an edit, for which memory is reserved.
 #[inline(always)]
 pub(crate) fn push_edit(
     edits: &mut Vec<Edit>,
@@ -27,7 +26,8 @@ pub(crate) fn push_edit(
     Ok(())
 }
 
-/// Reserves memory for an edit that is read, as `push_edit` does, if there is none.
+/// Reserves memory for one edit more, if the list has none left: at the first edit for `count`
+/// edits, but for no more than can be in the `left` bytes after it.
 #[inline(always)]
 pub(crate) fn reserve_next(
     edits: &mut Vec<Edit>,
@@ -36,6 +36,7 @@ pub(crate) fn reserve_next(
 ) -> Result<(), AllocError>
     ensures items { edits.new.items ≡ edits.old.items }
     ensures spare { OnOk result (vec_len edits.new < vec_capacity edits.new) }
+    ensures room { vec_len edits.old < vec_capacity edits.old → is_ok result ≡ true }
 {
     if edits.len() >= edits.capacity() {
         reserve_edits(edits, count, left)?;

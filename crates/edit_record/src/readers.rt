@@ -213,7 +213,8 @@ fn push_placed<'t>(
     Ok(after)
 }
 
-/// Reserves memory for an edit that is read, which `text` begins with, if there is none.
+/// Reserves memory for an edit that is read, if the list has none left. `text`, which begins with the
+/// edit, serves the clauses alone.
 #[inline(always)]
 fn reserve_read(
     edits: &mut Vec<Edit>,
@@ -224,6 +225,7 @@ fn reserve_read(
     requires { is_ok (edit_at text.now) ≡ true }
     ensures items { edits.new.items ≡ edits.old.items }
     ensures spare { OnOk result (vec_len edits.new < vec_capacity edits.new) }
+    ensures room { vec_len edits.old < vec_capacity edits.old → is_ok result ≡ true }
     ensures stops { IfErr result
         (λ stop. IsStop (is_ok (edit_at text.now)) stop (edit_at text.now)) }
 {

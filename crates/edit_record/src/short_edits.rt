@@ -183,8 +183,8 @@ pub(crate) fn short_edit(
 const QUICK_BYTES: usize = 26;
 
 /// Reads a place of at most seven digits, the first of which is not 0, and the space that follows
-/// it, if as many bytes are left as the longest text of a short edit has. Returns the place, and
-/// where the text goes on.
+/// it, unless fewer bytes are left than the longest short edit takes (`QUICK_BYTES`). Returns the
+/// place, and where the text goes on.
 #[inline(always)]
 #[tactic(auto, unfolding(crate::specs::Parsing::number_at))]
 pub(crate) fn short_place(text: &[u8]) -> Option<(usize, usize)>
@@ -275,6 +275,7 @@ pub(crate) fn next_edit(
     let Some((removed, added, texts, _after)) = quick_edit(&text[start..]) else {
         return None;
     };
+    // The rest by one sum: in the three steps of `quick_edit` it takes some 15 instructions more.
     let len = removed + added;
     if len == 0 || at < sums.end || sums.added > MAX_TEXT {
         return None;

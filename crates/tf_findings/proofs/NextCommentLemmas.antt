@@ -38,7 +38,7 @@ none_more pairs from i h here = record { each = λ n below above kind is. by_pla
       | inr more ↦ let e : n ≡ i = omega (arith, above, more) in here kind (subst (λ (m : ℕ). Some kind ≡ kind_of pairs m) e is)
     ]
 
--- the same where one of them, or that one, is a comment
+-- one token more: a comment is among those before, or is this one
 pub has_more : (pairs : List Pair) (from i : ℕ) (kind : Kind) (free here : Bool) → (free && not here) ≡ false → from ≤ i
     → (free ≡ false → HasComment pairs from i) → Some kind ≡ kind_of pairs i → is_comment kind ≡ here → HasComment pairs from (i + 1)
 has_more pairs from i kind false here h below before is comment =

@@ -62,8 +62,8 @@ fn is_free_block(scanned: &Scanned<'_>, from: usize) -> bool
     is_free
 }
 
-/// Returns the number of a token from number `from` on, before which there is no comment: blocks
-/// without one are passed, up to one with a comment or the last tokens, fewer than a block.
+/// Passes blocks without a comment from token `from` on. Returns the number at which a block with one
+/// begins, or after which fewer tokens are left than a block has.
 fn past_blocks(scanned: &Scanned<'_>, from: usize) -> usize
     requires { from ≤ length scanned.now.pairs }
     ensures later { from ≤ result }
