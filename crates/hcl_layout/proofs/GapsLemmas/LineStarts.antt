@@ -6,7 +6,7 @@ use Rattle.hcl_layout.specs.Gaps.Cells.{width_before}
 use Rattle.std.proofs.lemmas.Bool.{cases_eq}
 use Rattle.std.proofs.lemmas.List.{append-nil}
 use Rattle.hcl_token.specs.Tokens.{Pair}
-use Rattle.hcl_layout.specs.Gaps.Inner.CodeViews.{can_have_cell, cell_of, width_in, token_in, is_cell, without_repeats, line_start, is_start_frozen, LackCell, IsLine, AreLines, AreStarts}
+use Rattle.hcl_layout.specs.Gaps.Inner.CodeViews.{can_have_cell, cell_of, width_in, token_in, is_cell, without_repeats, line_start, is_start_frozen, LackCell, CanHaveCell, IsLine, AreLines, AreStarts}
 use Rattle.hcl_layout.specs.declared.gaps.cells.Cell.{Cell}
 use Rattle.hcl_layout.specs.declared.gaps.cells.CellStart.{CellStart}
 use Rattle.hcl_layout.specs.declared.gaps.lines.LineSpan.{LineSpan}
@@ -75,6 +75,12 @@ lack_more cell lines from i inside lacks before = λ k line later less is. elim 
   | inr other ↦ before k line later (omega arith) is
 ]
 
+pub can_have : (cell : Cell) (lines : List LineSpan) (i : ℕ) → i < length lines → can_have_cell cell (get_or lines i no_span) ≡ true → CanHaveCell cell lines i
+can_have cell lines i inside can = λ line is.
+    let both : Some line ≡ Some (get_or lines i no_span) = is ∙ sym (got lines i inside) in
+    let e : line ≡ get_or lines i no_span = cc in
+    ap (can_have_cell cell) e ∙ can
+
 lacks_if : (f b : Bool) → b ≡ false → (f || not b) ≡ true
 lacks_if true b h = refl
 lacks_if false b h = ap not h
@@ -118,7 +124,7 @@ module _ (cell : Cell) (ns : List ℕ) (ps : List Pair) (first : ℕ) (lines : L
       kept_one i to (line_start first lines i) (is_start_frozen false lines i) in_run false starts more None refl refl to_is inside more_is refl none.0 none.1 tt kept
 
   -- past lines that lack a cell, after a line without one
-  pub kept_out : (n i to : ℕ) (starts : List (Option CellStart)) → to ≡ i + n → to ≤ length lines → LackCell cell lines i to → KeptAt i false starts → KeptAt to false starts
+  kept_out : (n i to : ℕ) (starts : List (Option CellStart)) → to ≡ i + n → to ≤ length lines → LackCell cell lines i to → KeptAt i false starts → KeptAt to false starts
   kept_out zero i to starts e within lack kept = let same : i ≡ to = omega (arith, e) in subst (λ k. KeptAt k false starts) same kept
   kept_out (suc n) i to starts e within lack kept =
       let inside : i < length lines = omega (arith, e, within) in
@@ -135,7 +141,11 @@ module _ (cell : Cell) (ns : List ℕ) (ps : List Pair) (first : ℕ) (lines : L
       kept_out (to - (i + 1)) (i + 1) to more (omega (arith, before)) within (λ k line later less is. lack k line (omega (arith, later)) less is)
       (kept_lacking i (i + 1) in_run starts more refl inside lacks more_is kept)
 
-  -- behind the last
+  pub kept_same : (i to : ℕ) (in_run now : Bool) (starts more : List (Option CellStart)) → i ≡ to → in_run ≡ now → starts ≡ more → KeptAt to now more → KeptAt i in_run starts
+  kept_same i to in_run now starts more i_is in_run_is starts_is kept =
+      subst (λ k. KeptAt k in_run starts) (sym i_is) (subst (λ b. KeptAt to b starts) (sym in_run_is) (subst (KeptAt to now) (sym starts_is) kept))
+
+  -- after the last
   pub kept_all : (i : ℕ) (in_run : Bool) (starts : List (Option CellStart)) → length lines ≤ i → i ≤ length lines → KeptAt i in_run starts → AreStarts cell ns ps first starts
   kept_all i in_run starts past within kept =
       let end = no_line ps (line_start first lines i) (is_start_frozen false lines i) lines i past (lines_there ps first false lines i within are) in

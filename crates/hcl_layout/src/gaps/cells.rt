@@ -10,7 +10,7 @@ ghost use Rattle.hcl_layout.specs.Gaps.Kinds.{is_inline_comment};
 ghost use Rattle.hcl_layout.specs.Gaps.Lines.{pairs_in};
 ghost use Rattle.hcl_layout.specs.Gaps.Cells.{index_after_first, is_balanced, width, width_before, aligned};
 ghost use Rattle.hcl_layout.specs.Gaps.Inner.Stages.{widths, greatest, lines_from, with_gaps, AreAtMost, set_cell_gaps, cell_gaps_from_width};
-ghost use Rattle.hcl_layout.specs.Gaps.Inner.CodeViews.{starts_cell, cell_of, is_valid_cell, is_cell, without_repeats, AreStarts, widths_of, tokens_in, width_in, token_in, can_have_cell, is_comment, line_start, is_start_frozen, LackCell, are_some, HasFlags, AreInside, AreLines, AreByteClusters};
+ghost use Rattle.hcl_layout.specs.Gaps.Inner.CodeViews.{starts_cell, cell_of, is_valid_cell, is_cell, without_repeats, AreStarts, widths_of, tokens_in, width_in, token_in, can_have_cell, is_comment, LackCell, CanHaveCell, are_some, HasFlags, AreInside, AreLines, AreByteClusters};
 
 use crate::gaps::base_gaps::KEEP_GAP;
 use crate::gaps::indent::count_brackets;
@@ -297,6 +297,7 @@ fn next_with_cell(cell: Cell, lines: &[LineSpan], from: usize) -> usize
     ensures later { from ≤ result }
     ensures within { result ≤ length lines.now }
     ensures lacking { LackCell cell lines.now from result }
+    ensures found { result < length lines.now → CanHaveCell cell lines.now result }
 {
     for i in from..lines.len() {
         if can_have_cell(cell, lines[i]) {
@@ -304,20 +305,6 @@ fn next_with_cell(cell: Cell, lines: &[LineSpan], from: usize) -> usize
         }
     }
     lines.len()
-}
-
-/// Returns the token that line `i` begins at, where the first line begins at token `first`, and
-/// whether it begins in a heredoc.
-fn line_start(lines: &[LineSpan], first: usize, i: usize) -> (usize, bool)
-    requires { i ≤ length lines.now }
-    ensures at { result.0 ≡ line_start first lines.now i }
-    ensures frozen { result.1 ≡ is_start_frozen false lines.now i }
-{
-    if i == 0 {
-        return (first, false);
-    }
-    let line = lines[i - 1];
-    (line.past as usize, line.next_frozen)
 }
 
 fn is_cell(start: Option<CellStart>) -> bool
@@ -364,19 +351,25 @@ fn cell_starts(
 {
     let mut starts = Vec::with_capacity(alloc, lines.len())?;
     let mut in_run = false;
-    // most lines have no such cell
-    let mut i = next_with_cell(cell, lines, 0);
+    let mut at = first;
+    let mut frozen = false;
+    let mut i = 0;
     while i < lines.len() {
-        let (at, frozen) = line_start(lines, first, i);
-        let start = cell_start(scanned, cell, gaps, at, frozen, lines[i], byte_clusters);
-        push_start(&mut starts, in_run, start)?;
-        in_run = is_cell(start);
-        let next = next_with_cell(cell, lines, i + 1);
-        if i + 1 < next {
+        // most lines have no such cell
+        let next = next_with_cell(cell, lines, i);
+        if i < next {
             push_start(&mut starts, in_run, None)?;
             in_run = false;
+            i = next;
+        } else {
+            let start = cell_start(scanned, cell, gaps, at, frozen, lines[i], byte_clusters);
+            push_start(&mut starts, in_run, start)?;
+            in_run = is_cell(start);
+            i += 1;
         }
-        i = next;
+        let before = lines[i - 1];
+        at = before.past as usize;
+        frozen = before.next_frozen;
     }
     Ok(starts)
 }

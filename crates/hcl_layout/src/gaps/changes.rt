@@ -1,9 +1,9 @@
-//! The next gap that changes. For speed alone: `edits::is_unchanged` tests one gap, and the processor
-//! compares the lengths of several at once.
+//! The next gap that changes. For speed alone: `edits::is_unchanged` tests one gap, and the
+//! processor compares the lengths of several at once.
 
-ghost use Rattle.std.specs.Prelude.{true, ◌≡◌, ◌≤◌, ◌<◌, length};
+ghost use Rattle.std.specs.Prelude.{true, false, ◌≡◌, ◌≤◌, ◌<◌, ◌+◌, ◌&&◌, length, nat_lt, slice_range};
 ghost use Rattle.hcl_layout.specs.Gaps.Inner.CodeViews.{AreSpaces};
-ghost use Rattle.hcl_layout.specs.Gaps.Inner.Stages.{AreUnchanged, IsChanged};
+ghost use Rattle.hcl_layout.specs.Gaps.Inner.Stages.{AreUnchanged, IsChanged, have_lengths};
 
 use crate::gaps::edits::{have_lengths, is_unchanged};
 use hcl_scan::Scanned;
@@ -44,6 +44,10 @@ fn end_of_blocks(scanned: &Scanned<'_>, gaps: &[u32], from: usize) -> usize
     ensures later { from ≤ result }
     ensures within { result ≤ length scanned.now.pairs }
     ensures stay { AreUnchanged scanned.now.pairs gaps.now from result }
+    ensures end { result + 16 ≤ length scanned.now.pairs
+        → (nat_lt 0 result
+        && have_lengths (slice_range gaps.now result (result + 16))
+        (slice_range scanned.now.pairs result (result + 16))) ≡ false }
 {
     let mut at = from;
     while BLOCK <= scanned.len() - at {
@@ -73,7 +77,7 @@ pub(crate) fn next_change(
         → IsChanged scanned.now.pairs gaps.now result }
 {
     let len = scanned.len();
-    // many a gap that changes is near the one before
+    // most gaps that change are near the one before
     let near = len.min(from + BLOCK);
     let change = first_change(scanned, gaps, from, near, all_spaces);
     if change < near {

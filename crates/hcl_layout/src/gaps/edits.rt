@@ -128,8 +128,8 @@ fn old_gap_len(scanned: &Scanned<'_>, i: usize) -> u32
     item.start - item.gap_at
 }
 
-/// Returns whether the gaps of the tokens `from..to`, which are not the first token's, stay or have
-/// as many bytes as they have spaces in the layout.
+/// Returns whether the gaps of the tokens `from..to` stay or have as many bytes as they have spaces
+/// in the layout; false where the first token is among them.
 pub(crate) fn have_lengths(scanned: &Scanned<'_>, gaps: &[u32], from: usize, to: usize) -> bool
     requires same { length gaps.now ≡ length scanned.now.pairs }
     requires ordered { from ≤ to }
@@ -149,7 +149,8 @@ pub(crate) fn have_lengths(scanned: &Scanned<'_>, gaps: &[u32], from: usize, to:
     same
 }
 
-/// Returns whether no gap differs. Bytes are compared where the text has a tab, else lengths alone.
+/// Returns whether no gap differs. Bytes are compared where the text has a tab or is not read for
+/// one, else lengths alone.
 pub(crate) fn all_unchanged(scanned: &Scanned<'_>, gaps: &[u32], all_spaces: bool) -> bool
     requires spaces { AreSpaces all_spaces scanned.now.pairs }
     requires same { length gaps.now ≡ length scanned.now.pairs }

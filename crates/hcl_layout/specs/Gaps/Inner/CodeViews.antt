@@ -103,6 +103,10 @@ abbrev pub LackCell : Cell → List LineSpan → ℕ → ℕ → Type 0
 LackCell cell lines from to =
     (k : ℕ) (line : LineSpan) → from ≤ k → k < to → Some line ≡ slice_get lines k → can_have_cell cell line ≡ false
 
+-- by its flags this line can have one
+abbrev pub CanHaveCell : Cell → List LineSpan → ℕ → Type 0
+CanHaveCell cell lines i = (line : LineSpan) → Some line ≡ slice_get lines i → can_have_cell cell line ≡ true
+
 -- the numbers of gaps up to a token, with those of the lines from there on, where these lines are
 -- open before it
 abbrev pub gaps_left : List Pair → ℕ → ℕ → Bool → List ℕ → List ℕ → List ℕ

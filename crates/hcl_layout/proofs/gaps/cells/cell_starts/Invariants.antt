@@ -1,4 +1,4 @@
-use Rattle.std.proofs.Common.{◌≤◌, ◌-◌, false, length}
+use Rattle.std.proofs.Common.{◌≡◌, ◌≤◌, ◌-◌, false, length}
 use Rattle.hcl_layout.specs.Gaps.Inner.CodeViews.{line_start, is_start_frozen}
 use Rattle.hcl_layout.proofs.GapsLemmas.Repeats.{KeptSoFar}
 use Rattle.hcl_layout.proofs.gaps.cells.cell_starts.Given as goal
@@ -6,6 +6,8 @@ use Rattle.hcl_layout.proofs.gaps.cells.cell_starts.Given as goal
 abbrev pub invariant-loop-i : goal.invariant-loop-i
 invariant-loop-i l = record {
   within : l.i ≤ length l.lines;
+  at : l.at ≡ line_start l.first l.lines l.i;
+  frozen : l.frozen ≡ is_start_frozen false l.lines l.i;
   starts : KeptSoFar l.cell l.gaps l.scanned.pairs l.first (line_start l.first l.lines l.i) (is_start_frozen false l.lines l.i) l.in_run l.starts.items;
 }
 

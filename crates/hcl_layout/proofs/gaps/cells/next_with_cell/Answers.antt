@@ -1,6 +1,6 @@
 use Rattle.std.proofs.Common.{◌≡◌, length, sym, subst, ◌∙◌, arith}
 use Rattle.hcl_layout.specs.Gaps.Inner.CodeViews.{LackCell}
-use Rattle.hcl_layout.proofs.GapsLemmas.LineStarts.{lack_more}
+use Rattle.hcl_layout.proofs.GapsLemmas.LineStarts.{lack_more, can_have}
 use Rattle.hcl_layout.proofs.gaps.cells.next_with_cell.Goals as goal
 
 pub loop-i-init : goal.loop-i-init
@@ -20,3 +20,9 @@ returns-clause-lacking c =
     let top = c.loop-i.auto.i-end c.requires in
     let end : c.loop-i.i ≡ length c.args.lines.now = omega (arith, top, c.loop-i-test.false) in
     subst (LackCell c.args.cell c.args.lines.now c.args.from) end c.loop-i.invariant.lacking
+
+pub returns-then-can_have_cell-clause-found : goal.returns-then-can_have_cell-clause-found
+returns-then-can_have_cell-clause-found c = λ less. can_have c.args.cell c.args.lines.now c.loop-i.i (omega (arith, c.loop-i-test.true)) (sym c.can_have_cell.ensures ∙ c.if-can_have_cell.true)
+
+pub returns-clause-found : goal.returns-clause-found
+returns-clause-found c = λ less. absurd (omega (arith, less))

@@ -24,3 +24,9 @@ loop-at-preserved c =
       within = within;
       stay = stay_both ps ns c.args.from at (at + 16) c.loop-at.invariant.stay block;
     }
+
+pub returns-then-not-have_lengths-clause-end : goal.returns-then-not-have_lengths-clause-end
+returns-then-not-have_lengths-clause-end c = λ fits. sym c.have_lengths.ensures ∙ c.if-not-have_lengths.true
+
+pub returns-clause-end : goal.returns-clause-end
+returns-clause-end c = λ fits. absurd (omega (arith, fits, c.loop-at-test.false, c.len.ensures.value))
