@@ -12,7 +12,7 @@ use hcl_scan::Scanned;
 const BLOCK: usize = 16;
 
 /// Returns the first of the tokens `from..to` whose gap changes, or `to`.
-fn first_change(
+pub(crate) fn first_change(
     scanned: &Scanned<'_>,
     gaps: &[u32],
     from: usize,

@@ -11,7 +11,7 @@ ghost use Rattle.hcl_layout.specs.Gaps.Inner.CodeViews.{AreSpaces};
 ghost use Rattle.hcl_layout.specs.Gaps.Inner.Stages.{unchanged, resolved_gap, with_gaps, have_lengths};
 
 use crate::gaps::base_gaps::KEEP_GAP;
-use crate::gaps::changes::next_change;
+use crate::gaps::changes::{first_change, next_change};
 use crate::gaps::text_bytes::are_spaces;
 use edit_record::lists::Edit;
 use hcl_scan::Scanned;
@@ -149,6 +149,9 @@ pub(crate) fn have_lengths(scanned: &Scanned<'_>, gaps: &[u32], from: usize, to:
     same
 }
 
+/// How many gaps are compared before a text is read for tabs.
+const NEAR: usize = 16;
+
 /// Returns whether no gap differs. Bytes are compared where the text has a tab or is not read for
 /// one, else lengths alone.
 pub(crate) fn all_unchanged(scanned: &Scanned<'_>, gaps: &[u32], all_spaces: bool) -> bool
@@ -157,8 +160,17 @@ pub(crate) fn all_unchanged(scanned: &Scanned<'_>, gaps: &[u32], all_spaces: boo
     ensures { result ≡ unchanged scanned.now.pairs
         (with_gaps gaps.now scanned.now.pairs) scanned.now.last }
 {
+    // many a text that changes does so near its first token: its bytes need not be read
+    let near = if all_spaces {
+        0
+    } else {
+        scanned.len().min(NEAR)
+    };
+    if first_change(scanned, gaps, 0, near, all_spaces) < near {
+        return false;
+    }
     let all_spaces = are_spaces(scanned, all_spaces);
-    if next_change(scanned, gaps, 0, all_spaces) < scanned.len() {
+    if next_change(scanned, gaps, near, all_spaces) < scanned.len() {
         return false;
     }
     scanned.last_gap().is_empty()
