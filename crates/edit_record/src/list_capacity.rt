@@ -36,7 +36,7 @@ pub(crate) fn reserve_next(
 ) -> Result<(), AllocError>
     ensures items { edits.new.items ≡ edits.old.items }
     ensures spare { OnOk result (vec_len edits.new < vec_capacity edits.new) }
-    ensures room { vec_len edits.old < vec_capacity edits.old → is_ok result ≡ true }
+    ensures capacity { vec_len edits.old < vec_capacity edits.old → is_ok result ≡ true }
 {
     if edits.len() >= edits.capacity() {
         reserve_edits(edits, count, left)?;

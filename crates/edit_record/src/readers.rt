@@ -225,7 +225,7 @@ fn reserve_read(
     requires { is_ok (edit_at text.now) ≡ true }
     ensures items { edits.new.items ≡ edits.old.items }
     ensures spare { OnOk result (vec_len edits.new < vec_capacity edits.new) }
-    ensures room { vec_len edits.old < vec_capacity edits.old → is_ok result ≡ true }
+    ensures capacity { vec_len edits.old < vec_capacity edits.old → is_ok result ≡ true }
     ensures stops { IfErr result
         (λ stop. IsStop (is_ok (edit_at text.now)) stop (edit_at text.now)) }
 {

@@ -130,7 +130,7 @@ fn eat_term(reader: &Reader<'_, '_>, first: usize, kind: Kind, at: &mut usize) -
     }
 }
 
-/// Takes an `Expr` that is one such term, if what comes after it shows that it is. Its first token
+/// Takes an `Expr` that is one such term, if the token after it shows that it is. Its first token
 /// is `next`.
 #[inline(always)]
 #[tactic(auto, unfolding(hcl_grammar::specs::Tokens::after_next))]
