@@ -43,6 +43,10 @@ pub fn ordinary_end<U: Unit>(unit: &U, text: &[u8], from: usize) -> usize
     ensures within { result ≤ length text.now }
     ensures onward { from ≤ result }
 {
+    // so that 16 bytes are not looked at for each of many that are not ordinary
+    if !unit.is_ordinary(byte_at(text, from)) {
+        return from;
+    }
     let mut at = from;
     while at + 16 <= text.len() {
         let count = unit.count_ordinary_of_16(text, at);
