@@ -162,6 +162,7 @@ fn expression_token(text: &str, at: usize, first: u8, can_close: bool) -> Found
     let bytes = text.as_bytes();
     match first {
         b'\n' => free(Some((Kind::LineEnd, 1))),
+        b'\r' => free(both(is_next(bytes, at, b'\n'), Kind::LineEnd)),
         b'"' => other(Some((Kind::QuoteOpen, 1))),
         b'=' => free(equal(byte_at(bytes, at + 1))),
         b'.' => free(dot_token(bytes, at)),
