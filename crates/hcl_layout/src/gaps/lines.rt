@@ -45,7 +45,7 @@ fn ends_line(open_heredocs: usize, kind: Kind) -> bool
     }
 }
 
-/// Returns the line that begins at token `at` in a heredoc. Its flags are not read.
+/// Returns the line that begins at token `at` in a heredoc. Nothing depends on its flags.
 pub(crate) fn line_at(scanned: &Scanned<'_>, at: usize) -> LineSpan
     requires within { at < length scanned.now.pairs }
     requires within_limit { length scanned.now.pairs ≤ MAX_TEXT }
