@@ -117,7 +117,7 @@ fn lint_next_member(
         ≡ Err e) }
 {
     let from = *at;
-    if skip_quiet_member(alloc, scanned, at) {
+    if skip_quiet_member(alloc, scanned, at)? {
         return Ok(Some(quiet_member(alloc, from, *at)));
     }
     let Some(x) = member(&Reader::new(alloc, scanned), at)? else {

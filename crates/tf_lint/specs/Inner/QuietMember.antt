@@ -1,7 +1,8 @@
 -- A member that is skipped: no rule finds anything in it.
-use Rattle.std.specs.Prelude.{◌≡◌, ℕ, List, [], ◌∷◌, Some, Ok}
+use Rattle.std.specs.Prelude.{◌≡◌, ℕ, List, [], ◌∷◌, Some, Ok, Err}
 use Rattle.hcl_grammar.specs.Pure.BodyParser.{deeper_members, member_of}
 use Rattle.hcl_grammar.specs.declared.bounds.TheConstants.{MAX_NESTING}
+use Rattle.hcl_grammar.specs.declared.fault.TokenFault.{TokenFault}
 use Rattle.hcl_grammar.specs.declared.tree.Member.{Member}
 use Rattle.hcl_scan.specs.Follows.{tokens_of}
 use Rattle.hcl_token.specs.Tokens.{Pair}
@@ -23,3 +24,7 @@ pub record IsSkippedMember (pairs : List Pair) (from past : ℕ) : Type 0 where
   pub member : Member
   pub answer : member_of (tokens_of pairs) MAX_NESTING (deeper_members (tokens_of pairs) MAX_NESTING) from
       ≡ Ok (Some member, past)
+
+-- the parser has this error at a member from this place on
+abbrev pub IsMemberFault : List Pair → ℕ → TokenFault → Type 0
+IsMemberFault pairs from e = member_of (tokens_of pairs) MAX_NESTING (deeper_members (tokens_of pairs) MAX_NESTING) from ≡ Err e
