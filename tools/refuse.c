@@ -7,8 +7,6 @@
  *   REFUSE=N-         and so is each call behind it
  *   REFUSE_BEHIND=1   what is asked before the program's first write to standard output is not counted
  *   REFUSE_COUNT=F    at the end of the program the number of calls is written to the file F
- *
- * It includes nothing, so that a compiler that comes without headers, as that of the toolchain, compiles it.
  */
 
 typedef unsigned long size_t;

@@ -17,8 +17,6 @@
  *   STOP_HALF=1     the first call that is met, if it is a write, takes half of its bytes
  *   STOP_DONE=1     a call that is refused is done all the same, unless it is a write
  *   STOP_TOLD=F     the letter of each call that was met is written behind what the file F holds
- *
- * It includes nothing, so that a compiler that comes without headers, as that of the toolchain, compiles it.
  */
 
 typedef unsigned long size_t;

@@ -6,8 +6,6 @@
  *   OUTPUT_TAKES=N   standard output takes N bytes, and a write behind them fails, with ENOSPC
  *   ERRORS_TAKE=N    so does standard error
  *   INPUT_FAILS=1    a read behind the end of standard input fails, with EIO
- *
- * It includes nothing, so that a compiler that comes without headers, as that of the toolchain, compiles it.
  */
 
 typedef unsigned long size_t;

@@ -137,7 +137,7 @@ impl Rule {
                 true,
                 "Legacy dot index syntax, use square brackets",
                 "",
-                "an index stands in brackets: a[0], not a.0",
+                "write a[0], not a.0",
             ),
             Rule::DeprecatedInterpolation => rule_info(
                 "terraform_deprecated_interpolation",
@@ -145,7 +145,7 @@ impl Rule {
                 true,
                 "Interpolation-only expression, write the expression itself",
                 "",
-                "an expression stands by itself: var.a, not \"${var.a}\"",
+                "write var.a, not \"${var.a}\"",
             ),
             Rule::EmptyListEquality => rule_info(
                 "terraform_empty_list_equality",
@@ -153,7 +153,7 @@ impl Rule {
                 true,
                 "Comparison with an empty list, check the length instead",
                 "",
-                "a list is asked for its length, not compared with []",
+                "write length(a) == 0, not a == []",
             ),
             Rule::DeprecatedLookup => rule_info(
                 "terraform_deprecated_lookup",
