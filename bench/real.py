@@ -1,4 +1,4 @@
-"""Terraform as people write it: blocks of every kind, one after another, with what a formatter and linter finds to do in them."""
+"""Terraform as people write it: blocks of every kind, with work for a formatter and a linter."""
 
 WORDS = """app api web data core edge auth cache queue worker batch stream audit backup billing cluster config deploy events
 gateway health index ingest jobs keys logs mail metrics network orders payments portal proxy reports router search secrets session
@@ -9,7 +9,7 @@ RESOURCES = ["aws_instance", "aws_s3_bucket", "aws_iam_role", "aws_security_grou
 
 
 class Chance:
-    """Numbers that look like chance and are the same on every run (a linear congruence, Knuth's MMIX)."""
+    """Numbers that look random and are the same on each run (Knuth's MMIX generator)."""
 
     def __init__(self):
         self.state = 20260101
@@ -26,14 +26,14 @@ class Chance:
 
 
 class Writer:
-    """Writes blocks; each answer is a list of lines, laid out."""
+    """Writes blocks, each as a list of formatted lines."""
 
     def __init__(self, chance):
         self.chance = chance
         self.count = 0
 
     def name(self):
-        """A new name, in snake_case but for one in 60."""
+        """A new name; one in 60 is not in snake_case."""
         self.count += 1
         parts = [self.chance.of(WORDS), self.chance.of(WORDS)]
         if self.chance.one_in(60):
@@ -75,7 +75,7 @@ class Writer:
         return self.call()
 
     def call(self):
-        """A call, or what an old file has in the place of a newer form."""
+        """A call, or a deprecated form as old files have it."""
         chance = self.chance
         kind = chance.below(20)
         if kind < 5:
@@ -185,7 +185,7 @@ class Writer:
         return out + ["}"]
 
     def block(self):
-        """A block with what stands before it, and the empty line behind."""
+        """A block, sometimes with comments before it, and an empty line."""
         chance = self.chance
         kind = chance.below(20)
         if kind < 4:
@@ -209,7 +209,8 @@ class Writer:
         return out + [""]
 
     def untidy(self, out):
-        """The block badly laid out: indents that are too small, and other blanks round signs. Heredocs stay."""
+        """The block badly formatted: smaller indents, and other spaces next to = and commas.
+        Heredocs stay as they are."""
         done, inside = [], False
         for line in out:
             if inside:
@@ -223,7 +224,8 @@ class Writer:
 
 
 def text(length):
-    """So many bytes: blocks, and a comment at the end that fills up. A shorter text is the front of a longer one, but for its end."""
+    """A text of `length` bytes: blocks, and a comment for the bytes that are left. A longer text
+    begins with the blocks of a shorter one."""
     writer = Writer(Chance())
     out, size = [], 0
     while True:

@@ -1,20 +1,20 @@
-"""Texts of one shape each, many times over: what a formatter and linter could be slow at."""
+"""Texts that repeat one shape each: what a formatter or a linter could be slow at."""
 
-LEVELS = 100  # as deep as tfk lets constructs stand in one another
+LEVELS = 100  # tfk's MAX_NESTING: how deep constructs may be nested
 
 
 def lines(count, line):
-    """The lines of the numbers from 0."""
+    """The lines that `line` makes of the numbers below `count`."""
     return "".join(line(i) for i in range(count))
 
 
 def joined(count, between, part):
-    """The parts of the numbers from 0, with something between each two."""
+    """The parts that `part` makes of the numbers below `count`, with `between` between each two."""
     return between.join(part(i) for i in range(count))
 
 
 def nested(count):
-    """Each construct inside itself, as deep as may be, many times over."""
+    """Each construct inside itself, as deep as it may be, `count` times."""
     deep = LEVELS
     blocks = "".join(f'b "l{i}" {{\n' for i in range(deep)) + "x = 1\n" + "}\n" * deep
     one = [
@@ -43,12 +43,13 @@ def lookups(deep, inner):
 
 
 def arguments(count):
-    """A call with so many arguments."""
+    """A call with `count` arguments."""
     return "f(" + joined(count, ",", lambda i: "1") + ")"
 
 
 def journal(count):
-    """A text with its journal: the oldest record changes the first byte, and each later one a hundred others, forth and back."""
+    """A text and its journal. The oldest record changes the first byte. The later ones change the
+    same hundred others, back and forth."""
     places = [10 + 10 * i for i in range(100)]
     length = places[-1] + 10
 
@@ -66,7 +67,8 @@ def journal(count):
 
 
 def journal_on_both_sides(count):
-    """A text with its journal: the oldest record changes so many bytes, and so many later ones one byte each, between those."""
+    """A text and its journal. The oldest record changes `count` bytes, and then `count` records
+    change one byte each, between those."""
     places = [10 * i for i in range(count)]
     length = 10 * count
 
@@ -78,33 +80,34 @@ def journal_on_both_sides(count):
     return "#    b    " * count, "".join(records)
 
 
-# By name: how many records, and what makes the text and its journal. The second size has four times as many.
+# By name: a count, and what makes a text and its journal with it. The second size has four times
+# the count.
 JOURNALS = {
     "journal": (1000, journal),
     "journal-on-both-sides": (4000, journal_on_both_sides),
 }
 
 
-# By name: how many, and what stands in the text so many times. The second size has four times as many.
+# By name: a count, and what makes a text with it. The second size has four times the count.
 SHAPES = {
     # a million tokens on one line
     "one-line": (250000, lambda n: "x = [" + joined(n // 2, ", ", lambda i: str(i % 1000)) + "]\n"),
-    # the same with letters that are not ASCII: two, three and four bytes, and clusters of several
+    # strings on one line with letters of two, three and four bytes, and clusters of several letters
     "one-line-wide": (60000, lambda n: "x = [" + joined(n // 2, ", ", lambda i: ('"größe"', '"変数名"', '"e\u0301"', '"👩‍👩‍👧"')[i % 4]) + "]\n"),
-    # a list of a million elements, on one line and one a line
+    # a list of a million elements, all on one line, and each on a line of its own
     "list": (250000, lambda n: "x = [" + joined(n, ", ", str) + "]\n"),
     "list-lines": (250000, lambda n: "x = [\n" + lines(n, lambda i: f"  {i},\n") + "]\n"),
-    # 400,000 attributes in the body of the text, with names of many widths, whose = signs stand in one column
+    # 400,000 attributes at the top level, with names of many widths, whose = signs are aligned
     "attributes": (100000, lambda n: lines(n, lambda i: f'a{"x" * (i % 17)}{i} = {i}\n')),
-    # the same in a block, in a variable and in locals
+    # 400,000 attributes in a block, in a variable and in locals
     "attributes-in-block": (100000, lambda n: 'resource "r" "n" {\n' + lines(n, lambda i: f"  a{i} = {i}\n") + "}\n"),
     "attributes-in-variable": (100000, lambda n: 'variable "n" {\n' + lines(n, lambda i: f"  a{i} = {i}\n") + "}\n"),
     "attributes-in-locals": (100000, lambda n: "locals {\n" + lines(n, lambda i: f"  a{i} = {i}\n") + "}\n"),
-    # comments behind attributes, which stand in one column too
+    # attributes that are followed by comments, which are aligned too
     "attributes-with-comments": (100000, lambda n: lines(n, lambda i: f'a{i} = "{"v" * (i % 13)}" # {i}\n')),
     # an object of 400,000 elements
     "object": (100000, lambda n: "x = {\n" + lines(n, lambda i: f'  k{"x" * (i % 17)}{i} = {i}\n') + "}\n"),
-    # an operator chain of 200,000 and of 800,000
+    # a chain of 200,000 operators, and of 800,000
     "operators": (200000, lambda n: "x = a" + joined(n, "", lambda i: (" + b", " * c", " - d", " && e", " < f", " || g")[i % 6]) + "\n"),
     # a template of 200,000 parts and of 800,000, and a heredoc of as many lines
     "template": (200000, lambda n: 'x = "' + joined(n // 2, "", lambda i: "ab ${c.d}") + '"\n'),
@@ -114,11 +117,11 @@ SHAPES = {
     # 200,000 blocks and 800,000
     "blocks": (200000, lambda n: lines(n, lambda i: f"b{i} {{\n}}\n")),
     "blocks-on-a-line": (150000, lambda n: lines(n, lambda i: f"b{i} {{ a = {i} }}\n")),
-    # 100 constructs in one another, everywhere
+    # constructs nested as deep as they may be, everywhere
     "nested": (80, nested),
     "nested-interpolations": (10000, lambda n: lines(n, lambda i: f'a{i} = {interpolations(LEVELS // 2, "v")}\n')),
     "nested-lookups": (3000, lambda n: lines(n, lambda i: f'a{i} = {lookups(LEVELS, "v")}\n')),
-    # as many constructs as may be around very much
+    # a call with very many arguments, nested as deep as it may be
     "interpolations-around-much": (1000000, lambda n: "x = " + interpolations(LEVELS // 2 - 1, arguments(n)) + "\n"),
     "lookups-around-much": (1000000, lambda n: "x = " + lookups(LEVELS - 1, arguments(n)) + "\n"),
     # 100,000 issues of each rule, and 400,000
@@ -131,35 +134,36 @@ SHAPES = {
     "issues-naming-locals": (100000, lambda n: "locals {\n" + lines(n, lambda i: f"  aB{i} = 1\n") + "}\n"),
     "issues-variables": (100000, lambda n: lines(n, lambda i: f'variable "a{i}" {{}}\n')),
     "issues-outputs": (100000, lambda n: lines(n, lambda i: f'output "a{i}" {{}}\n')),
-    # each rule in one text
+    # issues of most rules in one text
     "issues-all": (20000, lambda n: lines(n, lambda i: f'variable "aB{i}" {{}}\noutput "o{i}" {{ value = lookup(a.0, "${{b}}") == [] }} // c\n')),
-    # issues one behind the other in one expression
+    # a chain of issues in one expression
     "index-chain": (100000, lambda n: "x = a" + ".0" * n + "\n"),
-    # a little longer than where the list of indexes doubles, which leaves the most memory behind
+    # the list of indexes has just doubled, which leaves the most memory unused
     "index-chain-after-doubling": (73000, lambda n: "x = a" + ".0" * n + "\n"),
     "index-after-splat": (100000, lambda n: "x = a.*" + ".0" * n + "\n"),
     "equality-chain": (100000, lambda n: "x = a" + " == []" * n + "\n"),
-    # the same where a long token stands before the first operand, from which the issues' columns are counted
+    # a chain after a long token: each issue begins at `b`, whose column counts the token
     "equality-after-text": (100000, lambda n: 'x = ["' + "a" * (10 * n) + '", b' + " == []" * n + "]\n"),
     "equality-after-wide-text": (100000, lambda n: 'x = ["' + "ä" * (5 * n) + '", b' + " == []" * n + "]\n"),
-    # long tokens of letters with combining marks, each with 60 issues behind it in the same line
+    # long tokens of letters with combining marks, each followed by 60 issues in its line
     "issues-after-marked-text": (190, lambda n: lines(n, lambda i: f'a{i} = ["' + "e\u0301" * 7000 + '", b' + ".0" * 60 + "]\n")),
-    # 70,000 silencing comments, and 280,000; 100,000 on one line, and 400,000; one with very many names
+    # 70,000 silencing comments, and 280,000; 100,000 on one line, and 400,000; one with very many
+    # names
     "silenced": (70000, lambda n: lines(n, lambda i: f"# tflint-ignore: terraform_deprecated_index\na{i} = b.0\n")),
     "silenced-on-a-line": (100000, lambda n: "x = [" + lines(n, lambda i: "/* tflint-ignore: all */ b.0, ") + "]\n"),
     "names-in-a-silencing-comment": (400000, lambda n: "# tflint-ignore: " + joined(n, ", ", lambda i: f"n{i % 10}") + "\na = b.0\n"),
-    # 100,000 runs whose = signs stand in one column, 400,000, and runs of comments
+    # 100,000 runs of lines with aligned = signs, and 400,000; and runs with aligned comments
     "alignments": (100000, lambda n: lines(n, lambda i: f"a=1\nbcd{i} = 2\n\n")),
     "comment-alignments": (100000, lambda n: lines(n, lambda i: f"a=1 # x\nbcd=2 # y\n\n")),
     # each line of a run longer than the one before
     "longer-and-longer": (2000000, lambda n: lines(int((2 * n) ** 0.5), lambda i: "a" * (i + 1) + "=1\n")),
-    # lines with nothing in them
+    # empty lines
     "blank-lines": (4000000, lambda n: "\n" * n),
-    # line comments that are well
+    # line comments without issues
     "comments": (100000, lambda n: lines(n, lambda i: f"# comment number {i}\n")),
-    # letters that are not ASCII
+    # names with letters that are not ASCII
     "wide-names": (60000, lambda n: lines(n, lambda i: f'{("größe", "ключ", "変数名", "値")[i % 4]}_{i} = "e\u0301 👩‍👩‍👧 {i}"\n')),
-    # a heredoc of 4 and 16 MB in one line, and in lines; a string; a comment
+    # a heredoc of 4 and 16 MB, of one line and of many; a string; a comment
     "heredoc": (4000000, lambda n: "x = <<EOT\n" + "a" * n + "\nEOT\n"),
     "heredoc-lines": (130000, lambda n: "x = <<EOT\n" + lines(n, lambda i: "a line of some text in a heredoc\n"[:30] + "\n") + "EOT\n"),
     "string": (4000000, lambda n: 'x = "' + "a" * n + '"\n'),

@@ -1,6 +1,5 @@
 /*
- * Runs two programs and writes down in which order they make their calls on names, to see where
- * each stood. Linux on x86-64.
+ * Runs two programs and logs in which order they make their calls on names. Linux on x86-64.
  *
  *   pair LOG WHEN FIRST ARGUMENT.. -- SECOND ARGUMENT..
  *
@@ -13,14 +12,14 @@
  *   turns:T,U,..   the first goes on as far as T says and stops before its next call on a name, the
  *                  second as U says, the first .. : one program runs at a time. A number is that
  *                  of the calls on names that are made in this turn; b3 ends it before the third
- *                  from here that changes a name (creates, renames, removes), a3 after it. Behind
- *                  the last turn the next program goes on to its end, and then the other
+ *                  from here that changes a name (creates, renames, removes), a3 after it. After
+ *                  the last turn the next program runs to its end, and then the other
  *
  * LOG has a line for each call on a name: the program (1 or 2), the call, the last part of the
  * file's name, and 0 or the error's number; a line "1 fsync" for each wait for the disk; and last
  * the two statuses, as "ended 0 1".
  *
- * It ends with 0, and with 99 where it can't run them.
+ * It ends with 0, or with 99 if it can't run them.
  */
 #define _GNU_SOURCE
 #include <fcntl.h>
@@ -99,14 +98,14 @@ static int begins_on_name(struct program *it, const struct user_regs_struct *reg
     return 1;
 }
 
-/* Lets a program go on to its next stop, with a signal of its own. */
+/* Resumes a program until its next stop, and sends it a signal unless that is 0. */
 static void go_on(struct program *it, int signal)
 {
     it->is_held = 0;
     ptrace(PTRACE_SYSCALL, it->id, 0, signal);
 }
 
-/* Whether a program that stands before a call on a name may make it. */
+/* Whether a program that is about to make a call on a name may make it. */
 static int may_go_on(const struct program *it)
 {
     if (!in_turns)
@@ -115,7 +114,7 @@ static int may_go_on(const struct program *it)
            !(left.unit == 'b' && left.count == 1 && it->is_act);
 }
 
-/* Lets the next program go on that may in its turn. */
+/* Resumes the next program that may run in its turn. */
 static void pass_turn(void)
 {
     struct program *it;
@@ -131,7 +130,7 @@ static void pass_turn(void)
     go_on(it, 0);
 }
 
-/* A program stands before a call on a name: it makes it, or is held. */
+/* A program is about to make a call on a name: it makes the call, or is held. */
 static void meet_name(struct program *it)
 {
     it->is_held = 1;

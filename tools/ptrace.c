@@ -6,7 +6,7 @@
  *
  * It counts the calls from 1 on, beginning after rt_sigaction, with which the start-up of the
  * program's runtime ends; with -c it counts only those that may change a file. LOG has a line for
- * each that it counted: the call's name and, where it has one, the last part of the file's name; of
+ * each that it counted: the call's name and, if it has one, the last part of the file's name; of
  * a write the file's number. HOW is what happens at call N:
  *
  *   list           nothing
@@ -19,8 +19,8 @@
  *   short-on:B     so is each later call of the same name
  *   run:COMMAND    the shell runs COMMAND, and then the call is made
  *
- * It ends with the program's exit status, with 128 and a signal's number where that ended the
- * program, and with 99 where it can't run it.
+ * It ends with the program's exit status, with 128 and a signal's number if that ended the
+ * program, and with 99 if it can't run it.
  */
 #define _GNU_SOURCE
 #include <fcntl.h>

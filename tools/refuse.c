@@ -1,11 +1,12 @@
 /*
- * Refuses a program's requests for memory, to see what it makes of that: a library to be preloaded (LD_PRELOAD).
+ * Refuses a program's requests for memory: a library to be preloaded (LD_PRELOAD).
  *
- * It counts the calls of malloc, calloc, realloc and their aligned forms, from 1 on, and reads the environment:
+ * It counts the calls of malloc, calloc, realloc and their aligned forms, from 1 on, and reads the
+ * environment:
  *
- *   REFUSE=N          call number N is refused: it answers NULL, with ENOMEM
- *   REFUSE=N-         and so is each call behind it
- *   REFUSE_BEHIND=1   what is asked before the program's first write to standard output is not counted
+ *   REFUSE=N          call number N is refused: it returns NULL, with ENOMEM
+ *   REFUSE=N-         so is each later call
+ *   REFUSE_BEHIND=1   calls before the program's first write to standard output are not counted
  *   REFUSE_COUNT=F    at the end of the program the number of calls is written to the file F
  */
 

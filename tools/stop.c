@@ -1,22 +1,23 @@
 /*
- * Ends a program at a call that changes files, or refuses the call, to see what is lost by that: a library to be preloaded
+ * Ends a program at a call that changes files, or refuses the call: a library to be preloaded
  * (LD_PRELOAD).
  *
  * It counts the calls of the kinds that STOP_CALLS has letters of, from 1 on:
  *
  *   o  opening for writing        r  rename        t  setting the length
  *   w  write                      u  unlink        m  setting the mode
- *   s  sync                      l  look (stat)    c  setting the owner
+ *   s  sync                       l  look (stat)   c  setting the owner
  *   i  read
  *
- * What goes to standard output or standard error, and what stands in /dev or /proc, does not count. It reads the environment:
+ * Not counted are reads, writes and looks of the standard streams, and opening and looking at files
+ * in /dev or /proc. It reads the environment:
  *
  *   STOP=N          call number N is met: the program ends there, before the call
  *   STOP_ERROR=E    the call is refused instead, with this number for errno
- *   STOP=N-         and so is each call behind it
+ *   STOP=N-         so is each later call
  *   STOP_HALF=1     the first call that is met, if it is a write, takes half of its bytes
- *   STOP_DONE=1     a call that is refused is done all the same, unless it is a write
- *   STOP_TOLD=F     the letter of each call that was met is written behind what the file F holds
+ *   STOP_DONE=1     a call that is refused is made all the same, unless it is a write
+ *   STOP_TOLD=F     the letter of each call that is met is appended to the file F
  */
 
 typedef unsigned long size_t;
@@ -76,7 +77,7 @@ static void tell(char letter)
         syscall(SYSCALL_WRITE, syscall(SYSCALL_OPEN, name, TO_WRITE_BEHIND, 0600), &letter, 1L);
 }
 
-/* Whether the call of this kind is met; where it is to be, the program ends. */
+/* Counts a call of this kind. Returns whether it is met. */
 static int is_met(char letter)
 {
     const char *kind = counted;
@@ -99,7 +100,7 @@ static int refused(void)
     return -1;
 }
 
-/* Makes a call by its number, unless it is met: then it is refused, and made or not. */
+/* Makes a call by its number. If it is met, it is refused, and made only if is_done says so. */
 static int answer(int met, long number, long one, long two, long three)
 {
     int result = 0;

@@ -1,11 +1,11 @@
 /*
- * Makes a program's standard streams fail, to see what it tells of that: a library to be preloaded (LD_PRELOAD).
+ * Makes a program's standard streams fail: a library to be preloaded (LD_PRELOAD).
  *
  * It reads the environment:
  *
- *   OUTPUT_TAKES=N   standard output takes N bytes, and a write behind them fails, with ENOSPC
+ *   OUTPUT_TAKES=N   standard output takes N bytes, and a later write fails, with ENOSPC
  *   ERRORS_TAKE=N    so does standard error
- *   INPUT_FAILS=1    a read behind the end of standard input fails, with EIO
+ *   INPUT_FAILS=1    a read at the end of standard input fails, with EIO
  */
 
 typedef unsigned long size_t;
@@ -16,7 +16,7 @@ long syscall(long number, ...);
 
 enum { SYSCALL_READ = 0, SYSCALL_WRITE = 1, BAD_DISK = 5, NO_SPACE = 28 };
 
-/* How much standard output and standard error still take, where that has an end. */
+/* How many bytes standard output and standard error still take, if has_end says that they end. */
 static size_t room[3];
 static int has_end[3], input_fails;
 

@@ -1,5 +1,5 @@
 """Many files are saved at once: power is lost at each call that changes a file, or a disk has no
-room for all."""
+space for all."""
 import contextlib
 import os
 import subprocess
@@ -14,7 +14,7 @@ FILES = [f"{folder}/{number}.tf" for number in range(8) for folder in ("one", "t
 # How many losses there are at least.
 LEAST = 200
 
-# It changes nothing, and recovers what an interrupted command left.
+# A command that changes nothing, and recovers what an interrupted one left.
 NEXT_COMMAND = ["fix", "--disable-rule", "all"]
 
 
@@ -47,7 +47,7 @@ class Files:
         return [(read(f"{folder}/{name}"), read(f"{folder}/{name}.tfundo")) for name in FILES]
 
     def begin(self):
-        """Makes all as it is before the command."""
+        """Restores the state before the command."""
         for name, (text, journal) in zip(FILES, self.old):
             for end in (".tfundo", ".tfundo.new", ".tfnew"):
                 with contextlib.suppress(FileNotFoundError):
@@ -57,7 +57,8 @@ class Files:
                 write(f"{self.folder}/{name}.tfundo", journal)
 
     def meet(self, how, number):
-        """Runs the fmt of all with its call `number`, of those that may change a file, met."""
+        """Runs the fmt of all files, with `how` at call `number` of those that may change a file.
+        Returns these calls."""
         log = f"{self.program.room}/calls.{os.getpid()}"
         words = [self.program.tracer, "-c", log, how, str(number), self.program.path, "fmt", *FILES]
         subprocess.run(words, cwd=self.folder, capture_output=True, check=False, timeout=600)
@@ -65,7 +66,7 @@ class Files:
             return lines.read().split("\n")[:-1]
 
     def judge(self, check, folder, call):
-        """Looks at what a loss of power has left, behind the next command."""
+        """Judges what a loss of power left, after the next command has run."""
         self.run(folder, *NEXT_COMMAND, *FILES)
         for name, found, old, new in zip(FILES, self.states(folder), self.old, self.new):
             state = name_of(found, old, new)
@@ -99,8 +100,8 @@ def lose_power_of_many(program, kind):
 
 
 def fill(program, sizes, room, wanted):
-    """Runs a fmt of three files of so many kilobytes on a tmpfs with so many left. Those that are
-    wanted are saved, the others told and as before."""
+    """Runs a fmt of three files of `sizes` kilobytes on a tmpfs that has `room` kilobytes left. The
+    files of `wanted` have to be saved, each other one reported and as before."""
     check = Check(f"batches, room for {' '.join(wanted)} of three")
     names = ["a.tf", "b.tf", "c.tf"]
     texts = {name: b"x=1\n" + b"#" * (size * 1024 - 8) + b"\n" for name, size in zip(names, sizes)}
@@ -117,7 +118,7 @@ def fill(program, sizes, room, wanted):
             is_old = read(f"{disk}/{name}") == text and not os.path.exists(f"{disk}/{name}.tfundo")
             check.require(is_new if name in wanted else is_old, "neither old nor new", name, said)
             is_told = f"tfk: {name}: cannot write" in said[1]
-            check.require(is_told != (name in wanted), "not told", name, said)
+            check.require(is_told != (name in wanted), "not reported", name, said)
         check.require(said[0] == wanted, "other names", said)
         left = [name for name in os.listdir(disk) if name.endswith("new")]
         check.require(not left, "left", left)
@@ -125,12 +126,12 @@ def fill(program, sizes, room, wanted):
 
 
 def room_for_one_at_a_time(program):
-    """New files of one fit, and not those of two: each that is refused is tried again alone."""
+    """There is space for the new files of one, not of two: what is refused is tried again alone."""
     return fill(program, (64, 64, 64), 80, ["a.tf", "b.tf", "c.tf"])
 
 
 def room_for_the_second(program):
-    """The new files of the second alone fit."""
+    """There is space for the new files of the second alone."""
     return fill(program, (128, 32, 128), 64, ["b.tf"])
 
 

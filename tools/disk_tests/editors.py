@@ -84,7 +84,7 @@ def edit(program, layout):
         for history, command in COMMANDS:
             scene = Scene(program, f"{disk}/s", layout, history)
             for editor in EDITORS:
-                # a second name ends where another file takes the first one's place
+                # a second name does not outlast an editor that replaces the first
                 if layout == "name" or editor != "replaces":
                     Edited(check, scene, command, editor).run()
     return check

@@ -9,13 +9,13 @@ from scenes import COMMANDS, TEXT, Scene, long_text, name_of
 
 # How many runs there are at least.
 LEAST = {"btrfs": 130, "ext4": 500, "tmpfs": 500}
-# Small files on a disk that copies, and how many of them are removed.
+# The number of small files on a copy-on-write disk, and how many of them are removed.
 SPARES, REMOVED = 64, [*range(0, 32, 2), 32, 48, 64]
 SPARE_SIZE = 1 << 16
 
 
 def fill_file(name, count, piece):
-    """Writes a file of pieces, as many as there is room for, at most `count` (None is no limit)."""
+    """Appends pieces to a file until the disk is full, at most `count` (None is no limit)."""
     with open(name, "ab", buffering=0) as file:
         with contextlib.suppress(OSError):
             while count is None or count > 0:
@@ -26,7 +26,7 @@ def fill_file(name, count, piece):
 
 
 class Disk:
-    """A disk that can be filled: by bytes, where its free room is known to the byte."""
+    """A disk whose free space is known to the byte."""
 
     def __init__(self, folder):
         self.folder = folder
@@ -43,7 +43,7 @@ class Disk:
         return found.f_bavail * found.f_frsize
 
     def fill(self, way, left):
-        """Fills the disk, but for what is to be left."""
+        """Fills the disk until only this much is left."""
         if way == "files":
             os.mkdir(f"{self.folder}/files")
             for number in range(max(0, os.statvfs(self.folder).f_ffree - left)):
@@ -58,19 +58,19 @@ class Disk:
                 break
 
     def free(self):
-        """Makes room again."""
+        """Removes what filled the disk."""
         with contextlib.suppress(FileNotFoundError):
             os.unlink(self.filler)
         shutil.rmtree(f"{self.folder}/files", ignore_errors=True)
 
 
 class CopyingDisk(Disk):
-    """A disk that copies what is written over, and tells its free room roughly: it is filled until
-    it refuses, and then has a few small files fewer."""
+    """A copy-on-write disk, which reports its free space roughly: it is filled until it refuses,
+    and then a few small files are removed."""
 
     def __init__(self, folder):
         super().__init__(folder)
-        # most of it is filled once
+        # most of the disk is filled only once
         fill_file(self.filler, 8, bytes(1 << 20))
         for size in (1 << 20, 1 << 16, 1 << 12):
             fill_file(f"{folder}/most", None, bytes(size))
@@ -92,7 +92,7 @@ class CopyingDisk(Disk):
         images.run("sync", "-f", self.folder)
 
     def free(self):
-        """Makes room again."""
+        """Removes what filled the disk, but for what fills most of it."""
         super().free()
         for number in range(SPARES):
             with contextlib.suppress(FileNotFoundError):
@@ -112,7 +112,7 @@ class Trial:
         return name_of(self.scene.state(), self.old, self.new)
 
     def run(self, way, left):
-        """Runs the command on the disk, filled, and then with room."""
+        """Runs the command on the filled disk, and then with free space."""
         scene, program = self.scene, self.scene.program
         self.disk.free()
         scene.begin()
@@ -134,14 +134,14 @@ class Trial:
         self.check.require(not left_over or is_late, "left", *where)
         self.check.require(not scene.lost(), "lost", *where, scene.lost())
         if isinstance(self.disk, CopyingDisk) and scene.layout == "names":
-            # what is written in place wants room there: not covered
+            # not covered: writing in place needs free space on such a disk
             return
         wanted = "new" if ran.returncode == 0 else "old"
         self.check.require(at_once == wanted or is_late, "torn", *where)
         self.check.require("mixed" not in (then, self.name()), "then torn", *where, self.name())
         if self.name() == "old":
             program.run(scene.folder, self.command)
-        self.check.require(self.name() == "new", "no success once there is room", *where)
+        self.check.require(self.name() == "new", "no success once there is space", *where)
 
 
 @contextlib.contextmanager

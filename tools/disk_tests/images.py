@@ -6,7 +6,7 @@ import subprocess
 
 from program import Missing
 
-# How an image of each kind is made, its size, and how its copy is mounted beside it.
+# The size of an image of each kind, how it is made, and how a copy is mounted next to it.
 KINDS = {
     "ext2": ("16M", ["mkfs.ext2", "-q", "-F"], "loop"),
     "ext4": ("16M", ["mkfs.ext4", "-q", "-F", "-b", "1024"], "loop"),
@@ -21,7 +21,7 @@ def run(*words):
 
 
 def need(kind):
-    """Raises where a file system of this kind can't be made and mounted here."""
+    """Raises Missing if a file system of this kind can't be made and mounted here."""
     with open("/proc/filesystems", encoding="utf-8") as kinds:
         if kind not in kinds.read().split():
             raise Missing(f"this kernel has no {kind}")

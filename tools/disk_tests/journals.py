@@ -40,7 +40,7 @@ def try_strays(program):
 
 
 def each_kill(scene, command):
-    """Kills a command before each of its calls, and gives the call; whole ones are not given."""
+    """Kills a command before each of its calls, and yields the call."""
     scene.begin()
     for number, call in enumerate(scene.program.calls(scene.folder, command), 1):
         scene.begin()
@@ -77,7 +77,7 @@ def try_other_name(program):
                     os.unlink(f"{scene.folder}/{name}")
             # the journal of this name has no part in what was done under the other
             text, waiting = scene.state_to_be()
-            # an empty one can be that of a revert: it is put where the old one doesn't fit either
+            # an empty one can be that of a revert: it is adopted if the old one doesn't fit either
             is_put = text == new[0] and waiting in (new[1], b"")
             wanted = (text, waiting if is_put else scene.state()[1])
             judge(check, "other name", scene, wanted, second, "after a kill at", call)

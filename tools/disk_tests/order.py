@@ -1,8 +1,8 @@
 """The order in which two commands on one FILE made their calls on names (tools/pair.c), and whether
-one of them came between a last look of the other and what that did then."""
+one of them overtook the other: made a call between the other's last look and what depends on it."""
 import collections
 
-# The names of new files, and those that they get.
+# The names of new files, and the names to which they are renamed.
 OWN_NAMES = {"main.tf.tfnew": "main.tf", "main.tf.tfundo.new": "main.tf.tfundo"}
 
 # A call on a name of command 1 or 2, and its error, or 0; a wait for the disk has no name.
@@ -59,8 +59,8 @@ def last_looks(calls, at):
 
 def overtaken(calls):
     """Returns a rename or removal by one command before which the other changed a name that the
-    first had just looked at, with that change; or None. The first has not waited between its look
-    and its call: nothing that it could do would come nearer."""
+    first had just looked at, with that change; or None. The first has not waited for the disk
+    between its look and its call, so it could not have looked later."""
     for at, call in enumerate(calls):
         if call.what in ("rename", "remove"):
             for name, look in last_looks(calls, at).items():

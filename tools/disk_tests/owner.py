@@ -1,5 +1,5 @@
-"""Root's command runs in a folder of another, who puts a link to root's file in the place of a new
-file: root's file stays as it is."""
+"""Root's command runs in a folder of another user, who puts a link to root's file in the place of a
+new file: root's file stays as it is."""
 import contextlib
 import os
 import signal
@@ -15,12 +15,12 @@ NEW_FILES = ["main.tf.tfnew", "main.tf.tfundo.new"]
 
 
 class Folder:
-    """A folder of another, and a file of root's beside it."""
+    """A folder of another user, and a file of root's next to it."""
 
     def __init__(self, program, name):
         self.program = program
         above = program.folder(name)
-        # another has to reach it
+        # the other user has to reach it
         os.chmod(program.room, 0o755)
         self.path, self.secret = program.folder(f"{name}/theirs"), f"{above}/secret"
         os.chown(self.path, ANOTHER, ANOTHER)
@@ -28,7 +28,7 @@ class Folder:
     def begin(self):
         """Makes FILE and root's file."""
         for name in os.listdir(self.path):
-            # the other may have moved it
+            # the other user may have moved it
             with contextlib.suppress(FileNotFoundError):
                 os.unlink(f"{self.path}/{name}")
         write(f"{self.path}/main.tf", b"a=1\n")
@@ -73,7 +73,7 @@ def put_links(program):
 
 
 def attack(folder):
-    """Begins a process of another that puts links there as fast as it can; returns its number."""
+    """Begins a process of the other user that puts links as fast as it can; returns its id."""
     child = os.fork()
     if child:
         return child
@@ -91,7 +91,7 @@ def attack(folder):
 
 
 def race(program):
-    """Lets another put links while root's command runs."""
+    """Lets the other user put links while root's command runs."""
     check = Check("owner, another puts links while the command runs", "races", RACES)
     folder = Folder(program, "owner-race")
     folder.begin()

@@ -1,7 +1,7 @@
-"""A second command runs at each call of a first: whole, killed at each of its own calls, or held
-there until the first has ended. Then two take turns, and run at once: there the journal has to fit,
-unless one of them came between a last look of the other and what that did then, and one of them has
-told an error."""
+"""A second command runs at each call of a first: to its end, killed at each of its own calls, or
+stopped there until the first has ended. Then two take turns, and run at once: the journal has to
+fit, unless one of them made a call between the other's last look and what depends on it, and one of
+them has reported an error."""
 import os
 import random
 import subprocess
@@ -15,7 +15,7 @@ from scenes import RENAME, TEXT, Scene, read, write
 # The second rename of a save.
 JOURNAL_RENAME = "rename main.tf.tfundo.new"
 
-# A disk that gives the number of a removed file to the next one, as most do.
+# A file system that reuses the inode number of a removed file at once, as most do.
 KIND = "ext4"
 PAIRS = [
     ("", "fmt", "fmt"),
@@ -25,7 +25,7 @@ PAIRS = [
     ("fix", "revert", "fmt"),
     ("fix fmt", "revert", "revert"),
 ]
-# A file that is saved in company with FILE: what is refused then is tried again.
+# A file that is saved together with FILE: what is refused then is tried again.
 BESIDE = "../beside.tf"
 COMPANY = [("", f"fmt {BESIDE}", "fmt"), ("fix", f"fmt {BESIDE}", "revert")]
 WAIT = "do sleep 0.0005; done"
@@ -49,7 +49,7 @@ class Pair:
         self.whole = {self.after(*order) for order in orders}
 
     def begin(self):
-        """Makes all as it is before both."""
+        """Restores the state before both."""
         self.scene.begin()
         if BESIDE in self.first:
             path = os.path.normpath(f"{self.scene.folder}/{BESIDE}")
@@ -98,7 +98,7 @@ class Pair:
         return True
 
     def hold(self, at, number):
-        """Runs the first with the second held at one of its calls; lets it go on, and waits."""
+        """Runs the first while the second is stopped at one of its calls; resumes it, and waits."""
         for name in ("held", "free", "ended"):
             if os.path.exists(f"{self.disk}/{name}"):
                 os.unlink(f"{self.disk}/{name}")
@@ -149,7 +149,7 @@ class Pair:
         self.check.require(not misplaced, "the log is no order", misplaced, *where)
         self.check.require(name != "FILE is torn", name, *where)
         self.check.require(name == "whole" or overtaken, f"{name}, no look overtaken", *where)
-        self.check.require(name == "whole" or any(statuses), f"{name}, no error told", *where)
+        self.check.require(name == "whole" or any(statuses), f"{name}, no error reported", *where)
         self.check.require(not scene.leftovers(), "left", scene.leftovers(), *where)
         return calls
 
@@ -165,8 +165,8 @@ class Pair:
         return made
 
     def race(self, chance):
-        """Runs both at once, the second a moment later; judges what they leave. Whether one came
-        between a last look of the other and what that did then is not known here."""
+        """Runs both at once, the second a moment later; judges what they leave. Whether one
+        overtook the other is not known here."""
         self.begin()
         quiet = {"stdout": subprocess.DEVNULL, "stderr": subprocess.DEVNULL}
         running = []
@@ -180,7 +180,7 @@ class Pair:
         name = self.name(text)
         self.check.see(name)
         self.check.require(name != "FILE is torn", name, *statuses)
-        self.check.require(name == "whole" or any(statuses), f"{name}, no error told", *statuses)
+        self.check.require(name == "whole" or any(statuses), f"{name}, no error reported", *statuses)
         self.check.require(not self.scene.leftovers(), "left", *statuses)
 
 

@@ -11,12 +11,13 @@ from scenes import RENAME, Scene, name_of
 # How many losses there are at least, for each kind of file system.
 LEAST = 265
 
-# Files of which another program syncs one just before the power is lost, so that it is on the disk
-# ahead of what was written before it. Not on ext2: what comes of that there is no whole rename.
+# Another program syncs one of these files just before the power is lost, so that it is on the disk
+# before what was written earlier. Not on ext2, where this can leave half a rename.
 SYNCED = ["main.tf", "main.tf.tfundo", "main.tf.tfnew", "main.tf.tfundo.new"]
 
-# Where FILE and its journal are; the history; what runs before the last command, and is on the disk
-# as far as it is synced ("killed before CALL" is the last command, killed there); and that command.
+# Where FILE and its journal are; the history; what runs before the last command ("killed before
+# CALL" is the last command, killed there), of which only what it syncs is on the disk; and the last
+# command.
 CASES = [
     ("name", "", "", "fix"),
     ("name", "", "fix", "fmt"),
@@ -59,7 +60,7 @@ class Machine:
             yield
 
     def used(self, scene):
-        """The disks that a scene lies on."""
+        """The disks of a scene."""
         return self.disks if scene.elsewhere.startswith("..") else self.disks[:1]
 
     def copying(self, scene):
@@ -117,7 +118,7 @@ class Case:
         return f"{self.command} of {self.scene}{before}{disks}"
 
     def prepare(self):
-        """Runs what comes before the command."""
+        """Runs what is to run before the command."""
         folder = self.scene.folder
         if self.kill:
             ran = self.program.meet(folder, self.command, *self.kill)
@@ -140,13 +141,13 @@ class Case:
         self.program.run(self.scene.folder, self.command)
         states.append(self.scene.state())
         if self.kill:
-            # what recovers may go on to the command: once more after what was killed
+            # a recovery may complete the killed command, and then the command runs once more
             self.program.run(self.scene.folder, self.command)
             states.append(self.scene.state())
         return states
 
     def judge(self, check, call, allowed, names=("old", "new", "new")):
-        """Looks at what a loss of power has left, before and after the next command."""
+        """Judges what a loss of power left, before and after the next command."""
         with self.machine.after_loss(self.scene) as scene:
             if scene.state()[0] is None:
                 check.see("gone")

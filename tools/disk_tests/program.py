@@ -3,7 +3,7 @@ import collections
 import os
 import subprocess
 
-# It changes nothing, and recovers what an interrupted command left.
+# A command that changes nothing, and recovers what an interrupted one left.
 NEXT_COMMAND = "revert --take 4294967295"
 
 KILLED = 128 + 9
@@ -36,7 +36,7 @@ class Program:
         return subprocess.run(words, cwd=folder, capture_output=True, check=False, **options)
 
     def recover(self, folder):
-        """Runs the next command, which changes nothing of what it finds but what was left."""
+        """Runs the next command, which recovers what was left and changes nothing else."""
         return self.run(folder, NEXT_COMMAND)
 
     def meet(self, folder, command, how, number, file="main.tf"):

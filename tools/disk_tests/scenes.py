@@ -30,7 +30,7 @@ def long_text(lines):
 
 
 def read(path):
-    """Returns the bytes of a file, or None where there is none."""
+    """Returns the bytes of a file, or None if there is none."""
     try:
         with open(path, "rb") as file:
             return file.read()

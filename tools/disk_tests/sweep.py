@@ -10,7 +10,7 @@ ERRORS = (
     " ENAMETOOLONG ELOOP"
 ).split()
 LASTING = ["EIO", "ENOSPC", "EACCES"]
-# They say that there is nothing of a name, which no disk says where there is something.
+# They say that a name does not exist, which no disk says of one that does.
 ABSENT = ["ENOENT", "ENAMETOOLONG"]
 
 LAYOUTS = ["name", "link", "journal link", "links", "names"]
@@ -109,8 +109,8 @@ class Trial:
             self.require(not scene.leftovers(), f"status {status}, left", scene.leftovers())
 
     def is_cleared(self, status, state):
-        """Whether nothing may be left at once: one call was refused, that removes nothing and was
-        not made, and no new journal waits."""
+        """Whether nothing may be left at once: the one refused call removes nothing and was not
+        made, and no new journal waits."""
         is_removal = self.call.startswith("unlink") or self.way == "done:EIO" or "-on" in self.way
         is_late = status == 1 and state[0] == self.new[0]
         return not (self.scene.left or is_removal or is_late)
