@@ -10,4 +10,5 @@ pub mod NextToken
 pub mod OpeningPlaces
 pub mod Openings
 pub mod RunLength
+pub mod TextAfter
 pub mod TokenizedTo

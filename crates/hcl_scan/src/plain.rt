@@ -8,7 +8,7 @@
 //! How many tokens are added here is not fixed by a clause: it decides only how long a scan takes.
 //! `tokenize_str` adds each token that is not added here.
 
-ghost use Rattle.std.specs.Prelude.{◌≡◌, ◌+◌, ◌<◌, ◌≤◌, ◌++◌, ◌∷◌, ℕ, List, [], true, false, length, drop, slice_index, None, Some, IfSome, IsUtf8, vec_len, vec_capacity};
+ghost use Rattle.std.specs.Prelude.{◌≡◌, ◌+◌, ◌<◌, ◌≤◌, ◌++◌, ◌∷◌, ℕ, List, [], true, false, length, drop, slice_index, Some, IfSome, IfOk, IfErr, IsUtf8, vec_len, vec_capacity};
 ghost use Rattle.hcl_token.specs.declared.kind.Kind.TheVariants.{QuoteOpen, QuoteLit, QuoteClose};
 ghost use Rattle.hcl_scan.specs.Tokenization.{MAX_TEXT};
 ghost use Rattle.hcl_scan.specs.Modes as spec;
@@ -20,6 +20,7 @@ ghost use Rattle.hcl_scan.specs.Inner.MarkToken.{token_at};
 ghost use Rattle.hcl_scan.specs.Inner.OpeningPlaces.{LeavesOpenings};
 ghost use Rattle.hcl_scan.specs.Inner.Openings.{mode_view, region_of, modes_of, places_of};
 ghost use Rattle.hcl_scan.specs.Inner.RunLength.{run_length};
+ghost use Rattle.hcl_scan.specs.Inner.TextAfter.{IsTextAfter};
 ghost use Rattle.hcl_scan.specs.Inner.TokenizedTo.{IsTokenizedTo};
 
 use crate::bytes::byte_at;
@@ -122,7 +123,10 @@ fn put_quoted(tokens: &mut Vec<Span>, text: &[u8], from: usize) -> usize
 }
 
 /// Adds a token that leaves the openings as they are, or quoted text in quotes, and returns where
-/// it stops. Adds nothing if the token is another. Where `is_free` it is known to leave them so.
+/// it stops. Where `is_free` it is known to leave them so.
+///
+/// Adds nothing if the token is another, and returns, as the error, how many bytes of text follow
+/// it if it is a `"`, so that they are not read again; 0 if that is not known.
 #[inline(always)]
 fn put_plain(
     tokens: &mut Vec<Span>,
@@ -132,16 +136,18 @@ fn put_plain(
     len: usize,
     mode: Mode<'_>,
     is_free: bool,
-) -> Option<usize>
+) -> Result<usize, usize>
     requires short { length text.now ≤ MAX_TEXT }
     requires some { 0 < len }
     requires within { start + len ≤ length text.now }
     requires reserved { vec_len tokens.old + 3 ≤ vec_capacity tokens.old }
     requires free { is_free ≡ true → LeavesOpenings kind }
-    ensures none { result ≡ None → tokens.new.items ≡ tokens.old.items }
+    ensures none { IfErr result (λ _. tokens.new.items ≡ tokens.old.items) }
+    ensures text { IfErr result (λ text_len. 0 < text_len
+        → IsTextAfter text.now start (Some (kind, len)) text_len) }
     ensures capacity { vec_capacity tokens.new ≡ vec_capacity tokens.old }
-    ensures onward { IfSome result (λ stop. start < stop) }
-    ensures state { IfSome result (λ stop. (at : ℕ) (modes : List spec.Mode) (places : List ℕ)
+    ensures onward { IfOk result (λ stop. start < stop) }
+    ensures state { IfOk result (λ stop. (at : ℕ) (modes : List spec.Mode) (places : List ℕ)
         → mode_view mode.entry ≡ mode_of modes
         → start ≡ at + gap_length (mode_of modes) (drop at text.now)
         → token (mode_of modes) (drop start text.now) ≡ Some (kind, len)
@@ -151,24 +157,24 @@ fn put_plain(
     let stop = start + len;
     if is_free {
         put(tokens, start, stop, kind);
-        return Some(stop);
+        return Ok(stop);
     }
     match kind {
         Kind::QuoteOpen => {
             let text_len = quoted_len(text, stop);
             if byte_at(text, stop + text_len) == b'"' {
                 put_string(tokens, text, start, len, text_len);
-                Some(stop + text_len + 1)
+                Ok(stop + text_len + 1)
             } else {
-                None
+                Err(text_len)
             }
         }
         _ => {
             if can_change_openings_in(mode, kind) {
-                None
+                Err(0)
             } else {
                 put(tokens, start, stop, kind);
-                Some(stop)
+                Ok(stop)
             }
         }
     }
@@ -195,7 +201,7 @@ fn push_in_mode(
     from: usize,
     mode: Mode<'_>,
     openings: &Vec<Opening<'_>>,
-) -> (Vec<Span>, usize, NextToken)
+) -> (Vec<Span>, usize, NextToken, usize)
     requires short { length text.now ≤ MAX_TEXT }
     requires state { IsTokenizedTo text.now buffer.items from
         (modes_of openings.now.items) (places_of openings.now.items) }
@@ -211,6 +217,8 @@ fn push_in_mode(
         ≡ token (mode_of (modes_of openings.now.items)) (drop result.2.start text.now) }
     ensures within { IfSome result.2.token
         (λ found. (0 < found.1) × (result.2.start + found.1 ≤ length text.now)) }
+    ensures text { 0 < result.3
+        → IsTextAfter text.now result.2.start result.2.token result.3 }
 {
     let bytes = text.as_bytes();
     let mut tokens = buffer;
@@ -219,15 +227,15 @@ fn push_in_mode(
     while tokens.len() < limit {
         let (next, is_free) = next_plain_token(text, at, mode);
         let Some((kind, len)) = next.token else {
-            return (tokens, at, next);
+            return (tokens, at, next, 0);
         };
         match put_plain(&mut tokens, bytes, next.start, kind, len, mode, is_free) {
-            Some(stop) => at = stop,
-            None => return (tokens, at, next),
+            Ok(stop) => at = stop,
+            Err(text_len) => return (tokens, at, next, text_len),
         }
     }
     let next = next_plain_token_apart(text, at, without_marker(mode));
-    (tokens, at, next)
+    (tokens, at, next, 0)
 }
 
 /// `push_plain_tokens` in quoted text.
@@ -260,7 +268,8 @@ fn push_in_quotes(
 }
 
 /// Adds the tokens from a place on that leave the openings as they are, while memory is reserved
-/// for them, and quoted text in quotes. Returns the list, where they stop, and what follows.
+/// for them, and quoted text in quotes. Returns the list, where they stop, and what follows; and, if
+/// that is a `"`, how many bytes of text follow it, 0 if that is not known.
 #[inline(always)]
 pub fn push_plain_tokens(
     buffer: Vec<Span>,
@@ -268,7 +277,7 @@ pub fn push_plain_tokens(
     from: usize,
     region: Region,
     openings: &Vec<Opening<'_>>,
-) -> (Vec<Span>, usize, NextToken)
+) -> (Vec<Span>, usize, NextToken, usize)
     requires short { length text.now ≤ MAX_TEXT }
     requires state { IsTokenizedTo text.now buffer.items from
         (modes_of openings.now.items) (places_of openings.now.items) }
@@ -283,16 +292,21 @@ pub fn push_plain_tokens(
         ≡ token (mode_of (modes_of openings.now.items)) (drop result.2.start text.now) }
     ensures within { IfSome result.2.token
         (λ found. (0 < found.1) × (result.2.start + found.1 ≤ length text.now)) }
+    ensures text { 0 < result.3
+        → IsTextAfter text.now result.2.start result.2.token result.3 }
 {
     let mode = mode_in(region, openings);
     match mode {
-        Mode::Quoted => push_in_quotes(buffer, text, from, openings),
+        Mode::Quoted => {
+            let (tokens, at, next) = push_in_quotes(buffer, text, from, openings);
+            (tokens, at, next, 0)
+        }
         Mode::Heredoc {
             marker,
             at_line_start,
         } => {
             let next = next_heredoc_token(text, from, marker, at_line_start);
-            (buffer, from, next)
+            (buffer, from, next, 0)
         }
         _ => push_in_mode(buffer, text, from, mode, openings),
     }

@@ -7,7 +7,7 @@ ghost use Rattle.hcl_scan.specs.Inner.RunLength.{run_length};
 
 use crate::bytes::byte_at;
 use crate::heredoc::is_at_opening;
-use crate::runs::{QuoteUnit, Unit, ordinary_end};
+use crate::runs::{QuoteUnit, Unit, ordinary_end, short_ordinary_end};
 
 /// Whether a `"` or the opening of a template sequence is at the place, where quoted text ends.
 #[inline(always)]
@@ -35,21 +35,22 @@ fn skip_ordinary(text: &[u8], from: usize) -> usize
     }
 }
 
-/// Returns the end of the longest run of units of quoted text from a place on, whose first byte most
-/// often is not ordinary.
+/// Returns the end of the longest run of units of quoted text from a place on.
+///
+/// What stands between two escapes is most often short.
 #[inline(never)]
 pub fn rest_end(text: &[u8], from: usize) -> usize
     requires { from ≤ length text.now }
     ensures value { result ≡ from + run_length quote_unit false (drop from text.now) }
     ensures within { result ≤ length text.now }
 {
-    let mut at = from;
+    let mut at = ordinary_end(&QuoteUnit, text, from);
     while at < text.len() {
         let len = QuoteUnit.len_at(text, at, false);
         if len == 0 {
             return at;
         }
-        at = ordinary_end(&QuoteUnit, text, at + len);
+        at = short_ordinary_end(&QuoteUnit, text, at + len);
     }
     at
 }

@@ -96,7 +96,7 @@ pub fn count_id_bytes(text: &[u8], at: usize) -> usize
     count_flagged(text, at, low, high)
 }
 
-/// How many of the 16 bytes at a place are neither LF nor CR, up to the first that is not.
+/// How many of the 16 bytes at a place are neither LF nor CR, up to one that is.
 #[inline(always)]
 pub fn count_comment_bytes(text: &[u8], at: usize) -> usize
     requires { at + 16 ≤ length text.now }
@@ -109,7 +109,7 @@ pub fn count_comment_bytes(text: &[u8], at: usize) -> usize
     count_flagged(text, at, low, high)
 }
 
-/// How many of the 16 bytes at a place are neither `*` nor LF, up to the first that is not.
+/// How many of the 16 bytes at a place are neither `*` nor LF, up to one that is.
 #[inline(always)]
 pub fn count_inline_bytes(text: &[u8], at: usize) -> usize
     requires { at + 16 ≤ length text.now }
@@ -122,7 +122,8 @@ pub fn count_inline_bytes(text: &[u8], at: usize) -> usize
     count_flagged(text, at, low, high)
 }
 
-/// How many of the 16 bytes at a place are neither `"`, `$`, `%`, `\`, LF nor CR, up to the first that is not.
+/// How many of the 16 bytes at a place are neither `"`, `$`, `%`, `\`, LF nor CR, up to one that
+/// is.
 #[inline(always)]
 pub fn count_quoted_bytes(text: &[u8], at: usize) -> usize
     requires { at + 16 ≤ length text.now }
@@ -135,7 +136,7 @@ pub fn count_quoted_bytes(text: &[u8], at: usize) -> usize
     count_flagged(text, at, low, high)
 }
 
-/// How many of the 16 bytes at a place are neither `$`, `%` nor LF, up to the first that is not.
+/// How many of the 16 bytes at a place are neither `$`, `%` nor LF, up to one that is.
 #[inline(always)]
 pub fn count_heredoc_bytes(text: &[u8], at: usize) -> usize
     requires { at + 16 ≤ length text.now }

@@ -112,6 +112,7 @@ fn push_token(
     ensures { IfOk result (λ tokens. tokens.items ≡ buffer.items ++ token_at start stop kind ∷ []) }
 {
     let mut tokens = buffer;
+    // the token is put in both branches, so that a list that has room stays in registers
     if tokens.len() == tokens.capacity() {
         tokens = reserve_one(tokens)?;
         put(&mut tokens, start, stop, kind);
@@ -141,7 +142,7 @@ fn tokenize_str(
     let mut at = push_mark(&mut tokens, bytes)?;
     let mut region = Region::Expression;
     'scan: loop {
-        let (list, from, next) = push_plain_tokens(tokens, text, at, region, &openings);
+        let (list, from, next, text_len) = push_plain_tokens(tokens, text, at, region, &openings);
         tokens = list;
         at = from;
         let start = next.start;
@@ -155,13 +156,16 @@ fn tokenize_str(
                 return Err(fault_at(bytes, mode, opened, start));
             }
             Some((kind, len)) => {
-                let stop = start + len;
-                tokens = push_token(tokens, start, stop, kind)?;
+                at = start + len;
+                tokens = push_token(tokens, start, at, kind)?;
                 if can_change_openings(kind) {
-                    let spelling = slice(bytes, start, stop);
+                    let spelling = slice(bytes, start, at);
                     update_openings(&mut openings, &mut region, kind, spelling, start)?;
+                    if text_len > 0 {
+                        tokens = push_token(tokens, at, at + text_len, Kind::QuoteLit)?;
+                        at += text_len;
+                    }
                 }
-                at = stop;
             }
         }
     }

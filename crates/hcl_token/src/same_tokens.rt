@@ -8,8 +8,9 @@ ghost use Rattle.hcl_token.specs.Tokens.{whole_text};
 use crate::line_column::slice;
 use crate::span::{STEP, Span};
 
-/// Returns the distance of the words of two tokens, modulo 2^64, if they are of one kind and their
-/// places differ by that of `to` and `from`.
+/// Returns the distance, modulo 2^64, of the words of two tokens of one kind, where one lies as far
+/// after byte `to` of its text as the other after byte `from` of its own: there their first tokens
+/// start.
 fn shift_of(to: u32, from: u32) -> u64
     requires to { to ≤ MAX_TEXT }
     requires from { from ≤ MAX_TEXT }

@@ -1,16 +1,21 @@
 use Rattle.std.proofs.Common.{◌≡◌, ◌+◌, ℕ, List, [], ◌∷◌, ◌++◌, length, slice_range, sym, ap, subst, subst₂, ◌∙◌, inr}
 use Rattle.std.proofs.lemmas.Bool.{iff_false}
+use Rattle.hcl_token.specs.declared.kind.Kind.{Kind}
+use Rattle.hcl_token.specs.declared.kind.Kind.TheVariants.{QuoteLit}
 use Rattle.hcl_token.specs.declared.span.Span.{Span}
 use Rattle.hcl_scan.specs.declared.mode.Opening.{Opening}
 use Rattle.hcl_scan.specs.Modes.{Mode, mode_of, modes_after}
 use Rattle.hcl_scan.specs.Modes.Mode.{Expression}
 use Rattle.hcl_scan.specs.Fault.{EndsInFault}
+use Rattle.hcl_scan.specs.Inner.LexemeStarts.{LexedToken}
 use Rattle.hcl_scan.specs.Inner.OpeningPlaces.{innermost_place}
 use Rattle.hcl_scan.specs.Inner.Openings.{region_of, modes_of, places_of}
-use Rattle.hcl_scan.specs.Inner.MarkToken.{mark_tokens}
+use Rattle.hcl_scan.specs.Inner.MarkToken.{mark_tokens, token_at}
+use Rattle.hcl_scan.specs.Inner.TextAfter.{IsTextAfter}
 use Rattle.hcl_scan.specs.Inner.TokenizedTo.{IsTokenizedTo}
 use Rattle.hcl_scan.proofs.MarkLemmas.{started}
 use Rattle.hcl_scan.proofs.OpeningLemmas.{none_open}
+use Rattle.hcl_scan.proofs.PlainLemmas.{literal_more}
 use Rattle.hcl_scan.proofs.Steps.{one_more, finished, stopped}
 use Rattle.hcl_scan.proofs.tokenize.tokenize_str.Goals as goal
 
@@ -79,8 +84,8 @@ scan-preserved c =
       region = c.scan.invariant.region;
     }
 
-pub scan-preserved-in_ok-update_openings-in-Some : goal.scan-preserved-in_ok-update_openings-in-Some
-scan-preserved-in_ok-update_openings-in-Some c =
+pub scan-preserved-else-text_len-gt0 : goal.scan-preserved-else-text_len-gt0
+scan-preserved-else-text_len-gt0 c =
     let text = c.args.text.now in
     let plain = c.push_plain_tokens-list in
     let at = plain.result.1 in
@@ -102,4 +107,34 @@ scan-preserved-in_ok-update_openings-in-Some c =
     record {
       tokenization = subst (λ (xs : List Span). IsTokenizedTo text xs stop (modes_of c.update_openings.new.openings.items) (places_of c.update_openings.new.openings.items)) (sym pushed) next;
       region = c.in_ok-update_openings-in-Some.ensures.region;
+    }
+
+-- the text after a `"` is added with it
+pub scan-preserved-then-text_len-gt0 : goal.scan-preserved-then-text_len-gt0
+scan-preserved-then-text_len-gt0 c =
+    let text = c.args.text.now in
+    let plain = c.push_plain_tokens-list in
+    let start = plain.result.2.start in
+    let kind = c.in-Some.kind in
+    let stop = start + c.in-Some.len in
+    let text_len = plain.result.3 in
+    let same = c.as_bytes-bytes.ensures.value in
+    let modes = modes_of c.scan.openings.items in
+    let places = places_of c.scan.openings.items in
+    let found = sym plain.ensures.token ∙ c.in-Some.is in
+    let more = one_more text plain.result.0.items plain.result.1 modes places start kind c.in-Some.len plain.ensures.state plain.ensures.gap found in
+    let spelling = rw same at c.slice-spelling.ensures in
+    let updated = c.in_ok-update_openings-in-Some.ensures in
+    let shifted = updated.modes ∙ ap (λ (s : List ℕ). modes_after kind s modes) spelling in
+    let openings = c.update_openings.new.openings.items in
+    let tokens = plain.result.0.items ++ token_at start stop kind ∷ [] in
+    let opened = subst₂ (λ (m : List Mode) (o : List ℕ). IsTokenizedTo text tokens stop m o) (sym shifted) (sym updated.places) more.1 in
+    let after = subst (λ (x : LexedToken). IsTextAfter text start x text_len) c.in-Some.is (plain.ensures.text c.if-text_len-gt0.true) in
+    let quoted = shifted ∙ ap (λ (k : Kind). modes_after k (slice_range text start stop) modes) after.0 in
+    let longer = literal_more text tokens stop (modes_of openings) (places_of openings) text_len (sym (ap mode_of quoted)) opened after.1 c.if-text_len-gt0.true in
+    let text_token : Span = token_at stop (stop + text_len) QuoteLit in
+    let pushed = c.in_ok-tokens-in-Some-2.ensures ∙ ap (λ (x : List Span). x ++ text_token ∷ []) c.in_ok-tokens-in-Some.ensures in
+    record {
+      tokenization = subst (λ (xs : List Span). IsTokenizedTo text xs (stop + text_len) (modes_of openings) (places_of openings)) (sym pushed) longer;
+      region = updated.region;
     }
