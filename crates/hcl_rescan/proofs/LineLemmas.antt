@@ -8,7 +8,7 @@ use Rattle.hcl_token.specs.declared.span.Span.{Span}
 use Rattle.hcl_token.specs.declared.kind.Kind.{Kind}
 use Rattle.hcl_token.specs.declared.kind.Kind.TheVariants.{Mark, LineEnd, LineComment, QuoteLit, HereLit}
 use Rattle.hcl_token.specs.TokenizedText.{TokenizedText, kind_of, item_of, item_after}
-use Rattle.hcl_token.specs.Pairs.{pair_at, pairs_from, pairs_of, InOrder}
+use Rattle.hcl_token.specs.Pairs.{pair_at, pairs_from, pairs_of, spans_from, InOrder}
 use Rattle.hcl_token.specs.Joins.{joins_with}
 use Rattle.hcl_token.specs.Tokens.{Pair, whole_text}
 use Rattle.hcl_scan.specs.Characters.{is_whitespace}
@@ -16,7 +16,7 @@ use Rattle.hcl_scan.specs.Modes.{Mode, mode_of, modes_after}
 use Rattle.hcl_scan.specs.Lexeme.{IsLexeme}
 use Rattle.hcl_scan.specs.Tokenization.{IsTokenization, MAX_TEXT}
 use Rattle.hcl_scan.specs.Follows.{following_text, AllowsNext, FollowsFrom, Follows, IsApart, AreApart, mark}
-use Rattle.hcl_rescan.specs.Inner.WholeLines.{EndsWithLineEnd, AreWholeLines, AreSelfContained, IsLineStart, IsLineRange, IsRescannedTo, IsRescanned, tokens_at}
+use Rattle.hcl_rescan.specs.Inner.WholeLines.{EndsWithLineEnd, AreWholeLines, AreSelfContained, IsLineStart, IsLineRange, IsRescannedTo, IsRescanned}
 use Rattle.hcl_scan.proofs.PairLemmas.{modes_after_pairs, joining_rest}
 use Rattle.hcl_scan.proofs.WritesBack.{writes_back}
 
@@ -264,7 +264,7 @@ same_pair : (p : Pair) (gap spelling : List ℕ) → gap ≡ p.gap → spelling 
 same_pair p gap spelling e f = ap₂ (λ (x y : List ℕ). record { gap = x; kind = p.kind; spelling = y }) e f
 
 -- pairs that stand in a text are those of their tokens
-pub pairs_again : (ps : List Pair) (text : List ℕ) (at : ℕ) (rest : List ℕ) → drop at text ≡ whole_text ps rest → pairs_from text at (tokens_at at ps) ≡ ps
+pub pairs_again : (ps : List Pair) (text : List ℕ) (at : ℕ) (rest : List ℕ) → drop at text ≡ whole_text ps rest → pairs_from text at (spans_from at ps) ≡ ps
 pairs_again [] text at rest e = refl
 pairs_again (p ∷ ps) text at rest e =
     let more : List ℕ = whole_text ps rest in
@@ -281,13 +281,13 @@ pairs_again (p ∷ ps) text at rest e =
     ∙ drop_at (p.gap ++ p.spelling) more (length p.gap + length p.spelling) (length-append p.gap p.spelling) in
     ap₂ (λ (x : Pair) (xs : List Pair). x ∷ xs) (same_pair p (slice_range text at start) (slice_range text start stop) gap spelling) (pairs_again ps text stop rest behind)
 
-order_again : (ps : List Pair) (at : ℕ) → InOrder at (tokens_at at ps) (at + length (whole_text ps []))
+order_again : (ps : List Pair) (at : ℕ) → InOrder at (spans_from at ps) (at + length (whole_text ps []))
 order_again [] at = omega arith
 order_again (p ∷ ps) at =
     let next : ℕ = at + length p.gap + length p.spelling in
     let far : next + length (whole_text ps []) ≡ at + length (whole_text (p ∷ ps) []) =
     omega (arith, length-append p.gap (p.spelling ++ whole_text ps []), length-append p.spelling (whole_text ps [])) in
-    (omega arith, omega arith, subst (λ n. InOrder next (tokens_at next ps) n) far (order_again ps next))
+    (omega arith, omega arith, subst (λ n. InOrder next (spans_from next ps) n) far (order_again ps next))
 
 order_both : (xs ys : List Span) (from at to : ℕ) → InOrder from xs at → InOrder at ys to → InOrder from (xs ++ ys) to
 order_both [] ys from at to a b = subst (λ n. InOrder n ys to) (sym a) b
@@ -300,20 +300,20 @@ pairs_both text (x ∷ xs) ys from at a = ap (λ (ps : List Pair). pair_at text 
 
 -- what pairs that stand behind the text begun do to it
 record Grown (text : List ℕ) (tokens : List Span) (at : ℕ) (ps : List Pair) (rest : List ℕ) : Type 0 where
-  pairs : pairs_of text (tokens ++ tokens_at at ps) ≡ pairs_of text tokens ++ ps
-  text_is : text ≡ whole_text (pairs_of text (tokens ++ tokens_at at ps)) rest
-  order : InOrder 0 (tokens ++ tokens_at at ps) (at + length (whole_text ps []))
+  pairs : pairs_of text (tokens ++ spans_from at ps) ≡ pairs_of text tokens ++ ps
+  text_is : text ≡ whole_text (pairs_of text (tokens ++ spans_from at ps)) rest
+  order : InOrder 0 (tokens ++ spans_from at ps) (at + length (whole_text ps []))
   rest_is : drop (at + length (whole_text ps [])) text ≡ rest
   within : at + length (whole_text ps []) + length rest ≡ length text
 
 rescanned_after : (text : List ℕ) (tokens : List Span) (at : ℕ) (ps : List Pair) (rest : List ℕ) → IsRescannedTo text tokens at → drop at text ≡ whole_text ps rest → Grown text tokens at ps rest
 rescanned_after text tokens at ps rest b e =
-    let pairs : pairs_of text (tokens ++ tokens_at at ps) ≡ pairs_of text tokens ++ ps =
-    pairs_both text tokens (tokens_at at ps) 0 at b.order ∙ ap (λ (x : List Pair). pairs_of text tokens ++ x) (pairs_again ps text at rest e) in
+    let pairs : pairs_of text (tokens ++ spans_from at ps) ≡ pairs_of text tokens ++ ps =
+    pairs_both text tokens (spans_from at ps) 0 at b.order ∙ ap (λ (x : List Pair). pairs_of text tokens ++ x) (pairs_again ps text at rest e) in
     record {
       pairs = pairs;
       text_is = b.text_is ∙ ap (whole_text (pairs_of text tokens)) e ∙ sym (whole_both (pairs_of text tokens) ps rest) ∙ ap (λ (x : List Pair). whole_text x rest) (sym pairs);
-      order = order_both tokens (tokens_at at ps) 0 at (at + length (whole_text ps [])) b.order (order_again ps at);
+      order = order_both tokens (spans_from at ps) 0 at (at + length (whole_text ps [])) b.order (order_again ps at);
       rest_is =
           sym (drop-drop (length (whole_text ps [])) at text)
           ∙ ap (drop (length (whole_text ps []))) (e ∙ whole_rest ps rest)
@@ -322,21 +322,21 @@ rescanned_after text tokens at ps rest b e =
     }
 
 -- the text begun, with lines more
-pub rescanned_more : (text : List ℕ) (tokens : List Span) (at : ℕ) (ps : List Pair) (rest : List ℕ) → IsRescannedTo text tokens at → AreWholeLines ps → drop at text ≡ whole_text ps rest → IsRescannedTo text (tokens ++ tokens_at at ps) (at + length (whole_text ps []))
+pub rescanned_more : (text : List ℕ) (tokens : List Span) (at : ℕ) (ps : List Pair) (rest : List ℕ) → IsRescannedTo text tokens at → AreWholeLines ps → drop at text ≡ whole_text ps rest → IsRescannedTo text (tokens ++ spans_from at ps) (at + length (whole_text ps []))
 rescanned_more text tokens at ps rest b lines e =
     let more : Grown text tokens at ps rest = rescanned_after text tokens at ps rest b e in
     record {
       within = omega (arith, more.within);
       lines = subst AreWholeLines (sym more.pairs) (lines_both (pairs_of text tokens) ps b.lines lines);
-      text_is = more.text_is ∙ ap (whole_text (pairs_of text (tokens ++ tokens_at at ps))) (sym more.rest_is);
+      text_is = more.text_is ∙ ap (whole_text (pairs_of text (tokens ++ spans_from at ps))) (sym more.rest_is);
       order = more.order;
     }
 
 -- the text begun, with its last tokens
 pub rescanned_last : (text : List ℕ) (tokens : List Span) (at : ℕ) (ps : List Pair) (last : List ℕ) → length text ≤ MAX_TEXT → IsRescannedTo text tokens at → AreSelfContained ps last → list_all is_whitespace last ≡ true → drop at text ≡ whole_text ps last
-    → IsRescanned text (tokens ++ tokens_at at ps) (length text - length last)
+    → IsRescanned text (tokens ++ spans_from at ps) (length text - length last)
 rescanned_last text tokens at ps last short b rest blank e =
-    let new : List Pair = pairs_of text (tokens ++ tokens_at at ps) in
+    let new : List Pair = pairs_of text (tokens ++ spans_from at ps) in
     let more : Grown text tokens at ps last = rescanned_after text tokens at ps last b e in
     let end : at + length (whole_text ps []) ≡ length text - length last = omega (arith, more.within) in
     let is_last : drop (length text - length last) text ≡ last = ap (λ n. drop n text) (sym end) ∙ more.rest_is in
@@ -345,7 +345,7 @@ rescanned_last text tokens at ps last short b rest blank e =
     let cut : IsTokenization (whole_text new last) new last = writes_back new last follows are.apart (subst (λ (x : List ℕ). length x ≤ MAX_TEXT) more.text_is short) in
     record {
       tokenization = subst (λ (x : List ℕ). IsTokenization text new x) (sym is_last) (subst (λ (x : List ℕ). IsTokenization x new last) (sym more.text_is) cut);
-      order = subst (λ n. InOrder 0 (tokens ++ tokens_at at ps) n) end more.order;
+      order = subst (λ n. InOrder 0 (tokens ++ spans_from at ps) n) end more.order;
       within = omega arith;
     }
 
@@ -412,15 +412,15 @@ line_start_at_line_end cut from at i kind item f le within is end is_item none =
 
 -- lines of the one text whose bytes stand in the other behind what is begun
 pub taken : (text : List ℕ) (tokens new : List Span) (at : ℕ) (cut : TokenizedText) (from front to end : ℕ) (bytes : List ℕ) → IsRescannedTo text tokens at → IsLineRange cut.pairs from to → RangeText cut from front to end
-    → bytes ≡ slice_range cut.text front end → drop at text ≡ bytes ++ drop (at + length bytes) text → new ≡ tokens ++ tokens_at at (slice_range cut.pairs from to) → IsRescannedTo text new (at + length bytes)
+    → bytes ≡ slice_range cut.text front end → drop at text ≡ bytes ++ drop (at + length bytes) text → new ≡ tokens ++ spans_from at (slice_range cut.pairs from to) → IsRescannedTo text new (at + length bytes)
 taken text tokens new at cut from front to end bytes b s t e stands is =
     let lines : List Pair = slice_range cut.pairs from to in
     let rest : List ℕ = drop (at + length bytes) text in
     let same : bytes ≡ whole_text lines [] = e ∙ t.bytes in
     let whole : drop at text ≡ whole_text lines rest = stands ∙ ap (λ (x : List ℕ). x ++ rest) same ∙ sym (whole_rest lines rest) in
     let size : length bytes ≡ length (whole_text lines []) = ap length same in
-    let more : IsRescannedTo text (tokens ++ tokens_at at lines) (at + length (whole_text lines [])) = rescanned_more text tokens at lines rest b s.lines whole in
-    subst (λ (x : List Span). IsRescannedTo text x (at + length bytes)) (sym is) (subst (λ n. IsRescannedTo text (tokens ++ tokens_at at lines) (at + n)) (sym size) more)
+    let more : IsRescannedTo text (tokens ++ spans_from at lines) (at + length (whole_text lines [])) = rescanned_more text tokens at lines rest b s.lines whole in
+    subst (λ (x : List Span). IsRescannedTo text x (at + length bytes)) (sym is) (subst (λ n. IsRescannedTo text (tokens ++ spans_from at lines) (at + n)) (sym size) more)
 
 -- and they fit there
 pub lines_fit : (text bytes : List ℕ) (at : ℕ) (cut : TokenizedText) (from front to end : ℕ) → RangeText cut from front to end → bytes ≡ slice_range cut.text front end
@@ -431,18 +431,9 @@ lines_fit text bytes at cut from front to end t e stands within short =
 all_range : (ps : List Pair) → slice_range ps 0 (length ps) ≡ ps
 all_range ps = ap (λ n. take n ps) (omega arith) ∙ take_all (length ps) ps (omega arith)
 
--- the tokens of a part that was cut by itself fit where it stands
-pub part_fits : (text piece : List ℕ) (at to : ℕ) (cut : TokenizedText) → IsTokenization piece cut.pairs cut.last → piece ≡ slice_range text at to → at ≤ to → to ≤ length text → length text ≤ MAX_TEXT
-    → at + length (whole_text (slice_range cut.pairs 0 (length cut.pairs)) []) ≤ MAX_TEXT
-part_fits text piece at to cut c e le within short =
-    let size : length piece ≡ to - at = ap length e ∙ length-take-le (to - at) (drop at text) (omega (arith, length-drop {A = ℕ} at text)) in
-    let all : length (whole_text (slice_range cut.pairs 0 (length cut.pairs)) []) ≡ length (whole_text cut.pairs []) =
-    ap (λ (x : List Pair). length (whole_text x [])) (all_range cut.pairs) in
-    omega (arith, size, all, ap length c.tokenizes.text_is, joining_rest cut.pairs cut.last)
-
 -- lines that were cut by themselves
 pub lines_scanned : (text piece : List ℕ) (tokens new : List Span) (at len : ℕ) (cut : TokenizedText) → IsRescannedTo text tokens at → at + len ≤ length text → piece ≡ slice_range text at (at + len) → IsTokenization piece cut.pairs cut.last → AreSelfContained cut.pairs cut.last
-    → EndsWithLineEnd cut.pairs → cut.last ≡ [] → new ≡ tokens ++ tokens_at at (slice_range cut.pairs 0 (length cut.pairs)) → IsRescannedTo text new (at + len)
+    → EndsWithLineEnd cut.pairs → cut.last ≡ [] → new ≡ tokens ++ spans_from at (slice_range cut.pairs 0 (length cut.pairs)) → IsRescannedTo text new (at + len)
 lines_scanned text piece tokens new at len cut b within e c last ended none is =
     let ps : List Pair = cut.pairs in
     let rest : List ℕ = drop (at + len) text in
@@ -451,9 +442,9 @@ lines_scanned text piece tokens new at len cut b within e c last ended none is =
     let whole : drop at text ≡ whole_text ps rest = drop_split text at (at + len) (omega arith) ∙ ap (λ (x : List ℕ). x ++ rest) (sym bytes) ∙ sym (whole_rest ps rest) in
     let width : at + len - at ≡ len = omega arith in
     let size : length (whole_text ps []) ≡ len = ap length bytes ∙ length-take-le (at + len - at) (drop at text) (omega (arith, length-drop {A = ℕ} at text)) ∙ width in
-    let more : IsRescannedTo text (tokens ++ tokens_at at ps) (at + length (whole_text ps [])) = rescanned_more text tokens at ps rest b lines whole in
-    let same : new ≡ tokens ++ tokens_at at ps = is ∙ ap (λ (x : List Pair). tokens ++ tokens_at at x) (all_range ps) in
-    subst (λ (x : List Span). IsRescannedTo text x (at + len)) (sym same) (subst (λ n. IsRescannedTo text (tokens ++ tokens_at at ps) (at + n)) size more)
+    let more : IsRescannedTo text (tokens ++ spans_from at ps) (at + length (whole_text ps [])) = rescanned_more text tokens at ps rest b lines whole in
+    let same : new ≡ tokens ++ spans_from at ps = is ∙ ap (λ (x : List Pair). tokens ++ spans_from at x) (all_range ps) in
+    subst (λ (x : List Span). IsRescannedTo text x (at + len)) (sym same) (subst (λ n. IsRescannedTo text (tokens ++ spans_from at ps) (at + n)) size more)
 
 -- what is left, as it was in the text before
 pub record RestText (text : List ℕ) (at : ℕ) (cut : TokenizedText) (from : ℕ) : Type 0 where
@@ -494,9 +485,9 @@ same_rest text old other bytes mine at cut from front whole f within short is ag
     (sym mine_are ∙ same ∙ bytes_are ∙ ap₂ (λ (x y : List ℕ). slice_range x front (length y)) is again)
 
 pub rest_rescanned : (text : List ℕ) (tokens new : List Span) (at : ℕ) (cut : TokenizedText) (from front : ℕ) → length text ≤ MAX_TEXT → IsRescannedTo text tokens at → IsLineStart cut from front → list_all is_whitespace cut.last ≡ true → RestText text at cut from
-    → new ≡ tokens ++ tokens_at at (slice_range cut.pairs from (length cut.pairs)) → IsRescanned text new (length text - length cut.last)
+    → new ≡ tokens ++ spans_from at (slice_range cut.pairs from (length cut.pairs)) → IsRescanned text new (length text - length cut.last)
 rest_rescanned text tokens new at cut from front short b f blank rest is =
-    let same : new ≡ tokens ++ tokens_at at (drop from cut.pairs) = is ∙ ap (λ (x : List Pair). tokens ++ tokens_at at x) rest.pairs in
+    let same : new ≡ tokens ++ spans_from at (drop from cut.pairs) = is ∙ ap (λ (x : List Pair). tokens ++ spans_from at x) rest.pairs in
     subst (λ (x : List Span). IsRescanned text x (length text - length cut.last)) (sym same) (rescanned_last text tokens at (drop from cut.pairs) cut.last short b f.rest blank rest.text_is)
 
 -- ---- tokens that don't join

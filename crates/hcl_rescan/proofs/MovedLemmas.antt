@@ -13,7 +13,7 @@ use Rattle.hcl_scan.specs.Follows.{following_text, FollowsFrom}
 use Rattle.hcl_scan.proofs.FollowingText.{lexeme_filled}
 use Rattle.hcl_scan.proofs.MarkerLemmas.{markers_after, marker_of_mode}
 use Rattle.hcl_scan.proofs.OpenMarkers.{HaveMarkers}
-use Rattle.hcl_rescan.specs.Inner.WholeLines.{IsLineStart, tokens_at}
+use Rattle.hcl_rescan.specs.Inner.WholeLines.{IsLineStart}
 use Rattle.hcl_rescan.specs.Inner.MovedSpans.{moved_span, moved_spans, IsMovable, AreMovable}
 use Rattle.hcl_rescan.proofs.LineLemmas.{place_in}
 
@@ -22,9 +22,6 @@ use Rattle.hcl_rescan.proofs.LineLemmas.{place_in}
 -- the first tokens moved, the others as they were
 abbrev pub moved_until : ℕ → ℕ → ℕ → List Span → List Span
 moved_until from to k tokens = moved_spans from to (take k tokens) ++ drop k tokens
-
-pub until_none : (from to : ℕ) (tokens : List Span) → moved_until from to 0 tokens ≡ tokens
-until_none from to tokens = refl
 
 pub until_next : (from to k : ℕ) (tokens : List Span) (d : Span) → k < length tokens
     → slice_set (moved_until from to k tokens) k (moved_span from to (get_or tokens k d)) ≡ moved_until from to (suc k) tokens
@@ -58,19 +55,15 @@ movable_at from to (suc k) (x ∷ tokens) d m h = movable_at from to k tokens d 
 far_is : (p : Pair) (ps : List Pair) (at : ℕ) → at + length p.gap + length p.spelling + length (whole_text ps []) ≡ at + length (whole_text (p ∷ ps) [])
 far_is p ps at = omega (arith, length-append p.gap (p.spelling ++ whole_text ps []), length-append p.spelling (whole_text ps []))
 
-spans_are : (at : ℕ) (ps : List Pair) → spans_from at ps ≡ tokens_at at ps
-spans_are at [] = refl
-spans_are at (p ∷ ps) = ap (λ (l : List Span). record { start = at + length p.gap; stop = at + length p.gap + length p.spelling; kind = p.kind } ∷ l) (spans_are (at + length p.gap + length p.spelling) ps)
-
-drop_tokens : (ps : List Pair) (i at : ℕ) → drop i (tokens_at at ps) ≡ tokens_at (at + length (whole_text (take i ps) [])) (drop i ps)
+drop_tokens : (ps : List Pair) (i at : ℕ) → drop i (spans_from at ps) ≡ spans_from (at + length (whole_text (take i ps) [])) (drop i ps)
 drop_tokens ps zero at =
     let same : at ≡ at + 0 = omega arith in
-    ap (λ n. tokens_at n ps) same
+    ap (λ n. spans_from n ps) same
 drop_tokens [] (suc i) at = refl
 drop_tokens (p ∷ ps) (suc i) at =
-    drop_tokens ps i (at + length p.gap + length p.spelling) ∙ ap (λ n. tokens_at n (drop i ps)) (far_is p (take i ps) at)
+    drop_tokens ps i (at + length p.gap + length p.spelling) ∙ ap (λ n. spans_from n (drop i ps)) (far_is p (take i ps) at)
 
-take_tokens : (ps : List Pair) (n at : ℕ) → take n (tokens_at at ps) ≡ tokens_at at (take n ps)
+take_tokens : (ps : List Pair) (n at : ℕ) → take n (spans_from at ps) ≡ spans_from at (take n ps)
 take_tokens ps zero at = refl
 take_tokens [] (suc n) at = refl
 take_tokens (p ∷ ps) (suc n) at =
@@ -80,7 +73,7 @@ span_is : (start stop other end : ℕ) (p : Pair) → start ≡ other → stop �
     → ◌≡◌ {A = Span} (record { start = start; stop = stop; kind = p.kind }) (record { start = other; stop = end; kind = p.kind })
 span_is start stop other end p e f = ap₂ (λ x y. record { start = x; stop = y; kind = p.kind }) e f
 
-shift_tokens : (from to x : ℕ) (ps : List Pair) → moved_spans from to (tokens_at (from + x) ps) ≡ tokens_at (to + x) ps
+shift_tokens : (from to x : ℕ) (ps : List Pair) → moved_spans from to (spans_from (from + x) ps) ≡ spans_from (to + x) ps
 shift_tokens from to x [] = refl
 shift_tokens from to x (p ∷ ps) =
     let gap : ℕ = length p.gap in
@@ -90,7 +83,7 @@ shift_tokens from to x (p ∷ ps) =
     let next : from + x + gap + spelling ≡ from + (x + gap + spelling) = omega arith in
     let there : to + (x + gap + spelling) ≡ to + x + gap + spelling = omega arith in
     ap₂ (λ (t : Span) (l : List Span). t ∷ l) (span_is _ _ _ _ p start stop)
-    (ap (λ n. moved_spans from to (tokens_at n ps)) next ∙ shift_tokens from to (x + gap + spelling) ps ∙ ap (λ n. tokens_at n ps) there)
+    (ap (λ n. moved_spans from to (spans_from n ps)) next ∙ shift_tokens from to (x + gap + spelling) ps ∙ ap (λ n. spans_from n ps) there)
 
 -- ---- they may be moved
 
@@ -105,7 +98,7 @@ all_filled (p ∷ ps) rest modes last m f = (
   all_filled ps rest (modes_after p.kind p.spelling modes) last (markers_after p.kind p.spelling (following_text (ps ++ rest) last) modes f.2.1 m) f.4,
 )
 
-all_movable : (from to x : ℕ) (ps : List Pair) → AreFilled ps → to + x + length (whole_text ps []) ≤ MAX_TEXT → AreMovable from to (tokens_at (from + x) ps)
+all_movable : (from to x : ℕ) (ps : List Pair) → AreFilled ps → to + x + length (whole_text ps []) ≤ MAX_TEXT → AreMovable from to (spans_from (from + x) ps)
 all_movable from to x [] filled fits = tt
 all_movable from to x (p ∷ ps) filled fits =
     let gap : ℕ = length p.gap in
@@ -118,25 +111,25 @@ all_movable from to x (p ∷ ps) filled fits =
         fits = omega (arith, filled.0);
         short = omega (arith, filled.0);
       },
-      subst (λ n. AreMovable from to (tokens_at n ps)) next (all_movable from to (x + gap + spelling) ps filled.1 (omega arith)),
+      subst (λ n. AreMovable from to (spans_from n ps)) next (all_movable from to (x + gap + spelling) ps filled.1 (omega arith)),
     )
 
 -- ---- the tokens of a stretch
 
-pub stretch_is : (cut : TokenizedText) (from at to : ℕ) (spans : List Span) → IsLineStart cut from at → spans ≡ spans_from 0 cut.pairs → slice_range spans from to ≡ tokens_at (at + 0) (slice_range cut.pairs from to)
+pub stretch_is : (cut : TokenizedText) (from at to : ℕ) (spans : List Span) → IsLineStart cut from at → spans ≡ spans_from 0 cut.pairs → slice_range spans from to ≡ spans_from (at + 0) (slice_range cut.pairs from to)
 stretch_is cut from at to spans f e =
     let place : 0 + length (whole_text (take from cut.pairs) []) ≡ at + 0 = omega (arith, f.place) in
-    ap (λ (l : List Span). slice_range l from to) (e ∙ spans_are 0 cut.pairs)
-    ∙ ap (take (to - from)) (drop_tokens cut.pairs from 0 ∙ ap (λ n. tokens_at n (drop from cut.pairs)) place)
+    ap (λ (l : List Span). slice_range l from to) e
+    ∙ ap (take (to - from)) (drop_tokens cut.pairs from 0 ∙ ap (λ n. spans_from n (drop from cut.pairs)) place)
     ∙ take_tokens (drop from cut.pairs) (to - from) (at + 0)
 
 pub stretch_moved : (cut : TokenizedText) (from at to there : ℕ) (spans : List Span) → IsLineStart cut from at → spans ≡ spans_from 0 cut.pairs
-    → moved_spans at there (slice_range spans from to) ≡ tokens_at there (slice_range cut.pairs from to)
+    → moved_spans at there (slice_range spans from to) ≡ spans_from there (slice_range cut.pairs from to)
 stretch_moved cut from at to there spans f e =
     let same : there + 0 ≡ there = omega arith in
     ap (moved_spans at there) (stretch_is cut from at to spans f e)
     ∙ shift_tokens at there 0 (slice_range cut.pairs from to)
-    ∙ ap (λ n. tokens_at n (slice_range cut.pairs from to)) same
+    ∙ ap (λ n. spans_from n (slice_range cut.pairs from to)) same
 
 pub stretch_movable : (cut : TokenizedText) (from at to there : ℕ) (spans : List Span) → IsLineStart cut from at → spans ≡ spans_from 0 cut.pairs → from ≤ to
     → there + length (whole_text (slice_range cut.pairs from to) []) ≤ MAX_TEXT → AreMovable at there (slice_range spans from to)

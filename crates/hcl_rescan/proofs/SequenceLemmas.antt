@@ -12,7 +12,7 @@ use Rattle.hcl_scan.specs.Modes.{Mode, mode_of, is_in_sequence, is_braces, after
 use Rattle.hcl_scan.specs.Modes.Mode.{Expression, Sequence, Braces, Quoted, Heredoc}
 use Rattle.hcl_scan.specs.Lexeme.{is_allowed_in}
 use Rattle.hcl_scan.specs.Follows.{FollowsFrom}
-use Rattle.hcl_rescan.specs.Inner.WholeLines.{IsLineStart, tokens_at}
+use Rattle.hcl_rescan.specs.Inner.WholeLines.{IsLineStart}
 use Rattle.hcl_rescan.specs.Inner.Sequences.{opens, closes, opened, closed}
 use Rattle.hcl_scan.proofs.PairLemmas.{modes_after_pairs}
 use Rattle.hcl_rescan.proofs.LineLemmas.{one_at, pair_there, kind_is}
@@ -163,7 +163,7 @@ sequences_are HereLit s (mode ∷ modes) st h = omega (arith, read_sequences s m
 sequences_are kind s modes st h = refl
 
 -- all tokens of a stretch
-sequences_after : (ps rest : List Pair) (at : ℕ) (modes : List Mode) (last : List ℕ) → AreNested modes → FollowsFrom modes (ps ++ rest) last [] → sequences (modes_after_pairs modes ps) + closed (tokens_at at ps) ≡ sequences modes + opened (tokens_at at ps)
+sequences_after : (ps rest : List Pair) (at : ℕ) (modes : List Mode) (last : List ℕ) → AreNested modes → FollowsFrom modes (ps ++ rest) last [] → sequences (modes_after_pairs modes ps) + closed (spans_from at ps) ≡ sequences modes + opened (spans_from at ps)
 sequences_after [] rest at modes last h f = refl
 sequences_after (p ∷ ps) rest at modes last h f =
     omega (
@@ -207,8 +207,8 @@ none_open_at cut from at i kind spans f e le within is end same =
     let rest : List Pair = drop (suc i) cut.pairs in
     let split : drop from cut.pairs ≡ before ++ p ∷ rest = drop_split cut.pairs from i le ∙ ap (λ (x : List Pair). before ++ x) (one_at cut.pairs i p there.1) in
     let follow : FollowsFrom [] (before ++ p ∷ rest) cut.last [] = subst (λ (x : List Pair). FollowsFrom [] x cut.last []) split f.rest.follow in
-    let tokens : slice_range spans from i ≡ tokens_at (at + 0) before = stretch_is cut from at i spans f e in
-    let balance : opened (tokens_at (at + 0) before) ≡ closed (tokens_at (at + 0) before) = subst (λ (x : List Span). opened x ≡ closed x) tokens same in
+    let tokens : slice_range spans from i ≡ spans_from (at + 0) before = stretch_is cut from at i spans f e in
+    let balance : opened (spans_from (at + 0) before) ≡ closed (spans_from (at + 0) before) = subst (λ (x : List Span). opened x ≡ closed x) tokens same in
     let count = sequences_after before (p ∷ rest) (at + 0) [] cut.last tt follow in
     let none : sequences (modes_after_pairs [] before) ≡ 0 = omega (arith, count, balance) in
     let allowed = subst (λ k. is_allowed_in (mode_of (modes_after_pairs [] before)) k ≡ true) (kind_is cut.pairs i p kind there.1 is ∙ end) (allowed_after before p rest [] cut.last follow) in

@@ -3,17 +3,18 @@
 //!
 //! A line here is the tokens up to a line end after which no opening is open. They don't depend on
 //! what precedes and follows the line, so if its bytes are in the new text at the start of a line,
-//! they have the same tokens there. The other lines are scanned as texts of their own.
+//! they have the same tokens there. The lines in which something changed are scanned as texts of
+//! their own; what follows the last of them has to be as it was.
 
 ghost use Rattle.std.specs.Prelude.{◌≡◌, ◌<◌, ◌≤◌, ◌+◌, ◌-◌, ◌^◌, ◌++◌, ◌∷◌, ℕ, true, false, Some, [], length, drop, slice_get, slice_range, IsTrue, OnOk, IfOk, IfSome};
 ghost use Rattle.hcl_token.specs.declared.kind.Kind.TheVariants.{LineEnd};
 ghost use Rattle.hcl_token.specs.TokenizedText.{kind_of};
 ghost use Rattle.hcl_token.specs.Tokens.{Pair, whole_text};
-ghost use Rattle.hcl_token.specs.Pairs.{InOrder, pairs_of};
+ghost use Rattle.hcl_token.specs.Pairs.{InOrder, pairs_of, spans_from};
 ghost use Rattle.hcl_scan.specs.Tokenization.{IsTokenization, MAX_TEXT};
 ghost use Rattle.hcl_scan.specs.ScanResult.{IsScanFault, IsScanResult};
 ghost use Rattle.hcl_scan.specs.Follows.{AreApart, FollowsFrom, IsApart};
-ghost use Rattle.hcl_rescan.specs.Inner.WholeLines.{AreSelfContained, EndsWithLineEnd, IsRescannedTo, IsLineStart, IsLineRange, IsRescanned, depth_after, tokens_at};
+ghost use Rattle.hcl_rescan.specs.Inner.WholeLines.{AreSelfContained, EndsWithLineEnd, IsRescannedTo, IsLineStart, IsLineRange, IsRescanned, depth_after};
 
 use crate::moved::move_spans;
 use crate::sequences::{close_what_they_open, first_beyond};
@@ -187,6 +188,7 @@ fn last_line_start(old: &Scanned<'_>, from: LineStart, limit: usize) -> LineStar
     ensures line_start { IsLineStart old.now result.index result.at }
     ensures lines { IsLineRange old.now.pairs from.index result.index }
 {
+    // by a cursor, which is free: `Scanned` has no other way to its tokens
     let spans = old.places().spans();
     let past = first_beyond(spans, from.index, limit);
     let Some(end) = last_line_end(old, from.index, past) else {
@@ -215,7 +217,7 @@ fn push_relocated(
     requires fits { at + length (whole_text (slice_range old.now.pairs from.index to) [])
         ≤ MAX_TEXT }
     ensures { OnOk result (tokens.new.items
-        ≡ tokens.old.items ++ tokens_at at (slice_range old.now.pairs from.index to)) }
+        ≡ tokens.old.items ++ spans_from at (slice_range old.now.pairs from.index to)) }
 {
     let _text = old.text();
     let begin = tokens.len();

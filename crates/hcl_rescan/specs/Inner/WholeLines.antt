@@ -58,17 +58,6 @@ pub record IsRescannedTo (text : List ℕ) (tokens : List Span) (at : ℕ) : Typ
   pub text_is : text ≡ whole_text (pairs_of text tokens) (drop at text)
   pub order : InOrder 0 tokens at
 
--- the tokens of pairs that are in a text from this place on
-abbrev pub tokens_at : ℕ → List Pair → List Span
-tokens_at at [] = []
-tokens_at at (p ∷ ps) =
-    record {
-      start = at + length p.gap;
-      stop = at + length p.gap + length p.spelling;
-      kind = p.kind;
-    }
-    ∷ tokens_at (at + length p.gap + length p.spelling) ps
-
 -- the text has these tokens, and its last gap begins at this place
 pub record IsRescanned (text : List ℕ) (tokens : List Span) (last_gap_at : ℕ) : Type 0 where
   pub tokenization : IsTokenization text (pairs_of text tokens) (drop last_gap_at text)
