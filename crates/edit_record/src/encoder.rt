@@ -199,7 +199,9 @@ fn write_record(out: &mut Vec<u8>, rec: &Record) -> Result<(), AllocError>
     Ok(())
 }
 
-/// Writes records behind the text of those before them.
+/// Writes records behind the text of those before them. It is inlined so that the list's length stays
+/// in a register.
+#[inline(always)]
 fn write_records(out: &mut Vec<u8>, records: &[Record]) -> Result<(), AllocError>
     ensures text { OnOk result
         ((all : List JournalEntry) → SplitsKnown all out.old.items records.now
