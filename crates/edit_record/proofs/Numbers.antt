@@ -73,7 +73,7 @@ number_takes least limit stop (c ∷ t) x small e =
       | inr h ↦ absurd cc
     ]
 
-pub is_digit_from : (c : ℕ) → 48 ≤ c → c ≤ 57 → is_digit c ≡ true
+is_digit_from : (c : ℕ) → 48 ≤ c → c ≤ 57 → is_digit c ≡ true
 is_digit_from c low high = grind (arith, le-leb 48 c low, le-leb c 57 high)
 
 pub one_digit : (left least limit stop value m c : ℕ) (some : Bool) (t : List ℕ) → is_digit c ≡ true → (some && (value == 0)) ≡ false → with_digit value c ≡ m → m ≤ limit → number_on left least limit stop some value (c ∷ t) ≡ number_on left least limit stop true m t

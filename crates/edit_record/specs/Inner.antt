@@ -7,5 +7,6 @@ pub mod OldHead
 pub mod Digits
 pub mod EditLengths
 pub mod EditSums
+pub mod ListCapacity
 pub mod PartText
 pub mod KnownText

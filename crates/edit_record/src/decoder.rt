@@ -1,6 +1,6 @@
 //! Reading a journal.
-ghost use Rattle.std.specs.Prelude.{IfErr};
-ghost use Rattle.edit_record.specs.Decoding.{RecordError, IsDecodeResult};
+ghost use Rattle.std.specs.Prelude.{◌≡◌, true, false, IfErr};
+ghost use Rattle.edit_record.specs.Decoding.{RecordError, IsDecodeResult, IsVersion};
 ghost use Rattle.edit_record.specs.Inner.ParseResults.{IsRead, ParsesAs, HasError, RecordAt, IsReadResult};
 ghost use Rattle.edit_record.specs.Inner.Allocating.{record_allocates, allocates};
 ghost use Rattle.edit_record.specs.Parsing.{record_at};
@@ -74,6 +74,13 @@ pub fn decode(alloc: Global, text: &[u8]) -> Result<Journal, RecordFault>
     }
 }
 
+/// Returns whether a text that was read is of version 2.
+fn is_version_2(text: &[u8]) -> bool
+    ensures { result ≡ true → IsVersion false text.now }
+{
+    !text.starts_with(b"tfrec 1")
+}
+
 /// Returns the journal whose text this is, as [`decode`] does, and keeps the text: where the
 /// records that it has are written again it is copied. A text of version 1 is not kept, nor one
 /// whose memory is more than four times its length.
@@ -84,9 +91,8 @@ pub fn decode(alloc: Global, text: &[u8]) -> Result<Journal, RecordFault>
 pub fn decode_owned(alloc: Global, text: Vec<u8>) -> Result<Journal, RecordFault>
     ensures { IsDecodeResult text.items result }
 {
-    let old = text.starts_with(b"tfrec 1");
     let mut journal = decode(alloc, text.as_slice())?;
-    if !old {
+    if is_version_2(&text) {
         journal.keep_text(text);
     }
     Ok(journal)

@@ -1,8 +1,10 @@
 //! Writing a journal.
-ghost use Rattle.std.specs.Prelude.{◌≡◌, ◌+◌, ◌-◌, ◌^◌, ◌≤◌, ◌++◌, length, min, OnOk, IfOk, IfErr, ◌<◌};
+ghost use Rattle.std.specs.Prelude.{◌≡◌, ◌+◌, ◌-◌, ◌^◌, ◌≤◌, ◌++◌, List, length, min, OnOk, IfOk, IfErr, ◌<◌};
 ghost use Rattle.std.specs.List.{flat_map};
 ghost use Rattle.edit_record.specs.Text.{edit_text, list_head, record_head, record_text, journal_text, IsCurrentText};
+ghost use Rattle.edit_record.specs.Inner.KnownText.{SplitsKnown};
 ghost use Rattle.edit_record.specs.Inner.PartText.{part_text};
+ghost use Rattle.edit_record.specs.Lists.Journal.{JournalEntry};
 ghost use Rattle.edit_record.specs.Lists.Validity.{IsValidList};
 
 use crate::digits::digit_count;
@@ -197,6 +199,21 @@ fn write_record(out: &mut Vec<u8>, rec: &Record) -> Result<(), AllocError>
     Ok(())
 }
 
+/// Writes records behind the text of those before them. It is inlined so that the list's length stays
+/// in a register.
+#[inline(always)]
+fn write_records(out: &mut Vec<u8>, records: &[Record]) -> Result<(), AllocError>
+    ensures text { OnOk result
+        ((all : List JournalEntry) → SplitsKnown all out.old.items records.now
+        → IsCurrentText out.new.items all) }
+    ensures allocates { IfErr result (λ _. 0 < length records.now) }
+{
+    for rec in records {
+        write_record(out, rec)?;
+    }
+    Ok(())
+}
+
 /// Copies a text. It takes no memory for a text without bytes.
 fn copy_text(out: &mut Vec<u8>, text: &[u8]) -> Result<(), AllocError>
     ensures text { OnOk result (out.new.items ≡ out.old.items ++ text.now) }
@@ -233,8 +250,21 @@ pub fn encode_with_len(alloc: Global, journal: &Journal, len: usize) -> Result<V
     let mut out = Vec::with_capacity(alloc, len)?;
     let (text, others) = journal.known_text();
     copy_text(&mut out, text)?;
-    for rec in others {
-        write_record(&mut out, rec)?;
-    }
+    write_records(&mut out, others)?;
+    Ok(out)
+}
+
+/// Returns the text of a journal as [`encode_with_len`] does. The journal goes: what
+/// [`decode_owned`](crate::decode_owned) kept of it is not copied, and the text of the other
+/// records is written behind it, so that no two texts are alive at once.
+pub fn encode_owned(journal: Journal, len: usize) -> Result<Vec<u8>, AllocError>
+    requires { len ≡ min (length (journal_text journal)) (2 ^ 64 - 1) }
+    ensures text { IfOk result (λ text. IsCurrentText text.items journal) }
+    ensures allocates { IfErr result (λ _. 0 < length journal) }
+{
+    let (text, records, known) = journal.into_known_text();
+    let mut out = text;
+    out.reserve_exact(len.saturating_sub(out.len()))?;
+    write_records(&mut out, &records[known..])?;
     Ok(out)
 }

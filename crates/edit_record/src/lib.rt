@@ -23,7 +23,7 @@ pub mod swaps;
 mod version_1;
 
 pub use decoder::{decode, decode_owned};
-pub use encoder::{encode, encode_with_len, encoded_len};
+pub use encoder::{encode, encode_owned, encode_with_len, encoded_len};
 pub use fault::RecordFault;
 pub use lists::{
     BadEdits, Change, Edit, Edits, Journal, Record, Refused, Word, apply_all, undo_all,

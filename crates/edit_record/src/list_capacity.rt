@@ -1,5 +1,6 @@
 //! Memory for the edits of a list that is read, reserved at once, for speed alone.
-ghost use Rattle.std.specs.Prelude.{◌≡◌, ◌<◌, ◌≤◌, ◌+◌, ◌/◌, ◌++◌, ◌∷◌, [], true, max, OnOk, is_ok, vec_len, vec_capacity};
+ghost use Rattle.std.specs.Prelude.{◌≡◌, ◌<◌, ◌≤◌, ◌+◌, ◌/◌, ◌++◌, ◌∷◌, [], true, OnOk, is_ok, vec_len, vec_capacity};
+ghost use Rattle.edit_record.specs.Inner.ListCapacity.{HasFewSpare};
 ghost use Rattle.edit_record.specs.declared.list_capacity.TheConstants.{LEAST_BYTES, MOST_RESERVED};
 
 use crate::lists::Edit;
@@ -19,7 +20,9 @@ pub(crate) fn push_edit(
     count: usize,
     left: usize,
 ) -> Result<(), AllocError>
-    ensures { OnOk result (edits.new.items ≡ edits.old.items ++ next ∷ []) }
+    ensures items { OnOk result (edits.new.items ≡ edits.old.items ++ next ∷ []) }
+    ensures few { HasFewSpare (vec_len edits.old) (vec_capacity edits.old)
+        → HasFewSpare (vec_len edits.new) (vec_capacity edits.new) }
 {
     reserve_next(edits, count, left)?;
     edits.push_reserved(next);
@@ -37,6 +40,8 @@ pub(crate) fn reserve_next(
     ensures items { edits.new.items ≡ edits.old.items }
     ensures spare { OnOk result (vec_len edits.new < vec_capacity edits.new) }
     ensures capacity { vec_len edits.old < vec_capacity edits.old → is_ok result ≡ true }
+    ensures few { HasFewSpare (vec_len edits.old) (vec_capacity edits.old)
+        → HasFewSpare (vec_len edits.new) (vec_capacity edits.new) }
 {
     if edits.len() >= edits.capacity() {
         reserve_edits(edits, count, left)?;
@@ -54,17 +59,18 @@ fn first_capacity(count: usize, left: usize) -> usize
     count.min(MOST_RESERVED).min(left / LEAST_BYTES + 1).max(1)
 }
 
-/// Reserves capacity for one edit more, and where the list is empty for those that follow.
+/// Reserves capacity for one edit more: where the list is empty for those that follow, else for as
+/// many as it has.
 #[cold]
 #[inline(never)]
 fn reserve_edits(edits: &mut Vec<Edit>, count: usize, left: usize) -> Result<(), AllocError>
     ensures items { edits.new.items ≡ edits.old.items }
     ensures spare { OnOk result (vec_len edits.new < vec_capacity edits.new) }
-    ensures few { edits.old.items ≡ []
-        → OnOk result (vec_capacity edits.new ≤ max (vec_capacity edits.old) MOST_RESERVED) }
+    ensures few { HasFewSpare (vec_len edits.old) (vec_capacity edits.old)
+        → HasFewSpare (vec_len edits.new) (vec_capacity edits.new) }
 {
     if !edits.is_empty() {
-        return edits.reserve(1);
+        return edits.reserve_exact(edits.len());
     }
     edits.reserve_exact(first_capacity(count, left))
 }

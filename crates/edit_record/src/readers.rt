@@ -5,6 +5,7 @@ ghost use Rattle.edit_record.specs.Inner.ParseResults.{IsParsed, IsRead, IsStop,
 ghost use Rattle.edit_record.specs.Inner.Allocating.{edits_allocate, edit_list_allocates};
 ghost use Rattle.edit_record.specs.Inner.EditLengths.{after_head_at};
 ghost use Rattle.edit_record.specs.Inner.EditSums.{AreSummedUp};
+ghost use Rattle.edit_record.specs.Inner.ListCapacity.{HasFewSpare};
 ghost use Rattle.edit_record.specs.Lists.Validity.{make_edits};
 ghost use Rattle.edit_record.specs.Text.{max_number, space};
 ghost use Rattle.edit_record.specs.Parsing.{strip, expect, number_at, bytes_at, edit_head_at, edit_at, edits_at, if_valid, list_head_at, edit_list_at, bare_word_at, word_at};
@@ -148,7 +149,8 @@ fn after_head(
     Ok((Edit::new(alloc, at, removed, added)?, rest))
 }
 
-/// Reads an edit, part by part. It allocates as `after_head` does.
+/// Reads an edit, part by part. It allocates as `after_head` does. It is called only
+/// where the head has an error.
 #[inline(never)]
 #[tactic(auto, unfolding(crate::specs::Parsing::edit_at, crate::specs::Inner::EditLengths::after_head_at))]
 fn any_edit(alloc: Global, text: &[u8]) -> Result<(Edit, &[u8]), DecodeStop>
@@ -170,8 +172,11 @@ fn push_any<'t>(
     ensures pushed { IfOk result (λ rest. IsPushed edits.old.items edits.new.items text.now rest.now) }
     ensures stops { IfErr result
         (λ stop. IsStop (is_ok (edit_at text.now)) stop (edit_at text.now)) }
+    ensures few { HasFewSpare (vec_len edits.old) (vec_capacity edits.old)
+        → HasFewSpare (vec_len edits.new) (vec_capacity edits.new) }
 {
     let Some(((at, removed, added), rest)) = plain_head(text) else {
+        // for the proof: `any_edit` answers an error here, and nothing is pushed
         let (next, after) = any_edit(alloc, text)?;
         push_edit(edits, next, count, after.len())?;
         return Ok(after);
@@ -200,6 +205,8 @@ fn push_placed<'t>(
     ensures pushed { IfOk result (λ rest. IsPushed edits.old.items edits.new.items whole.now rest.now) }
     ensures stops { IfErr result
         (λ stop. IsStop (is_ok (edit_at whole.now)) stop (edit_at whole.now)) }
+    ensures few { HasFewSpare (vec_len edits.old) (vec_capacity edits.old)
+        → HasFewSpare (vec_len edits.new) (vec_capacity edits.new) }
 {
     let Some(((removed, added), rest)) = plain_lengths(text) else {
         return push_any(alloc, edits, count, whole);
@@ -228,6 +235,8 @@ fn reserve_read(
     ensures capacity { vec_len edits.old < vec_capacity edits.old → is_ok result ≡ true }
     ensures stops { IfErr result
         (λ stop. IsStop (is_ok (edit_at text.now)) stop (edit_at text.now)) }
+    ensures few { HasFewSpare (vec_len edits.old) (vec_capacity edits.old)
+        → HasFewSpare (vec_len edits.new) (vec_capacity edits.new) }
 {
     let _ = text;
     reserve_next(edits, count, left)?;
@@ -245,6 +254,7 @@ fn edits(
     ensures read { IsRead (λ x. (x.0.items, x.2.now)) (edits_allocate count text.now) result
         (edits_at count text.now) }
     ensures summed { IfOk result (λ x. AreSummedUp x.0.items x.1) }
+    ensures few { IfOk result (λ x. HasFewSpare (vec_len x.0) (vec_capacity x.0)) }
 {
     let mut edits = Vec::new(alloc);
     let mut sums = EditSums::none();

@@ -1,8 +1,8 @@
-ghost use Rattle.std.specs.Prelude.{◌≡◌, ◌≤◌, ◌+◌, [], ◌∷◌, ◌++◌, length, take, OnOk, OnErr, IfErr, IsNone, option_to_list};
+ghost use Rattle.std.specs.Prelude.{◌≡◌, ◌≤◌, ◌+◌, [], ◌∷◌, ◌++◌, length, take, drop, OnOk, OnErr, IfErr, IsNone, option_to_list};
 ghost use Rattle.edit_record.specs.Text.{IsCurrentText};
 ghost use Rattle.edit_record.specs.Inner.KnownText.{SplitsKnown};
 
-use crate::lists::known_text::{MOST_SPARE, shorten_known_text};
+use crate::lists::known_text::{shorten_known_text, text_to_keep};
 use crate::lists::sequence::{apply_records, undo_records};
 use crate::lists::{Change, Record, Refused};
 use std::alloc::{AllocError, AllocFailed, Global};
@@ -20,15 +20,15 @@ pub struct Journal {
 }
 
 impl Model for Journal {
-    ghost use Rattle.std.specs.Prelude.{List};
+    ghost use Rattle.std.specs.Prelude.{List, vec_capacity};
     ghost use Rattle.edit_record.specs.Lists.Journal.{JournalEntry};
-    ghost use Rattle.edit_record.specs.Inner.KnownText.{IsKnownText};
+    ghost use Rattle.edit_record.specs.Inner.KnownText.{IsKeptText};
 
     ghost Value = { List JournalEntry };
 
     ghost view = { λ j. j.records.items };
 
-    ghost invariant = { λ j. IsKnownText j.records.items j.known j.text.items };
+    ghost invariant = { λ j. IsKeptText j.records.items j.known j.text.items (vec_capacity j.text) };
 }
 
 impl Journal {
@@ -48,11 +48,10 @@ impl Journal {
         requires { IsCurrentText text.items self.old }
         ensures { self.new ≡ self.old }
     {
-        if text.len() < text.capacity() / MOST_SPARE {
-            return;
+        if let Some(text) = text_to_keep(text) {
+            self.known = self.records.len();
+            self.text = text;
         }
-        self.known = self.records.len();
-        self.text = text;
     }
 
     /// Returns the text of the first records, as far as it was kept, and the other records.
@@ -60,6 +59,20 @@ impl Journal {
         ensures { SplitsKnown self.now result.0.now result.1.now }
     {
         (self.text.as_slice(), &self.records[self.known..])
+    }
+
+    /// Returns the text of the first records, as far as it was kept, all records, and how many of
+    /// them have that text.
+    pub(crate) fn into_known_text(self) -> (Vec<u8>, Vec<Record>, usize)
+        ensures within { result.2 ≤ length result.1.items }
+        ensures splits { SplitsKnown self result.0.items (drop result.2 result.1.items) }
+    {
+        let Journal {
+            records,
+            text,
+            known,
+        } = self;
+        (text, records, known)
     }
 
     /// Adds a record at the end.

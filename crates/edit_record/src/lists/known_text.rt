@@ -1,6 +1,6 @@
 //! The text that the first records of a journal were read from, kept for speed alone: where these
 //! records are written again it is copied.
-ghost use Rattle.std.specs.Prelude.{◌≤◌, ◌/◌, length, vec_capacity};
+ghost use Rattle.std.specs.Prelude.{◌≡◌, ◌≤◌, ◌/◌, length, IfSome, vec_capacity};
 ghost use Rattle.edit_record.specs.Inner.KnownText.{IsKnownText};
 ghost use Rattle.edit_record.specs.declared.lists.known_text.TheConstants.{MOST_SPARE};
 
@@ -9,6 +9,17 @@ use crate::lists::Record;
 
 /// A text is kept while its memory is at most this many times its length.
 pub(crate) const MOST_SPARE: usize = 4;
+
+/// Returns a text if it is to be kept.
+pub(crate) fn text_to_keep(text: Vec<u8>) -> Option<Vec<u8>>
+    ensures is { IfSome result (λ kept. kept.items ≡ text.items) }
+    ensures spare { IfSome result (λ kept. vec_capacity kept / MOST_SPARE ≤ length kept.items) }
+{
+    if text.len() < text.capacity() / MOST_SPARE {
+        return None;
+    }
+    Some(text)
+}
 
 /// Shortens the text of the first `known` records to that of the first `to` of them, if they are fewer,
 /// and returns of how many it is the text now.
