@@ -54,6 +54,7 @@ fn is_free_block(scanned: &Scanned<'_>, from: usize) -> bool
     ensures free { result ≡ true → AreNoComments scanned.now.pairs from (from + BLOCK) }
     ensures comment { result ≡ false → HasComment scanned.now.pairs from (from + BLOCK) }
 {
+    // for the proof: the number of tokens fits a usize
     let _count = scanned.len();
     let mut is_free = true;
     for i in 0..BLOCK {
@@ -73,6 +74,7 @@ fn past_blocks(scanned: &Scanned<'_>, from: usize) -> usize
         → HasComment scanned.now.pairs result (result + BLOCK) }
 {
     let mut at = from;
+    // for the proof: the label names the loop's invariant
     'free: while scanned.len() - at >= BLOCK {
         if !is_free_block(scanned, at) {
             return at;

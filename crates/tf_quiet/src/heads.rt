@@ -56,6 +56,8 @@ pub fn is_snake_label(scanned: &Scanned<'_>, n: usize) -> bool
         && is_snake_case(token_text(scanned, n + 1))
 }
 
+/// Returns whether no rule on blocks finds anything at a member that begins with this word, whatever
+/// is in it: the word declares nothing, or the label that names what it declares is in snake_case.
 fn is_quiet_after_word(scanned: &Scanned<'_>, n: usize, word: &[u8]) -> bool
     requires { n + 6 < 2 ^ 64 }
     ensures { result ≡ is_quiet_after_word scanned.now.pairs n word.now }

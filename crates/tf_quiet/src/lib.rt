@@ -6,6 +6,6 @@ mod heads;
 pub mod laws;
 mod tokens;
 
-pub use blocks::quiet_block_end;
+pub use blocks::{quiet_block_end, quiet_block_end_within};
 pub use heads::is_quiet_head;
-pub use tokens::quiet_line_end;
+pub use tokens::{Stop, is_loud_between, quiet_line_end, quiet_line_end_within};

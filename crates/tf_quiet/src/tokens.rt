@@ -1,6 +1,6 @@
 //! Which tokens are quiet.
 
-ghost use Rattle.std.specs.Prelude.{◌≡◌, ◌<◌, ◌+◌, ◌-◌, ◌^◌, true, false, length, drop, Some, None, IfSome};
+ghost use Rattle.std.specs.Prelude.{◌≡◌, ◌<◌, ◌≤◌, ◌+◌, ◌-◌, ◌^◌, true, false, length, drop, Some, IfOk, IfErr, IfSome};
 ghost use Rattle.hcl_scan.specs.Follows.{tokens_of};
 ghost use Rattle.hcl_token.specs.declared.kind.Kind.TheVariants.{LineEnd};
 ghost use Rattle.hcl_token.specs.TokenizedText.{kind_of, spelling_of};
@@ -93,28 +93,55 @@ fn is_lookup(scanned: &Scanned<'_>, n: usize) -> bool
     scanned.spelling(n) == b"lookup".as_slice()
 }
 
+/// Why no end of a member was found.
+#[derive(Clone, Copy)]
+pub enum Stop {
+    /// A token is not quiet, or the text ends, or a block lacks something.
+    NotQuiet,
+    /// So many tokens were to be looked at, and all of them are quiet.
+    Limit,
+}
+
+/// Returns why no end was found where all tokens up to this number are quiet.
+pub fn stop_at(scanned: &Scanned<'_>, limit: usize) -> Stop {
+    if limit < scanned.len() {
+        Stop::Limit
+    } else {
+        Stop::NotQuiet
+    }
+}
+
 /// Returns the number of brackets, if a token is quiet.
 #[inline(always)]
-fn depth_if(is_quiet: bool, depth: usize) -> Option<usize>
-    ensures quiet { IfSome result (λ d. (is_quiet ≡ true) × (d ≡ depth)) }
-    ensures other { result ≡ None → is_quiet ≡ false }
+fn depth_if(is_quiet: bool, depth: usize) -> Result<usize, Stop>
+    ensures quiet { IfOk result (λ d. (is_quiet ≡ true) × (d ≡ depth)) }
+    ensures other { IfErr result (λ _. is_quiet ≡ false) }
 {
-    if is_quiet { Some(depth) } else { None }
+    if is_quiet {
+        Ok(depth)
+    } else {
+        Err(Stop::NotQuiet)
+    }
 }
 
 /// Returns how many brackets are open after this token, of this kind, if no rule at a node can find
 /// anything at it.
 #[inline(always)]
-fn depth_after_quiet(scanned: &Scanned<'_>, n: usize, kind: Kind, depth: usize) -> Option<usize>
+fn depth_after_quiet(
+    scanned: &Scanned<'_>,
+    n: usize,
+    kind: Kind,
+    depth: usize,
+) -> Result<usize, Stop>
     requires here { Some kind ≡ kind_of scanned.now.pairs n }
     requires fits { depth + 1 < 2 ^ 64 }
-    ensures quiet { IfSome result (λ _. is_quiet_at scanned.now.pairs n ≡ true) }
-    ensures depth { IfSome result (λ d. d ≡ depth_after kind depth) }
-    ensures other { result ≡ None → is_quiet_at scanned.now.pairs n ≡ false }
+    ensures quiet { IfOk result (λ _. is_quiet_at scanned.now.pairs n ≡ true) }
+    ensures depth { IfOk result (λ d. d ≡ depth_after kind depth) }
+    ensures other { IfErr result (λ _. is_quiet_at scanned.now.pairs n ≡ false) }
 {
     let _count = scanned.len();
     match kind {
-        Kind::DotIndex => None,
+        Kind::DotIndex => Err(Stop::NotQuiet),
         Kind::DoubleEqual | Kind::NotEqual => depth_if(is_quiet_operand(scanned, n + 1), depth),
         Kind::InlineComment | Kind::LineEnd | Kind::LineComment => depth_if(
             is_no_equality(scanned, n + 1),
@@ -127,9 +154,9 @@ fn depth_after_quiet(scanned: &Scanned<'_>, n: usize, kind: Kind, depth: usize) 
         | Kind::OpenBracket
         | Kind::OpenBrace
         | Kind::InterpOpen
-        | Kind::DirectiveOpen => Some(depth + 1),
-        Kind::CloseParen | Kind::CloseBrace | Kind::SeqClose => Some(depth.saturating_sub(1)),
-        _ => Some(depth),
+        | Kind::DirectiveOpen => Ok(depth + 1),
+        Kind::CloseParen | Kind::CloseBrace | Kind::SeqClose => Ok(depth.saturating_sub(1)),
+        _ => Ok(depth),
     }
 }
 
@@ -162,17 +189,26 @@ fn class_of(kind: Kind) -> u8
     }
 }
 
-/// Returns the place after the first line end that is outside of brackets, if all tokens from
-/// number `from` up to there are quiet. There a member ends that begins at `from`, if one does.
+/// Returns the place after the first line end that is outside of brackets, if it is found before
+/// token `limit` and all tokens from number `from` up to there are quiet.
+///
+/// # Errors
+///
+/// Why it was not found.
 #[inline(never)]
-pub fn quiet_line_end(scanned: &Scanned<'_>, from: usize) -> Option<usize>
-    ensures quiet { IfSome result (λ to. AreQuiet scanned.now.pairs from to) }
-    ensures line { IfSome result (λ to. kind_of scanned.now.pairs (to - 1) ≡ Some LineEnd) }
-    ensures first { IfSome result (λ to. line_end_from (tokens_of scanned.now.pairs) 0 from ≡ Some to) }
+pub fn quiet_line_end_within(
+    scanned: &Scanned<'_>,
+    from: usize,
+    limit: usize,
+) -> Result<usize, Stop>
+    requires { limit ≤ length scanned.now.pairs }
+    ensures quiet { IfOk result (λ to. AreQuiet scanned.now.pairs from to) }
+    ensures line { IfOk result (λ to. kind_of scanned.now.pairs (to - 1) ≡ Some LineEnd) }
+    ensures first { IfOk result (λ to. line_end_from (tokens_of scanned.now.pairs) 0 from ≡ Some to) }
 {
     let mut depth = 0;
     let mut n = from;
-    'quiet: while n < scanned.len() {
+    'quiet: while n < limit {
         let kind = scanned.kind(n);
         let class = class_of(kind);
         if class == PLAIN {
@@ -181,19 +217,53 @@ pub fn quiet_line_end(scanned: &Scanned<'_>, from: usize) -> Option<usize>
         }
         if class == NAME {
             if is_lookup(scanned, n) {
-                return None;
+                return Err(Stop::NotQuiet);
             }
             n += 1;
             continue;
         }
         if class == LINE_END && depth == 0 {
             if !is_no_equality(scanned, n + 1) {
-                return None;
+                return Err(Stop::NotQuiet);
             }
-            return Some(n + 1);
+            return Ok(n + 1);
         }
         depth = depth_after_quiet(scanned, n, kind, depth)?;
         n += 1;
     }
-    None
+    Err(stop_at(scanned, limit))
+}
+
+/// Returns the place after the first line end that is outside of brackets, if all tokens from
+/// number `from` up to there are quiet. There a member ends that begins at `from`, if one does.
+pub fn quiet_line_end(scanned: &Scanned<'_>, from: usize) -> Option<usize>
+    ensures quiet { IfSome result (λ to. AreQuiet scanned.now.pairs from to) }
+    ensures line { IfSome result (λ to. kind_of scanned.now.pairs (to - 1) ≡ Some LineEnd) }
+    ensures first { IfSome result (λ to. line_end_from (tokens_of scanned.now.pairs) 0 from ≡ Some to) }
+{
+    match quiet_line_end_within(scanned, from, scanned.len()) {
+        Ok(end) => Some(end),
+        Err(_stop) => None,
+    }
+}
+
+/// Returns whether some token between these places is a legacy index, or a quote after which one
+/// interpolation may be all of the quoted text: most tokens that are not quiet are such. It is asked
+/// before all is looked at, so it says nothing that anything rests on.
+pub fn is_loud_between(scanned: &Scanned<'_>, from: usize, to: usize) -> bool
+    requires { to ≤ length scanned.now.pairs }
+{
+    let mut n = from;
+    'loud: while n < to {
+        let is_loud = match scanned.kind(n) {
+            Kind::DotIndex => true,
+            Kind::QuoteOpen => !is_quiet_after_quote(scanned, n + 1),
+            _ => false,
+        };
+        if is_loud {
+            return true;
+        }
+        n += 1;
+    }
+    false
 }

@@ -14,6 +14,7 @@ mod rule;
 mod rule_set;
 mod rules;
 mod snake_case;
+mod snake_units;
 mod spelling;
 mod top_level;
 mod trivia;

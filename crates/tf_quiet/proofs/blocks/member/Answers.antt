@@ -13,7 +13,7 @@ pub returns-clause-walk : goal.returns-clause-walk
 returns-clause-walk c =
     let text = c.token_text-name.ensures in
     member_walk c.args.scanned.now.pairs c.args.names c.args.n c.in_ok-end.end c.is_spelled-typed.result c.is_spelled-described.result
-    (sym c.is_kind.ensures ∙ c.if-not-is_kind.false)
+    c.requires.word
     (sym (c.is_spelled-typed.ensures ∙ ap (λ (w : List ℕ). bytes_eq w (codes "type")) text))
     (sym (c.is_spelled-described.ensures ∙ ap (λ (w : List ℕ). bytes_eq w (codes "description")) text))
     (sym c.is_right_attribute.ensures ∙ c.if-not-is_right_attribute.false)

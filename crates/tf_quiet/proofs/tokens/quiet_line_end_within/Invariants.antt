@@ -2,7 +2,7 @@ use Rattle.std.proofs.Common.{◌≡◌, ◌≤◌, ◌-◌, length}
 use Rattle.hcl_scan.specs.Follows.{tokens_of}
 use Rattle.tf_quiet.specs.LineEnds.{line_end_from}
 use Rattle.tf_quiet.specs.QuietTokens.{AreQuiet}
-use Rattle.tf_quiet.proofs.tokens.quiet_line_end.Given as goal
+use Rattle.tf_quiet.proofs.tokens.quiet_line_end_within.Given as goal
 
 abbrev pub invariant-quiet : goal.invariant-quiet
 invariant-quiet l = record {

@@ -5,7 +5,7 @@ use Rattle.hcl_token.specs.declared.kind.Kind.TheVariants.{LineEnd}
 use Rattle.tf_quiet.specs.LineEnds.{line_end_by, line_end_from}
 use Rattle.tf_quiet.proofs.QuietRuns.{one_more}
 use Rattle.tf_quiet.proofs.LineWalks.{line_class, other_class, ends_here, goes_on, by_other, by_inner, depth_fits, plain_passed, name_passed, line_end_at}
-use Rattle.tf_quiet.proofs.tokens.quiet_line_end.Goals as goal
+use Rattle.tf_quiet.proofs.tokens.quiet_line_end_within.Goals as goal
 
 pub quiet-preserved-then-class-eq-PLAIN : goal.quiet-preserved-then-class-eq-PLAIN
 quiet-preserved-then-class-eq-PLAIN c =
