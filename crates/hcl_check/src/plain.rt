@@ -1,9 +1,11 @@
 //! Operands with no construct in them, as most are: a name with the names after it, a number, a
 //! text without a template.
 //!
-//! For speed alone: what is taken here `whole` takes, too, with more looks at each token.
+//! For speed alone: what is taken here `general_expr` takes, too, with more looks at each token.
+//! Where more follows, what reads the rest goes on from there (`Unread`), so that no token is read
+//! twice.
 
-ghost use Rattle.std.specs.Prelude.{◌≡◌, ◌<◌, ◌+◌, ◌^◌, ℕ, true, false, Ok, None, OnSome};
+ghost use Rattle.std.specs.Prelude.{◌≡◌, ◌<◌, ◌+◌, ◌^◌, ℕ, true, false, Ok, None, OnSome, IfSome};
 ghost use Rattle.hcl_token.specs.declared.kind.Kind.TheVariants as k;
 ghost use Rattle.hcl_grammar.specs.Operators as operators;
 ghost use Rattle.hcl_grammar.specs.Pure.Reading.{and_then};
@@ -11,22 +13,37 @@ ghost use Rattle.hcl_expr.specs.ReaderRules as tokens;
 ghost use Rattle.hcl_check.specs.Passes.{under};
 ghost use Rattle.hcl_check.specs.Rules as spec;
 ghost use Rattle.hcl_check.specs.Rules.{IsRead};
+ghost use Rattle.hcl_check.specs.declared.plain.Unread.TheVariants.{All};
 
 use crate::looks::Next;
 use crate::opens::enter;
-use hcl_expr::Reader;
+use crate::terms::is_called;
+use hcl_expr::{Reader, same_kind};
 use hcl_token::Kind;
 
-/// Returns whether a term before this place is known to be a whole `Expr`: what comes next ends it.
+/// What of an `Expr` was not taken yet.
+#[derive(Clone, Copy)]
+pub enum Unread {
+    /// All of it.
+    All,
+    /// What follows a term and tails of it: at most so many more tails, operators, a conditional.
+    Tails(usize),
+    /// Nothing.
+    Nothing,
+}
+
+/// Returns whether a term before this place is known to be a whole `Expr`: what comes next, which is
+/// `next`, ends it.
 #[inline(always)]
 #[tactic(auto, unfolding(crate::specs::Passes::operator, crate::specs::Passes::tail_of, hcl_grammar::specs::Pure::Reading::next_is, hcl_grammar::specs::Tokens::same_kind))]
-fn ends_expr(reader: &Reader<'_, '_>, at: usize) -> bool
+fn ends_expr(reader: &Reader<'_, '_>, next: Option<Kind>, at: usize) -> bool
+    requires { next ≡ tokens.next_kind reader.now at }
     ensures operator { result ≡ true → spec.operator reader.now at ≡ Ok (false, at) }
     ensures question { result ≡ true → tokens.next_is reader.now k.Question at ≡ false }
     ensures tail { result ≡ true → spec.tail reader.now at ≡ Ok (false, at) }
     ensures called { result ≡ true → spec.is_called reader.now at ≡ false }
 {
-    match reader.next_kind(at) {
+    match next {
         Some(Kind::LineEnd)
         | Some(Kind::LineComment)
         | Some(Kind::Comma)
@@ -51,7 +68,14 @@ fn eat_dotted(reader: &Reader<'_, '_>, at: &mut usize) -> bool
 {
     let (number, next) = reader.next_token(*at);
     match next {
-        Some(Kind::Dot) => {
+        Some(kind) => {
+            if same_kind(kind, Kind::DotIndex) {
+                *at = number + 1;
+                return true;
+            }
+            if !same_kind(kind, Kind::Dot) {
+                return false;
+            }
             let (second, name) = reader.next_token(number + 1);
             match name {
                 Some(Kind::Identifier) | Some(Kind::Star) => {
@@ -61,24 +85,22 @@ fn eat_dotted(reader: &Reader<'_, '_>, at: &mut usize) -> bool
                 _ => false,
             }
         }
-        Some(Kind::DotIndex) => {
-            *at = number + 1;
-            true
-        }
-        _ => false,
+        None => false,
     }
 }
 
-/// Takes the tails with dots after a name.
+/// Takes the tails with dots after a name. Returns how many more its rule would take at most.
 #[inline(always)]
-fn eat_all_dotted(reader: &Reader<'_, '_>, first: usize, at: &mut usize)
-    ensures { IsRead reader.now first k.Identifier at.old at.new }
+fn eat_all_dotted(reader: &Reader<'_, '_>, first: usize, at: &mut usize) -> usize
+    ensures { IsRead reader.now first k.Identifier result at.old at.new }
 {
-    for _turn in 0..reader.len() {
+    let most = reader.len();
+    for turn in 0..most {
         if !eat_dotted(reader, at) {
-            return;
+            return most - turn;
         }
     }
+    0
 }
 
 /// Takes a text without a template and the quotes after it, at whatever depth.
@@ -110,56 +132,65 @@ fn eat_text(reader: &Reader<'_, '_>, at: &mut usize) -> bool
     }
 }
 
-/// Takes the rest of such a term with its tails, after its first token, which is `first`.
+/// Takes the rest of such a term with its tails, after its first token, which is `first`. Returns how
+/// many more tails its rule would take at most.
 #[inline(always)]
-fn eat_term(reader: &Reader<'_, '_>, first: usize, kind: Kind, at: &mut usize) -> bool
-    ensures first { result ≡ true → operators.unary_operator kind ≡ None }
-    ensures read { result ≡ true → IsRead reader.now first kind at.old at.new }
+fn eat_term(reader: &Reader<'_, '_>, first: usize, kind: Kind, at: &mut usize) -> Option<usize>
+    ensures first { OnSome result (operators.unary_operator kind ≡ None) }
+    ensures read { IfSome result (λ turns. IsRead reader.now first kind turns at.old at.new) }
 {
     match kind {
-        Kind::Identifier => {
-            eat_all_dotted(reader, first, at);
-            true
-        }
-        Kind::Number => true,
+        Kind::Identifier => Some(eat_all_dotted(reader, first, at)),
+        Kind::Number => Some(reader.len()),
         Kind::QuoteOpen => match enter(reader, first, at) {
-            Ok(_inner) => eat_text(reader, at),
-            Err(_fault) => false,
+            Ok(_inner) => {
+                if !eat_text(reader, at) {
+                    return None;
+                }
+                Some(reader.len())
+            }
+            Err(_fault) => None,
         },
-        _ => false,
+        _ => None,
     }
 }
 
-/// Takes an `Expr` that is one such term, if the token after it shows that it is. Its first token
-/// is `next`.
+/// Takes an `Expr` that is one such term, if the token after it shows that it is. Where more than the
+/// term follows, takes the term. The first token is `next`.
 #[inline(always)]
-#[tactic(auto, unfolding(hcl_grammar::specs::Tokens::after_next))]
-pub fn eat_plain_expr(reader: &Reader<'_, '_>, next: Next, at: &mut usize) -> bool
+pub fn eat_plain_expr(reader: &Reader<'_, '_>, next: Next, at: &mut usize) -> Unread
     requires number { next.0 ≡ tokens.next_index reader.now at.old }
     requires kind { next.1 ≡ tokens.next_kind reader.now at.old }
     requires fits { OnSome next.1 (next.0 + 1 < 2 ^ 64) }
-    ensures taken { result ≡ true → spec.expr reader.now at.old ≡ Ok (tt, at.new) }
-    ensures kept { result ≡ false → at.new ≡ at.old }
+    ensures left { spec.expr reader.now at.old ≡ spec.unread reader.now result at.new }
+    ensures kept { result ≡ All → at.new ≡ at.old }
 {
     let (first, found) = next;
     match found {
         Some(kind) => {
             let mut end = first + 1;
-            if !eat_term(reader, first, kind, &mut end) {
-                return false;
+            match eat_term(reader, first, kind, &mut end) {
+                Some(turns) => {
+                    let after = reader.next_kind(end);
+                    if ends_expr(reader, after, end) {
+                        *at = end;
+                        return Unread::Nothing;
+                    }
+                    if is_called(reader, after, end) {
+                        return Unread::All;
+                    }
+                    *at = end;
+                    Unread::Tails(turns)
+                }
+                None => Unread::All,
             }
-            if !ends_expr(reader, end) {
-                return false;
-            }
-            *at = end;
-            true
         }
-        None => false,
+        None => Unread::All,
     }
 }
 
 /// Takes the rest of parentheses or of an `Interp`, after the opening, which is token `first`, if what
-/// they enclose is such an expression. It ends with `close`.
+/// they enclose is such an expression; else what `eat_plain_expr` takes of it. It ends with `close`.
 #[inline(always)]
 #[tactic(auto, unfolding(crate::specs::Passes::enclosed, hcl_grammar::specs::Pure::Reading::expect, hcl_grammar::specs::Pure::Reading::after_if_next))]
 pub fn eat_plain_enclosed(
@@ -167,45 +198,30 @@ pub fn eat_plain_enclosed(
     close: Kind,
     first: usize,
     at: &mut usize,
-) -> bool
-    ensures taken { result ≡ true → spec.enclosed reader.now close first at.old ≡ Ok (tt, at.new) }
-    ensures kept { result ≡ false → at.new ≡ at.old }
+) -> Unread
+    ensures { spec.enclosed reader.now close first at.old
+        ≡ spec.enclosed_unread reader.now close first result at.new }
 {
     let mut end = *at;
     match enter(reader, first, &mut end) {
         Ok(inner) => {
             let inside = inner.in_brackets();
             let next = inside.next_token(end);
-            if !eat_plain_expr(&inside, next, &mut end) {
-                return false;
+            match eat_plain_expr(&inside, next, &mut end) {
+                Unread::Nothing => {
+                    if !inside.eat(close, &mut end) {
+                        return Unread::All;
+                    }
+                    *at = end;
+                    Unread::Nothing
+                }
+                Unread::Tails(turns) => {
+                    *at = end;
+                    Unread::Tails(turns)
+                }
+                Unread::All => Unread::All,
             }
-            if !inside.eat(close, &mut end) {
-                return false;
-            }
-            *at = end;
-            true
         }
-        Err(_too_deep) => false,
+        Err(_too_deep) => Unread::All,
     }
-}
-
-/// Takes the rest of an `Attr`, after its name and `=`, if its value is such an expression and a
-/// line end comes after it, with a comment or without.
-#[inline(always)]
-#[tactic(auto, unfolding(crate::specs::Passes::attr_by, hcl_grammar::specs::Pure::BodyParser::eol))]
-pub fn eat_plain_attr(reader: &Reader<'_, '_>, at: &mut usize) -> bool
-    ensures taken { result ≡ true → spec.attr reader.now at.old ≡ Ok (tt, at.new) }
-    ensures kept { result ≡ false → at.new ≡ at.old }
-{
-    let lines = reader.outside_brackets();
-    let mut end = *at;
-    let next = lines.next_token(end);
-    if !eat_plain_expr(&lines, next, &mut end) {
-        return false;
-    }
-    if !lines.eat_newline(&mut end) {
-        return false;
-    }
-    *at = end;
-    true
 }

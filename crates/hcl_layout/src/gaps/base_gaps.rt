@@ -17,7 +17,8 @@ use std::alloc::{AllocError, Global};
 /// The number of a gap that stays as it is; any other is the number of spaces of a gap.
 pub(crate) const KEEP_GAP: u32 = u32::MAX;
 
-/// Sets the gaps of the tokens `from..to` of a frozen line.
+/// Sets the gaps of the tokens `from..to` of a frozen line. For the proof: `kept_gaps` made them so
+/// already, but no contract says what the list has after the lines that were passed.
 fn fill_kept(gaps: &mut Vec<u32>, from: usize, to: usize)
     requires ordered { from ≤ to }
     requires within { to ≤ length gaps.old.items }

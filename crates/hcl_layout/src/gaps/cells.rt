@@ -355,7 +355,7 @@ fn cell_starts(
     let mut frozen = false;
     let mut i = 0;
     while i < lines.len() {
-        // most lines have no such cell
+        // often several lines in turn have no such cell
         let next = next_with_cell(cell, lines, i);
         if i < next {
             push_start(&mut starts, in_run, None)?;

@@ -45,7 +45,8 @@ fn ends_line(open_heredocs: usize, kind: Kind) -> bool
     }
 }
 
-/// Returns the line that begins at token `at` in a heredoc. Nothing depends on its flags.
+/// Returns the line that begins at token `at` in a heredoc. Its flags are false, so that it is passed
+/// where cells are looked for: it has none.
 pub(crate) fn line_at(scanned: &Scanned<'_>, at: usize) -> LineSpan
     requires within { at < length scanned.now.pairs }
     requires within_limit { length scanned.now.pairs ≤ MAX_TEXT }

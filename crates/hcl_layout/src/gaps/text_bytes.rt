@@ -33,7 +33,7 @@ fn is_without_tab(text: &[u8]) -> bool
 const SHORT: usize = 32;
 
 /// Returns whether a text has many tokens for its length. Else it is nearly all comments or literal
-/// text, which no layout looks at, and its bytes are not looked at either.
+/// text, of which a layout reads few bytes, and its bytes are not all read for this either.
 fn has_short_tokens(scanned: &Scanned<'_>) -> bool
     ensures { result ≡ has_short_tokens scanned.now.text scanned.now.pairs }
 {

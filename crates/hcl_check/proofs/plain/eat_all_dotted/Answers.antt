@@ -8,7 +8,7 @@ use Rattle.hcl_check.proofs.plain.eat_all_dotted.Goals as goal
 pub loop-turn-init : goal.loop-turn-init
 loop-turn-init c = λ quiet.
     let here = c.args.reader.now in
-    let all : length here.tokens ≡ c.len-turn-end.result - 0 = omega (arith, c.len-turn-end.ensures) in
+    let all : length here.tokens ≡ c.len-most.result - 0 = omega (arith, c.len-most.ensures) in
     not_called here.tokens here.depth (deeper here.tokens here.depth) here.skip_newlines c.args.first c.args.at.now quiet ∙ ap (λ n. spec.tails_from here n c.args.at.now) all
 
 pub loop-turn-preserved : goal.loop-turn-preserved

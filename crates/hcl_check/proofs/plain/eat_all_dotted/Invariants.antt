@@ -4,4 +4,4 @@ use Rattle.hcl_check.specs.Rules as spec
 use Rattle.hcl_check.proofs.plain.eat_all_dotted.Given as goal
 
 abbrev pub invariant-loop-turn : goal.invariant-loop-turn
-invariant-loop-turn l = spec.is_called l.reader l.at ≡ false → spec.post l.reader l.first k.Identifier l.fn.at ≡ spec.tails_from l.reader (l._turn-end - l._turn) l.at
+invariant-loop-turn l = spec.is_called l.reader l.at ≡ false → spec.post l.reader l.first k.Identifier l.fn.at ≡ spec.tails_from l.reader (l.most - l.turn) l.at

@@ -1,4 +1,3 @@
-use Rattle.std.proofs.Common.{length}
 use Rattle.hcl_check.specs.Passes.{deeper}
 use Rattle.hcl_check.proofs.Ends.{number_alone, text_alone}
 use Rattle.hcl_check.proofs.plain.eat_term.Goals as goal
@@ -6,14 +5,11 @@ use Rattle.hcl_check.proofs.plain.eat_term.Goals as goal
 pub returns-in-Number-clause-read : goal.returns-in-Number-clause-read
 returns-in-Number-clause-read c = λ _.
     let here = c.args.reader.now in
-    record { turns = length here.tokens; rest = λ _. rw c.in-Number.is (number_alone here.tokens here.depth (deeper here.tokens here.depth) here.skip_newlines c.args.first c.args.at.now) }
+    rw (c.in-Number.is, c.len.ensures) (number_alone here.tokens here.depth (deeper here.tokens here.depth) here.skip_newlines c.args.first c.args.at.now)
 
-pub returns-in-Ok-clause-read : goal.returns-in-Ok-clause-read
-returns-in-Ok-clause-read c = λ read.
+pub returns-else-not-eat_text-clause-read : goal.returns-else-not-eat_text-clause-read
+returns-else-not-eat_text-clause-read c = λ _.
     let here = c.args.reader.now in
     let opened = c.in-Ok.ensures in
-    record {
-      turns = length here.tokens;
-      rest = λ _. rw c.in-QuoteOpen.is (text_alone here.tokens here.depth here.skip_newlines c.in-Ok._inner.depth c.args.first c.args.at.now c.enter.new.at c.eat_text.new.at
-          opened.0 opened.1.deeper (c.eat_text.ensures read c.in-Ok._inner.depth));
-    }
+    rw (c.in-QuoteOpen.is, c.len-in-Ok.ensures) (text_alone here.tokens here.depth here.skip_newlines c.in-Ok._inner.depth c.args.first c.args.at.now c.enter.new.at c.eat_text.new.at
+    opened.0 opened.1.deeper (c.eat_text.ensures c.if-not-eat_text.false c.in-Ok._inner.depth))
