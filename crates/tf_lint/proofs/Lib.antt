@@ -1,4 +1,5 @@
 mod MemberAnswers
+mod QuietMemberLemmas
 mod TokenLemmas
 mod BodyLemmas
 mod FileLemmas

@@ -1,10 +1,13 @@
 //! A member in which no rule can find anything, skipped with no tree of it made.
 //!
-//! Its tokens show it, and most members of most texts are such. One that is not is given up at its
-//! first token that is not quiet, or at the end of a block that lacks an attribute, before it is
-//! read; the tree is then made as before.
+//! Its tokens show it, and most members of most texts are such. A first look at some tokens gives up
+//! most that are not quiet: at a token, at the end of the text, at a line of a block that is no
+//! plain member, or at the end of a block that lacks an attribute. The parser is asked before more
+//! than these are looked at, so that an error near the start of a long member is found before work
+//! grows with its length; only then is the rest looked at. Where the member is given up, its tree is
+//! made as before.
 
-ghost use Rattle.std.specs.Prelude.{◌≡◌, ◌-◌, true, false, Ok, IfErr, Some, IfSome};
+ghost use Rattle.std.specs.Prelude.{◌≡◌, ◌≤◌, ◌<◌, ◌-◌, ◌^◌, length, true, false, Ok, IfOk, IfErr, Some};
 ghost use Rattle.hcl_token.specs.TokenizedText.{kind_of};
 ghost use Rattle.hcl_token.specs.declared.kind.Kind.TheVariants.{LineEnd};
 ghost use Rattle.tf_lint.specs.Inner.QuietMember.{IsQuietMember, IsSkippedMember, IsMemberFault};
@@ -16,40 +19,130 @@ use hcl_grammar::fault::TokenFault;
 use hcl_scan::Scanned;
 use std::alloc::Global;
 use tf_quiet::laws::{quiet_heads_have_no_findings, quiet_members_have_no_findings};
-use tf_quiet::{is_quiet_head, quiet_block_end, quiet_line_end};
+use tf_quiet::{
+    Stop, is_loud_between, is_quiet_head, quiet_block_end_within, quiet_line_end_within,
+};
 
-/// Returns the place after the first line end outside of brackets, if the tokens up to there are
-/// quiet and show that no rule on blocks finds anything at the member that begins with this token.
-fn quiet_end(scanned: &Scanned<'_>, from: usize) -> Option<usize>
-    ensures quiet { IfSome result (λ to. AreQuiet scanned.now.pairs from to) }
-    ensures line { IfSome result (λ to. kind_of scanned.now.pairs (to - 1) ≡ Some LineEnd) }
-    ensures nothing { IfSome result (λ to. HasNoBlockFindings scanned.now.pairs from) }
+/// The most tokens of a line, or of a member of which the rules on blocks look at the head alone,
+/// that are looked at before the parser is asked. With fewer, more members that stop being quiet
+/// late are read by the parser twice; with more, an error near the start is found later.
+const LINE_LOOK: usize = 2_560;
+
+/// So with a block that has to have some attributes, or declares names: its tokens take longer.
+const BLOCK_LOOK: usize = 512;
+
+/// Returns the place after the first line end outside of brackets, if it is found before a limit,
+/// and the tokens up to there are quiet and show that no rule on blocks finds anything at the member
+/// that begins with this token.
+///
+/// # Errors
+///
+/// Why it was not found.
+#[inline(always)]
+fn quiet_end(
+    scanned: &Scanned<'_>,
+    from: usize,
+    line_limit: usize,
+    block_limit: usize,
+) -> Result<usize, Stop>
+    requires line { line_limit ≤ length scanned.now.pairs }
+    requires block { block_limit ≤ length scanned.now.pairs }
+    ensures quiet { IfOk result (λ to. AreQuiet scanned.now.pairs from to) }
+    ensures line { IfOk result (λ to. kind_of scanned.now.pairs (to - 1) ≡ Some LineEnd) }
+    ensures nothing { IfOk result (λ to. HasNoBlockFindings scanned.now.pairs from) }
 {
     quiet_heads_have_no_findings();
     if !is_quiet_head(scanned, from) {
-        return quiet_block_end(scanned, from);
+        return quiet_block_end_within(scanned, from, block_limit);
     }
-    quiet_line_end(scanned, from)
+    quiet_line_end_within(scanned, from, line_limit)
 }
 
-/// Passes over the member that comes next, if there is one that ends at this place, and returns
-/// whether it did.
+/// Looks at the first tokens of the member that begins with this one, and returns what `quiet_end`
+/// does.
+///
+/// # Errors
+///
+/// Why no end was found.
+#[inline(always)]
+fn first_look(scanned: &Scanned<'_>, from: usize) -> Result<usize, Stop>
+    ensures quiet { IfOk result (λ to. AreQuiet scanned.now.pairs from to) }
+    ensures line { IfOk result (λ to. kind_of scanned.now.pairs (to - 1) ≡ Some LineEnd) }
+    ensures nothing { IfOk result (λ to. HasNoBlockFindings scanned.now.pairs from) }
+{
+    let count = scanned.len();
+    let line_limit = count.min(from.saturating_add(LINE_LOOK));
+    let block_limit = count.min(from.saturating_add(BLOCK_LOOK));
+    quiet_end(scanned, from, line_limit, block_limit)
+}
+
+/// Returns whether a first look says that something is not quiet: to say so of more costs time alone.
+#[inline(always)]
+fn is_given_up(first: Result<usize, Stop>) -> bool {
+    match first {
+        Ok(_end) => false,
+        Err(Stop::Limit) => false,
+        Err(Stop::NotQuiet) => true,
+    }
+}
+
+/// Returns whether the tokens of a member between these places are quiet and show that no rule on
+/// blocks finds anything at it. What most that are not quiet have is looked for first.
+#[inline(never)]
+fn is_quiet_between(scanned: &Scanned<'_>, from: usize, past: usize) -> bool
+    ensures quiet { result ≡ true → AreQuiet scanned.now.pairs from past }
+    ensures line { result ≡ true → kind_of scanned.now.pairs (past - 1) ≡ Some LineEnd }
+    ensures nothing { result ≡ true → HasNoBlockFindings scanned.now.pairs from }
+    ensures fits { result ≡ true → past < 2 ^ 64 }
+{
+    if past > scanned.len() || is_loud_between(scanned, from, past) {
+        return false;
+    }
+    match quiet_end(scanned, from, past, past) {
+        Ok(end) => end == past,
+        Err(_stop) => false,
+    }
+}
+
+/// Returns whether a member between these places ends where a first look says, or its tokens show
+/// that no rule finds anything in it.
+#[inline(always)]
+fn is_quiet_up_to(
+    scanned: &Scanned<'_>,
+    from: usize,
+    past: usize,
+    first: Result<usize, Stop>,
+) -> bool
+    requires quiet { IfOk first (λ to. AreQuiet scanned.now.pairs from to) }
+    requires line { IfOk first (λ to. kind_of scanned.now.pairs (to - 1) ≡ Some LineEnd) }
+    requires nothing { IfOk first (λ to. HasNoBlockFindings scanned.now.pairs from) }
+    ensures quiet { result ≡ true → AreQuiet scanned.now.pairs from past }
+    ensures line { result ≡ true → kind_of scanned.now.pairs (past - 1) ≡ Some LineEnd }
+    ensures nothing { result ≡ true → HasNoBlockFindings scanned.now.pairs from }
+    ensures fits { result ≡ true → past < 2 ^ 64 }
+{
+    match first {
+        Ok(end) => past == end,
+        Err(_stop) => is_quiet_between(scanned, from, past),
+    }
+}
+
+/// Passes over the member that comes next, if there is one, and returns whether it did.
 ///
 /// # Errors
 ///
 /// That of the parser at the member, if it has one.
-fn skip_member_up_to(
+#[inline(always)]
+fn skip_some_member(
     alloc: Global,
     scanned: &Scanned<'_>,
-    end: usize,
     at: &mut usize,
 ) -> Result<bool, TokenFault>
     ensures member { result ≡ Ok true → IsSkippedMember scanned.now.pairs at.old at.new }
-    ensures place { result ≡ Ok true → at.new ≡ end }
     ensures fault { IfErr result (λ e. IsMemberFault scanned.now.pairs at.old e) }
 {
     let is_there = skip_member(alloc, scanned, at)?;
-    Ok(is_there && *at == end)
+    Ok(is_there)
 }
 
 /// Passes over the member that comes next, if no rule can find anything in it, and returns whether
@@ -57,8 +150,8 @@ fn skip_member_up_to(
 ///
 /// # Errors
 ///
-/// That of the parser at the member, if it has one and its tokens are quiet: no tree is made to find
-/// it.
+/// That of the parser at the member, if it has one and the tokens of the first look are quiet: no
+/// tree is made to find it.
 pub fn skip_quiet_member(
     alloc: Global,
     scanned: &Scanned<'_>,
@@ -69,13 +162,16 @@ pub fn skip_quiet_member(
     ensures fault { IfErr result (λ e. IsMemberFault scanned.now.pairs at.old e) }
 {
     quiet_members_have_no_findings();
-    let _count = scanned.len();
     let from = *at;
-    let Some(end) = quiet_end(scanned, from) else {
+    let first = first_look(scanned, from);
+    if is_given_up(first) {
         return Ok(false);
-    };
+    }
     let mut past = from;
-    if !skip_member_up_to(alloc, scanned, end, &mut past)? {
+    if !skip_some_member(alloc, scanned, &mut past)? {
+        return Ok(false);
+    }
+    if !is_quiet_up_to(scanned, from, past, first) {
         return Ok(false);
     }
     *at = past;
