@@ -199,7 +199,7 @@ fn write_record(out: &mut Vec<u8>, rec: &Record) -> Result<(), AllocError>
     Ok(())
 }
 
-/// Writes records behind the text of those before them. It is inlined so that the list's length stays
+/// Writes records after the text of those before them. It is inlined so that the list's length stays
 /// in a register.
 #[inline(always)]
 fn write_records(out: &mut Vec<u8>, records: &[Record]) -> Result<(), AllocError>
@@ -254,9 +254,9 @@ pub fn encode_with_len(alloc: Global, journal: &Journal, len: usize) -> Result<V
     Ok(out)
 }
 
-/// Returns the text of a journal as [`encode_with_len`] does. The journal goes: what
-/// [`decode_owned`](crate::decode_owned) kept of it is not copied, and the text of the other
-/// records is written behind it, so that no two texts are alive at once.
+/// Returns the text of a journal as [`encode_with_len`] does, and consumes the journal: the text that
+/// [`decode_owned`](crate::decode_owned) kept is not copied, and the text of the other records is
+/// written after it, so that there are never two texts.
 pub fn encode_owned(journal: Journal, len: usize) -> Result<Vec<u8>, AllocError>
     requires { len ≡ min (length (journal_text journal)) (2 ^ 64 - 1) }
     ensures text { IfOk result (λ text. IsCurrentText text.items journal) }

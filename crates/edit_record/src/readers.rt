@@ -149,8 +149,8 @@ fn after_head(
     Ok((Edit::new(alloc, at, removed, added)?, rest))
 }
 
-/// Reads an edit, part by part. It allocates as `after_head` does. It is called only
-/// where the head has an error.
+/// Reads an edit, part by part. It allocates as `after_head` does. It is called if the
+/// head has an error.
 #[inline(never)]
 #[tactic(auto, unfolding(crate::specs::Parsing::edit_at, crate::specs::Inner::EditLengths::after_head_at))]
 fn any_edit(alloc: Global, text: &[u8]) -> Result<(Edit, &[u8]), DecodeStop>

@@ -26,7 +26,7 @@ use hcl_token::Kind;
 pub enum Unread {
     /// All of it.
     All,
-    /// What follows a term and tails of it: at most so many more tails, operators, a conditional.
+    /// What follows a term and tails of it: tails, at most as many as this, operators, a conditional.
     Tails(usize),
     /// Nothing.
     Nothing,

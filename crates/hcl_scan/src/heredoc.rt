@@ -112,7 +112,7 @@ impl<'t> Unit for HeredocUnit<'t> {
 
     #[tactic(auto, using(crate::proofs::HeredocPlaces::heredoc_unit_at))]
     fn len_at(&self, text: &[u8], at: usize, at_line_start: bool) -> usize {
-        // the trait asks for this: `text_end` calls it only where no line begins
+        // the trait requires this test; `text_end` calls this at places where no line begins
         if closing_token_len(text, at, self.marker, at_line_start).is_some() {
             return 0;
         }

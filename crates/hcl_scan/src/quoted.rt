@@ -37,7 +37,7 @@ fn skip_ordinary(text: &[u8], from: usize) -> usize
 
 /// Returns the end of the longest run of units of quoted text from a place on.
 ///
-/// What stands between two escapes is most often short.
+/// The text between two escapes is most often short.
 #[inline(never)]
 pub fn rest_end(text: &[u8], from: usize) -> usize
     requires { from ≤ length text.now }

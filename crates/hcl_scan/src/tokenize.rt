@@ -112,7 +112,7 @@ fn push_token(
     ensures { IfOk result (λ tokens. tokens.items ≡ buffer.items ++ token_at start stop kind ∷ []) }
 {
     let mut tokens = buffer;
-    // the token is put in both branches, so that a list that has room stays in registers
+    // the token is added in both branches, so that a list with spare capacity stays in registers
     if tokens.len() == tokens.capacity() {
         tokens = reserve_one(tokens)?;
         put(&mut tokens, start, stop, kind);

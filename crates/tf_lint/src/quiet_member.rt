@@ -2,7 +2,7 @@
 //!
 //! Its tokens show it, and most members of most texts are such. A first look at some tokens gives up
 //! most that are not quiet: at a token, at the end of the text, at a line of a block that is no
-//! plain member, or at the end of a block that lacks an attribute. The parser is asked before more
+//! plain member, or at the end of a block that lacks an attribute. The parser is called before more
 //! than these are looked at, so that an error near the start of a long member is found before work
 //! grows with its length; only then is the rest looked at. Where the member is given up, its tree is
 //! made as before.
@@ -24,7 +24,7 @@ use tf_quiet::{
 };
 
 /// The most tokens of a line, or of a member of which the rules on blocks look at the head alone,
-/// that are looked at before the parser is asked. With fewer, more members that stop being quiet
+/// that are looked at before the parser is called. With fewer, more members that stop being quiet
 /// late are read by the parser twice; with more, an error near the start is found later.
 const LINE_LOOK: usize = 2_560;
 

@@ -98,7 +98,7 @@ fn is_lookup(scanned: &Scanned<'_>, n: usize) -> bool
 pub enum Stop {
     /// A token is not quiet, or the text ends, or a block lacks something.
     NotQuiet,
-    /// So many tokens were to be looked at, and all of them are quiet.
+    /// All tokens up to the limit are quiet.
     Limit,
 }
 
@@ -248,8 +248,8 @@ pub fn quiet_line_end(scanned: &Scanned<'_>, from: usize) -> Option<usize>
 }
 
 /// Returns whether some token between these places is a legacy index, or a quote after which one
-/// interpolation may be all of the quoted text: most tokens that are not quiet are such. It is asked
-/// before all is looked at, so it says nothing that anything rests on.
+/// interpolation may be all of the quoted text: most tokens that are not quiet are such. It is
+/// a guess, made before all tokens are read: nothing depends on it.
 pub fn is_loud_between(scanned: &Scanned<'_>, from: usize, to: usize) -> bool
     requires { to ≤ length scanned.now.pairs }
 {
