@@ -9,7 +9,7 @@ use std::alloc::Global;
 use std::io::{ErrorKind, Read};
 use std::rt::Files;
 use std::{fs, io};
-use tf_session::{RunFault, Session, Told, journal_text, load};
+use tf_session::{RunFault, SavedTexts, Session, Told, load, saved_texts};
 
 /// A file and its journal, as they were read. A journal that is not there is the empty one.
 #[derive(Drop)]
@@ -36,14 +36,20 @@ impl JournaledFile {
     }
 
     /// Returns what is to be saved. The session goes, since its journal takes more memory than the
-    /// journal's text.
+    /// journal's text: the records, and the text that they were read from, which becomes the new one.
     pub fn changed<R: Files>(self, rt: &R, alloc: Global) -> Result<ChangedFile, RunFault> {
-        let journal = journal_text(alloc, &self.session)?;
-        let text = Vec::from_slice(alloc, self.session.text())?;
-        let found = FoundFiles::of(rt, &self.paths);
+        // no list is made anew: those of the session are
+        let _ = alloc;
+        let JournaledFile {
+            paths,
+            read,
+            session,
+        } = self;
+        let SavedTexts { text, journal } = saved_texts(session)?;
+        let found = FoundFiles::of(rt, &paths);
         Ok(ChangedFile {
-            paths: self.paths,
-            read: self.read,
+            paths,
+            read,
             text,
             journal,
             found,

@@ -35,7 +35,7 @@ pub use journaled_streams::{fix_stream, fmt_stream, revert_stream};
 pub use linting::lint_stream;
 pub use loader::{MAX_JOURNAL, load};
 pub use running::run;
-pub use saver::{journal_text, save};
+pub use saver::{SavedTexts, journal_text, save, saved_texts};
 pub use session::Session;
 pub use streaming::{check_stream, format_text_stream, step_text_stream};
 pub use text_io::{put_journal, put_text, take_text};

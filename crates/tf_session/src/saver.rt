@@ -1,17 +1,40 @@
 //! A session to two writers.
 
-ghost use Rattle.std.specs.Prelude.{◌≡◌, ◌↔◌, true, false, OnOk, IfOk, IfErr, IsErrAnd};
+ghost use Rattle.std.specs.Prelude.{◌≡◌, ◌↔◌, ◌<◌, ◌≤◌, length, true, false, OnOk, OnErr, IfOk, IfErr, IsErrAnd};
+ghost use Rattle.edit_record.specs.Text.{journal_text};
 ghost use Rattle.tf_stream.specs.Told.{has_failed};
 ghost use Rattle.tf_stream.specs.Streams.{target_of, Untouched};
 ghost use Rattle.tf_session.specs.Session.{text_of, records_of};
 ghost use Rattle.tf_session.specs.Streams.{is_write};
-ghost use Rattle.tf_session.specs.Journals.{IsSavedText, JournalTextFault, Saves, SaveFault, IsWriteOf};
+ghost use Rattle.tf_session.specs.Journals.{MAX_JOURNAL, IsSavedText, JournalTextFault, Saves, SaveFault, IsWriteOf};
 
 use crate::loader::MAX_JOURNAL;
 use crate::{Part, RunFault, Session, Told, put_journal, put_text};
-use edit_record::{encode_with_len, encoded_len};
+use edit_record::lists::Journal;
+use edit_record::{encode_owned, encode_with_len, encoded_len};
 use std::alloc::Global;
 use std::io::Write;
+
+/// A session's text and the text of its journal, as they are written.
+#[derive(Drop)]
+pub struct SavedTexts {
+    pub text: Vec<u8>,
+    pub journal: Vec<u8>,
+}
+
+/// Returns the length of a journal's text, unless it is too long to be written.
+fn journal_len(journal: &Journal) -> Result<usize, RunFault>
+    ensures is { IfOk result (λ len. len ≡ length (journal_text journal.now)) }
+    ensures within { IfOk result (λ len. len ≤ MAX_JOURNAL) }
+    ensures fault { IfErr result (λ fault. fault ≡ RunFault.Endless) }
+    ensures long { OnErr result (MAX_JOURNAL < length (journal_text journal.now)) }
+{
+    let len = encoded_len(journal);
+    if len > MAX_JOURNAL {
+        return Err(RunFault::Endless);
+    }
+    Ok(len)
+}
 
 /// Returns the text of the session's journal, as it is written.
 ///
@@ -22,12 +45,30 @@ pub fn journal_text(alloc: Global, session: &Session) -> Result<Vec<u8>, RunFaul
     ensures fault { IfErr result (λ fault. JournalTextFault (records_of session.now) fault) }
 {
     let journal = session.journal();
-    let len = encoded_len(journal);
-    if len > MAX_JOURNAL {
-        return Err(RunFault::Endless);
-    }
+    let len = journal_len(journal)?;
     match encode_with_len(alloc, journal, len) {
         Ok(text) => Ok(text),
+        Err(_) => Err(RunFault::Memory),
+    }
+}
+
+/// Returns the session's text, and the text of its journal as [`journal_text`] does. The session
+/// goes: its text is not copied, nor what its journal kept of the text that it was read from. Both
+/// give back what memory they have beyond their length.
+pub fn saved_texts(session: Session) -> Result<SavedTexts, RunFault>
+    ensures text { IfOk result (λ texts. texts.text.items ≡ text_of session) }
+    ensures journal { IfOk result
+        (λ texts. IsSavedText (records_of session) texts.journal.items) }
+    ensures fault { IfErr result (λ fault. JournalTextFault (records_of session) fault) }
+{
+    let len = journal_len(session.journal())?;
+    let (mut text, journal) = session.into_parts();
+    text.shrink_to_fit();
+    match encode_owned(journal, len) {
+        Ok(mut journal) => {
+            journal.shrink_to_fit();
+            Ok(SavedTexts { text, journal })
+        }
         Err(_) => Err(RunFault::Memory),
     }
 }

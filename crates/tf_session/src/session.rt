@@ -49,6 +49,14 @@ impl Session {
         &self.journal
     }
 
+    /// Returns the text and the journal.
+    pub fn into_parts(self) -> (Vec<u8>, Journal)
+        ensures text { result.0.items ≡ text_of self }
+        ensures journal { result.1 ≡ records_of self }
+    {
+        (self.text, self.journal)
+    }
+
     /// Does one command. A refused one changes nothing.
     pub fn step(&mut self, alloc: Global, command: Command) -> Reply
         ensures done { IfOk result
