@@ -187,6 +187,8 @@ fn write_heads(out: &mut Vec<u8>, rec: &Record) -> Result<(), AllocError>
     Ok(())
 }
 
+/// Writes a record. It is inlined since two functions call it.
+#[inline(always)]
 fn write_record(out: &mut Vec<u8>, rec: &Record) -> Result<(), AllocError>
     ensures text { OnOk result (out.new.items ≡ out.old.items ++ record_text rec.now) }
     ensures made { OnOk result (IsValidList rec.now.edits) }

@@ -35,10 +35,10 @@ impl JournaledFile {
         })
     }
 
-    /// Returns what is to be saved. The session goes, since its journal takes more memory than the
-    /// journal's text: the records, and the text that they were read from, which becomes the new one.
+    /// Returns what is to be saved. It consumes the session, whose journal takes more memory than the
+    /// journal's text: it has the records too. The text that they were read from becomes the new one.
     pub fn changed<R: Files>(self, rt: &R, alloc: Global) -> Result<ChangedFile, RunFault> {
-        // no list is made anew: those of the session are
+        // the lists of the session are taken, so that none is allocated
         let _ = alloc;
         let JournaledFile {
             paths,
