@@ -2,48 +2,46 @@
 //! text without a template.
 //!
 //! For speed alone: what is taken here `general_expr` takes, too, with more looks at each token.
-//! Where more follows, what reads the rest goes on from there (`Unread`), so that no token is read
-//! twice.
+//! Where more follows a term, the rest of the rule goes on from there (`Unread`), so that no operand
+//! is read twice.
 
 ghost use Rattle.std.specs.Prelude.{◌≡◌, ◌<◌, ◌+◌, ◌^◌, ℕ, true, false, Ok, None, OnSome, IfSome};
 ghost use Rattle.hcl_token.specs.declared.kind.Kind.TheVariants as k;
 ghost use Rattle.hcl_grammar.specs.Operators as operators;
 ghost use Rattle.hcl_grammar.specs.Pure.Reading.{and_then};
 ghost use Rattle.hcl_expr.specs.ReaderRules as tokens;
+ghost use Rattle.hcl_expr.specs.ReaderRules.{outside_brackets};
 ghost use Rattle.hcl_check.specs.Passes.{under};
 ghost use Rattle.hcl_check.specs.Rules as spec;
-ghost use Rattle.hcl_check.specs.Rules.{IsRead};
-ghost use Rattle.hcl_check.specs.declared.plain.Unread.TheVariants.{All};
+ghost use Rattle.hcl_check.specs.Rules.{IsRead, IsTried};
 
 use crate::looks::Next;
 use crate::opens::enter;
-use crate::terms::is_called;
 use hcl_expr::{Reader, same_kind};
 use hcl_token::Kind;
 
-/// What of an `Expr` was not taken yet.
+/// What of an `Expr` was not taken.
 #[derive(Clone, Copy)]
 pub enum Unread {
     /// All of it.
     All,
-    /// What follows a term and tails of it: tails, at most as many as this, operators, a conditional.
-    Tails(usize),
+    /// All of it, but a term and tails of it were read: how many tails may follow at most, and where
+    /// what was read ends.
+    Term(usize, usize),
     /// Nothing.
     Nothing,
 }
 
-/// Returns whether a term before this place is known to be a whole `Expr`: what comes next, which is
-/// `next`, ends it.
+/// Returns whether a term before this place is known to be a whole `Expr`: what comes next ends it.
 #[inline(always)]
 #[tactic(auto, unfolding(crate::specs::Passes::operator, crate::specs::Passes::tail_of, hcl_grammar::specs::Pure::Reading::next_is, hcl_grammar::specs::Tokens::same_kind))]
-fn ends_expr(reader: &Reader<'_, '_>, next: Option<Kind>, at: usize) -> bool
-    requires { next ≡ tokens.next_kind reader.now at }
+fn ends_expr(reader: &Reader<'_, '_>, at: usize) -> bool
     ensures operator { result ≡ true → spec.operator reader.now at ≡ Ok (false, at) }
     ensures question { result ≡ true → tokens.next_is reader.now k.Question at ≡ false }
     ensures tail { result ≡ true → spec.tail reader.now at ≡ Ok (false, at) }
     ensures called { result ≡ true → spec.is_called reader.now at ≡ false }
 {
-    match next {
+    match reader.next_kind(at) {
         Some(Kind::LineEnd)
         | Some(Kind::LineComment)
         | Some(Kind::Comma)
@@ -69,12 +67,12 @@ fn eat_dotted(reader: &Reader<'_, '_>, at: &mut usize) -> bool
     let (number, next) = reader.next_token(*at);
     match next {
         Some(kind) => {
-            if same_kind(kind, Kind::DotIndex) {
+            if !same_kind(kind, Kind::Dot) {
+                if !same_kind(kind, Kind::DotIndex) {
+                    return false;
+                }
                 *at = number + 1;
                 return true;
-            }
-            if !same_kind(kind, Kind::Dot) {
-                return false;
             }
             let (second, name) = reader.next_token(number + 1);
             match name {
@@ -155,15 +153,14 @@ fn eat_term(reader: &Reader<'_, '_>, first: usize, kind: Kind, at: &mut usize) -
     }
 }
 
-/// Takes an `Expr` that is one such term, if the token after it shows that it is. Where more than the
-/// term follows, takes the term. The first token is `next`.
+/// Takes an `Expr` that is one such term, if the token after it shows that it is. Its first token
+/// is `next`.
 #[inline(always)]
 pub fn eat_plain_expr(reader: &Reader<'_, '_>, next: Next, at: &mut usize) -> Unread
     requires number { next.0 ≡ tokens.next_index reader.now at.old }
     requires kind { next.1 ≡ tokens.next_kind reader.now at.old }
     requires fits { OnSome next.1 (next.0 + 1 < 2 ^ 64) }
-    ensures left { spec.expr reader.now at.old ≡ spec.unread reader.now result at.new }
-    ensures kept { result ≡ All → at.new ≡ at.old }
+    ensures { IsTried reader.now (spec.expr reader.now) at.old result at.new }
 {
     let (first, found) = next;
     match found {
@@ -171,16 +168,11 @@ pub fn eat_plain_expr(reader: &Reader<'_, '_>, next: Next, at: &mut usize) -> Un
             let mut end = first + 1;
             match eat_term(reader, first, kind, &mut end) {
                 Some(turns) => {
-                    let after = reader.next_kind(end);
-                    if ends_expr(reader, after, end) {
-                        *at = end;
-                        return Unread::Nothing;
-                    }
-                    if is_called(reader, after, end) {
-                        return Unread::All;
+                    if !ends_expr(reader, end) {
+                        return Unread::Term(turns, end);
                     }
                     *at = end;
-                    Unread::Tails(turns)
+                    Unread::Nothing
                 }
                 None => Unread::All,
             }
@@ -190,7 +182,7 @@ pub fn eat_plain_expr(reader: &Reader<'_, '_>, next: Next, at: &mut usize) -> Un
 }
 
 /// Takes the rest of parentheses or of an `Interp`, after the opening, which is token `first`, if what
-/// they enclose is such an expression; else what `eat_plain_expr` takes of it. It ends with `close`.
+/// they enclose is such an expression. It ends with `close`.
 #[inline(always)]
 #[tactic(auto, unfolding(crate::specs::Passes::enclosed, hcl_grammar::specs::Pure::Reading::expect, hcl_grammar::specs::Pure::Reading::after_if_next))]
 pub fn eat_plain_enclosed(
@@ -199,8 +191,8 @@ pub fn eat_plain_enclosed(
     first: usize,
     at: &mut usize,
 ) -> Unread
-    ensures { spec.enclosed reader.now close first at.old
-        ≡ spec.enclosed_unread reader.now close first result at.new }
+    ensures { let rule = spec.enclosed reader.now close first in
+        IsTried (spec.in_opened reader.now) rule at.old result at.new }
 {
     let mut end = *at;
     match enter(reader, first, &mut end) {
@@ -215,13 +207,33 @@ pub fn eat_plain_enclosed(
                     *at = end;
                     Unread::Nothing
                 }
-                Unread::Tails(turns) => {
-                    *at = end;
-                    Unread::Tails(turns)
-                }
+                Unread::Term(turns, after) => Unread::Term(turns, after),
                 Unread::All => Unread::All,
             }
         }
         Err(_too_deep) => Unread::All,
+    }
+}
+
+/// Takes the rest of an `Attr`, after its name and `=`, if its value is such an expression and a
+/// line end comes after it, with a comment or without.
+#[inline(always)]
+#[tactic(auto, unfolding(crate::specs::Passes::attr_by, hcl_grammar::specs::Pure::BodyParser::eol))]
+pub fn eat_plain_attr(reader: &Reader<'_, '_>, at: &mut usize) -> Unread
+    ensures { IsTried (outside_brackets reader.now) (spec.attr reader.now) at.old result at.new }
+{
+    let lines = reader.outside_brackets();
+    let mut end = *at;
+    let next = lines.next_token(end);
+    match eat_plain_expr(&lines, next, &mut end) {
+        Unread::Nothing => {
+            if !lines.eat_newline(&mut end) {
+                return Unread::All;
+            }
+            *at = end;
+            Unread::Nothing
+        }
+        Unread::Term(turns, after) => Unread::Term(turns, after),
+        Unread::All => Unread::All,
     }
 }
