@@ -23,13 +23,10 @@ use tf_quiet::{
     Stop, is_loud_between, is_quiet_head, quiet_block_end_within, quiet_line_end_within,
 };
 
-/// The most tokens of a line, or of a member of which the rules on blocks look at the head alone,
-/// that are looked at before the parser is called. With fewer, more members that stop being quiet
-/// late are read by the parser twice; with more, an error near the start is found later.
-const LINE_LOOK: usize = 2_560;
-
-/// So with a block that has to have some attributes, or declares names: its tokens take longer.
-const BLOCK_LOOK: usize = 512;
+/// The most tokens of a member that are looked at before the parser is called. With fewer, more
+/// members that stop being quiet late are read by the parser twice; with more, an error near the
+/// start is found later.
+const LOOK: usize = 2_560;
 
 /// Returns the place after the first line end outside of brackets, if it is found before a limit,
 /// and the tokens up to there are quiet and show that no rule on blocks finds anything at the member
@@ -39,23 +36,17 @@ const BLOCK_LOOK: usize = 512;
 ///
 /// Why it was not found.
 #[inline(always)]
-fn quiet_end(
-    scanned: &Scanned<'_>,
-    from: usize,
-    line_limit: usize,
-    block_limit: usize,
-) -> Result<usize, Stop>
-    requires line { line_limit ≤ length scanned.now.pairs }
-    requires block { block_limit ≤ length scanned.now.pairs }
+fn quiet_end(scanned: &Scanned<'_>, from: usize, limit: usize) -> Result<usize, Stop>
+    requires { limit ≤ length scanned.now.pairs }
     ensures quiet { IfOk result (λ to. AreQuiet scanned.now.pairs from to) }
     ensures line { IfOk result (λ to. kind_of scanned.now.pairs (to - 1) ≡ Some LineEnd) }
     ensures nothing { IfOk result (λ to. HasNoBlockFindings scanned.now.pairs from) }
 {
     quiet_heads_have_no_findings();
     if !is_quiet_head(scanned, from) {
-        return quiet_block_end_within(scanned, from, block_limit);
+        return quiet_block_end_within(scanned, from, limit);
     }
-    quiet_line_end_within(scanned, from, line_limit)
+    quiet_line_end_within(scanned, from, limit)
 }
 
 /// Looks at the first tokens of the member that begins with this one, and returns what `quiet_end`
@@ -70,10 +61,7 @@ fn first_look(scanned: &Scanned<'_>, from: usize) -> Result<usize, Stop>
     ensures line { IfOk result (λ to. kind_of scanned.now.pairs (to - 1) ≡ Some LineEnd) }
     ensures nothing { IfOk result (λ to. HasNoBlockFindings scanned.now.pairs from) }
 {
-    let count = scanned.len();
-    let line_limit = count.min(from.saturating_add(LINE_LOOK));
-    let block_limit = count.min(from.saturating_add(BLOCK_LOOK));
-    quiet_end(scanned, from, line_limit, block_limit)
+    quiet_end(scanned, from, scanned.len().min(from.saturating_add(LOOK)))
 }
 
 /// Returns whether a first look says that something is not quiet: to say so of more costs time alone.
@@ -107,7 +95,7 @@ fn is_quiet_between(scanned: &Scanned<'_>, from: usize, past: usize) -> bool
     if past > scanned.len() || is_loud_block(scanned, from, past) {
         return false;
     }
-    match quiet_end(scanned, from, past, past) {
+    match quiet_end(scanned, from, past) {
         Ok(end) => end == past,
         Err(_stop) => false,
     }

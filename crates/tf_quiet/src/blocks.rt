@@ -86,6 +86,25 @@ fn is_right_name(name: &[u8], names: bool) -> bool
     !names || is_snake_case(name)
 }
 
+/// Returns whether a name begins an attribute, or a block if it need not be one, by the next three
+/// tokens. It is a guess: most lines with an error are found so, before all lines are read, and
+/// nothing depends on it.
+fn begins_member(scanned: &Scanned<'_>, n: usize, names: bool) -> bool
+    requires { n + 3 < 2 ^ 64 }
+{
+    if n + 1 >= scanned.len() {
+        return false;
+    }
+    match scanned.kind(n + 1) {
+        Kind::Equal => {
+            !is_kind(scanned, n + 2, Kind::Identifier) || !is_kind(scanned, n + 3, Kind::Identifier)
+        }
+        Kind::OpenBrace | Kind::QuoteOpen => !names,
+        Kind::Identifier => !names && !is_kind(scanned, n + 2, Kind::Equal),
+        _ => false,
+    }
+}
+
 /// Returns what is seen of the member that begins with this name, if its tokens are quiet. Its name
 /// is looked at last, since that takes longest.
 fn member(scanned: &Scanned<'_>, n: usize, limit: usize, names: bool) -> Result<Seen, Stop>
@@ -96,6 +115,9 @@ fn member(scanned: &Scanned<'_>, n: usize, limit: usize, names: bool) -> Result<
     ensures later { IfOk result (λ s. n < s.end) }
     ensures walk { IfOk result (λ s. IsMemberWalk scanned.now.pairs names n s.end s.typed s.described) }
 {
+    if !begins_member(scanned, n, names) {
+        return Err(Stop::NotQuiet);
+    }
     let name = token_text(scanned, n);
     let typed = is_spelled(name, b"type");
     let described = is_spelled(name, b"description");
