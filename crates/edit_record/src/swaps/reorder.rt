@@ -1,11 +1,15 @@
 //! Moving one record's edits to the end of the records that follow it.
-ghost use Rattle.std.specs.Prelude.{◌≡◌, ◌<◌, ◌≤◌, length};
+ghost use Rattle.std.specs.Prelude.{◌≡◌, ◌≢◌, ◌<◌, ◌≤◌, length, Err, IfErr, IfOk};
+ghost use Rattle.edit_record.specs.Swaps.Swap.{IsSwapResult};
+ghost use Rattle.edit_record.specs.Swaps.MoveToEndResult.{CanSwap};
 ghost use Rattle.edit_record.specs.Swaps.Inner.MovePastResult.{IsMovePastResult};
 ghost use Rattle.edit_record.specs.Swaps.MoveToEndResult.{IsMoveToEndResult};
 ghost use Rattle.edit_record.specs.declared.swaps.reorder.MoveFault.TheVariants.{Memory};
+ghost use Rattle.edit_record.specs.declared.swaps.swap_lists.SwapFault.TheVariants as swap_fault;
 
 use crate::lists::{Edits, Record};
 use crate::swaps::moving_edits::MovingEdits;
+use crate::swaps::swap_lists::check_swap;
 use crate::swaps::{SwapFault, swap};
 use std::alloc::{AllocError, AllocFailed, Global};
 use thiserror::Error;
@@ -80,6 +84,7 @@ pub fn move_to_end(
     if large == records.len() {
         return Ok((reordered, Some(moved)));
     }
+    check_move(alloc, &moved, &records[large], large)?;
     let mut moving = MovingEdits::new(alloc, moved)?;
     for i in large..records.len() {
         let before = moving.move_past(alloc, &records[i], i)?;
@@ -104,6 +109,23 @@ fn leading(first: &Edits, records: &[Record]) -> usize
     records.len()
 }
 
+/// Returns an error if the edits cannot be swapped with those of a record. It allocates nothing.
+fn check_move(
+    alloc: Global,
+    edits: &Edits,
+    rec: &Record,
+    number: usize,
+) -> Result<(), MoveFault>
+    ensures swappable { IfOk result (λ _. CanSwap edits.now rec.now.edits) }
+    ensures refused { IfErr result (λ e. IsMovePastResult edits.now rec.now number (Err e)) }
+    ensures memory { IfErr result (λ e. e ≢ Memory) }
+{
+    match check_swap(alloc, edits, rec.edits()) {
+        Ok(()) => Ok(()),
+        Err(fault) => Err(move_fault(fault, edits, rec, number)),
+    }
+}
+
 /// Swaps the edits and a record: returns the record without them before it, and the edits after it.
 fn move_past(
     alloc: Global,
@@ -114,21 +136,27 @@ fn move_past(
     ensures { IsMovePastResult edits.now rec.now number result }
 {
     match swap(alloc, edits, rec.edits()) {
-        Ok((before, after)) => {
-            let rec = Record::make(rec.word(), before);
-            Ok((rec, after))
-        }
-        Err(SwapFault::LengthsDiffer) => Err(MoveFault::Length {
+        Ok((before, after)) => Ok((Record::make(rec.word(), before), after)),
+        Err(fault) => Err(move_fault(fault, edits, rec, number)),
+    }
+}
+
+/// Returns why the edits are not moved after a record, from why the two are not swapped.
+fn move_fault(fault: SwapFault, edits: &Edits, rec: &Record, number: usize) -> MoveFault
+    requires { IsSwapResult edits.now rec.now.edits (Err fault) }
+    ensures fault { IsMovePastResult edits.now rec.now number (Err result) }
+    ensures memory { result ≡ Memory → fault ≡ swap_fault.Memory }
+{
+    match fault {
+        SwapFault::LengthsDiffer => MoveFault::Length {
             expected: rec.edits().old_len(),
             found: edits.new_len(),
-        }),
-        Err(
-            SwapFault::Meets {
-                first: _,
-                second: _,
-            },
-        ) => Err(MoveFault::Blocked { number }),
-        Err(SwapFault::TooLong) => Err(MoveFault::TooLong),
-        Err(SwapFault::Memory) => Err(MoveFault::Memory),
+        },
+        SwapFault::Meets {
+            first: _,
+            second: _,
+        } => MoveFault::Blocked { number },
+        SwapFault::TooLong => MoveFault::TooLong,
+        SwapFault::Memory => MoveFault::Memory,
     }
 }

@@ -1,7 +1,8 @@
 //! Swapping two lists of edits.
-ghost use Rattle.std.specs.Prelude.{◌≡◌, ◌↔◌, ◌+◌, ◌<◌, length, IfErr, IfOk, IfSome, IsNone, IsTrue};
+ghost use Rattle.std.specs.Prelude.{◌≡◌, ◌≢◌, ◌↔◌, ◌+◌, ◌<◌, length, Err, IfErr, IfOk, IfSome, IsNone, IsTrue};
 ghost use Rattle.edit_record.specs.Lists.Validity.{new_len};
 ghost use Rattle.edit_record.specs.Swaps.Swap.{IsSwapResult, NoneMeet, SwapTo, FirstMeeting, ExceedsLimit, IsWithinLimit};
+ghost use Rattle.edit_record.specs.Swaps.MoveToEndResult.{CanSwap};
 ghost use Rattle.edit_record.specs.Swaps.Inner.SwapState.{IsSwapDone};
 ghost use Rattle.edit_record.specs.Swaps.Inner.SwapStateView.{state};
 ghost use Rattle.edit_record.specs.declared.swaps.swap_lists.SwapFault.TheVariants.{Memory};
@@ -63,6 +64,16 @@ impl<T: Drop> From<AllocFailed<T>> for SwapFault {
 pub fn swap(alloc: Global, first: &Edits, second: &Edits) -> Result<(Edits, Edits), SwapFault>
     ensures { IsSwapResult first.now second.now result }
 {
+    check_swap(alloc, first, second)?;
+    Ok(swap_disjoint(alloc, first, second)?)
+}
+
+/// Returns an error if the two lists cannot be swapped. It allocates nothing.
+pub(crate) fn check_swap(alloc: Global, first: &Edits, second: &Edits) -> Result<(), SwapFault>
+    ensures swappable { IfOk result (λ _. CanSwap first.now second.now) }
+    ensures refused { IfErr result (λ e. IsSwapResult first.now second.now (Err e)) }
+    ensures memory { IfErr result (λ e. e ≢ Memory) }
+{
     if first.new_len() != second.old_len() {
         return Err(SwapFault::LengthsDiffer);
     }
@@ -75,7 +86,7 @@ pub fn swap(alloc: Global, first: &Edits, second: &Edits) -> Result<(Edits, Edit
     if exceeds_limit(first, second) {
         return Err(SwapFault::TooLong);
     }
-    Ok(swap_disjoint(alloc, first, second)?)
+    Ok(())
 }
 
 /// Returns the lowest edits that meet, if any do: by their number in the second list, and then in
