@@ -187,7 +187,7 @@ fn write_heads(out: &mut Vec<u8>, rec: &Record) -> Result<(), AllocError>
     Ok(())
 }
 
-/// Writes a record. It is inlined since two functions call it.
+/// Writes a record. It is inlined, as a part of its caller's loop.
 #[inline(always)]
 fn write_record(out: &mut Vec<u8>, rec: &Record) -> Result<(), AllocError>
     ensures text { OnOk result (out.new.items ≡ out.old.items ++ record_text rec.now) }
@@ -201,8 +201,8 @@ fn write_record(out: &mut Vec<u8>, rec: &Record) -> Result<(), AllocError>
     Ok(())
 }
 
-/// Writes records after the text of those before them. It is inlined so that the list's length stays
-/// in a register.
+/// Writes records after the text of those before them. It is inlined so that the list's length
+/// stays in a register.
 #[inline(always)]
 fn write_records(out: &mut Vec<u8>, records: &[Record]) -> Result<(), AllocError>
     ensures text { OnOk result
@@ -256,9 +256,10 @@ pub fn encode_with_len(alloc: Global, journal: &Journal, len: usize) -> Result<V
     Ok(out)
 }
 
-/// Returns the text of a journal as [`encode_with_len`] does, and consumes the journal: the text that
-/// [`decode_owned`](crate::decode_owned) kept is not copied, and the text of the other records is
-/// written after it, so that there are never two texts.
+/// Returns the text of a journal as [`encode_with_len`] does, and consumes the journal: the text
+/// that [`decode_owned`](crate::decode_owned) kept is not copied to another list, but the other
+/// records are written after it. The capacity can be up to four times the length, if records were
+/// removed.
 pub fn encode_owned(journal: Journal, len: usize) -> Result<Vec<u8>, AllocError>
     requires { len ≡ min (length (journal_text journal)) (2 ^ 64 - 1) }
     ensures text { IfOk result (λ text. IsCurrentText text.items journal) }

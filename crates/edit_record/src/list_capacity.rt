@@ -49,8 +49,8 @@ pub(crate) fn reserve_next(
     Ok(())
 }
 
-/// Returns for how many edits memory is reserved at the first one: for `count`, but for no more than
-/// can be in the `left` bytes after it, and for 1,024 at most.
+/// Returns for how many edits memory is reserved at the first one: for `count`, but for no more
+/// than can be in the `left` bytes after it, and for 1,024 at most.
 fn first_capacity(count: usize, left: usize) -> usize
     ensures some { 0 < result }
     ensures few { result ≤ MOST_RESERVED }
@@ -59,8 +59,8 @@ fn first_capacity(count: usize, left: usize) -> usize
     count.min(MOST_RESERVED).min(left / LEAST_BYTES + 1).max(1)
 }
 
-/// Reserves capacity for one edit more: where the list is empty for those that follow, else for as
-/// many as it has.
+/// Reserves capacity: for the edits that follow if the list is empty, else for as many more as it
+/// has.
 #[cold]
 #[inline(never)]
 fn reserve_edits(edits: &mut Vec<Edit>, count: usize, left: usize) -> Result<(), AllocError>

@@ -59,9 +59,8 @@ pub record UndoFails (n : ℕ) (t : List ℕ) (js : List JournalEntry) (refused 
   pub is_moved : IsMovedToEnd nth.item.edits (edits_of nth.after) new_lists moved_edits
   pub refuses : IsChangeResult Backward moved_edits t (Err refused)
 
--- Memory is allocated at a later record only if record n, moved after those between, can be swapped
--- with it; and to undo the edits of record n as they are after all others, in a text of the length
--- that they make.
+-- Memory is allocated if the next record can be swapped with record n, and to undo the edits of
+-- record n as they are after all others, in a text of the length that they make.
 abbrev pub RemovalMayAllocate : ℕ → List ℕ → List JournalEntry → Type 0
 RemovalMayAllocate n t js =
     (nth : Nth n js) × (MoveMayAllocate nth.item.edits nth.after

@@ -52,9 +52,9 @@ pub fn journal_text(alloc: Global, session: &Session) -> Result<Vec<u8>, RunFaul
     }
 }
 
-/// Returns the session's text, and the text of its journal as [`journal_text`] does. It consumes the
-/// session, and copies neither its text nor the text that its journal kept. Both lists give back
-/// their spare capacity.
+/// Returns the session's text, and the text of its journal as [`journal_text`] does. It consumes
+/// the session, and copies neither its text nor the text that its journal kept. Both lists give
+/// back their spare capacity.
 pub fn saved_texts(session: Session) -> Result<SavedTexts, RunFault>
     ensures text { IfOk result (λ texts. texts.text.items ≡ text_of session) }
     ensures journal { IfOk result

@@ -61,12 +61,22 @@ may_swap a b m = (m.lengths_match, m.apart, m.within)
 pub did_swap : (a b b2 a2 : EditList) → SwapTo a b b2 a2 → CanSwap a b
 did_swap a b b2 a2 p = (p.lengths_match, p.apart, p.within)
 
--- memory is taken for a record that can be swapped
+none_moved : (a : EditList) (cs : List EditList) (last : EditList) → IsMovedToEnd a [] cs last → a ≡ last
+none_moved a [] last h = h
+none_moved a (c ∷ cs) last h = absurd h
+
+one_moved : (a b : EditList) (bs cs : List EditList) (last : EditList) → IsMovedToEnd a (b ∷ bs) cs last → CanSwap a b
+one_moved a b bs [] last h = absurd h
+one_moved a b bs (c ∷ cs) last h = did_swap a b c h.0 h.1
+
+-- memory is taken for some record, and so it may have been for the first
 pub may_run_out : (first : EditList) (records others : List JournalEntry) (moved : Option EditList) (i : ℕ) (r : JournalEntry) → i < length records → r ≡ get_or records i r → Past first records others moved i
     → CanSwap (moved_or first moved) r.edits → MoveMayAllocate first records
-may_run_out first records others moved i r lt is p h =
-    let there = stuck first records others moved i r CanSwap lt is p h in
-    (i, there.swapped_lists, there.moved_edits, there.next, there.is_moved, there.next_is, there.refuses)
+may_run_out first [] others moved i r lt is p h = absurd (omega arith)
+may_run_out first (x ∷ records) others moved zero r lt is p h =
+    let same = none_moved first (edits_of others) (moved_or first moved) p.is_moved in
+    subst (λ (y : JournalEntry). CanSwap first y.edits) is (subst (λ (y : EditList). CanSwap y r.edits) (sym same) h)
+may_run_out first (x ∷ records) others moved (suc i) r lt is p h = one_moved first x.edits (edits_of (take i records)) (edits_of others) (moved_or first moved) p.is_moved
 
 none_move : (first : EditList) (records others : List JournalEntry) (moved : Option EditList) (i : ℕ) (r : JournalEntry) (e : MoveFault) → i < length records → r ≡ get_or records i r → Past first records others moved i
     → IsMovePastResult (moved_or first moved) r i (Err e) → IsMoveToEndResult first records (Err e)
@@ -81,6 +91,15 @@ move_none first a records others moved i r e a_is lt is p h = none_move first re
 
 pub past_start : (first : EditList) (records : List JournalEntry) → Past first records [] None 0
 past_start first records = record { is_moved = refl; words = refl }
+
+-- a record is done, and so the first one changed places
+run_out_at : (first : EditList) (records others : List JournalEntry) (moved : Option EditList) (i : ℕ) → 0 < length records → Past first records others moved (suc i) → MoveMayAllocate first records
+run_out_at first [] others moved i lt p = absurd (omega (arith, lt))
+run_out_at first (x ∷ records) others moved i lt p = one_moved first x.edits (edits_of (take i records)) (edits_of others) (moved_or first moved) p.is_moved
+
+pub run_out_later : (first : EditList) (records others : List JournalEntry) (moved : Option EditList) (i : ℕ) → 0 < length records → 0 < i → Past first records others moved i → MoveMayAllocate first records
+run_out_later first records others moved zero some lt p = absurd (omega (arith, lt))
+run_out_later first records others moved (suc i) some lt p = run_out_at first records others moved i some p
 
 pub moves_none : (first a : EditList) (records others : List JournalEntry) (n : MovingEdits) (i : ℕ) (r : JournalEntry) (e : MoveFault) → i < length records → r ≡ get_or records i r → Past first records others (Some a) i → MovesPastRecord a r i n (Err e)
     → IsMoveToEndResult first records (Err e)

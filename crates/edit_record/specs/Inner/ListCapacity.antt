@@ -2,7 +2,7 @@
 use Rattle.std.specs.Prelude.{ℕ, ◌+◌, ◌≤◌}
 use Rattle.edit_record.specs.declared.list_capacity.TheConstants.{MOST_RESERVED}
 
--- A list with this many edits has memory for no more than it may: twice as many, or some few. So what
--- is reserved follows what is read, and not a number that the text has.
+-- A list with this many edits has memory for at most 1,024 edits and twice as many as it has. So
+-- what is reserved follows what is read, and not a number that the text has.
 abbrev pub HasFewSpare : ℕ → ℕ → Type 0
 HasFewSpare len capacity = capacity ≤ MOST_RESERVED + (len + len)

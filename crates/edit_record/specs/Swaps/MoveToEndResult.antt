@@ -1,5 +1,5 @@
 -- What `move_to_end` returns.
-use Rattle.std.specs.Prelude.{◌≡◌, ◌≢◌, ℕ, List, take, Option, None, Some, Result, Ok, Err}
+use Rattle.std.specs.Prelude.{◌≡◌, ◌≢◌, ℕ, List, [], ◌∷◌, take, Option, None, Some, Result, Ok, Err}
 use Rattle.std.specs.Global.{Vec}
 use Rattle.edit_record.specs.declared.lists.record.Record.{Record}
 use Rattle.edit_record.specs.declared.lists.edits.Edits.{Edits}
@@ -42,12 +42,10 @@ pub record FailsAt (a : EditList) (bs : List EditList) (k : ℕ)
 abbrev pub CanSwap : EditList → EditList → Type 0
 CanSwap a b = (new_len a ≡ b.old_len) × NoneMeet a b × IsWithinLimit a b
 
--- `move_to_end` allocates only at a record with which a, moved after those before it, can be swapped
+-- `move_to_end` allocates nothing if there is no record, or the first one cannot be swapped
 abbrev pub MoveMayAllocate : EditList → List JournalEntry → Type 0
-MoveMayAllocate a rs =
-    (k : ℕ) × (others : List EditList) × (moved next : EditList)
-    × IsMovedToEnd a (take k (edits_of rs)) others moved × IsItem k next (edits_of rs)
-    × CanSwap moved next
+MoveMayAllocate a [] = ⊥
+MoveMayAllocate a (r ∷ rs) = CanSwap a r.edits
 
 -- What `move_to_end` returns: the records as they are without a before them, with their commands,
 -- and a as it is after them all; or the first record that cannot be swapped, and why.

@@ -13,8 +13,8 @@ use std::marker::Model;
 #[derive(Drop)]
 pub struct Journal {
     records: Vec<Record>,
-    /// The text of the first `known` records, if they were read from it. For speed alone: it is
-    /// copied where they are written again.
+    /// The text of the first `known` records, if they were read from it. For speed alone: where
+    /// they are written again it is copied, or what follows is written after it.
     text: Vec<u8>,
     known: usize,
 }

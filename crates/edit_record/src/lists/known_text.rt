@@ -1,5 +1,5 @@
 //! The text that the first records of a journal were read from, kept for speed alone: where these
-//! records are written again it is copied.
+//! records are written again it is copied, or what follows is written after it.
 ghost use Rattle.std.specs.Prelude.{◌≡◌, ◌≤◌, ◌/◌, length, IfSome, vec_capacity};
 ghost use Rattle.edit_record.specs.Inner.KnownText.{IsKnownText};
 ghost use Rattle.edit_record.specs.declared.lists.known_text.TheConstants.{MOST_SPARE};
@@ -21,8 +21,8 @@ pub(crate) fn text_to_keep(text: Vec<u8>) -> Option<Vec<u8>>
     Some(text)
 }
 
-/// Shortens the text of the first `known` records to that of the first `to` of them, if they are fewer,
-/// and returns of how many it is the text now.
+/// Shortens the text of the first `known` records to that of the first `to` of them, if they are
+/// fewer, and returns of how many it is the text now.
 pub(crate) fn shorten_known_text(
     records: &[Record],
     known: usize,

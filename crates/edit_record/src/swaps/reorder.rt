@@ -1,11 +1,10 @@
 //! Moving one record's edits to the end of the records that follow it.
-ghost use Rattle.std.specs.Prelude.{◌≡◌, ◌≢◌, ◌<◌, ◌≤◌, length, Err, IfErr, IfOk};
+ghost use Rattle.std.specs.Prelude.{◌≡◌, ◌<◌, ◌≤◌, length, Err, IfErr, IfOk};
 ghost use Rattle.edit_record.specs.Swaps.Swap.{IsSwapResult};
-ghost use Rattle.edit_record.specs.Swaps.MoveToEndResult.{CanSwap};
 ghost use Rattle.edit_record.specs.Swaps.Inner.MovePastResult.{IsMovePastResult};
+ghost use Rattle.edit_record.specs.Swaps.Inner.MovingEditsView.{edits_now, IsWellFormed};
 ghost use Rattle.edit_record.specs.Swaps.MoveToEndResult.{IsMoveToEndResult};
 ghost use Rattle.edit_record.specs.declared.swaps.reorder.MoveFault.TheVariants.{Memory};
-ghost use Rattle.edit_record.specs.declared.swaps.swap_lists.SwapFault.TheVariants as swap_fault;
 
 use crate::lists::{Edits, Record};
 use crate::swaps::moving_edits::MovingEdits;
@@ -53,9 +52,9 @@ impl<T: Drop> From<AllocFailed<T>> for MoveFault {
 /// The edits are swapped with those of each record in turn, and each record keeps its command.
 /// Undoing the moved edits on the last text gives the text without `first`.
 ///
-/// There is one pass over the edits of `first` for the first record, and for each record after it
-/// that is as large; after these each edit of a record takes a binary search among the edits of
-/// `first`.
+/// There is one pass over the edits of `first` for the first record, for each record after it that
+/// is as large, and one more for the first that is smaller; from this on each edit of a record takes
+/// a binary search among the edits of `first`.
 ///
 /// # Errors
 ///
@@ -84,8 +83,7 @@ pub fn move_to_end(
     if large == records.len() {
         return Ok((reordered, Some(moved)));
     }
-    check_move(alloc, &moved, &records[large], large)?;
-    let mut moving = MovingEdits::new(alloc, moved)?;
+    let mut moving = start_moving(alloc, moved, &records[large], large)?;
     for i in large..records.len() {
         let before = moving.move_past(alloc, &records[i], i)?;
         reordered.push(before)?;
@@ -109,21 +107,22 @@ fn leading(first: &Edits, records: &[Record]) -> usize
     records.len()
 }
 
-/// Returns an error if the edits cannot be swapped with those of a record. It allocates nothing.
-fn check_move(
+/// Returns the edits in the form in which they are moved after small records, of which this is the
+/// first. Nothing is allocated if the edits cannot be swapped with those of this record.
+fn start_moving(
     alloc: Global,
-    edits: &Edits,
-    rec: &Record,
+    moved: Edits,
+    next: &Record,
     number: usize,
-) -> Result<(), MoveFault>
-    ensures swappable { IfOk result (λ _. CanSwap edits.now rec.now.edits) }
-    ensures refused { IfErr result (λ e. IsMovePastResult edits.now rec.now number (Err e)) }
-    ensures memory { IfErr result (λ e. e ≢ Memory) }
+) -> Result<MovingEdits, MoveFault>
+    ensures edits { IfOk result (λ m. edits_now m ≡ moved) }
+    ensures well_formed { IfOk result IsWellFormed }
+    ensures refused { IfErr result (λ e. IsMovePastResult moved next.now number (Err e)) }
 {
-    match check_swap(alloc, edits, rec.edits()) {
-        Ok(()) => Ok(()),
-        Err(fault) => Err(move_fault(fault, edits, rec, number)),
+    if let Err(fault) = check_swap(alloc, &moved, next.edits()) {
+        return Err(move_fault(fault, &moved, next, number));
     }
+    Ok(MovingEdits::new(alloc, moved)?)
 }
 
 /// Swaps the edits and a record: returns the record without them before it, and the edits after it.
@@ -144,8 +143,7 @@ fn move_past(
 /// Returns why the edits are not moved after a record, from why the two are not swapped.
 fn move_fault(fault: SwapFault, edits: &Edits, rec: &Record, number: usize) -> MoveFault
     requires { IsSwapResult edits.now rec.now.edits (Err fault) }
-    ensures fault { IsMovePastResult edits.now rec.now number (Err result) }
-    ensures memory { result ≡ Memory → fault ≡ swap_fault.Memory }
+    ensures { IsMovePastResult edits.now rec.now number (Err result) }
 {
     match fault {
         SwapFault::LengthsDiffer => MoveFault::Length {

@@ -45,8 +45,8 @@ fn ends_line(open_heredocs: usize, kind: Kind) -> bool
     }
 }
 
-/// Returns the line that begins at token `at` in a heredoc. Its flags are false, so that it is passed
-/// where cells are looked for: it has none.
+/// Returns the line that begins at token `at` in a heredoc. Its flags are false, so that no cell is
+/// looked for in it: a line of a heredoc has none.
 pub(crate) fn line_at(scanned: &Scanned<'_>, at: usize) -> LineSpan
     requires within { at < length scanned.now.pairs }
     requires within_limit { length scanned.now.pairs ≤ MAX_TEXT }

@@ -6,7 +6,9 @@ use super::fixtures::{
 };
 use super::{answered, begin, gave, wanted};
 use crate::tests::{Host, given};
-use edit_record::{Change, Edits, Journal, MoveFault, Record, Refused, SwapFault, Unmet, Word};
+use edit_record::{
+    Change, Edit, Edits, Journal, MoveFault, Record, Refused, SwapFault, Unmet, Word,
+};
 
 fn applied(rt: &impl Host, change: &impl Change, old: &[u8], new: &[u8]) {
     begin(rt);
@@ -166,4 +168,48 @@ fn move_to_end(rt: HostRuntime) {
     assert!(rt; are_same_records(&records, others.records()));
     let moved = moved.expect(&rt, "the edits are gone");
     assert!(rt; are_same_edits(&moved, &right));
+}
+
+/// Edits of every fourth byte of a text of 80: a record of one edit is small beside these.
+fn many_edits(rt: &impl Host) -> Edits {
+    let mut edits = Vec::new(rt.alloc());
+    for n in 0..20usize {
+        given(rt, edits.push(given(rt, Edit::new(rt.alloc(), 4 * n, b"a", b"A"))));
+    }
+    given(rt, Edits::make(80, edits))
+}
+
+/// A record of one edit of a text of 80 bytes.
+fn one_edit(rt: &impl Host, row: Row) -> Record {
+    Record::make(Word::Fix, edits_of(rt, 80, &[row]))
+}
+
+/// Many edits after one record.
+#[test]
+fn move_to_end_many(rt: HostRuntime) {
+    let first = many_edits(&rt);
+    let records = [one_edit(&rt, (2, "b", "B"))];
+    begin(&rt);
+    let answer = edit_record::move_to_end(rt.alloc(), &first, records.as_slice());
+    let (others, moved) = answered(&rt, answer, MoveFault::Memory, true);
+    assert!(rt; are_same_records(&others, records.as_slice()));
+    let moved = moved.expect(&rt, "the edits are gone");
+    assert!(rt; are_same_edits(&moved, &first));
+}
+
+/// The second record is blocked: it takes no more memory than if it were not there, as
+/// tools/refusals compares.
+#[test]
+fn move_to_end_blocked(rt: HostRuntime) {
+    let first = many_edits(&rt);
+    let records = [
+        one_edit(&rt, (2, "b", "B")),
+        one_edit(&rt, (4, "A", "x")),
+    ];
+    begin(&rt);
+    let fault = edit_record::move_to_end(rt.alloc(), &first, records.as_slice()).err();
+    if fault == Some(MoveFault::Memory) {
+        wanted(&rt, true);
+    }
+    assert!(rt; fault == Some(MoveFault::Blocked { number: 1 }));
 }

@@ -1,7 +1,7 @@
 //! What the calls are made on.
 
 use crate::tests::{Host, given};
-use edit_record::{Edit, Edits, Journal, decode};
+use edit_record::{Edit, Edits, Journal, Record, Word, decode, decode_owned};
 use tf_session::{Command, Done, RuleSet, Session};
 
 /// A text with each construct of the grammar, lists that grow more than once, an issue of each
@@ -66,6 +66,10 @@ pub const JOURNAL: &[u8] = b"tfrec 2 fmt 4 2\n1 0 1\n \n2 0 1\n \nend\n\
     tfrec 2 fix 6 2\n4 1 2\n122\n5 0 3\n #c\nend\n\
     tfrec 2 fix 10 1\n6 3 0\n #c\nend\n";
 
+/// Its first two records.
+pub const BEGUN_JOURNAL: &[u8] = b"tfrec 2 fmt 4 2\n1 0 1\n \n2 0 1\n \nend\n\
+    tfrec 2 fix 6 2\n4 1 2\n122\n5 0 3\n #c\nend\n";
+
 /// The text before the first of those records.
 pub const FIRST: &[u8] = b"x=1\n";
 
@@ -108,6 +112,14 @@ pub fn fix_all() -> Command {
 /// A journal from its text.
 pub fn journal_of(rt: &impl Host, text: &[u8]) -> Journal {
     given(rt, decode(rt.alloc(), text))
+}
+
+/// The journal that is read from its first two records, whose text it keeps, with the third pushed.
+pub fn continued_journal(rt: &impl Host) -> Journal {
+    let mut journal = given(rt, decode_owned(rt.alloc(), bytes_of(rt, BEGUN_JOURNAL)));
+    let last = Record::make(Word::Fix, edits_of(rt, 10, &[(6, " #c", "")]));
+    given(rt, journal.push(last));
+    journal
 }
 
 /// Bytes of a list of their own.

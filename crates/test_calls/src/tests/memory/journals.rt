@@ -1,18 +1,30 @@
 //! Calls on the text of a journal, and on a text with it.
 
 use super::equality::{are_same_records, are_same_sessions};
-use super::fixtures::{JOURNAL, LAST, MIGRATED, OLD_JOURNAL, journal_of, roomy, session_of};
+use super::fixtures::{
+    JOURNAL, LAST, MIGRATED, OLD_JOURNAL, bytes_of, continued_journal, journal_of, roomy, session_of,
+};
 use super::{answered, begin, gave};
 use crate::tests::Host;
 use edit_record::RecordFault;
 use std::alloc::AllocError;
-use tf_session::{RunFault, Told};
+use tf_session::{RunFault, Session, Told};
 
 #[test]
 fn encode(rt: HostRuntime) {
     let journal = journal_of(&rt, JOURNAL);
     begin(&rt);
     let answer = edit_record::encode(rt.alloc(), &journal);
+    gave(&rt, answer, AllocError, JOURNAL);
+}
+
+/// The record that was pushed is written after the text that the journal keeps.
+#[test]
+fn encode_owned(rt: HostRuntime) {
+    let journal = continued_journal(&rt);
+    let len = edit_record::encoded_len(&journal);
+    begin(&rt);
+    let answer = edit_record::encode_owned(journal, len);
     gave(&rt, answer, AllocError, JOURNAL);
 }
 
@@ -42,6 +54,17 @@ fn journal_text(rt: HostRuntime) {
     begin(&rt);
     let answer = tf_session::journal_text(rt.alloc(), &session);
     gave(&rt, answer, RunFault::Memory, JOURNAL);
+}
+
+/// Text and journal of a session that ends.
+#[test]
+fn saved_texts(rt: HostRuntime) {
+    let session = Session::start(bytes_of(&rt, LAST), continued_journal(&rt));
+    begin(&rt);
+    let answer = tf_session::saved_texts(session);
+    let saved = answered(&rt, answer, RunFault::Memory, true);
+    assert!(rt; saved.text.as_slice() == LAST);
+    assert!(rt; saved.journal.as_slice() == JOURNAL);
 }
 
 /// Loads a text, and a journal that is written as `right`.

@@ -2,7 +2,7 @@ use Rattle.std.proofs.Common.{◌≡◌, List, [], Some, None, refl, subst, arit
 use Rattle.std.proofs.lemmas.Result.{err_from_is_err_and}
 use Rattle.edit_record.specs.Lists.Journal.{JournalEntry}
 use Rattle.edit_record.specs.Swaps.Inner.MovingEditsView.{edits_now}
-use Rattle.edit_record.proofs.SwapsLemmas.MovingToEnd.{Past, did_swap, may_run_out, moves_none, move_more, move_none, past_start}
+use Rattle.edit_record.proofs.SwapsLemmas.MovingToEnd.{Past, did_swap, may_run_out, moves_none, move_more, move_none, past_start, run_out_later}
 use Rattle.edit_record.proofs.swaps.reorder.move_to_end.Goals as goal
 
 pub returns-in_err-before : goal.returns-in_err-before
@@ -36,7 +36,7 @@ returns-in_err-before-2 c =
 pub returns-in_err-push-2 : goal.returns-in_err-push-2
 returns-in_err-push-2 c =
     let p = err_from_is_err_and c.from_residual-in_err-push-2.result c.from_residual-in_err-push-2.ensures.1 in
-    rw (p.1, p.2) (may_run_out c.args.first.now c.args.records.now c.loop-i.reordered.items (Some c.loop-i.moved) c.loop-i.i c.index-records-i.result (omega (arith, c.loop-i-test.true, c.leading-large.ensures.within)) c.index-records-i.is c.loop-i.invariant (did_swap _ _ _ _ c.in_ok-before-2.ensures.0))
+    rw (p.1, p.2) (run_out_later c.args.first.now c.args.records.now c.loop-i.reordered.items (Some c.loop-i.moved) c.loop-i.i c.in-len1-up.len_at_least (omega (arith, c.loop-i.auto.i)) c.loop-i.invariant)
 
 pub loop-i-preserved : goal.loop-i-preserved
 loop-i-preserved c =
@@ -47,7 +47,7 @@ returns-in_err-moving c =
     let p = err_from_is_err_and c.from_residual-in_err-moving.result c.from_residual-in_err-moving.ensures.1 in
     let at_large : c.loop-i.i ≡ c.leading-large.result = omega (arith, c.loop-i-test.false, c.loop-i.auto.i, c.leading-large.ensures.some) in
     let past = subst (λ n. Past c.args.first.now c.args.records.now c.loop-i.reordered.items (Some c.loop-i.moved) n) at_large c.loop-i.invariant in
-    rw (p.1, p.2) (may_run_out c.args.first.now c.args.records.now c.loop-i.reordered.items (Some c.loop-i.moved) _ c.index-records-large.result (omega (arith, c.if-large-records.false, c.leading-large.ensures.within)) c.index-records-large.is past c.in_ok-check_move.ensures.swappable)
+    rw (p.1, p.2) (move_none c.args.first.now c.loop-i.moved c.args.records.now c.loop-i.reordered.items (Some c.loop-i.moved) _ c.index-records-large.result c.in_err-moving.field-0.0 refl (omega (arith, c.if-large-records.false, c.leading-large.ensures.within)) c.index-records-large.is past c.in_err-moving.ensures.refused)
 
 pub returns-in_err-before-3 : goal.returns-in_err-before-3
 returns-in_err-before-3 c =
@@ -59,16 +59,9 @@ returns-in_err-before-3 c =
 pub returns-in_err-push-3 : goal.returns-in_err-push-3
 returns-in_err-push-3 c =
     let p = err_from_is_err_and c.from_residual-in_err-push-3.result c.from_residual-in_err-push-3.ensures.1 in
-    rw (p.1, p.2) (may_run_out c.args.first.now c.args.records.now c.loop-i-2.reordered.items (Some (edits_now c.loop-i-2.moving)) c.loop-i-2.i c.index-records-i-in-loop-i-2.result (omega (arith, c.loop-i-2-test.true)) c.index-records-i-in-loop-i-2.is c.loop-i-2.invariant.0 (did_swap _ _ _ _ c.in_ok-before-3.ensures.0))
+    rw (p.1, p.2) (run_out_later c.args.first.now c.args.records.now c.loop-i-2.reordered.items (Some (edits_now c.loop-i-2.moving)) c.loop-i-2.i c.in-len1-up.len_at_least (omega (arith, c.loop-i-2.auto.i, c.leading-large.ensures.some)) c.loop-i-2.invariant.0)
 
 pub loop-i-2-preserved : goal.loop-i-2-preserved
 loop-i-2-preserved c =
     let h = c.in_ok-before-3.ensures in
     (move_more c.args.first.now c.args.records.now c.loop-i-2.reordered.items c.push-in-loop-i-2.new.self.items (Some (edits_now c.loop-i-2.moving)) c.loop-i-2.i c.index-records-i-in-loop-i-2.result c.in_ok-before-3.before _ (omega (arith, c.loop-i-2-test.true)) c.index-records-i-in-loop-i-2.is c.loop-i-2.invariant.0 (h.0, h.1) c.in_ok-push-3.ensures.items, h.2)
-
-pub returns-in_err-check_move : goal.returns-in_err-check_move
-returns-in_err-check_move c =
-    let p = err_from_is_err_and c.from_residual-in_err-check_move.result c.from_residual-in_err-check_move.ensures.1 in
-    let at_large : c.loop-i.i ≡ c.leading-large.result = omega (arith, c.loop-i-test.false, c.loop-i.auto.i, c.leading-large.ensures.some) in
-    let past = subst (λ n. Past c.args.first.now c.args.records.now c.loop-i.reordered.items (Some c.loop-i.moved) n) at_large c.loop-i.invariant in
-    rw (p.1, p.2) (move_none c.args.first.now c.loop-i.moved c.args.records.now c.loop-i.reordered.items (Some c.loop-i.moved) _ c.index-records-large.result c.in_err-check_move.field-0.0 refl (omega (arith, c.if-large-records.false, c.leading-large.ensures.within)) c.index-records-large.is past c.in_err-check_move.ensures.refused)
