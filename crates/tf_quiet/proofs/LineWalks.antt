@@ -9,6 +9,7 @@ use Rattle.hcl_token.specs.declared.kind.Kind.TheVariants as k
 use Rattle.tf_quiet.proofs.OpenBrackets.{at_token, is_later}
 use Rattle.tf_quiet.proofs.TokensThere.{stands_kind}
 use Rattle.tf_quiet.specs.Inner.TokenClasses.{class_of}
+use Rattle.tf_quiet.specs.declared.tokens.Class.TheVariants as class
 use Rattle.tf_quiet.specs.LineEnds.{outer, depth_after, is_line_end, line_end_by, line_end_in, line_end_from}
 use Rattle.tf_quiet.specs.QuietTokens.{is_no_equality, is_quiet_token, is_quiet_at}
 use Rattle.tf_rules.specs.Rules.Lookup.{is_lookup_token}
@@ -70,7 +71,7 @@ ends_later ts n to h = is_later (drop n ts) 0 n to h
 
 -- ---- tokens by their class
 
-plain_is_quiet : (t : Kind) (spelling : Option (List ℕ)) (next : Option Kind) (more : Bool) → class_of t ≡ 0 → is_quiet_token (Some t) spelling next more ≡ true
+plain_is_quiet : (t : Kind) (spelling : Option (List ℕ)) (next : Option Kind) (more : Bool) → class_of t ≡ class.Plain → is_quiet_token (Some t) spelling next more ≡ true
 plain_is_quiet k.Identifier spelling next more h = absurd (cc)
 plain_is_quiet k.LineEnd spelling next more h = absurd (cc)
 plain_is_quiet k.OpenParen spelling next more h = absurd (cc)
@@ -90,7 +91,7 @@ plain_is_quiet k.CloseBracket spelling next more h = absurd (cc)
 plain_is_quiet k.QuoteOpen spelling next more h = absurd (cc)
 plain_is_quiet _ spelling next more h = refl
 
-plain_keeps_depth : (t : Kind) (d : ℕ) → class_of t ≡ 0 → depth_after t d ≡ d
+plain_keeps_depth : (t : Kind) (d : ℕ) → class_of t ≡ class.Plain → depth_after t d ≡ d
 plain_keeps_depth k.Identifier d h = absurd (cc)
 plain_keeps_depth k.LineEnd d h = absurd (cc)
 plain_keeps_depth k.OpenParen d h = absurd (cc)
@@ -110,20 +111,20 @@ plain_keeps_depth k.CloseBracket d h = absurd (cc)
 plain_keeps_depth k.QuoteOpen d h = absurd (cc)
 plain_keeps_depth _ d h = refl
 
-pub name_class : (t : Kind) → class_of t ≡ 1 → t ≡ k.Identifier
+pub name_class : (t : Kind) → class_of t ≡ class.Name → t ≡ k.Identifier
 name_class k.Identifier h = refl
 name_class _ h = absurd (cc)
 
-pub line_class : (t : Kind) → class_of t ≡ 2 → t ≡ k.LineEnd
+pub line_class : (t : Kind) → class_of t ≡ class.LineEnd → t ≡ k.LineEnd
 line_class k.LineEnd h = refl
 line_class _ h = absurd (cc)
 
-pub other_class : (t : Kind) → class_of t ≢ 2 → is_line_end t ≡ false
+pub other_class : (t : Kind) → class_of t ≢ class.LineEnd → is_line_end t ≡ false
 other_class k.LineEnd h = absurd (h refl)
 other_class _ h = refl
 
 -- a token that ends no line, and how many brackets are open after it
-step : (pairs : List Pair) (n d e : ℕ) (t : Kind) → kind_of pairs n ≡ Some t → class_of t ≢ 2 → depth_after t d ≡ e → line_end_from (tokens_of pairs) e (n + 1) ≡ line_end_from (tokens_of pairs) d n
+step : (pairs : List Pair) (n d e : ℕ) (t : Kind) → kind_of pairs n ≡ Some t → class_of t ≢ class.LineEnd → depth_after t d ≡ e → line_end_from (tokens_of pairs) e (n + 1) ≡ line_end_from (tokens_of pairs) d n
 step pairs n d e t h c s =
     ap (λ (x : ℕ). line_end_from (tokens_of pairs) x (n + 1)) (sym s)
     ∙ goes_on pairs n d t h (λ rest. by_other t d (Some (suc n)) rest (other_class t c))
@@ -133,10 +134,10 @@ pub record Passed (pairs : List Pair) (n d e : ℕ) : Type 0 where
   pub quiet : is_quiet_at pairs n ≡ true
   pub first : line_end_from (tokens_of pairs) e (n + 1) ≡ line_end_from (tokens_of pairs) d n
 
-pub plain_passed : (pairs : List Pair) (n d : ℕ) (t : Kind) → kind_of pairs n ≡ Some t → class_of t ≡ 0 → Passed pairs n d d
+pub plain_passed : (pairs : List Pair) (n d : ℕ) (t : Kind) → kind_of pairs n ≡ Some t → class_of t ≡ class.Plain → Passed pairs n d d
 plain_passed pairs n d t h p = record { quiet = rw h (plain_is_quiet t _ _ _ p); first = step pairs n d d t h (λ e. cc) (plain_keeps_depth t d p) }
 
-pub name_passed : (pairs : List Pair) (n d : ℕ) (t : Kind) → kind_of pairs n ≡ Some t → class_of t ≡ 1 → is_lookup_token (spelling_of pairs n) ≡ false → Passed pairs n d d
+pub name_passed : (pairs : List Pair) (n d : ℕ) (t : Kind) → kind_of pairs n ≡ Some t → class_of t ≡ class.Name → is_lookup_token (spelling_of pairs n) ≡ false → Passed pairs n d d
 name_passed pairs n d t h p l =
     let name = h ∙ ap Some (name_class t p) in
     record { quiet = rw name (rw l refl); first = step pairs n d d k.Identifier name (λ e. cc) refl }

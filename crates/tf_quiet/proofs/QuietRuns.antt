@@ -44,6 +44,12 @@ goes_on_over k.InterpOpen more rest a b c d e = absurd (d refl)
 goes_on_over k.DirectiveOpen more rest a b c d e = absurd (e refl)
 goes_on_over _ more rest a b c d e = refl
 
+pub stops_over : (t : Kind) (more rest : Bool) → ((t ≡ k.QuoteOpen) ⊎ ((t ≡ k.HereOpen) ⊎ ((t ≡ k.InterpOpen) ⊎ (t ≡ k.DirectiveOpen)))) → continues_by t more rest ≡ false
+stops_over t more rest (inl e) = rw e refl
+stops_over t more rest (inr (inl e)) = rw e refl
+stops_over t more rest (inr (inr (inl e))) = rw e refl
+stops_over t more rest (inr (inr (inr e))) = rw e refl
+
 pub none_behind : (pairs : List Pair) (n : ℕ) → length pairs ≤ n → continues_after (drop n pairs) ≡ false
 none_behind [] zero l = refl
 none_behind [] (suc n) l = refl

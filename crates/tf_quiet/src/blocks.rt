@@ -1,10 +1,12 @@
 //! Blocks that must have some attributes, and blocks whose attributes declare names.
 
-ghost use Rattle.std.specs.Prelude.{◌≡◌, ◌<◌, ◌≤◌, ◌+◌, ◌-◌, ◌^◌, ◌||◌, true, length, codes, Some, IfOk, IfSome};
+ghost use Rattle.std.specs.Prelude.{◌≡◌, ◌<◌, ◌≤◌, ◌+◌, ◌-◌, ◌^◌, ◌||◌};
+ghost use Rattle.std.specs.Prelude.{true, length, codes, Some, IfOk, IfSome};
 ghost use Rattle.hcl_grammar.specs.Tokens.{is_kind};
 ghost use Rattle.hcl_token.specs.TokenizedText.{kind_of};
 ghost use Rattle.hcl_token.specs.declared.kind.Kind.TheVariants.{CloseBrace, Identifier, LineEnd};
-ghost use Rattle.tf_quiet.specs.Inner.SeenMembers.{IsLine, begins_text, is_right_attribute, IsMemberWalk, IsSeenBody, is_complete};
+ghost use Rattle.tf_quiet.specs.Inner.SeenMembers.{IsLine, begins_text, is_right_attribute};
+ghost use Rattle.tf_quiet.specs.Inner.SeenMembers.{IsMemberWalk, IsSeenBody, is_complete};
 ghost use Rattle.tf_quiet.specs.QuietBlocks.{HasNoBlockFindings};
 ghost use Rattle.tf_quiet.specs.QuietTokens.{AreQuiet};
 ghost use Rattle.tf_rules.specs.SnakeCase.{is_snake_case};
@@ -113,7 +115,8 @@ fn member(scanned: &Scanned<'_>, n: usize, limit: usize, names: bool) -> Result<
     requires word { is_kind (kind_of scanned.now.pairs n) Identifier ≡ true }
     ensures quiet { IfOk result (λ s. AreQuiet scanned.now.pairs n s.end) }
     ensures later { IfOk result (λ s. n < s.end) }
-    ensures walk { IfOk result (λ s. IsMemberWalk scanned.now.pairs names n s.end s.typed s.described) }
+    ensures walk { IfOk result
+        (λ s. IsMemberWalk scanned.now.pairs names n s.end s.typed s.described) }
 {
     if !begins_member(scanned, n, names) {
         return Err(Stop::NotQuiet);
@@ -141,7 +144,8 @@ fn line_or_member(scanned: &Scanned<'_>, n: usize, limit: usize, names: bool) ->
     requires limit { limit ≤ length scanned.now.pairs }
     ensures quiet { IfOk result (λ s. AreQuiet scanned.now.pairs n s.end) }
     ensures later { IfOk result (λ s. n < s.end) }
-    ensures walk { IfOk result (λ s. IsMemberWalk scanned.now.pairs names n s.end s.typed s.described) }
+    ensures walk { IfOk result
+        (λ s. IsMemberWalk scanned.now.pairs names n s.end s.typed s.described) }
 {
     if is_kind(scanned, n, Kind::Identifier) {
         return member(scanned, n, limit, names);
@@ -175,7 +179,8 @@ fn members(scanned: &Scanned<'_>, from: usize, limit: usize, names: bool) -> Res
     ensures quiet { IfOk result (λ s. AreQuiet scanned.now.pairs from s.end) }
     ensures within { IfOk result (λ s. s.end < length scanned.now.pairs) }
     ensures close { IfOk result (λ s. kind_of scanned.now.pairs s.end ≡ Some CloseBrace) }
-    ensures walk { IfOk result (λ s. IsMemberWalk scanned.now.pairs names from s.end s.typed s.described) }
+    ensures walk { IfOk result
+        (λ s. IsMemberWalk scanned.now.pairs names from s.end s.typed s.described) }
 {
     let mut seen = Seen {
         end: from,
@@ -317,16 +322,11 @@ pub fn quiet_block_end_within(
     quiet_declaration_end(scanned, from, limit, word)
 }
 
-/// Returns the place after the last line of the block `variable`, `output` or `locals` that begins
-/// with this token, if its tokens are quiet and show that no rule on blocks finds anything at it.
-/// No more is claimed than that: it errs to one side alone.
+/// Returns what [`quiet_block_end_within`] finds where the limit is the number of tokens.
 pub fn quiet_block_end(scanned: &Scanned<'_>, from: usize) -> Option<usize>
     ensures quiet { IfSome result (λ to. AreQuiet scanned.now.pairs from to) }
     ensures line { IfSome result (λ to. kind_of scanned.now.pairs (to - 1) ≡ Some LineEnd) }
     ensures nothing { IfSome result (λ to. HasNoBlockFindings scanned.now.pairs from) }
 {
-    match quiet_block_end_within(scanned, from, scanned.len()) {
-        Ok(end) => Some(end),
-        Err(_stop) => None,
-    }
+    quiet_block_end_within(scanned, from, scanned.len()).ok()
 }

@@ -4,7 +4,8 @@ ghost use Rattle.std.specs.Prelude.{◌≡◌, ◌<◌, ◌+◌, ◌^◌, true};
 ghost use Rattle.hcl_grammar.specs.Tokens.{is_kind};
 ghost use Rattle.hcl_token.specs.TokenizedText.{kind_of};
 ghost use Rattle.std.specs.Str.{bytes_eq};
-ghost use Rattle.tf_quiet.specs.QuietHeads.{is_text_label, is_snake_label, is_quiet_after_word, is_quiet_head};
+ghost use Rattle.tf_quiet.specs.QuietHeads.{is_text_label, is_snake_label};
+ghost use Rattle.tf_quiet.specs.QuietHeads.{is_quiet_after_word, is_quiet_head};
 ghost use Rattle.tf_rules.specs.Spelling.{token_text};
 
 use hcl_scan::Scanned;
@@ -56,8 +57,9 @@ pub fn is_snake_label(scanned: &Scanned<'_>, n: usize) -> bool
         && is_snake_case(token_text(scanned, n + 1))
 }
 
-/// Returns whether no rule on blocks finds anything at a member that begins with this word, whatever
-/// is in it: the word declares nothing, or the label that names what it declares is in snake_case.
+/// Returns whether no rule on blocks finds anything at a member that begins with this word,
+/// whatever is in it: the word declares nothing, or the label that names what it declares is in
+/// snake_case.
 fn is_quiet_after_word(scanned: &Scanned<'_>, n: usize, word: &[u8]) -> bool
     requires { n + 6 < 2 ^ 64 }
     ensures { result ≡ is_quiet_after_word scanned.now.pairs n word.now }

@@ -1,12 +1,14 @@
 //! Which tokens are quiet.
 
-ghost use Rattle.std.specs.Prelude.{◌≡◌, ◌<◌, ◌≤◌, ◌+◌, ◌-◌, ◌^◌, true, false, length, drop, Some, IfOk, IfErr, IfSome};
+ghost use Rattle.std.specs.Prelude.{◌≡◌, ◌<◌, ◌≤◌, ◌+◌, ◌-◌, ◌^◌, true, false, length, drop};
+ghost use Rattle.std.specs.Prelude.{Some, IfOk, IfErr, IfSome};
 ghost use Rattle.hcl_scan.specs.Follows.{tokens_of};
 ghost use Rattle.hcl_token.specs.declared.kind.Kind.TheVariants.{LineEnd};
 ghost use Rattle.hcl_token.specs.TokenizedText.{kind_of, spelling_of};
 ghost use Rattle.tf_quiet.specs.Inner.TokenClasses.{class_of};
 ghost use Rattle.tf_quiet.specs.LineEnds.{depth_after, line_end_from};
-ghost use Rattle.tf_quiet.specs.QuietTokens.{continues, continues_after, is_quiet_after_quote, is_quiet_operand, is_no_equality, is_quiet_at, AreQuiet};
+ghost use Rattle.tf_quiet.specs.QuietTokens.{is_quiet_after_quote, is_quiet_operand, is_quiet_at};
+ghost use Rattle.tf_quiet.specs.QuietTokens.{continues, continues_after, is_no_equality, AreQuiet};
 ghost use Rattle.tf_rules.specs.Rules.Lookup.{is_lookup_token};
 
 use hcl_scan::Scanned;
@@ -25,8 +27,8 @@ fn continues(scanned: &Scanned<'_>, n: usize) -> bool
     }
 }
 
-/// Returns whether no template is in an interpolation, from token `from` on, and quoted text goes on
-/// after its end.
+/// Returns whether no template is in an interpolation, from token `from` on, and quoted text goes
+/// on after its end.
 #[inline(never)]
 fn continues_after(scanned: &Scanned<'_>, from: usize) -> bool
     ensures { result ≡ continues_after (drop from scanned.now.pairs) }
@@ -35,10 +37,9 @@ fn continues_after(scanned: &Scanned<'_>, from: usize) -> bool
     'inside: while n < scanned.len() {
         match scanned.kind(n) {
             Kind::SeqClose => return continues(scanned, n + 1),
-            Kind::QuoteOpen => return false,
-            Kind::HereOpen => return false,
-            Kind::InterpOpen => return false,
-            Kind::DirectiveOpen => return false,
+            Kind::QuoteOpen | Kind::HereOpen | Kind::InterpOpen | Kind::DirectiveOpen => {
+                return false;
+            }
             _ => n += 1,
         }
     }
@@ -47,7 +48,9 @@ fn continues_after(scanned: &Scanned<'_>, from: usize) -> bool
 
 /// Returns whether a token after a quote says that the quoted text is not one interpolation.
 fn is_quiet_after_quote(scanned: &Scanned<'_>, n: usize) -> bool
-    ensures { result ≡ is_quiet_after_quote (kind_of scanned.now.pairs n) (continues_after (drop (n + 1) scanned.now.pairs)) }
+    ensures { result
+        ≡ is_quiet_after_quote (kind_of scanned.now.pairs n)
+        (continues_after (drop (n + 1) scanned.now.pairs)) }
 {
     if n >= scanned.len() {
         return false;
@@ -160,32 +163,33 @@ fn depth_after_quiet(
     }
 }
 
-/// Tokens that are quiet whatever is after them, and that open and close nothing.
-const PLAIN: u8 = 0;
-
-/// Names.
-const NAME: u8 = 1;
-
-/// Line ends.
-const LINE_END: u8 = 2;
-
-/// All others.
-const OTHER: u8 = 3;
+/// Tokens by what has to be looked at.
+#[derive(Clone, Copy)]
+enum Class {
+    /// It is quiet whatever is after it, and opens and closes nothing.
+    Plain,
+    /// A name.
+    Name,
+    /// A line end.
+    LineEnd,
+    /// Any other.
+    Other,
+}
 
 /// Returns the class of a token of this kind.
 #[inline(always)]
-fn class_of(kind: Kind) -> u8
+fn class_of(kind: Kind) -> Class
     ensures { result ≡ class_of kind }
 {
     match kind {
-        Kind::Identifier => NAME,
-        Kind::LineEnd => LINE_END,
-        Kind::LineComment | Kind::InlineComment | Kind::DotIndex => OTHER,
-        Kind::DoubleEqual | Kind::NotEqual => OTHER,
-        Kind::OpenBracket | Kind::CloseBracket | Kind::OpenParen | Kind::CloseParen => OTHER,
-        Kind::OpenBrace | Kind::CloseBrace | Kind::QuoteOpen => OTHER,
-        Kind::SeqClose | Kind::InterpOpen | Kind::DirectiveOpen => OTHER,
-        _ => PLAIN,
+        Kind::Identifier => Class::Name,
+        Kind::LineEnd => Class::LineEnd,
+        Kind::LineComment | Kind::InlineComment | Kind::DotIndex => Class::Other,
+        Kind::DoubleEqual | Kind::NotEqual => Class::Other,
+        Kind::OpenBracket | Kind::CloseBracket | Kind::OpenParen | Kind::CloseParen => Class::Other,
+        Kind::OpenBrace | Kind::CloseBrace | Kind::QuoteOpen => Class::Other,
+        Kind::SeqClose | Kind::InterpOpen | Kind::DirectiveOpen => Class::Other,
+        _ => Class::Plain,
     }
 }
 
@@ -204,47 +208,50 @@ pub fn quiet_line_end_within(
     requires { limit ≤ length scanned.now.pairs }
     ensures quiet { IfOk result (λ to. AreQuiet scanned.now.pairs from to) }
     ensures line { IfOk result (λ to. kind_of scanned.now.pairs (to - 1) ≡ Some LineEnd) }
-    ensures first { IfOk result (λ to. line_end_from (tokens_of scanned.now.pairs) 0 from ≡ Some to) }
+    ensures first { IfOk result
+        (λ to. line_end_from (tokens_of scanned.now.pairs) 0 from ≡ Some to) }
 {
     let mut depth = 0;
     let mut n = from;
     'quiet: while n < limit {
         let kind = scanned.kind(n);
-        let class = class_of(kind);
-        if class == PLAIN {
-            n += 1;
-            continue;
-        }
-        if class == NAME {
-            if is_lookup(scanned, n) {
-                return Err(Stop::NotQuiet);
+        // Arms that leave `depth` as it is end in `continue`: LLVM makes a shorter loop of them.
+        match class_of(kind) {
+            Class::Plain => {
+                n += 1;
+                continue;
             }
-            n += 1;
-            continue;
-        }
-        if class == LINE_END && depth == 0 {
-            if !is_no_equality(scanned, n + 1) {
-                return Err(Stop::NotQuiet);
+            Class::Name => {
+                if is_lookup(scanned, n) {
+                    return Err(Stop::NotQuiet);
+                }
+                n += 1;
+                continue;
             }
-            return Ok(n + 1);
+            Class::LineEnd if depth == 0 => {
+                if !is_no_equality(scanned, n + 1) {
+                    return Err(Stop::NotQuiet);
+                }
+                return Ok(n + 1);
+            }
+            _ => {
+                depth = depth_after_quiet(scanned, n, kind, depth)?;
+                n += 1;
+            }
         }
-        depth = depth_after_quiet(scanned, n, kind, depth)?;
-        n += 1;
     }
     Err(stop_at(scanned, limit))
 }
 
-/// Returns the place after the first line end that is outside of brackets, if all tokens from
-/// number `from` up to there are quiet. There a member ends that begins at `from`, if one does.
+/// Returns what [`quiet_line_end_within`] finds where the limit is the number of tokens. There a
+/// member ends that begins at `from`, if one does.
 pub fn quiet_line_end(scanned: &Scanned<'_>, from: usize) -> Option<usize>
     ensures quiet { IfSome result (λ to. AreQuiet scanned.now.pairs from to) }
     ensures line { IfSome result (λ to. kind_of scanned.now.pairs (to - 1) ≡ Some LineEnd) }
-    ensures first { IfSome result (λ to. line_end_from (tokens_of scanned.now.pairs) 0 from ≡ Some to) }
+    ensures first { IfSome result
+        (λ to. line_end_from (tokens_of scanned.now.pairs) 0 from ≡ Some to) }
 {
-    match quiet_line_end_within(scanned, from, scanned.len()) {
-        Ok(end) => Some(end),
-        Err(_stop) => None,
-    }
+    quiet_line_end_within(scanned, from, scanned.len()).ok()
 }
 
 /// Returns whether some token between these places is a legacy index, or a quote after which one

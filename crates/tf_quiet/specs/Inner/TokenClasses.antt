@@ -1,26 +1,25 @@
 -- Classes of tokens by what has to be looked at.
-use Rattle.std.specs.Prelude.{ℕ}
 use Rattle.hcl_token.specs.declared.kind.Kind.{Kind}
 use Rattle.hcl_token.specs.declared.kind.Kind.TheVariants as k
+use Rattle.tf_quiet.specs.declared.tokens.Class.{Class}
+use Rattle.tf_quiet.specs.declared.tokens.Class.TheVariants.{Plain, Name, LineEnd, Other}
 
--- 0: such a token is quiet whatever is after it, and opens and closes nothing; 1: a name; 2: a line
--- end; 3: another
-abbrev pub class_of : Kind → ℕ
-class_of k.Identifier = 1
-class_of k.LineEnd = 2
-class_of k.OpenParen = 3
-class_of k.OpenBracket = 3
-class_of k.OpenBrace = 3
-class_of k.InterpOpen = 3
-class_of k.DirectiveOpen = 3
-class_of k.CloseParen = 3
-class_of k.CloseBrace = 3
-class_of k.SeqClose = 3
-class_of k.LineComment = 3
-class_of k.InlineComment = 3
-class_of k.DotIndex = 3
-class_of k.DoubleEqual = 3
-class_of k.NotEqual = 3
-class_of k.CloseBracket = 3
-class_of k.QuoteOpen = 3
-class_of _ = 0
+abbrev pub class_of : Kind → Class
+class_of k.Identifier = Name
+class_of k.LineEnd = LineEnd
+class_of k.OpenParen = Other
+class_of k.OpenBracket = Other
+class_of k.OpenBrace = Other
+class_of k.InterpOpen = Other
+class_of k.DirectiveOpen = Other
+class_of k.CloseParen = Other
+class_of k.CloseBrace = Other
+class_of k.SeqClose = Other
+class_of k.LineComment = Other
+class_of k.InlineComment = Other
+class_of k.DotIndex = Other
+class_of k.DoubleEqual = Other
+class_of k.NotEqual = Other
+class_of k.CloseBracket = Other
+class_of k.QuoteOpen = Other
+class_of _ = Plain

@@ -2,7 +2,7 @@ use Rattle.std.proofs.Common.{◌≡◌, ◌+◌, drop, Some, sym, ap, ◌∙◌
 use Rattle.hcl_token.specs.TokenizedText.{kind_of}
 use Rattle.hcl_token.specs.declared.kind.Kind.TheVariants as k
 use Rattle.tf_quiet.specs.QuietTokens.{continues, continues_after}
-use Rattle.tf_quiet.proofs.QuietRuns.{goes_on_at, goes_on_over}
+use Rattle.tf_quiet.proofs.QuietRuns.{goes_on_at, goes_on_over, stops_over}
 use Rattle.tf_quiet.proofs.tokens.continues_after.Goals as goal
 
 pub returns-in-SeqClose : goal.returns-in-SeqClose
@@ -12,23 +12,8 @@ returns-in-SeqClose c =
 
 pub returns-in-QuoteOpen : goal.returns-in-QuoteOpen
 returns-in-QuoteOpen c =
-    let here : kind_of c.args.scanned.now.pairs c.inside.n ≡ Some k.QuoteOpen = sym c.kind.ensures ∙ ap Some c.in-QuoteOpen.is in
-    sym (goes_on_at c.args.scanned.now.pairs c.inside.n k.QuoteOpen here) ∙ c.inside.invariant
-
-pub returns-in-HereOpen : goal.returns-in-HereOpen
-returns-in-HereOpen c =
-    let here : kind_of c.args.scanned.now.pairs c.inside.n ≡ Some k.HereOpen = sym c.kind.ensures ∙ ap Some c.in-HereOpen.is in
-    sym (goes_on_at c.args.scanned.now.pairs c.inside.n k.HereOpen here) ∙ c.inside.invariant
-
-pub returns-in-InterpOpen : goal.returns-in-InterpOpen
-returns-in-InterpOpen c =
-    let here : kind_of c.args.scanned.now.pairs c.inside.n ≡ Some k.InterpOpen = sym c.kind.ensures ∙ ap Some c.in-InterpOpen.is in
-    sym (goes_on_at c.args.scanned.now.pairs c.inside.n k.InterpOpen here) ∙ c.inside.invariant
-
-pub returns-in-DirectiveOpen : goal.returns-in-DirectiveOpen
-returns-in-DirectiveOpen c =
-    let here : kind_of c.args.scanned.now.pairs c.inside.n ≡ Some k.DirectiveOpen = sym c.kind.ensures ∙ ap Some c.in-DirectiveOpen.is in
-    sym (goes_on_at c.args.scanned.now.pairs c.inside.n k.DirectiveOpen here) ∙ c.inside.invariant
+    let over = goes_on_at c.args.scanned.now.pairs c.inside.n c.kind.result (sym c.kind.ensures) in
+    sym (over ∙ stops_over c.kind.result _ _ c.in-QuoteOpen.is) ∙ c.inside.invariant
 
 pub inside-preserved : goal.inside-preserved
 inside-preserved c =
