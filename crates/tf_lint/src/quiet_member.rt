@@ -1,11 +1,12 @@
 //! A member in which no rule can find anything, skipped with no tree of it made.
 //!
-//! Its tokens show it, and most members of most texts are such. A first look at some tokens gives up
-//! most that are not quiet: at a token, at the end of the text, at a line of a block that is no
-//! plain member, or at the end of a block that lacks an attribute. The parser is called before more
-//! than these are looked at, so that an error near the start of a long member is found before work
-//! grows with its length; only then is the rest looked at. Where the member is given up, its tree is
-//! made as before.
+//! Its tokens show it, and most members of most texts are such. A first look at some tokens gives
+//! up most that are not quiet: at a token, at the end of the text, at a line of a block that begins
+//! no attribute or block, or at the end of a block without an attribute that it must have. The
+//! parser is called before more than these are looked at, so that an error near the start of a long
+//! member is found before work grows with its length; only then are all its tokens looked at. (Of
+//! a long block whose body the rules on blocks read, a guess is made before.) Where the member is
+//! given up, its tree is made as before.
 
 ghost use Rattle.std.specs.Prelude.{◌≡◌, ◌≤◌, ◌<◌, ◌-◌, ◌^◌, length, true, false, Ok, IfOk, IfErr, Some};
 ghost use Rattle.hcl_token.specs.TokenizedText.{kind_of};
@@ -20,17 +21,17 @@ use hcl_scan::Scanned;
 use std::alloc::Global;
 use tf_quiet::laws::{quiet_heads_have_no_findings, quiet_members_have_no_findings};
 use tf_quiet::{
-    Stop, is_loud_between, is_quiet_head, quiet_block_end_within, quiet_line_end_within,
+    Stop, is_loud_block, is_quiet_head, quiet_block_end_within, quiet_line_end_within,
 };
 
-/// The most tokens of a member that are looked at before the parser is called. With fewer, more
-/// members that stop being quiet late are read by the parser twice; with more, an error near the
-/// start is found later.
+/// The most tokens of a member that are looked at before the parser is called: those of some 500
+/// lines of a block. With fewer, more members that stop being quiet late are read by the parser
+/// twice; with more, an error near the start is found later.
 const LOOK: usize = 2_560;
 
 /// Returns the place after the first line end outside of brackets, if it is found before a limit,
-/// and the tokens up to there are quiet and show that no rule on blocks finds anything at the member
-/// that begins with this token.
+/// and the tokens up to there are quiet and show that no rule on blocks finds anything at the
+/// member that begins with this token.
 ///
 /// # Errors
 ///
@@ -64,23 +65,15 @@ fn first_look(scanned: &Scanned<'_>, from: usize) -> Result<usize, Stop>
     quiet_end(scanned, from, scanned.len().min(from.saturating_add(LOOK)))
 }
 
-/// Returns whether a first look says that something is not quiet: to say so of more costs time alone.
+/// Returns whether a first look says that something is not quiet, or, of a long block whose body the
+/// rules on blocks read, that something seems not to be. To say so of more costs time alone.
 #[inline(always)]
-fn is_given_up(first: Result<usize, Stop>) -> bool {
+fn is_given_up(scanned: &Scanned<'_>, from: usize, first: Result<usize, Stop>) -> bool {
     match first {
         Ok(_end) => false,
-        Err(Stop::Limit) => false,
+        Err(Stop::Limit) => !is_quiet_head(scanned, from) && is_loud_block(scanned, from),
         Err(Stop::NotQuiet) => true,
     }
-}
-
-/// Returns whether a rule on blocks reads the body of this block, and the block has a token that is
-/// not quiet, of the kinds that are most frequent. This takes less time than the whole look, and only
-/// time depends on it.
-fn is_loud_block(scanned: &Scanned<'_>, from: usize, past: usize) -> bool
-    requires { past ≤ length scanned.now.pairs }
-{
-    !is_quiet_head(scanned, from) && is_loud_between(scanned, from, past)
 }
 
 /// Returns whether the tokens of a member between these places are quiet and show that no rule on
@@ -92,7 +85,7 @@ fn is_quiet_between(scanned: &Scanned<'_>, from: usize, past: usize) -> bool
     ensures nothing { result ≡ true → HasNoBlockFindings scanned.now.pairs from }
     ensures fits { result ≡ true → past < 2 ^ 64 }
 {
-    if past > scanned.len() || is_loud_block(scanned, from, past) {
+    if past > scanned.len() {
         return false;
     }
     match quiet_end(scanned, from, past) {
@@ -161,7 +154,7 @@ pub fn skip_quiet_member(
     quiet_members_have_no_findings();
     let from = *at;
     let first = first_look(scanned, from);
-    if is_given_up(first) {
+    if is_given_up(scanned, from, first) {
         return Ok(false);
     }
     let mut past = from;

@@ -88,9 +88,8 @@ fn is_right_name(name: &[u8], names: bool) -> bool
     !names || is_snake_case(name)
 }
 
-/// Returns whether a name begins an attribute, or a block if it need not be one, by the next three
-/// tokens. It is a guess: most lines with an error are found so, before all lines are read, and
-/// nothing depends on it.
+/// Returns whether a name seems to begin an attribute, or a block, by the next three tokens. Most
+/// lines with an error are found so, before all lines are read; only time depends on it.
 fn begins_member(scanned: &Scanned<'_>, n: usize, names: bool) -> bool
     requires { n + 3 < 2 ^ 64 }
 {
@@ -101,7 +100,8 @@ fn begins_member(scanned: &Scanned<'_>, n: usize, names: bool) -> bool
         Kind::Equal => {
             !is_kind(scanned, n + 2, Kind::Identifier) || !is_kind(scanned, n + 3, Kind::Identifier)
         }
-        Kind::OpenBrace | Kind::QuoteOpen => !names,
+        Kind::OpenBrace | Kind::InlineComment => true,
+        Kind::QuoteOpen => !names,
         Kind::Identifier => !names && !is_kind(scanned, n + 2, Kind::Equal),
         _ => false,
     }

@@ -47,7 +47,7 @@ fn continues_after(scanned: &Scanned<'_>, from: usize) -> bool
 }
 
 /// Returns whether a token after a quote says that the quoted text is not one interpolation.
-fn is_quiet_after_quote(scanned: &Scanned<'_>, n: usize) -> bool
+pub fn is_quiet_after_quote(scanned: &Scanned<'_>, n: usize) -> bool
     ensures { result
         ≡ is_quiet_after_quote (kind_of scanned.now.pairs n)
         (continues_after (drop (n + 1) scanned.now.pairs)) }
@@ -99,7 +99,7 @@ fn is_lookup(scanned: &Scanned<'_>, n: usize) -> bool
 /// Why no end of a member was found.
 #[derive(Clone, Copy)]
 pub enum Stop {
-    /// A token is not quiet, or the text ends, or a block lacks something.
+    /// A token is not quiet, or the text ends, or a block does not have all that it must have.
     NotQuiet,
     /// All tokens up to the limit are quiet.
     Limit,
@@ -252,25 +252,4 @@ pub fn quiet_line_end(scanned: &Scanned<'_>, from: usize) -> Option<usize>
         (λ to. line_end_from (tokens_of scanned.now.pairs) 0 from ≡ Some to) }
 {
     quiet_line_end_within(scanned, from, scanned.len()).ok()
-}
-
-/// Returns whether some token between these places is a legacy index, or a quote after which one
-/// interpolation may be all of the quoted text: most tokens that are not quiet are such. It is
-/// a guess, made before all tokens are read: nothing depends on it.
-pub fn is_loud_between(scanned: &Scanned<'_>, from: usize, to: usize) -> bool
-    requires { to ≤ length scanned.now.pairs }
-{
-    let mut n = from;
-    'loud: while n < to {
-        let is_loud = match scanned.kind(n) {
-            Kind::DotIndex => true,
-            Kind::QuoteOpen => !is_quiet_after_quote(scanned, n + 1),
-            _ => false,
-        };
-        if is_loud {
-            return true;
-        }
-        n += 1;
-    }
-    false
 }
