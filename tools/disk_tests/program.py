@@ -30,9 +30,9 @@ class Program:
         """Returns the command line of a command on FILE."""
         return [self.path, *command.split(), file]
 
-    def run(self, folder, command, file="main.tf", **options):
-        """Runs a command on FILE of a folder."""
-        words = self.words(command, file)
+    def run(self, folder, command, file="main.tf", before=(), **options):
+        """Runs a command on FILE of a folder; `before` are words of a command that runs it."""
+        words = [*before, *self.words(command, file)]
         return subprocess.run(words, cwd=folder, capture_output=True, check=False, **options)
 
     def recover(self, folder):

@@ -1,1 +1,3 @@
 pub mod Common
+pub mod Handles
+pub mod Snapshots

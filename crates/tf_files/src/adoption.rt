@@ -1,6 +1,6 @@
 //! Decides whether a new journal that was found alone may replace the journal.
 
-use crate::journaled_file::read;
+use crate::journaled_file::read_session;
 use std::alloc::Global;
 use std::rt::Files;
 use tf_session::{Command, Fault, RunFault};
@@ -47,7 +47,7 @@ fn can_revert<R: Files>(
     text: &str,
     journal: &str,
 ) -> Result<bool, RunFault> {
-    let mut session = read(rt, alloc, text, journal)?;
+    let mut session = read_session(rt, alloc, text, journal)?;
     match session.step(alloc, Command::Revert) {
         Ok(_) => Ok(true),
         Err(Fault::Memory) => Err(RunFault::Memory),

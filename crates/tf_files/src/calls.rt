@@ -43,7 +43,7 @@ pub struct PartFile<'a, F: Drop> {
     /// How many bytes were written.
     pub sent: usize,
     /// Both files from before they were read.
-    read: Option<Snapshots>,
+    pub read: Option<Snapshots>,
     pub is_out_of_memory: bool,
     /// Whether the system is to start writing the new file before anything waits for it.
     starts_early: bool,
@@ -72,10 +72,11 @@ impl<'a, F: Drop> PartFile<'a, F> {
         }
     }
 
-    /// Returns the journal's file.
+    /// Returns the journal's file, likewise.
     pub fn journal(
         paths: &'a FilePaths,
         bytes: &'a [u8],
+        read: Option<Snapshots>,
         new_file: NewFile<F>,
         starts_early: bool,
     ) -> PartFile<'a, F> {
@@ -87,7 +88,7 @@ impl<'a, F: Drop> PartFile<'a, F> {
             new_file,
             bytes,
             sent: 0,
-            read: None,
+            read,
             is_out_of_memory: false,
             starts_early,
         }
@@ -105,7 +106,7 @@ pub fn make<R: Files>(
         Call::Open(_) => open(rt, file.given),
         Call::FindNew(_) => find_new(rt, file),
         Call::CreateNew(_) => create_new(rt, file),
-        Call::CopyAttributes(_) => copy_attributes(rt, file),
+        Call::CopyAttributes(part) => copy_attributes(rt, part, file),
         Call::Write(part) => write(rt, part, file),
         Call::Sync(_) => sync(file),
         Call::SyncDirectory(_) => sync_directory(rt, file.own),

@@ -17,7 +17,8 @@ pub struct FileId {
 }
 
 impl FileId {
-    fn of(found: &Metadata) -> FileId {
+    /// Returns the id of a file of which this was found.
+    pub fn of(found: &Metadata) -> FileId {
         FileId {
             device: found.dev(),
             inode: found.ino(),

@@ -10,6 +10,7 @@ mod found_files;
 mod journaled_file;
 mod new_file;
 mod overwrite_files;
+mod owner;
 mod saves;
 mod snapshot;
 

@@ -1,15 +1,20 @@
 //! The new file that is to replace an old one.
 
+ghost use Rattle.std.specs.Prelude.{◌≡◌, bit_and};
+ghost use Rattle.std.specs.Fs.{metadata_mode, permissions_mode};
+
 use crate::calls::{NewFile, PartFile, reply_to};
-use crate::file_paths::is_not_found;
-use std::fs::{self, Metadata, OpenFile, OpenOptions};
+use crate::file_paths::{FilePaths, is_not_found};
+use crate::owner::copy_owner;
+use crate::snapshot::Snapshot;
+use std::fs::{self, Metadata, OpenFile, OpenOptions, Permissions};
 use std::io::{self, ErrorKind, Seek, Write};
-use std::os::unix::fs::{MetadataExt, OpenOptionsExt, PermissionsExt, lchown};
+use std::os::unix::fs::{MetadataExt, OpenOptionsExt, PermissionsExt};
 use std::rt::Files;
-use tf_saving::Reply;
+use tf_saving::{Part, Reply};
 
 /// The mode of a new file until it gets that of the old one, so that nobody else can open it.
-const PRIVATE: u32 = 0o600;
+pub const PRIVATE: u32 = 0o600;
 
 /// Creates the new file, empty. What is no regular file is not replaced, nor one with other names,
 /// which would keep the old text.
@@ -52,7 +57,7 @@ fn reply_if_taken<R: Files>(rt: &R, name: &str) -> Reply {
 }
 
 /// Returns the reply to a call that failed with this error.
-fn reply_to_refusal(error: &io::Error) -> Reply {
+pub fn reply_to_refusal(error: &io::Error) -> Reply {
     if is_ruled_out(error) {
         Reply::CannotReplace
     } else {
@@ -68,33 +73,58 @@ fn is_ruled_out(error: &io::Error) -> bool {
     )
 }
 
-/// Gives the new file the owner, group and mode of the old one; to a first journal those of the
-/// text's file.
-pub fn copy_attributes<R: Files>(rt: &R, file: &PartFile<'_, R::File>) -> Reply {
-    let old = match fs::symlink_metadata(rt, file.own) {
-        Err(error) if is_not_found(&error) => fs::metadata(rt, &file.paths.text),
-        found => found,
+/// Gives the new file the owner, group and mode of the old one; a first journal those of the text's
+/// file. Where the old one is not the file that was read, it may have an owner or a mode that no
+/// new file is to have here, such as root's.
+pub fn copy_attributes<R: Files>(rt: &R, part: Part, file: &PartFile<'_, R::File>) -> Reply {
+    let (Some(read), NewFile::Created(created)) = (file.read, &file.new_file) else {
+        return Reply::Failed;
     };
-    match (old, &file.new_file) {
-        (Ok(old), NewFile::Created(created)) => make_like(rt, &old, file.new, created),
+    match (part, read.journal) {
+        (Part::Text, _) => make_like(rt, file.own, read.text, created),
+        (Part::Journal, Some(journal)) => make_like(rt, file.own, journal, created),
+        (Part::Journal, None) => make_first_journal(rt, file.paths, read.text, created),
+    }
+}
+
+/// The owner comes first, since a change of it takes bits of the mode away.
+fn make_like<R: Files>(rt: &R, name: &str, seen: Snapshot, created: &R::File) -> Reply {
+    match fs::symlink_metadata(rt, name) {
+        Ok(old) if Snapshot::of_found(&old) == seen => match copy_owner(rt, &old, created) {
+            Reply::Done => set_permissions(created, old.permissions()),
+            reply => reply,
+        },
         _ => Reply::Failed,
     }
 }
 
-/// The owner comes first, since a change of it takes bits of the mode away. The name may lead to
-/// something else by now, and no link is followed there.
-fn make_like<R: Files>(rt: &R, old: &Metadata, name: &str, created: &R::File) -> Reply {
-    match created.metadata() {
-        Ok(new) if new.uid() == old.uid() && new.gid() == old.gid() => {}
-        Ok(_) => match lchown(rt, name, Some(old.uid()), Some(old.gid())) {
-            Ok(()) => {}
-            // no user of this number is known here
-            Err(error) if error.kind() == ErrorKind::InvalidInput => return Reply::CannotReplace,
-            Err(error) => return reply_to_refusal(&error),
+/// Gives a first journal the owner and group of the text's file, and of its mode what a journal
+/// needs.
+pub fn make_first_journal<R: Files>(
+    rt: &R,
+    paths: &FilePaths,
+    seen: Snapshot,
+    created: &R::File,
+) -> Reply {
+    match fs::metadata(rt, &paths.text) {
+        Ok(text) if Snapshot::of_found(&text) == seen => match copy_owner(rt, &text, created) {
+            Reply::Done => set_permissions(created, journal_permissions(&text)),
+            reply => reply,
         },
-        Err(_) => return Reply::Failed,
+        _ => Reply::Failed,
     }
-    match created.set_permissions(old.permissions()) {
+}
+
+/// Returns the permissions of a first journal. It is read and written as the text is, and never
+/// run.
+fn journal_permissions(text: &Metadata) -> Permissions
+    ensures { permissions_mode result ≡ bit_and (metadata_mode text.now) 0o666 }
+{
+    Permissions::from_mode(text.permissions().mode() & 0o666)
+}
+
+fn set_permissions<F: OpenFile>(created: &F, permissions: Permissions) -> Reply {
+    match created.set_permissions(permissions) {
         Ok(()) => Reply::Done,
         Err(error) => reply_to_refusal(&error),
     }
@@ -109,16 +139,16 @@ pub fn truncate<F: Write + Seek + OpenFile>(file: &mut F) -> io::Result<()> {
 }
 
 /// Has the system start to write out the new file, which was emptied before it was written, by
-/// closing a handle to it. A sync then finds less to wait for, or nothing. Where it fails, that sync
-/// only takes longer.
+/// closing a handle to it. A sync then finds less to wait for, or nothing. Where it fails, that
+/// sync only takes longer.
 pub fn start_writing<R: Files>(rt: &R, file: &PartFile<'_, R::File>) {
     if matches!(find_own_new(rt, file), Reply::Done) {
         let _ = fs::open(rt, file.new);
     }
 }
 
-/// Looks whether there is a new file. That of this command is there until it has become the part: if
-/// another command has removed it, it was not renamed either.
+/// Looks whether there is a new file. That of this command is there until it has become the part:
+/// if another command has removed it, it was not renamed either.
 pub fn find_new<R: Files>(rt: &R, file: &PartFile<'_, R::File>) -> Reply {
     match &file.new_file {
         NewFile::Created(created) => match find_created(rt, created, file.own) {
@@ -140,7 +170,8 @@ pub fn find_own_new<R: Files>(rt: &R, file: &PartFile<'_, R::File>) -> Reply {
     }
 }
 
-fn find_created<R: Files>(rt: &R, created: &R::File, name: &str) -> Reply {
+/// Looks whether the file of this name is the one that this command created.
+pub fn find_created<R: Files>(rt: &R, created: &R::File, name: &str) -> Reply {
     match (created.metadata(), fs::symlink_metadata(rt, name)) {
         (Ok(created), Ok(found)) => {
             if created.dev() == found.dev() && created.ino() == found.ino() {

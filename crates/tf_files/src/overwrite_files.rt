@@ -2,24 +2,27 @@
 
 use crate::calls::sync_directory;
 use crate::file_part::{write_fault, write_part};
-use crate::file_paths::{FilePaths, is_absent};
+use crate::file_paths::FilePaths;
+use crate::new_file::{PRIVATE, find_created, make_first_journal};
 use crate::saves::NewContents;
-use crate::snapshot::Snapshots;
+use crate::snapshot::{Snapshot, Snapshots};
 use std::alloc::Global;
 use std::fs::{self, OpenFile, OpenOptions};
-use std::io::{ErrorKind, Read, Write};
-use std::os::unix::fs::{MetadataExt, OpenOptionsExt, lchown};
+use std::io::{ErrorKind, Read, Seek, Write};
+use std::os::unix::fs::OpenOptionsExt;
 use std::rt::Files;
 use tf_saving::Reply;
 use tf_session::{Part, RunFault};
 
 /// Writes both files over the old ones, the journal first, and waits until both are durable. After
 /// an error the old bytes are put back, as far as the system lets it; a crash in the middle loses
-/// them. `read` is what both were before they were read.
+/// them. `read` is what both were before they were read. Both are written through the handles by
+/// which they were compared with that, since another program may put any file in the place of a
+/// name.
 ///
 /// # Errors
 /// `Write` with the part and the number of its bytes that were written, 0 where another program has
-/// changed the text meanwhile; `Read` and `Memory` where an old file can't be read for its backup.
+/// changed a file meanwhile; `Read` and `Memory` where an old file can't be read for its backup.
 pub fn overwrite<R: Files>(
     rt: &R,
     alloc: Global,
@@ -27,84 +30,133 @@ pub fn overwrite<R: Files>(
     contents: NewContents<'_>,
     read: Option<Snapshots>,
 ) -> Result<(), RunFault> {
-    let old_journal = Backup::of(rt, alloc, &paths.journal)?;
-    let old_text = Backup::of(rt, alloc, &paths.text)?;
-    if let Err(fault) = prepare(rt, paths, read) {
-        old_journal.remove_new(rt, &paths.journal);
-        return Err(fault);
+    let Some(read) = read else {
+        return Err(write_fault(Part::Text, 0));
+    };
+    match read.journal {
+        Some(journal) => overwrite_both(rt, alloc, paths, contents, read.text, journal),
+        None => create_and_overwrite(rt, alloc, paths, contents, read.text),
     }
-    let put = write_both(rt, paths, contents);
+}
+
+/// The same where there is a journal.
+fn overwrite_both<R: Files>(
+    rt: &R,
+    alloc: Global,
+    paths: &FilePaths,
+    contents: NewContents<'_>,
+    seen: Snapshot,
+    seen_journal: Snapshot,
+) -> Result<(), RunFault> {
+    let old_journal = old_bytes(rt, alloc, Part::Journal, &paths.journal, seen_journal)?;
+    let old_text = old_bytes(rt, alloc, Part::Text, &paths.text, seen)?;
+    let mut journal = open_seen(rt, Part::Journal, &paths.journal, seen_journal)?;
+    let mut text = open_seen(rt, Part::Text, &paths.text, seen)?;
+    let put = write_both(&mut journal, &mut text, contents);
     if put.is_err() {
-        old_text.restore(rt, &paths.text);
-        old_journal.restore(rt, &paths.journal);
+        put_back(&mut text, &old_text);
+        put_back(&mut journal, &old_journal);
     }
     put
 }
 
-/// Creates the journal where there is none. The text is compared once more after it: the bytes to put
-/// back are those that were read.
-fn prepare<R: Files>(rt: &R, paths: &FilePaths, read: Option<Snapshots>) -> Result<(), RunFault> {
-    create_journal(rt, paths)?;
-    match read {
-        Some(read) if read.has_same_text(rt, paths) => Ok(()),
-        _ => Err(write_fault(Part::Text, 0)),
+/// The same where there is no journal: it is created first, and removed after an error.
+fn create_and_overwrite<R: Files>(
+    rt: &R,
+    alloc: Global,
+    paths: &FilePaths,
+    contents: NewContents<'_>,
+    seen: Snapshot,
+) -> Result<(), RunFault> {
+    let old_text = old_bytes(rt, alloc, Part::Text, &paths.text, seen)?;
+    let mut journal = create_journal(rt, paths, seen)?;
+    let put = overwrite_text(rt, paths, contents, seen, &mut journal, &old_text);
+    if put.is_err() {
+        remove_created(rt, &journal, &paths.journal);
     }
+    put
+}
+
+/// Writes both, the journal into the file that was created for it.
+fn overwrite_text<R: Files>(
+    rt: &R,
+    paths: &FilePaths,
+    contents: NewContents<'_>,
+    seen: Snapshot,
+    journal: &mut R::File,
+    old_text: &Option<Vec<u8>>,
+) -> Result<(), RunFault> {
+    sync_journal_name(rt, paths)?;
+    let mut text = open_seen(rt, Part::Text, &paths.text, seen)?;
+    let put = write_both(journal, &mut text, contents);
+    if put.is_err() {
+        put_back(&mut text, old_text);
+    }
+    put
 }
 
 /// Until both are written no byte is cut off. So a disk that is full is met before anything is
 /// lost, or after bytes that can be put back with no more space.
-fn write_both<R: Files>(
-    rt: &R,
-    paths: &FilePaths,
+fn write_both<F: Write + OpenFile>(
+    journal: &mut F,
+    text: &mut F,
     contents: NewContents<'_>,
 ) -> Result<(), RunFault> {
-    let journal = overwrite_file(rt, Part::Journal, contents.journal, &paths.journal)?;
-    let text = overwrite_file(rt, Part::Text, contents.text, &paths.text)?;
-    truncate(Part::Text, &text, contents.text.len())?;
-    truncate(Part::Journal, &journal, contents.journal.len())?;
-    sync(Part::Journal, &journal, contents.journal.len())?;
-    sync(Part::Text, &text, contents.text.len())
+    write_part(Part::Journal, contents.journal, journal)?;
+    write_part(Part::Text, contents.text, text)?;
+    truncate(Part::Text, text, contents.text.len())?;
+    truncate(Part::Journal, journal, contents.journal.len())?;
+    sync(Part::Journal, journal, contents.journal.len())?;
+    sync(Part::Text, text, contents.text.len())
 }
 
-/// Creates an empty journal where there is none, with the owner, group and mode of the text's file,
-/// and waits until its name is durable.
-fn create_journal<R: Files>(rt: &R, paths: &FilePaths) -> Result<(), RunFault> {
-    if !is_absent(rt, &paths.journal) {
-        return Ok(());
-    }
+/// Creates an empty journal with the owner, group and mode of the text's file, as far as the system
+/// lets it: a journal of one's own next to another's file serves as well.
+fn create_journal<R: Files>(
+    rt: &R,
+    paths: &FilePaths,
+    seen: Snapshot,
+) -> Result<R::File, RunFault> {
     let mut options = OpenOptions::new();
-    options.write(true).create_new(true).mode(0o600);
+    options.write(true).create_new(true).mode(PRIVATE);
     match options.open(rt, &paths.journal) {
-        Ok(journal) => make_like_text(rt, paths, &journal),
-        Err(_) => return Err(write_fault(Part::Journal, 0)),
+        Ok(journal) => {
+            let _ = make_first_journal(rt, paths, seen, &journal);
+            Ok(journal)
+        }
+        Err(_) => Err(write_fault(Part::Journal, 0)),
     }
+}
+
+/// Waits until the name of a new journal is durable.
+fn sync_journal_name<R: Files>(rt: &R, paths: &FilePaths) -> Result<(), RunFault> {
     match sync_directory(rt, &paths.journal) {
         Reply::Failed | Reply::NotFound => Err(write_fault(Part::Journal, 0)),
         Reply::Done | Reply::CannotReplace => Ok(()),
     }
 }
 
-/// As far as the system lets it: a journal of one's own beside another's file serves as well.
-fn make_like_text<R: Files>(rt: &R, paths: &FilePaths, journal: &R::File) {
-    if let Ok(text) = fs::metadata(rt, &paths.text) {
-        let _ = lchown(rt, &paths.journal, Some(text.uid()), Some(text.gid()));
-        let _ = journal.set_permissions(text.permissions());
+/// Removes the journal that was created, if the name still leads to it.
+fn remove_created<R: Files>(rt: &R, journal: &R::File, name: &str) {
+    if matches!(find_created(rt, journal, name), Reply::Done) {
+        let _ = fs::remove_file(rt, name);
     }
 }
 
-/// Writes a part over what is there, and leaves what follows.
-fn overwrite_file<R: Files>(
+/// Opens a part to be written over, and changes nothing.
+///
+/// # Errors
+/// `Write` with no byte sent, also where the name leads to another file than the one that was seen,
+/// or that one has changed.
+fn open_seen<R: Files>(
     rt: &R,
     part: Part,
-    bytes: &[u8],
     name: &str,
+    seen: Snapshot,
 ) -> Result<R::File, RunFault> {
     match OpenOptions::new().write(true).open(rt, name) {
-        Ok(mut file) => {
-            write_part(part, bytes, &mut file)?;
-            Ok(file)
-        }
-        Err(_) => Err(write_fault(part, 0)),
+        Ok(file) if seen.is_of(&file) => Ok(file),
+        _ => Err(write_fault(part, 0)),
     }
 }
 
@@ -134,62 +186,39 @@ fn is_regular_file<F: OpenFile>(file: &F) -> bool {
     }
 }
 
-/// What was under a name before it was written over.
-#[derive(Drop)]
-enum Backup {
-    Nothing,
-    Bytes(Vec<u8>),
-    /// No plain file, so nothing that could be put back.
-    Other,
-}
-
-impl Backup {
-    fn of<R: Files>(rt: &R, alloc: Global, name: &str) -> Result<Backup, RunFault> {
-        match fs::metadata(rt, name) {
-            Ok(found) if found.is_file() => {
-                let bytes = read_bytes(rt, alloc, name)?;
-                Ok(Backup::Bytes(bytes))
-            }
-            Err(_) if is_absent(rt, name) => Ok(Backup::Nothing),
-            _ => Ok(Backup::Other),
-        }
+/// Returns the bytes that are to be put back after an error. Of what is no regular file there are
+/// none.
+fn old_bytes<R: Files>(
+    rt: &R,
+    alloc: Global,
+    part: Part,
+    name: &str,
+    seen: Snapshot,
+) -> Result<Option<Vec<u8>>, RunFault> {
+    if !seen.is_regular() {
+        return Ok(None);
     }
-
-    /// Removes what is under the name if nothing was there.
-    fn remove_new<R: Files>(&self, rt: &R, name: &str) {
-        if matches!(self, Backup::Nothing) {
-            let _ = fs::remove_file(rt, name);
-        }
-    }
-
-    /// Puts it back, as far as the system lets it.
-    fn restore<R: Files>(&self, rt: &R, name: &str) {
-        match self {
-            Backup::Nothing => {
-                let _ = fs::remove_file(rt, name);
-            }
-            Backup::Bytes(bytes) => write_back(rt, name, bytes.as_slice()),
-            Backup::Other => {}
-        }
-    }
-}
-
-fn read_bytes<R: Files>(rt: &R, alloc: Global, name: &str) -> Result<Vec<u8>, RunFault> {
-    let mut bytes = Vec::new(alloc);
     let Ok(mut file) = fs::open(rt, name) else {
         return Err(RunFault::Read);
     };
+    if !seen.is_of(&file) {
+        return Err(write_fault(part, 0));
+    }
+    let mut bytes = Vec::new(alloc);
     match file.read_to_end(&mut bytes) {
-        Ok(_) => Ok(bytes),
+        Ok(_) => Ok(Some(bytes)),
         Err(error) if error.kind() == ErrorKind::OutOfMemory => Err(RunFault::Memory),
         Err(_) => Err(RunFault::Read),
     }
 }
 
-fn write_back<R: Files>(rt: &R, name: &str, bytes: &[u8]) {
-    if let Ok(mut file) = OpenOptions::new().write(true).open(rt, name) {
-        let _ = file.write_all(bytes);
-        let _ = file.set_len(bytes.len() as u64);
-        let _ = file.sync_all();
+/// Puts the old bytes back, as far as the system lets it.
+fn put_back<F: Write + Seek + OpenFile>(file: &mut F, old: &Option<Vec<u8>>) {
+    if let Some(bytes) = old {
+        if file.rewind().is_ok() {
+            let _ = file.write_all(bytes.as_slice());
+            let _ = file.set_len(bytes.len() as u64);
+            let _ = file.sync_all();
+        }
     }
 }

@@ -86,7 +86,7 @@ fn wait_for_all<R: Files>(rt: &R, alloc: Global, saves: &mut [Save<'_, R::File>]
 pub fn recover<R: Files>(rt: &R, alloc: Global, paths: &FilePaths) -> Result<(), RunFault> {
     let mut recovery = Save::<R::File> {
         text: PartFile::text(paths, &[], None, NewFile::Left, false),
-        journal: PartFile::journal(paths, &[], NewFile::Left, false),
+        journal: PartFile::journal(paths, &[], None, NewFile::Left, false),
         step: Step::RECOVER,
         synced: None,
     };
@@ -108,7 +108,7 @@ impl<'a, F: Drop> Save<'a, F> {
         let new_file = NewFile::NotCreated;
         Save {
             text,
-            journal: PartFile::journal(paths, contents.journal, new_file, is_in_company),
+            journal: PartFile::journal(paths, contents.journal, read, new_file, is_in_company),
             step: Step::SAVE,
             synced: None,
         }

@@ -1,24 +1,26 @@
 //! Tells whether a file or its journal has changed.
+ghost use Rattle.std.specs.Prelude.{◌≡◌, is_some};
+ghost use Rattle.tf_files.specs.Snapshots.{snapshots_of, snapshots_of_text};
 
 use crate::file_paths::{FilePaths, is_not_found};
-use std::fs::{self, Metadata};
+use crate::found_files::FileId;
+use std::fs::{self, Metadata, OpenFile};
 use std::os::unix::fs::MetadataExt;
 use std::rt::Files;
 
-/// What identifies a state of a regular file: a write or a rename by another program changes one of
-/// these, but for a write in the same tick of the clock that keeps the size. The time of the last
-/// change of attributes is left out: on an overlay file system to open a file for writing sets it.
+/// What identifies a state of a regular file: a write by another program changes one of these, but
+/// for a write in the same tick of the clock that keeps the size. The time of the last change of
+/// attributes is left out: on an overlay file system to open a file for writing sets it.
 #[derive(Clone, Copy, PartialEq, Eq)]
 struct State {
-    device: u64,
-    inode: u64,
     size: u64,
     modified: (i64, i64),
 }
 
-/// A file at a moment. All devices and pipes are alike, since reading changes their times.
+/// A file at a moment. Of a device or a pipe there is no state, since reading changes its times.
 #[derive(Clone, Copy, PartialEq, Eq)]
-struct Snapshot {
+pub struct Snapshot {
+    id: FileId,
     regular: Option<State>,
 }
 
@@ -31,10 +33,31 @@ impl Snapshot {
         }
     }
 
-    fn of_found(found: &Metadata) -> Snapshot {
+    /// Returns the snapshot of a file of which this was found.
+    pub fn of_found(found: &Metadata) -> Snapshot {
         Snapshot {
+            id: FileId::of(found),
             regular: found.is_file().then_some(State::of(found)),
         }
+    }
+
+    /// Returns the snapshot of an opened file; none if the system does not say.
+    pub fn of_opened<F: OpenFile>(file: &F) -> Option<Snapshot> {
+        match file.metadata() {
+            Ok(found) => Some(Snapshot::of_found(&found)),
+            Err(_) => None,
+        }
+    }
+
+    /// Returns whether this opened file is the one of the snapshot, and has not changed.
+    pub fn is_of<F: OpenFile>(&self, file: &F) -> bool {
+        Snapshot::of_opened(file) == Some(*self)
+    }
+
+    pub fn is_regular(&self) -> bool
+        ensures { result ≡ is_some self.now.regular }
+    {
+        self.regular.is_some()
     }
 }
 
@@ -42,14 +65,40 @@ impl Snapshot {
 /// journal not yet, if both are read between its two renames.
 #[derive(Clone, Copy, PartialEq, Eq)]
 pub struct Snapshots {
-    text: Snapshot,
+    pub text: Snapshot,
     /// None where there is no journal.
-    journal: Option<Snapshot>,
+    pub journal: Option<Snapshot>,
 }
 
 impl Snapshots {
-    /// Returns the snapshots of both; none if the system does not say. The text comes last, since it
-    /// is renamed right after it was compared.
+    /// Returns these snapshots of both; none if one of them is missing.
+    pub fn with_journal(text: Option<Snapshot>, journal: Option<Snapshot>) -> Option<Snapshots>
+        ensures { result ≡ snapshots_of text journal }
+    {
+        match (text, journal) {
+            (Some(text), Some(journal)) => Some(Snapshots {
+                text,
+                journal: Some(journal),
+            }),
+            _ => None,
+        }
+    }
+
+    /// Returns this snapshot of the text where there is no journal; none if it is missing.
+    pub fn without_journal(text: Option<Snapshot>) -> Option<Snapshots>
+        ensures { result ≡ snapshots_of_text text }
+    {
+        match text {
+            Some(text) => Some(Snapshots {
+                text,
+                journal: None,
+            }),
+            None => None,
+        }
+    }
+
+    /// Returns the snapshots of what both names lead to; none if the system does not say. The text
+    /// comes last, since it is renamed right after it was compared.
     pub fn of<R: Files>(rt: &R, paths: &FilePaths) -> Option<Snapshots> {
         let journal = match fs::symlink_metadata(rt, &paths.journal) {
             Ok(found) => Some(Snapshot::of_found(&found)),
@@ -59,18 +108,11 @@ impl Snapshots {
         let text = Snapshot::of(rt, &paths.text)?;
         Some(Snapshots { text, journal })
     }
-
-    /// Returns whether the text is the same now.
-    pub fn has_same_text<R: Files>(&self, rt: &R, paths: &FilePaths) -> bool {
-        Snapshot::of(rt, &paths.text) == Some(self.text)
-    }
 }
 
 impl State {
     fn of(found: &Metadata) -> State {
         State {
-            device: found.dev(),
-            inode: found.ino(),
             size: found.len(),
             modified: (found.mtime(), found.mtime_nsec()),
         }

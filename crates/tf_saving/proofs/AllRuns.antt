@@ -1,8 +1,9 @@
 -- The laws of all runs.
 use Rattle.std.proofs.Common.{◌≡◌, ◌⊎◌, ℕ, zero, suc, List, [], ◌∷◌, Bool, true, false, Option, Some, None, Result, Ok, Err, inl, inr, refl, sym, subst}
+use Rattle.tf_saving.specs.Adoption.{IsAdoptable}
 use Rattle.tf_saving.specs.Disk.{File, Names, Directory, Checks, Disk, Contents}
 use Rattle.tf_saving.specs.Runs.{Fate, Succeeds, Fails, FailsOnceDone, AnotherSyncs, Event, Recovers, LosesPower, Pair, State, as_files, HasNoNewFiles, stepped, stepped_by, reply, run, saving, recovering, nth, restored, after_event, after_events, all_durable}
-use Rattle.tf_saving.specs.Stable.{Each, InAll, Owns, HasNoNew, HasNew, OwnsWithNew, OwnsAlone, HoldsJournal, IsAdoptable, MayHaveStray, RecoversTo, IsStable, IsRenaming, IsOldOrNew}
+use Rattle.tf_saving.specs.Stable.{Each, InAll, Owns, HasNoNew, HasNew, OwnsWithNew, OwnsAlone, HoldsJournal, MayHaveStray, RecoversTo, IsStable, IsRenaming, IsOldOrNew}
 use Rattle.tf_saving.proofs.Holds.{HoldsForOne, HoldsWhileRenaming, HoldsWhileSaving, HoldsForNew, HoldsInRecovery}
 use Rattle.tf_saving.specs.Laws.{InitialIsStable, NothingIsLost, SuccessIsDurable, ErrorsChangeNothing, LateRecoversToNew, RecoveryEnds, UnfailingSaveSucceeds, IsGoingInPlace, FailureIsNotInPlace}
 use Rattle.tf_saving.specs.Steps.{choose, finish, call_of, step_after}

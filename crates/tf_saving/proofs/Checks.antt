@@ -1,8 +1,9 @@
 -- No call of a save changes what a command finds out by comparing and reading.
 use Rattle.std.proofs.Common.{◌≡◌, Bool, true, false, Option, Result, Ok, Err, inl, inr, refl, sym, ◌∙◌}
+use Rattle.tf_saving.specs.Adoption.{IsAdoptable}
 use Rattle.tf_saving.specs.Disk.{File, Names, Directory, Checks, Disk, Contents, with_directory, when_done, when_failed, if_adoptable}
 use Rattle.tf_saving.specs.Runs.{Fate, Succeeds, Fails, IsRuledOut, FailsOnceDone, AnotherSyncs, Pair, State, disk_after, stepped, stepped_by}
-use Rattle.tf_saving.specs.Stable.{HasNew, HoldsJournal, IsAdoptable, MayHaveStray}
+use Rattle.tf_saving.specs.Stable.{HasNew, HoldsJournal, MayHaveStray}
 use Rattle.tf_saving.specs.Steps.{choose, call_of}
 use Rattle.tf_saving.specs.declared.call.Part.{Part}
 use Rattle.tf_saving.specs.declared.call.Part.TheVariants.{Text, Journal}

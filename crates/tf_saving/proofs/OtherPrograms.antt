@@ -1,8 +1,9 @@
 -- Another program changes a file while a command saves.
 use Rattle.std.proofs.Common.{◌≡◌, ◌⊎◌, ℕ, List, [], ◌∷◌, Bool, true, false, Option, Some, None, Result, Ok, Err, inl, inr, refl, sym, subst, ◌∙◌, ap}
+use Rattle.tf_saving.specs.Adoption.{IsAdoptable}
 use Rattle.tf_saving.specs.Disk.{File, Durable, Unsynced, Empty, Directory, Checks, Disk, Contents, created, new_written, new_torn, new_synced, when_done, when_failed, if_same}
 use Rattle.tf_saving.specs.Runs.{Fate, Succeeds, Fails, IsRuledOut, FailsOnceDone, AnotherSyncs, Event, Recovers, LosesPower, Pair, State, as_files, reply, disk_after, stepped, stepped_by, run, saving, recovering, after_event, after_events}
-use Rattle.tf_saving.specs.Stable.{IsAdoptable, InAll, Owns, HasNew, OwnsWithNew, IsUnrenamed, RecoversTo}
+use Rattle.tf_saving.specs.Stable.{InAll, Owns, HasNew, OwnsWithNew, IsUnrenamed, RecoversTo}
 use Rattle.tf_saving.proofs.Holds.{HoldsForOne, HasNewFiles, ChangesNothing, HoldsWhileSaving}
 use Rattle.tf_saving.specs.OtherPrograms.{CreatesNewFiles, PreparesRename, PrecedesRename, IsError, IsInPlace, IsUnchanged, ChangedTextIsKept, ForeignFileIsNotRenamed, with_text, edited, EditIsKept}
 use Rattle.tf_saving.specs.Steps.{choose, choose_or_in_place, finish, call_of, step_after}

@@ -1,9 +1,10 @@
 -- Each call of a save, and of the recovery after it, keeps what holds at its step.
 use Rattle.std.proofs.Common.{◌≡◌, ◌⊎◌, Bool, true, false, Option, Some, None, inl, inr, refl, ap}
+use Rattle.tf_saving.specs.Adoption.{IsAdoptable}
 use Rattle.tf_saving.specs.Disk.{File, Durable, Unsynced, Empty, Torn, Names, Disk, Contents, with_own, with_directory, created, new_written, new_torn, new_synced, if_new, replaced_new, directory_synced, renamed, new_removed, new_after_power_loss, if_found, if_not_found, if_same, if_adoptable}
 use Rattle.tf_saving.specs.Steps.{choose, choose_or_in_place, finish}
 use Rattle.tf_saving.specs.Runs.{Fate, Succeeds, Fails, IsRuledOut, FailsOnceDone, AnotherSyncs, Pair, as_files, stepped}
-use Rattle.tf_saving.specs.Stable.{InAll, Owns, HasNoNew, HasNew, OwnsWithNew, OwnsAlone, IsUnrenamed, HoldsJournal, IsAdoptable, IsRenamed, RecoversTo, IsStable, IsRenaming, IsOldOrNew}
+use Rattle.tf_saving.specs.Stable.{InAll, Owns, HasNoNew, HasNew, OwnsWithNew, OwnsAlone, IsUnrenamed, HoldsJournal, IsRenamed, RecoversTo, IsStable, IsRenaming, IsOldOrNew}
 use Rattle.tf_saving.proofs.Holds.{HoldsWhileRenaming, HasNewFiles, HasNewText, IsReady, ChangesNothing, HoldsWhileSaving, HoldsForNew, HoldsInRecovery}
 use Rattle.tf_saving.specs.declared.call.Part.{Part}
 use Rattle.tf_saving.specs.declared.call.Part.TheVariants.{Text, Journal}

@@ -1,8 +1,9 @@
 -- What is proved of all runs.
 use Rattle.std.specs.Prelude.{◌≡◌, ◌⊎◌, List, ◌∷◌, Option, Some, None, replicate, Bool, true, false}
+use Rattle.tf_saving.specs.Adoption.{IsAdoptable, IsUnadoptable}
 use Rattle.tf_saving.specs.Disk.{File, Checks, Disk, Contents}
 use Rattle.tf_saving.specs.Runs.{Fate, Succeeds, Fails, FailsOnceDone, State, Event, Pair, as_files, HasNoNewFiles, saving, recovering, all_durable, run, after_events}
-use Rattle.tf_saving.specs.Stable.{IsAdoptable, IsUnadoptable, IsStable}
+use Rattle.tf_saving.specs.Stable.{IsStable}
 use Rattle.tf_saving.specs.declared.call.Part.{Part}
 use Rattle.tf_saving.specs.declared.step.End.TheVariants.{Success, InPlace, Error, Late}
 use Rattle.tf_saving.specs.declared.step.Step.{Step}

@@ -1,3 +1,4 @@
+pub mod Adoption
 pub mod Disk
 pub mod Laws
 pub mod OtherPrograms

@@ -1,8 +1,9 @@
 -- What another program may change while a command saves, and what is proved of it.
 use Rattle.std.specs.Prelude.{◌≡◌, ◌⊎◌, List, map, Some, false}
+use Rattle.tf_saving.specs.Adoption.{IsAdoptable}
 use Rattle.tf_saving.specs.Disk.{File, Names, Disk, Contents}
 use Rattle.tf_saving.specs.Runs.{Fate, State, Event, Pair, as_files, saving, recovering, run, after_events}
-use Rattle.tf_saving.specs.Stable.{IsAdoptable, IsStable}
+use Rattle.tf_saving.specs.Stable.{IsStable}
 use Rattle.tf_saving.specs.declared.call.Part.{Part}
 use Rattle.tf_saving.specs.declared.step.End.{End}
 use Rattle.tf_saving.specs.declared.step.End.TheVariants.{Success, InPlace, Error}

@@ -1,7 +1,9 @@
 -- Disks from which every recovery finds one text and its journal. A reader of the laws need not believe these
--- definitions: a disk without new files is stable (`InitialIsStable`), and what a command leaves is stable again.
-use Rattle.std.specs.Prelude.{◌≡◌, ◌⊎◌, ℕ, List, [], ◌∷◌, Option, Some, None, true, false}
-use Rattle.tf_saving.specs.Disk.{File, Durable, Names, Directory, Checks, Disk, new_after_power_loss}
+-- definitions: what the laws take for granted is in Adoption, a disk without new files is stable
+-- (`InitialIsStable`), and what a command leaves is stable again.
+use Rattle.std.specs.Prelude.{◌≡◌, ◌⊎◌, ℕ, List, [], ◌∷◌, Option, Some, None}
+use Rattle.tf_saving.specs.Adoption.{IsAdoptable, IsUnadoptable}
+use Rattle.tf_saving.specs.Disk.{File, Durable, Names, Directory, Checks, Disk}
 use Rattle.tf_saving.specs.Runs.{Pair, found}
 
 abbrev pub Each : (Names → Type 0) → List Names → Type 0
@@ -40,21 +42,11 @@ abbrev pub HoldsJournal : Option File → Names → Type 0
 HoldsJournal journal n =
     OwnsAlone journal n ⊎ ((bytes : List ℕ) × (n.new ≡ Some (Durable bytes)) × (journal ≡ Some (Durable bytes)))
 
--- whatever the old journal is, this one may be adopted for this text
-abbrev pub IsAdoptable : Checks → Pair → Type 0
-IsAdoptable checks p = (old : Option File) → checks.can_adopt p.text old p.journal ≡ true
-
 -- the new text was renamed; the new journal was, or still is to be
 pub record IsRenamed (p : Pair) (d : Disk) : Type 0 where
   pub can_adopt : IsAdoptable d.checks p
   pub text : InAll (OwnsAlone p.text) d.text
   pub journal : InAll (HoldsJournal p.journal) d.journal
-
--- neither this new journal may be adopted, nor what a power loss leaves of it
-abbrev pub IsUnadoptable : Checks → Pair → Option File → Type 0
-IsUnadoptable checks p new =
-    (checks.can_adopt p.text p.journal new ≡ false)
-    × (checks.can_adopt p.text p.journal (new_after_power_loss new) ≡ false)
 
 -- the journal is in place; a new one, if any, may not be adopted
 abbrev pub MayHaveStray : Checks → Pair → Names → Type 0
