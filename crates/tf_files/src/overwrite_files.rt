@@ -39,7 +39,7 @@ pub fn overwrite<R: Files>(
     }
 }
 
-/// The same where there is a journal.
+/// Writes both files over the old ones, if there is a journal.
 fn overwrite_both<R: Files>(
     rt: &R,
     alloc: Global,
@@ -60,7 +60,7 @@ fn overwrite_both<R: Files>(
     put
 }
 
-/// The same where there is no journal: it is created first, and removed after an error.
+/// Writes a new journal, and the text over the old one. After an error the journal is removed.
 fn create_and_overwrite<R: Files>(
     rt: &R,
     alloc: Global,
