@@ -174,7 +174,10 @@ fn move_to_end(rt: HostRuntime) {
 fn many_edits(rt: &impl Host) -> Edits {
     let mut edits = Vec::new(rt.alloc());
     for n in 0..20usize {
-        given(rt, edits.push(given(rt, Edit::new(rt.alloc(), 4 * n, b"a", b"A"))));
+        given(
+            rt,
+            edits.push(given(rt, Edit::new(rt.alloc(), 4 * n, b"a", b"A"))),
+        );
     }
     given(rt, Edits::make(80, edits))
 }
@@ -202,10 +205,7 @@ fn move_to_end_many(rt: HostRuntime) {
 #[test]
 fn move_to_end_blocked(rt: HostRuntime) {
     let first = many_edits(&rt);
-    let records = [
-        one_edit(&rt, (2, "b", "B")),
-        one_edit(&rt, (4, "A", "x")),
-    ];
+    let records = [one_edit(&rt, (2, "b", "B")), one_edit(&rt, (4, "A", "x"))];
     begin(&rt);
     let fault = edit_record::move_to_end(rt.alloc(), &first, records.as_slice()).err();
     if fault == Some(MoveFault::Memory) {

@@ -2,7 +2,8 @@
 
 use super::equality::{are_same_records, are_same_sessions};
 use super::fixtures::{
-    JOURNAL, LAST, MIGRATED, OLD_JOURNAL, bytes_of, continued_journal, journal_of, roomy, session_of,
+    JOURNAL, LAST, MIGRATED, OLD_JOURNAL, bytes_of, continued_journal, journal_of, roomy,
+    session_of,
 };
 use super::{answered, begin, gave};
 use crate::tests::Host;
