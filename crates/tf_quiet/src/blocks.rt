@@ -12,6 +12,7 @@ ghost use Rattle.tf_quiet.specs.QuietTokens.{AreQuiet};
 ghost use Rattle.tf_rules.specs.SnakeCase.{is_snake_case};
 ghost use Rattle.tf_rules.specs.Spelling.{token_text};
 
+use crate::guess::{begins_member, ends_value};
 use crate::heads::{is_kind, is_snake_label, is_spelled, token_text};
 use crate::tokens::{Stop, is_no_equality, quiet_line_end_within, stop_at};
 use hcl_scan::Scanned;
@@ -88,25 +89,6 @@ fn is_right_name(name: &[u8], names: bool) -> bool
     !names || is_snake_case(name)
 }
 
-/// Returns whether a name seems to begin an attribute, or a block, by the next three tokens. Most
-/// lines with an error are found so, before all lines are read; only time depends on it.
-fn begins_member(scanned: &Scanned<'_>, n: usize, names: bool) -> bool
-    requires { n + 3 < 2 ^ 64 }
-{
-    if n + 1 >= scanned.len() {
-        return false;
-    }
-    match scanned.kind(n + 1) {
-        Kind::Equal => {
-            !is_kind(scanned, n + 2, Kind::Identifier) || !is_kind(scanned, n + 3, Kind::Identifier)
-        }
-        Kind::OpenBrace | Kind::InlineComment => true,
-        Kind::QuoteOpen => !names,
-        Kind::Identifier => !names && !is_kind(scanned, n + 2, Kind::Equal),
-        _ => false,
-    }
-}
-
 /// Returns what is seen of the member that begins with this name, if its tokens are quiet. Its name
 /// is looked at last, since that takes longest.
 fn member(scanned: &Scanned<'_>, n: usize, limit: usize, names: bool) -> Result<Seen, Stop>
@@ -128,6 +110,9 @@ fn member(scanned: &Scanned<'_>, n: usize, limit: usize, names: bool) -> Result<
         return Err(Stop::NotQuiet);
     }
     let end = quiet_line_end_within(scanned, n, limit)?;
+    if !ends_value(scanned, end) {
+        return Err(Stop::NotQuiet);
+    }
     if !is_right_name(name, names) {
         return Err(Stop::NotQuiet);
     }
