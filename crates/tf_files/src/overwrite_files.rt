@@ -39,7 +39,7 @@ pub fn overwrite<R: Files>(
     }
 }
 
-/// The same where there is a journal.
+/// Writes both over the old ones.
 fn overwrite_both<R: Files>(
     rt: &R,
     alloc: Global,
@@ -60,7 +60,8 @@ fn overwrite_both<R: Files>(
     put
 }
 
-/// The same where there is no journal: it is created first, and removed after an error.
+/// Writes the text over the old one, and the journal into a file that is created first, and removed
+/// after an error.
 fn create_and_overwrite<R: Files>(
     rt: &R,
     alloc: Global,
