@@ -89,9 +89,13 @@ fn overwrite_text<R: Files>(
 ) -> Result<(), RunFault> {
     sync_journal_name(rt, paths)?;
     let mut text = open_seen(rt, Part::Text, &paths.text, seen)?;
+    if len_of(journal) != Some(0) {
+        return Err(write_fault(Part::Journal, 0));
+    }
     let put = write_both(journal, &mut text, contents);
     if put.is_err() {
         put_back(&mut text, old_text);
+        let _ = journal.set_len(0);
     }
     put
 }
@@ -137,10 +141,20 @@ fn sync_journal_name<R: Files>(rt: &R, paths: &FilePaths) -> Result<(), RunFault
     }
 }
 
-/// Removes the journal that was created, if the name still leads to it.
+/// Removes the journal that was created, unless it is known that the name leads to another file, or
+/// that another program has written into it.
 fn remove_created<R: Files>(rt: &R, journal: &R::File, name: &str) {
-    if matches!(find_created(rt, journal, name), Reply::Done) {
+    let is_own = !matches!(find_created(rt, journal, name), Reply::NotFound);
+    if is_own && len_of(journal).unwrap_or(0) == 0 {
         let _ = fs::remove_file(rt, name);
+    }
+}
+
+/// Returns how many bytes a file has; none if the system does not say.
+fn len_of<F: OpenFile>(file: &F) -> Option<u64> {
+    match file.metadata() {
+        Ok(found) => Some(found.len()),
+        Err(_) => None,
     }
 }
 
