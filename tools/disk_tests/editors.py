@@ -40,7 +40,8 @@ class Edited:
             refused = [at for at, ending in enumerate(endings) if ending.startswith("refused")]
             look = max(refused, default=len(endings))
             instant = range(look + 1, len(endings))
-            is_look = refused and self.calls[look] == "statx main.tf"
+            # it looks at the handle
+            is_look = refused and self.calls[look - 1 : look + 1] == ["openat main.tf", "statx "]
             self.check.require(is_look, "no last look at FILE", *self.where(look - 1))
         for at, ending in enumerate(endings):
             in_time = ending == "lost" and at in instant

@@ -39,7 +39,7 @@ pub fn overwrite<R: Files>(
     }
 }
 
-/// Writes both files over the old ones, if there is a journal.
+/// Writes both over the old ones.
 fn overwrite_both<R: Files>(
     rt: &R,
     alloc: Global,
@@ -60,7 +60,8 @@ fn overwrite_both<R: Files>(
     put
 }
 
-/// Writes a new journal, and the text over the old one. After an error the journal is removed.
+/// Writes the text over the old one, and the journal into a file that is created first, and removed
+/// after an error.
 fn create_and_overwrite<R: Files>(
     rt: &R,
     alloc: Global,
@@ -88,9 +89,13 @@ fn overwrite_text<R: Files>(
 ) -> Result<(), RunFault> {
     sync_journal_name(rt, paths)?;
     let mut text = open_seen(rt, Part::Text, &paths.text, seen)?;
+    if len_of(journal) != Some(0) {
+        return Err(write_fault(Part::Journal, 0));
+    }
     let put = write_both(journal, &mut text, contents);
     if put.is_err() {
         put_back(&mut text, old_text);
+        let _ = journal.set_len(0);
     }
     put
 }
@@ -136,10 +141,20 @@ fn sync_journal_name<R: Files>(rt: &R, paths: &FilePaths) -> Result<(), RunFault
     }
 }
 
-/// Removes the journal that was created, if the name still leads to it.
+/// Removes the journal that was created, unless it is known that the name leads to another file, or
+/// that another program has written into it.
 fn remove_created<R: Files>(rt: &R, journal: &R::File, name: &str) {
-    if matches!(find_created(rt, journal, name), Reply::Done) {
+    let is_own = !matches!(find_created(rt, journal, name), Reply::NotFound);
+    if is_own && len_of(journal).unwrap_or(0) == 0 {
         let _ = fs::remove_file(rt, name);
+    }
+}
+
+/// Returns how many bytes a file has; none if the system does not say.
+fn len_of<F: OpenFile>(file: &F) -> Option<u64> {
+    match file.metadata() {
+        Ok(found) => Some(found.len()),
+        Err(_) => None,
     }
 }
 

@@ -12,8 +12,8 @@ use std::rt::Files;
 use std::str;
 use tf_saving::Reply;
 
-/// Where the system shows the open files of this process, each by its number, which has up to four
-/// digits here; slashes in the place of the first ones change no name.
+/// Where the system shows the open files of this process, each by its number. It has four digits
+/// at most; slashes in the place of the first ones change no name.
 const HANDLE: [u8; 18] = *b"/proc/self/fd/////";
 
 /// No open file of this process is expected to have a higher number: each gets the lowest one that
