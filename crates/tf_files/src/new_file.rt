@@ -5,6 +5,7 @@ ghost use Rattle.std.specs.Fs.{metadata_mode, permissions_mode};
 
 use crate::calls::{NewFile, PartFile, reply_to};
 use crate::file_paths::{FilePaths, is_not_found};
+use crate::found_files::FileId;
 use crate::owner::copy_owner;
 use crate::snapshot::Snapshot;
 use std::fs::{self, Metadata, OpenFile, OpenOptions, Permissions};
@@ -94,7 +95,17 @@ fn make_like<R: Files>(rt: &R, name: &str, seen: Snapshot, created: &R::File) ->
             Reply::Done => set_permissions(created, old.permissions()),
             reply => reply,
         },
+        // another command has renamed the new file to the part: its bytes have to follow
+        Ok(old) if is_created(&old, created) => Reply::Done,
         _ => Reply::Failed,
+    }
+}
+
+/// Returns whether what was found is the new file itself.
+fn is_created<F: OpenFile>(found: &Metadata, created: &F) -> bool {
+    match created.metadata() {
+        Ok(own) => FileId::of(found) == FileId::of(&own),
+        Err(_) => false,
     }
 }
 
