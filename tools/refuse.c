@@ -6,7 +6,7 @@
  *
  *   REFUSE=N          call number N is refused: it returns NULL, with ENOMEM
  *   REFUSE=N-         so is each later call
- *   REFUSE_BEHIND=1   calls before the program's first write to standard output are not counted
+ *   REFUSE_LATE=1     calls before the program's first write to standard output are not counted
  *   REFUSE_COUNT=F    at the end of the program the number of calls is written to the file F
  */
 
@@ -32,7 +32,7 @@ __attribute__((constructor)) static void begin(void)
     for (; number && *number >= '0' && *number <= '9'; number++)
         refused = 10 * refused + (size_t)(*number - '0');
     goes_on = number && *number == '-';
-    is_counting = !getenv("REFUSE_BEHIND");
+    is_counting = !getenv("REFUSE_LATE");
 }
 
 __attribute__((destructor)) static void end(void)

@@ -17,7 +17,7 @@
  *   STOP=N-         so is each later call
  *   STOP_HALF=1     the first call that is met, if it is a write, takes half of its bytes
  *   STOP_DONE=1     a call that is refused is made all the same, unless it is a write
- *   STOP_TOLD=F     the letter of each call that is met is appended to the file F
+ *   STOP_LOG=F      the letter of each call that is met is appended to the file F
  */
 
 typedef unsigned long size_t;
@@ -72,7 +72,7 @@ __attribute__((constructor)) static void begin(void)
 
 static void tell(char letter)
 {
-    const char *name = getenv("STOP_TOLD");
+    const char *name = getenv("STOP_LOG");
     if (name)
         syscall(SYSCALL_WRITE, syscall(SYSCALL_OPEN, name, TO_WRITE_BEHIND, 0600), &letter, 1L);
 }

@@ -17,21 +17,21 @@ long syscall(long number, ...);
 enum { SYSCALL_READ = 0, SYSCALL_WRITE = 1, BAD_DISK = 5, NO_SPACE = 28 };
 
 /* How many bytes standard output and standard error still take, if has_end says that they end. */
-static size_t room[3];
+static size_t left[3];
 static int has_end[3], input_fails;
 
-static void read_room(int file, const char *name)
+static void read_limit(int file, const char *name)
 {
     const char *number = getenv(name);
     has_end[file] = number != 0;
     for (; number && *number >= '0' && *number <= '9'; number++)
-        room[file] = 10 * room[file] + (size_t)(*number - '0');
+        left[file] = 10 * left[file] + (size_t)(*number - '0');
 }
 
 __attribute__((constructor)) static void begin(void)
 {
-    read_room(1, "OUTPUT_TAKES");
-    read_room(2, "ERRORS_TAKE");
+    read_limit(1, "OUTPUT_TAKES");
+    read_limit(2, "ERRORS_TAKE");
     input_fails = getenv("INPUT_FAILS") != 0;
 }
 
@@ -45,10 +45,10 @@ long write(int file, const void *bytes, size_t count)
 {
     if (file < 1 || file > 2 || !has_end[file])
         return syscall(SYSCALL_WRITE, file, bytes, count);
-    if (count && !room[file])
+    if (count && !left[file])
         return failed(NO_SPACE);
-    size_t taken = count < room[file] ? count : room[file];
-    room[file] -= taken;
+    size_t taken = count < left[file] ? count : left[file];
+    left[file] -= taken;
     return syscall(SYSCALL_WRITE, file, bytes, taken);
 }
 

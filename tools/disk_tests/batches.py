@@ -59,7 +59,7 @@ class Files:
     def meet(self, how, number):
         """Runs the fmt of all files, with `how` at call `number` of those that may change a file.
         Returns these calls."""
-        log = f"{self.program.room}/calls.{os.getpid()}"
+        log = f"{self.program.temp}/calls.{os.getpid()}"
         words = [self.program.tracer, "-c", log, how, str(number), self.program.path, "fmt", *FILES]
         subprocess.run(words, cwd=self.folder, capture_output=True, check=False, timeout=600)
         with open(log, encoding="utf-8", errors="replace") as lines:
@@ -80,8 +80,8 @@ class Files:
 def lose_power_of_many(program, kind):
     """Loses the power before each call of a fmt of all files that may change one."""
     check = Check(f"batches, {kind}", "files", LEAST * len(FILES))
-    room = program.folder(f"batches-{kind}")
-    image, live, lost = f"{room}/image", f"{room}/live", f"{room}/lost"
+    temp = program.folder(f"batches-{kind}")
+    image, live, lost = f"{temp}/image", f"{temp}/live", f"{temp}/lost"
     copying = f"cp --sparse=always {image} {image}.lost"
     images.make(image, kind)
     with images.mounted(image, live):
@@ -99,13 +99,13 @@ def lose_power_of_many(program, kind):
     return check
 
 
-def fill(program, sizes, room, wanted):
-    """Runs a fmt of three files of `sizes` kilobytes on a tmpfs that has `room` kilobytes left. The
-    files of `wanted` have to be saved, each other one reported and as before."""
-    check = Check(f"batches, room for {' '.join(wanted)} of three")
+def fill(program, sizes, spare, wanted):
+    """Runs a fmt of three files of `sizes` kilobytes on a tmpfs that has `spare` kilobytes left.
+    The files of `wanted` have to be saved, each other one reported and as before."""
+    check = Check(f"batches, space for {' '.join(wanted)} of three")
     names = ["a.tf", "b.tf", "c.tf"]
     texts = {name: b"x=1\n" + b"#" * (size * 1024 - 8) + b"\n" for name, size in zip(names, sizes)}
-    size = sum(sizes) + room
+    size = sum(sizes) + spare
     with images.mounted("tmpfs", program.folder("batches-tmpfs"), f"size={size}k", "tmpfs") as disk:
         for name, text in texts.items():
             write(f"{disk}/{name}", text)
@@ -117,8 +117,8 @@ def fill(program, sizes, room, wanted):
             is_new = read(f"{disk}/{name}") == text.replace(b"x=1", b"x = 1")
             is_old = read(f"{disk}/{name}") == text and not os.path.exists(f"{disk}/{name}.tfundo")
             check.require(is_new if name in wanted else is_old, "neither old nor new", name, said)
-            is_told = f"tfk: {name}: cannot write" in said[1]
-            check.require(is_told != (name in wanted), "not reported", name, said)
+            is_reported = f"tfk: {name}: cannot write" in said[1]
+            check.require(is_reported != (name in wanted), "not reported", name, said)
         check.require(said[0] == wanted, "other names", said)
         left = [name for name in os.listdir(disk) if name.endswith("new")]
         check.require(not left, "left", left)

@@ -54,7 +54,7 @@ class Edited:
         return (self.editor, "at", call, "of", self.command, "of", self.scene)
 
     def save_at(self, number):
-        """Lets the editor save at one call; judges what is beside FILE, and says what FILE is."""
+        """Lets the editor save at one call; judges what is next to FILE, and says what FILE is."""
         scene = self.scene
         scene.begin()
         how = "run:" + EDITORS[self.editor]

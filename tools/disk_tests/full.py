@@ -37,7 +37,7 @@ class Disk:
         kilobytes = [("kilobytes", left) for left in range(80 if len(text) > 1000 else 16)]
         return kilobytes + [("files", left) for left in range(3)]
 
-    def room(self):
+    def free_bytes(self):
         """Returns how many bytes are free."""
         found = os.statvfs(self.folder)
         return found.f_bavail * found.f_frsize
@@ -51,7 +51,7 @@ class Disk:
                     with open(f"{self.folder}/files/{number}", "w", encoding="utf-8"):
                         pass
             return
-        while (more := (self.room() - left * 1024) // 1024) > 0:
+        while (more := (self.free_bytes() - left * 1024) // 1024) > 0:
             size = os.path.exists(self.filler) and os.path.getsize(self.filler)
             fill_file(self.filler, more, bytes(1024))
             if os.path.getsize(self.filler) == size:
@@ -148,7 +148,7 @@ class Trial:
 def small_disk(program, kind, name):
     """Makes and mounts a small disk."""
     folder = program.folder(name)
-    image = f"{program.room}/{name}.image"
+    image = f"{program.temp}/{name}.image"
     if kind == "tmpfs":
         with images.mounted("tmpfs", folder, "size=2m,nr_inodes=64", "tmpfs"):
             yield Disk(folder)

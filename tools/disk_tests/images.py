@@ -54,7 +54,7 @@ def mounted(source, folder, options="loop", kind=None):
 @contextlib.contextmanager
 def new_disk(program, name, kind):
     """Makes and mounts a file system in the folder for tests."""
-    image = f"{program.room}/{name}.image"
+    image = f"{program.temp}/{name}.image"
     make(image, kind)
     with mounted(image, program.folder(name)) as folder:
         yield folder

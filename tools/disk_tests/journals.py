@@ -1,5 +1,5 @@
-"""What an interrupted command, a person or a repository may leave beside FILE: a new journal alone,
-or a journal that is a link to nothing."""
+"""What an interrupted command, a person or a repository may leave next to FILE: a new journal
+alone, or a journal that is a link to nothing."""
 import os
 import shutil
 

@@ -36,7 +36,7 @@ class Folder:
     def __init__(self, program, name, place):
         self.program, self.place, self.secret = program, place, None
         # the other user has to reach it
-        os.chmod(program.room, 0o755)
+        os.chmod(program.temp, 0o755)
         self.path = program.folder(name)
         os.chown(self.path, ANOTHER, ANOTHER)
 

@@ -42,13 +42,13 @@ class Machine:
 
     def __init__(self, program, kind):
         self.program, self.kind = program, kind
-        self.room = program.folder(f"power-{kind}")
-        self.live, self.lost = f"{self.room}/live", f"{self.room}/lost"
+        self.temp = program.folder(f"power-{kind}")
+        self.live, self.lost = f"{self.temp}/live", f"{self.temp}/lost"
         self.disks = ("disk", "other")
 
     def image(self, disk):
         """The image of a disk."""
-        return f"{self.room}/{disk}.image"
+        return f"{self.temp}/{disk}.image"
 
     @contextlib.contextmanager
     def running(self):
@@ -159,7 +159,7 @@ class Case:
             is_whole = state in allowed
             check.see(names[allowed.index(state)] if is_whole else "mixed")
             parts = [name_of(*part) for part in zip(state, *self.allowed[:2])]
-            check.require(is_whole, "mixed", self, "at", call, "found beside:", found, *parts)
+            check.require(is_whole, "mixed", self, "at", call, "found next to it:", found, *parts)
             check.require(not scene.leftovers(), "left", self, "at", call, scene.leftovers())
 
     def lose_at_each(self, check, synced=""):

@@ -17,12 +17,12 @@ class Program:
     """The built program, the one that meets its calls (tools/ptrace.c), the one that runs two of it
     (tools/pair.c), and a folder for tests."""
 
-    def __init__(self, path, tracer, pair, room):
-        self.path, self.tracer, self.pair, self.room = path, tracer, pair, room
+    def __init__(self, path, tracer, pair, temp):
+        self.path, self.tracer, self.pair, self.temp = path, tracer, pair, temp
 
     def folder(self, name):
         """Makes a folder in the folder for tests."""
-        path = f"{self.room}/{name}"
+        path = f"{self.temp}/{name}"
         os.makedirs(path, exist_ok=True)
         return path
 
@@ -41,7 +41,7 @@ class Program:
 
     def meet(self, folder, command, how, number, file="main.tf"):
         """Runs a command with its call `number` met; `how` is as in tools/ptrace.c."""
-        log = f"{self.room}/calls.{os.getpid()}"
+        log = f"{self.temp}/calls.{os.getpid()}"
         words = [self.tracer, log, how, str(number), *self.words(command, file)]
         ran = subprocess.run(words, cwd=folder, capture_output=True, check=False, timeout=60)
         with open(log, encoding="utf-8", errors="replace") as lines:
@@ -51,7 +51,7 @@ class Program:
 
     def both(self, folder, when, first, second, file="main.tf"):
         """Runs two commands on FILE of a folder; `when` is as in tools/pair.c. Returns the log."""
-        log = f"{self.room}/both.{os.getpid()}"
+        log = f"{self.temp}/both.{os.getpid()}"
         words = [self.pair, log, when, *self.words(first, file), "--", *self.words(second, file)]
         subprocess.run(words, cwd=folder, capture_output=True, check=True, timeout=60)
         with open(log, encoding="utf-8", errors="replace") as lines:

@@ -1,4 +1,4 @@
-"""FILE, its journal, links to them, and what an interrupted command left beside them."""
+"""FILE, its journal, links to them, and what an interrupted command left next to them."""
 import copy
 import os
 import shutil

@@ -1,4 +1,4 @@
--- Where memory is taken, the text begins with a head and the whole of what stands behind it.
+-- Where memory is taken, the text begins with a head and the whole of what follows it.
 use Rattle.std.proofs.Common.{◌≡◌, ℕ, zero, suc, ◌-◌, ◌<◌, ◌≤◌, List, [], ◌∷◌, ◌++◌, length, Bool, true, false, Result, Ok, Err, refl, sym, ap, subst, ◌∙◌, append_assoc, arith, ◌⊎◌, inl, inr}
 use Rattle.std.specs.Prelude.{codes, is_ok, ◌||◌}
 use Rattle.std.specs.List.{flat_map, AllByRecursion}
@@ -90,7 +90,7 @@ unfolding edit_list_allocates
 list_opens mark t h =
     found_ok (list_head_at t) _ h λ head head_is h1. opens_at mark t head.1 head.0.0 head.0.1 (list_head_takes t head.0 head.1 head_is) h1
 
--- one that stands whole, with the mark behind it
+-- one that is there as a whole, with the mark after it
 whole_opens : (e : EditList) (es : List EditEntry) (mark rest : List ℕ) → e.entries ≡ es → IsValidList e → ReachesEdit mark (list_text e ++ (mark ++ rest))
 whole_opens e [] mark rest is made =
     let parts = append_assoc (list_head e.old_len (length e.entries)) (flat_map edit_text e.entries) (mark ++ rest) in
@@ -191,9 +191,9 @@ allocates_out : (old : Bool) (t : List ℕ) → allocates old t ≡ true → Dec
 allocates_out false t h = inl (record_opens t h)
 allocates_out true t h = inr (old_opens t h)
 
--- ---- a record that stands whole
+-- ---- a record that is there as a whole
 
--- what stands behind the first step
+-- what follows the first step
 after_first : (others : List EditList) (rest : List ℕ) → (x : List ℕ) × (flat_map step_text others ++ (codes "end\n" ++ rest) ≡ mark_after (suc (length others)) ++ x)
 after_first [] rest = (rest, refl)
 after_first (o ∷ others) rest = (

@@ -46,7 +46,7 @@ old_alike t r rest = (
 one_entered : (r s : JournalEntry) → r.word ≡ s.word → r.edits ≡ s.edits → r ≡ s
 one_entered r s w e = λ i. record { word = w i; edits = e i }
 
--- At a front stands one record at most.
+-- A text begins with one record at most.
 pub record_one : (old : Bool) (t : List ℕ) (r s : JournalEntry) (rest more : List ℕ) → RecordAt old t r rest → RecordAt old t s more → (r ≡ s) × (rest ≡ more)
 record_one false t r s rest more h k =
     let e = ok_is (r, rest) (s, more) (sym ((new_alike t r rest).1 h) ∙ (new_alike t s more).1 k) in
@@ -147,7 +147,7 @@ from_old_text t (old ∷ olds) [] migrated is = absurd migrated
 from_old_text t (old ∷ olds) (r ∷ rs) migrated is =
     (flat_map old_record_text olds, (old, is ∙ flat_map-cons old_record_text old olds, migrated.0), from_old_text (flat_map old_record_text olds) olds rs migrated.1 refl)
 
--- the version is told by the head of the first record
+-- the version is known by the head of the first record
 pub journal_from : (old : Bool) (t : List ℕ) (rs : List JournalEntry) → RecordsAt old t rs → IsJournalText t rs
 journal_from false t rs h = inl (text_from t rs h)
 journal_from true t rs h = inr (old_text_from t rs h)

@@ -8,7 +8,7 @@ use Rattle.edit_record.specs.declared.fault.FaultKind.TheVariants.{Head, Number}
 use Rattle.edit_record.specs.Parsing.{cut_short, error, is_digit, with_digit, number_on, number_at}
 use Rattle.edit_record.proofs.Choices.{chosen, err_else, ok_if, both_true, ok_is}
 
--- what is read of a number, behind the digits of value
+-- what is read of a number, after the digits of value
 pub record Takes (least limit stop value : ℕ) (t : List ℕ) (x : ℕ × List ℕ) : Type 0 where
   pub text : decimal value ++ t ≡ number_text stop x.0 ++ x.1
   pub least_is : least ≤ x.0

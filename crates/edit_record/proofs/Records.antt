@@ -49,7 +49,7 @@ list_again left e rest made_e =
     (goes_on (edits_at (length e.entries) t1) _ (e.entries, rest) _ (edits_again e.entries rest n.edits) last) in
     ap (edit_list_at left) (append_assoc head (flat_map edit_text e.entries) rest) ∙ read
 
--- the word without the space behind it
+-- the word without the space after it
 bare : Word → List ℕ
 bare Fmt = codes "fmt"
 bare Fix = codes "fix"
@@ -128,7 +128,7 @@ pub steps_again : (es : List EditList) (rest : List ℕ) → AllByRecursion IsVa
 unfolding steps_at
 steps_again = many_again step_at step_text IsValidList step_again
 
--- an old record whose lists can be made, and that has so many of them that their number can be read
+-- an old record whose lists can be made, and whose number of lists can be read
 pub record IsOld (r : OldRecord) : Type 0 where
   pub made : AllByRecursion IsValidList (steps r)
   pub within_limit : length (steps r) ≤ 64

@@ -129,7 +129,7 @@ steps_error t t1 head (stops.Bad bad) head_is error = inr (head, t1, head_is, in
 pub end_error : (t t1 t2 : List ℕ) (head : OldHead) (edits : EditList) (bad : TextError) → old_head_at t ≡ Ok (head, t1) → SquashAt head.first head.others t1 edits t2 → expect (codes "end\n") End t2 ≡ Err bad → OldRecordError t bad
 end_error t t1 t2 head edits bad head_is others none = inr (head, t1, head_is, inr (edits, t2, others, none))
 
--- where memory is taken for the steps behind the head
+-- where memory is taken for the steps after the head
 others_allocate : (t t1 : List ℕ) (head : OldHead) (b : Bool) → old_head_at t ≡ Ok (head, t1) → steps_allocate head.others t1 ≡ true → (b || is_ok_and (old_head_at t) (λ h. steps_allocate h.0.others h.1)) ≡ true
 others_allocate t t1 head true head_is taken = refl
 others_allocate t t1 head false head_is taken = rw head_is taken

@@ -220,8 +220,8 @@ fn push_placed<'t>(
     Ok(after)
 }
 
-/// Reserves memory for an edit that is read, if the list has none left. `text`, which begins with the
-/// edit, serves the clauses alone.
+/// Reserves memory for an edit that is read, if the list has none left. `text`, which begins with
+/// the edit, serves the clauses alone.
 #[inline(always)]
 fn reserve_read(
     edits: &mut Vec<Edit>,

@@ -1,5 +1,5 @@
-//! Reading numbers and short edits in one straight pass, for speed alone. What is unusual (an error,
-//! a long edit, the end of the text near) is left to the readers of each part.
+//! Reading numbers and short edits in one straight pass, for speed alone. What is unusual (an
+//! error, a long edit, the end of the text near) is left to the readers of each part.
 ghost use Rattle.std.specs.Prelude.{◌≡◌, ◌+◌, ◌<◌, ◌≤◌, ◌∷◌, false, ℕ, List, length, take, drop, IfSome};
 ghost use Rattle.edit_record.specs.Text.{max_number, space};
 ghost use Rattle.edit_record.specs.Parsing.{is_digit, number_at, list_head_at, edit_at};

@@ -129,8 +129,8 @@ fn is_in_line(lines: &Reader<'_, '_>, at: usize) -> bool
     }
 }
 
-/// Skips line ends with the comments before them, as `Reader::skip_newlines` does; most often one look
-/// shows that there is none.
+/// Skips line ends with the comments before them, as `Reader::skip_newlines` does; most often one
+/// look shows that there is none.
 #[inline(always)]
 fn skip_newlines(reader: &Reader<'_, '_>, at: &mut usize) -> Result<(), TokenFault>
     ensures { ReadsExactly (tokens.skip_newlines reader.now at.old) result at.new }

@@ -2,8 +2,8 @@
 //! text without a template.
 //!
 //! For speed alone: what is taken here `general_expr` takes, too, with more looks at each token.
-//! Where more follows a term, the rest of the rule goes on from there (`Unread`), so that no operand
-//! is read twice.
+//! Where more follows a term, the rest of the rule goes on from there (`Unread`), so that an
+//! operator, `?` or `[` costs no second reading.
 
 ghost use Rattle.std.specs.Prelude.{◌≡◌, ◌<◌, ◌+◌, ◌^◌, ℕ, true, false, Ok, None, OnSome, IfSome};
 ghost use Rattle.hcl_token.specs.declared.kind.Kind.TheVariants as k;
@@ -25,8 +25,8 @@ use hcl_token::Kind;
 pub enum Unread {
     /// All of it.
     All,
-    /// All of it, but a term and tails of it were read: how many tails may follow at most, and where
-    /// what was read ends.
+    /// All of it, but a term and tails of it were read: how many tails may follow at most, and
+    /// where what was read ends.
     Term(usize, usize),
     /// Nothing.
     Nothing,
@@ -130,8 +130,8 @@ fn eat_text(reader: &Reader<'_, '_>, at: &mut usize) -> bool
     }
 }
 
-/// Takes the rest of such a term with its tails, after its first token, which is `first`. Returns how
-/// many more tails its rule would take at most.
+/// Takes the rest of such a term with its tails, after its first token, which is `first`. Returns
+/// how many more tails its rule would take at most.
 #[inline(always)]
 fn eat_term(reader: &Reader<'_, '_>, first: usize, kind: Kind, at: &mut usize) -> Option<usize>
     ensures first { OnSome result (operators.unary_operator kind ≡ None) }
@@ -181,8 +181,8 @@ pub fn eat_plain_expr(reader: &Reader<'_, '_>, next: Next, at: &mut usize) -> Un
     }
 }
 
-/// Takes the rest of parentheses or of an `Interp`, after the opening, which is token `first`, if what
-/// they enclose is such an expression. It ends with `close`.
+/// Takes the rest of parentheses or of an `Interp`, after the opening, which is token `first`, if
+/// what they enclose is such an expression. It ends with `close`.
 #[inline(always)]
 #[tactic(auto, unfolding(crate::specs::Passes::enclosed, hcl_grammar::specs::Pure::Reading::expect, hcl_grammar::specs::Pure::Reading::after_if_next))]
 pub fn eat_plain_enclosed(

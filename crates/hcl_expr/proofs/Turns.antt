@@ -1,4 +1,5 @@
--- A loop that counts up, beside a recursion on the turns that are left; and what a step that was refused answers.
+-- A loop that counts up, against a recursion on the turns that are left; and what a step that was
+-- refused answers.
 use Rattle.std.proofs.Common.{◌≡◌, ℕ, suc, ◌+◌, ◌-◌, ◌<◌, ◌≤◌, Result, Err, ap, sym, subst, ◌∙◌, arith}
 use Rattle.hcl_grammar.specs.declared.fault.TokenFault.{TokenFault}
 use Rattle.hcl_grammar.specs.Pure.Reading.{Outcome, Step, and_then, ReadsExactly, Reads}
@@ -7,7 +8,7 @@ use Rattle.hcl_grammar.specs.Pure.Reading.{Outcome, Step, and_then, ReadsExactly
 pub turn_left : {X : Type 0} {r : X} (left : ℕ → X) {fuel turn : ℕ} → turn < fuel → r ≡ left (fuel - turn) → r ≡ left (suc (fuel - (turn + 1)))
 turn_left left {fuel} {turn} skip_newlines e = let count : fuel - turn ≡ suc (fuel - (turn + 1)) = omega (arith, skip_newlines) in e ∙ ap left count
 
--- behind the last, none is
+-- after the last, none is left
 pub none_left : {X : Type 0} {r : X} (left : ℕ → X) {fuel turn : ℕ} → fuel ≤ turn → r ≡ left (fuel - turn) → r ≡ left 0
 none_left left {fuel} {turn} over e = let count : fuel - turn ≡ 0 = omega (arith, over) in e ∙ ap left count
 

@@ -71,8 +71,8 @@ impl<'s, 't> Reader<'s, 't> {
         self.scanned.len()
     }
 
-    /// Returns the number of the next token that is not dropped, and its kind; the number of tokens, if
-    /// there is none.
+    /// Returns the number of the next token that is not dropped, and its kind; the number of
+    /// tokens, if there is none.
     pub fn next_token(&self, at: usize) -> (usize, Option<Kind>)
         ensures number { result.0 ≡ spec.next_index self.now at }
         ensures kind { result.1 ≡ spec.next_kind self.now at }

@@ -1,7 +1,7 @@
 -- One level of the syntax tree. The types of a tree are closed cycles: `out-ExprKind` opens a value
--- by one level, so that its variants can be told apart (`ExprKind-F.Binary ..`), and what is in it
--- is closed again. `ExprKind-F` has the types of the cycle as its arguments; here they are filled
--- in, once for each type.
+-- by one level, so that its variants can be distinguished (`ExprKind-F.Binary ..`), and what is in
+-- it is closed again. `ExprKind-F` has the types of the cycle as its arguments; here they are
+-- filled in, once for each type.
 use Rattle.hcl_grammar.specs.declared.tree.Block.{Block}
 use Rattle.hcl_grammar.specs.declared.tree.Body.{Body}
 use Rattle.hcl_grammar.specs.declared.tree.Call.{Call}

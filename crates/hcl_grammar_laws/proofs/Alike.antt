@@ -13,7 +13,7 @@ pub record Alike (ts us : List Token) : Type 0 where
   pub lengths : length us ≡ length ts
 
 module _ {ts us : List Token} (h : Alike ts us) where
-  -- numbers of tokens, and the places behind one token, two, three
+  -- numbers of tokens, and the places after one token, two, three
   pub s0 : (m : Bool) (i : ℕ) → next_index ts m i ≡ next_index us m i
   s0 m i = sym (h.starts m i)
 

@@ -15,7 +15,7 @@ use Rattle.hcl_grammar.specs.Tokens.{Token, after_next}
 use Rattle.hcl_grammar_laws.proofs.Alike.{Alike, s0, s1, a1, a2, a3, first0, first1, at0, at1, at2, not1, is0, is1, word1, other1}
 
 module _ {ts us : List Token} (h : Alike ts us) where
-  -- from a place behind a token
+  -- from a place after a token
   behind : (P : ℕ → Type 0) (m : Bool) (i : ℕ) → P (after_next ts m i) → P (after_next us m i)
   behind P m i p = subst P (a1 h m i) p
 

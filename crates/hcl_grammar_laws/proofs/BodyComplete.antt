@@ -137,7 +137,7 @@ module _ (ts : List Token) where
   unfolding bodies.members_from
   members_blank turns acc i q r = rw (line-yes q) r
 
-  -- a member, and those behind it
+  -- a member, and those after it
   members_more : {d a : ℕ} {x : Member} {ys : List Member} {n l : ℕ} (turns : ℕ) (acc : List Member) (i : ℕ) → NextIs ts false k.Identifier i
       → Answers d a x n (bodies.attribute_or_block ts a (deeper_members ts a) (next_index ts false i) (after_next ts false i))
       → Answers d a ys l (bodies.members_from ts a (deeper_members ts a) turns (acc ++ x ∷ []) n)
@@ -218,7 +218,7 @@ module _ (ts : List Token) where
   no_blank {i} h (line_end q) = let clash : Some k.Identifier ≡ Some k.LineEnd = sym h ∙ q in absurd (cc)
   no_blank {i} h (comment q n) = let clash : Some k.Identifier ≡ Some k.LineComment = sym h ∙ q in absurd (cc)
 
-  -- the member that a body begins with, where no line end stands before it
+  -- the member that a body begins with, where no line end is before it
   c_named : {d : ℕ} {m : Member} {ms : List Member} {i l : ℕ} → NextIs ts false k.Identifier i → IsMembers ts d (m ∷ ms) i l → (b : ℕ)
       → (n : ℕ) × Answers d b m n (bodies.attribute_or_block ts b (deeper_members ts b) (next_index ts false i) (after_next ts false i))
   c_named h (blank q ms) b = absurd (no_blank h q)
@@ -250,7 +250,7 @@ module _ (ts : List Token) where
   last_ends i (at_end h) = record { no_line = no_line_end i h; no_name = unlike k.Identifier i h }
   last_ends i (at_comment q h) = record { no_line = record { is = line-no i q h }; no_name = sees-other ts false k.LineComment k.Identifier i q refl }
 
-  -- no byte order mark stands where a body begins
+  -- there is no byte order mark where a body begins
   no_front : {d : ℕ} {ms : List Member} {i j : ℕ} → IsMembers ts d ms i j → IsFileEnd ts j → next_is ts false k.Mark i ≡ false
   unfolding same_kind
   no_front (no_members {i}) (at_end h) = unlike k.Mark i h

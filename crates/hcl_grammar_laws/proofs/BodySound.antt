@@ -64,7 +64,7 @@ module _ (ts : List Token) where
 
   -- ---- labels
 
-  -- the label from i to j stands before those that follow it
+  -- the label from i to j comes before those that follow it
   abbrev LabelFrom : ℕ → Label → ℕ → Type 0
   LabelFrom i x j = (ls : List Label) (l : ℕ) → IsLabels ts ls j l → IsLabels ts (x ∷ ls) i l
 
@@ -120,7 +120,7 @@ module _ (ts : List Token) where
   Below zero = Unit {0}
   Below (suc a) = SoundBody a
 
-  -- the member from i to j stands before those that follow it
+  -- the member from i to j comes before those that follow it
   abbrev pub Precedes : ℕ → ℕ → Member → ℕ → Type 0
   Precedes b i m j = (member_past m ≡ j) × ((ms : List Member) (l : ℕ) → IsMembers ts b ms j l → IsMembers ts b (m ∷ ms) i l)
 
@@ -134,7 +134,7 @@ module _ (ts : List Token) where
       let l = s_eol w.at v.is in
       along (λ m j. Precedes b i m j) v.rest (attribute_past _ _ _, λ ms n r. attribute h q x l r)
 
-  -- what stands in the braces of a block, from i to j
+  -- what is in the braces of a block, from i to j
   pub data Inside (a : ℕ) : Content → ℕ → ℕ → Type 0 where
     inside_lines : {bs : List Member} {i n o : ℕ} → IsNewline ts i n → IsMembers ts a bs n o → Inside a (content.Body (node.body (first_token_in ts false n o) o bs)) i o
     inside_line : {x : Option Attribute} {i o : ℕ} → IsOneLineBody ts a x i o → Inside a (content.OneLine x) i o

@@ -1,4 +1,5 @@
--- A level is an operand and what stands behind it; where no operator of a level below n follows the operand, level n is the operand.
+-- A level is an operand and what follows it; where no operator of a level below n follows the
+-- operand, level n is the operand.
 use Rattle.std.proofs.Common.{◌≡◌, ℕ, zero, suc, ◌==◌, ◌<◌, ◌≤◌, Bool, false, List, [], length, Option, Some, None, Ok, Err, refl, sym, inl, inr, arith}
 use Rattle.std.proofs.lemmas.Bool.Decides.{eqb_tells}
 use Rattle.hcl_token.specs.declared.kind.Kind.{Kind}
@@ -19,7 +20,7 @@ other : (n l : ℕ) → n < l → (l == n) ≡ false
 other n l h = elim (eqb_tells l n) [ inl w ↦ absurd (omega arith) | inr w ↦ w.0 ]
 
 module _ (ts : List Token) (depth : ℕ) (inner : p.Deeper) where
-  -- a level is an operand and what stands behind it
+  -- a level is an operand and what follows it
   pub level-is : (n : ℕ) (m : Bool) (i : ℕ) → p.level ts depth inner n m i ≡ and_then (p.unary ts depth inner m i) (climb_levels ts depth inner n m (next_index ts m i))
   unfolding p.level climb_levels
   level-is zero m i = sym (then_pure (p.unary ts depth inner m i))

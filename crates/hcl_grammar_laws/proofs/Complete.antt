@@ -469,7 +469,7 @@ module _ (ts : List Token) where
   unfolding p.else_and_endif
   otherwise_some b m i x r e = rw (reads-yes ts true else_word (after_next ts m i) (keyword_word x), keyword-yes x) (bind _ r (rw (keyword-yes e) found))
 
-  -- ---- what stands one construct deeper
+  -- ---- what is one construct deeper
 
   pub expr-is : (a : ℕ) (m : Bool) (g : Goal) (i : ℕ) → p.expr ts a m g i ≡ p.goal ts a (deeper ts a) m g i
   unfolding p.under

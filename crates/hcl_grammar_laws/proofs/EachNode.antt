@@ -1,4 +1,4 @@
--- Each node that stands in a tree is derived by its own tokens.
+-- Each node of a tree is derived by its own tokens.
 use Rattle.std.proofs.Common.{List, refl}
 use Rattle.hcl_grammar.specs.Tokens.{Token}
 use Rattle.hcl_grammar_laws.proofs.Own.{own_if, own_for, own_template, own_body}

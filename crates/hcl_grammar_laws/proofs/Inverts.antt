@@ -112,7 +112,7 @@ pub then_some : {A B : Type 0} (r : Outcome A) (f : A → B) {j : ℕ} → and_t
 then_some (Ok p) f e = some_none e
 then_some (Err x) f e = absurd (cc)
 
--- a token that was expected stands there, and what follows went on behind it
+-- a token that was expected is there, and what follows went on after it
 pub expect_then : {B : Type 0} (ts : List Token) (m : Bool) (t : Kind) (i : ℕ) (f : Unit {0} → Step B) {y : B} {j : ℕ} → and_then (expect ts m t i) f ≡ done y j → NextIs ts m t i × (f tt (after_next ts m i) ≡ done y j)
 unfolding expect
 expect_then ts m t i f {y} {j} e = go (next_is ts m t i) refl

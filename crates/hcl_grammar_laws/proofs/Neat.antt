@@ -1,4 +1,4 @@
--- Which tokens do not stand side by side in a derivation.
+-- Which tokens are not next to each other in a derivation.
 use Rattle.std.proofs.Common.{◌≡◌, ℕ, zero, suc, ◌+◌, ◌<◌, ◌≤◌, nat_lt, ◌||◌, Bool, true, false, cond, List, [], ◌∷◌, length, drop, slice_get, Option, Some, None, refl, sym, ap, ◌∙◌, subst, arith}
 use Rattle.std.proofs.lemmas.Bool.{ltb-true, ltb-false}
 use Rattle.std.specs.List.{prefix_len}
@@ -97,7 +97,7 @@ less : (b : Bool) (n m : ℕ) → suc n < 0 + cond b (1 + m) 0 → n < 0 + m
 less true n m h = omega arith
 less false n m h = absurd (omega arith)
 
--- what stands before the next token is dropped
+-- what is before the next token is dropped
 dropped_at : (p : Token → Bool) (ts : List Token) (i n : ℕ) (a : Token) → i ≤ n → n < i + prefix_len p (drop i ts) → slice_get ts n ≡ Some a → p a ≡ true
 dropped_at p [] i n a l h e = absurd (cc)
 dropped_at p (t ∷ ts) zero zero a l h e = go (p t) refl h
@@ -127,7 +127,8 @@ beyond (s ∷ ts) (suc i) h = omega (arith, beyond ts i h)
 pub record Fine (ts : List Token) (n : ℕ) : Type 0 where
   pub each : (a b : Token) → slice_get ts n ≡ Some a → slice_get ts (suc n) ≡ Some b → glues a.0 b.0 b.1 ≡ false
 
--- no two tokens that the grammar has to keep away stand side by side from i on, up to the token before j and its neighbour
+-- no two tokens that the grammar has to keep apart are next to each other from i on, up to the
+-- token before j and its neighbor
 pub record Neat (ts : List Token) (i j : ℕ) : Type 0 where
   pub at : (n : ℕ) → i ≤ n → n < j → Fine ts n
 
@@ -167,7 +168,7 @@ module _ (ts : List Token) where
   safe_word : (m : Bool) (j : ℕ) → NextIsWord ts m if_word j → Safe ts j
   safe_word m j h = record { only = λ b e n. let seen = raw-token m j b e (kept m b.0 k.Identifier n refl) in ap (λ (t : Token). t.1) (same_token (sym seen ∙ h)) }
 
-  -- a token of another kind does not stand at j
+  -- a token of another kind is not at j
   unseen : (m : Bool) (j : ℕ) (t : Kind) → NextIs ts m t j → (s : Kind) → is_skipped m s ≡ false → (Some t ≡ Some s → ⊥) → (b : Token) → slice_get ts j ≡ Some b → b.0 ≡ s → ⊥
   unseen m j t h s d other b e n = other (raw-kind m j b (Some t) h e (kept m b.0 s n d) ∙ ap Some n)
 
@@ -417,7 +418,7 @@ module _ (ts : List Token) where
   neat_front no_mark = still 0
   neat_front (mark q) = pass _ _ k.Mark q refl
 
-  -- what stands behind the last token that is not dropped
+  -- what follows the last token that is not dropped
   none_left : (o : Option Token) → option_map (λ (t : Token). t.0) o ≡ None → o ≡ None
   none_left None h = refl
   none_left (Some t) h = absurd (cc)

@@ -1,4 +1,4 @@
--- Each node has the number of its first token and the place behind its last.
+-- Each node has the number of its first token and the place after its last.
 use Rattle.std.proofs.Common.{◌≡◌, ℕ, ◌≤◌, Bool, true, List, refl}
 use Rattle.hcl_grammar.specs.declared.tree.Expr.{Expr}
 use Rattle.hcl_grammar.specs.declared.tree.Intro.{Intro}

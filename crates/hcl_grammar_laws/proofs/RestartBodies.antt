@@ -153,7 +153,7 @@ module _ {ts : List Token} where
   pub own_on_line : {d : ℕ} {x : Attribute} {i j : ℕ} → IsOneLineBody ts d (Some x) i j → IsOneLineBody ts d (Some x) x.first x.past
   own_on_line {x} w = own_on_line_by w x refl
 
-  -- from its first token on, with what stands behind it
+  -- from its first token on, with what follows it
   attribute_from : {d : ℕ} {y : Expr} {ms : List Member} {j l o : ℕ} (i n : ℕ) → next_index ts false i ≡ next_index ts false n → NextIs ts false k.Identifier i → NextIs ts false k.Equal (after_next ts false i)
       → IsExpr ts d false y (after_next ts false (after_next ts false i)) j → IsEol ts j l → IsMembers ts d ms l o → IsMembers ts d (member.Attribute (node.attribute (next_index ts false i) l y) ∷ ms) n o
   attribute_from {d} {y} {j} i n h p q x s r =

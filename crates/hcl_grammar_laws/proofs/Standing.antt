@@ -1,4 +1,4 @@
--- Each node that stands in the tree of a list of tokens stands over its own tokens.
+-- Each node in the tree of a list of tokens is derived by its own tokens.
 use Rattle.std.proofs.Common.{◌≡◌, ℕ, zero, suc, ◌+◌, Bool, false, List, [], ◌∷◌, ◌++◌, map, slice_get, Option, Some, refl, sym, ap, ◌∙◌, subst, arith}
 use Rattle.std.specs.List.{flat_map}
 use Rattle.hcl_token.specs.declared.kind.Kind.{Kind}
@@ -63,7 +63,7 @@ are ts xs ys e a = subst (All ts) (sym e) a
 module _ {ts : List Token} where
   -- ---- expressions
 
-  -- what stands on a level is an expression
+  -- what is on a level is an expression
   lift : {d : ℕ} {m : Bool} {l : ℕ} {x : Expr} {i j : ℕ} (k : ℕ) → k + l ≡ levels → IsLevel ts d m l x i j → IsExpr ts d m x i j
   lift {d} {m} {l} {x} {i} {j} zero e w = let top : l ≡ levels = omega (arith, e) in plain (subst (λ z. IsLevel ts d m z x i j) top w)
   lift (suc k) e w = lift k (omega (arith, e)) (level w no_operations)

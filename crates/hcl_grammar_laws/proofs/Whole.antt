@@ -78,7 +78,7 @@ module _ (ts : List Token) (b i : ℕ) where
     deeper = λ d m ms l q w. deep_or r new (c_member ts i q w b).1 h;
   }
 
--- over some tokens stands one tree at most
+-- a list of tokens has one tree at most
 pub found_at : {A : Type 0} {d b : ℕ} {x : A} {j : ℕ} {o : Outcome A} → d ≤ b → Answers d b x j o → o ≡ done x j
 found_at l found = refl
 found_at l (deep h) = absurd (omega arith)

@@ -51,8 +51,8 @@ pub data Node : Type 0 where
   if_directive : IfDirective → Node
   for_directive : ForDirective → Node
 
--- The tokens from the node's `first` up to its `past` derive it; an attribute, a block and a label are
--- each a list of one.
+-- The tokens from the node's `first` up to its `past` derive it; an attribute, a block and a label
+-- are each a list of one.
 pub data Derives (ts : List Token) : Node → Type 0 where
   is_body : {d : ℕ} {x : Body} → IsMembers ts d x.members x.first x.past → Derives ts (body x)
   is_block : {d : ℕ} {x : Block} → IsMembers ts d (member.Block x ∷ []) x.first x.past

@@ -1,4 +1,4 @@
--- Lines that are not frozen begin behind a line end.
+-- Lines that are not frozen begin after a line end.
 use Rattle.std.proofs.Common.{◌≡◌, ℕ, zero, suc, Bool, true, false, nat_lt, List, [], ◌∷◌, if◌then◌else◌, refl, sym, subst}
 use Rattle.std.proofs.lemmas.Bool.{false≢true}
 use Rattle.hcl_token.specs.declared.kind.Kind.{Kind}
@@ -13,12 +13,12 @@ abbrev pub last_of : Kind → List Pair → Kind
 last_of k [] = k
 last_of k (p ∷ ps) = last_of p.kind ps
 
--- lines behind a token of this kind: one that is not frozen begins behind a line end
+-- lines after a token of this kind: one that is not frozen begins after a line end
 abbrev pub AreBegun : Kind → List Line → Type 0
 AreBegun k [] = Unit {0}
 AreBegun k (line ∷ lines) = (line.frozen ≡ false → k ≡ LineEnd) × AreBegun (last_of k line.pairs) lines
 
--- those behind the first
+-- those after the first
 abbrev LaterBegun : Kind → List Line → Type 0
 LaterBegun k [] = Unit {0}
 LaterBegun k (line ∷ lines) = AreBegun (last_of k line.pairs) lines
@@ -41,7 +41,7 @@ begun_all k held (p ∷ ps) begins h =
       | false ↦ λ more. front_begun k (nat_lt 0 held) p (lines_from (heredocs_after held p.kind) ps) begins more
     ]) h
 
--- where a line ends, the next is frozen or stands behind a line end
+-- where a line ends, the next is frozen or follows a line end
 next_begins : (held : ℕ) (k : Kind) → ends_line held k ≡ true → nat_lt 0 (heredocs_after held k) ≡ false → k ≡ LineEnd
 next_begins zero LineEnd h e = refl
 next_begins zero HereOpen h e = absurd (cc)

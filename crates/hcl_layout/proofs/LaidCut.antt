@@ -17,7 +17,7 @@ use Rattle.hcl_layout.proofs.Lower.{OneTokenization, TokenizationFollows, GapsOf
 use Rattle.hcl_layout.proofs.Stands.{AllStand, stand_gaps, stand_apart, front_is_allowed}
 use Rattle.hcl_layout.proofs.LaidStands.{body_stand}
 
--- the gaps can stand between the tokens, and none is empty between two that join
+-- the gaps may be between the tokens, and none is empty between two that join
 abbrev Fit : List Pair → Type 0
 Fit pairs = AreAllowedGaps false pairs [] × AreApart pairs
 
@@ -30,7 +30,7 @@ no_mark : (mode : Mode) (kind : Kind) → is_allowed_in mode kind ≡ true → i
 no_mark mode Mark h = absurd (false≢true h)
 no_mark mode kind h = refl
 
--- no byte order mark stands in a body
+-- there is no byte order mark in a body
 unmarked : (body : List Pair) (last : List ℕ) → FollowsFrom [] body last [] → layout_pairs body ≡ layout_body body
 unmarked [] last f = refl
 unmarked (p ∷ ps) last f = rw (no_mark Expression p.kind f.2.0) refl

@@ -1,4 +1,4 @@
--- The gaps of a layout can stand between its tokens, and hold apart what joins.
+-- The gaps of a layout may be between its tokens, and keep apart what joins.
 use Rattle.std.proofs.Common.{◌≡◌, ℕ, zero, suc, ◌*◌, ◌<◌, Bool, true, false, ◌||◌, List, [], ◌∷◌, ◌++◌, drop, Option, Some, None, if◌then◌else◌, refl, sym, ap, subst, inl, inr, arith}
 use Rattle.std.proofs.lemmas.Bool.{both_ways, false≢true, or_cases}
 use Rattle.std.specs.List.{list_all}
@@ -30,7 +30,7 @@ allowed_with : (k : Kind) (s : List ℕ) (p : Pair) (gap : List ℕ) → Stands 
     → Stands k s (record p { gap = gap })
 allowed_with k s p gap h blank none apart = record { whitespace = blank; none = none; apart = apart; literal = h.literal; shut = h.shut }
 
--- more tokens behind tokens
+-- more tokens after tokens
 allowed_after : (k : Kind) (s : List ℕ) (ps old new : List Pair) → AllStand k s (ps ++ old) → ((t : List ℕ) → AllStand (last_of k ps) t old → AllStand (last_of k ps) t new) → AllStand k s (ps ++ new)
 allowed_after k s [] old new h f = f s h
 allowed_after k s (p ∷ ps) old new h f = (h.0, allowed_after p.kind p.spelling ps old new h.1 f)
@@ -108,7 +108,7 @@ set_stand k s earlier before (line ∷ lines) begun h =
 
 -- ---- cells
 
--- a gap may stand before the token behind n others
+-- a gap may be before the token that follows n others
 abbrev IsFreeAt : ℕ → List Pair → Type 0
 IsFreeAt n [] = Unit {0}
 IsFreeAt zero (p ∷ ps) = (has_no_gap_before p.kind ≡ false) × (is_line_end p.kind ≡ false)

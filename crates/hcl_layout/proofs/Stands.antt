@@ -1,4 +1,5 @@
--- Which gaps may stand between two tokens; those of a cut do. Each token is looked at with the one before it, and no cut is spoken of.
+-- Which gaps may be between two tokens; those of a tokenization may. Each token is compared with
+-- the one before it, without reference to a tokenization.
 use Rattle.std.proofs.Common.{◌≡◌, ℕ, true, false, ◌||◌, List, [], ◌∷◌, ◌++◌, refl, sym, ap, ◌∙◌}
 use Rattle.std.proofs.lemmas.Bool.{and_parts, both_ways, false≢true, not-true}
 use Rattle.std.specs.List.{list_all}
@@ -15,8 +16,8 @@ use Rattle.hcl_scan.specs.Follows.{following_text, AllowsNext, FollowsFrom, IsAp
 use Rattle.hcl_layout.specs.Gaps.Kinds.{is_line_end}
 use Rattle.hcl_layout.proofs.LineEnds.{line_token}
 
--- A token behind another: its gap can stand there, and, whatever the gap, what stands before literal text joins with nothing and ends no
--- line, and behind what asks for no gap stands literal text or a line end.
+-- A token after another: its gap may be there, and, whatever the gap, what is before literal text
+-- joins with nothing and ends no line, and after what allows no gap is literal text or a line end.
 pub record Stands (k : Kind) (s : List ℕ) (p : Pair) : Type 0 where
   pub whitespace : list_all is_whitespace p.gap ≡ true
   pub none : (has_no_gap_after k || has_no_gap_before p.kind) ≡ true → p.gap ≡ []
@@ -24,7 +25,7 @@ pub record Stands (k : Kind) (s : List ℕ) (p : Pair) : Type 0 where
   pub literal : has_no_gap_before p.kind ≡ true → (joins_with k s p.kind p.spelling ≡ false) × (is_line_end k ≡ false)
   pub shut : has_no_gap_after k ≡ true → has_no_gap_before p.kind ≡ false → is_line_end p.kind ≡ true
 
--- each token behind the one before it, the first behind this one
+-- each token after the one before it, the first after this one
 abbrev pub AllStand : Kind → List ℕ → List Pair → Type 0
 AllStand k s [] = Unit {0}
 AllStand k s (p ∷ ps) = Stands k s p × AllStand p.kind p.spelling ps
@@ -39,7 +40,7 @@ stand_apart k s (p ∷ ps) h = (h.0.apart, stand_apart p.kind p.spelling ps h.1)
 
 -- ---- of a cut
 
--- what stands before literal text joins with nothing, and is no line end
+-- what is before literal text joins with nothing, and is no line end
 literal_after : (kind : Kind) (s : List ℕ) (modes : List Mode) → is_allowed_in (mode_of modes) kind ≡ true → is_literal (mode_of (modes_after kind s modes)) ≡ true
     → ((k : Kind) (t : List ℕ) → joins_with kind s k t ≡ false) × (is_line_end kind ≡ false)
 literal_after LineEnd s modes st l = absurd (both_ways _ (not-true (is_literal (mode_of modes)) st) l)
@@ -65,7 +66,7 @@ in_heredoc : (mode : Mode) → is_heredoc mode ≡ true → is_literal mode ≡ 
 in_heredoc (Heredoc name fresh) h = refl
 in_heredoc mode h = absurd (false≢true h)
 
--- a token of a kind that has no gap stands in literal text
+-- a token of a kind that has no gap is in literal text
 in_literal : (mode : Mode) (kind : Kind) → is_allowed_in mode kind ≡ true → has_no_gap_before kind ≡ true → is_literal mode ≡ true
 in_literal mode Mark st h = absurd (false≢true st)
 in_literal mode QuoteClose st h = in_quotes mode st
@@ -118,7 +119,7 @@ tokens_are_allowed k s modes left (p ∷ ps) last literal shut f gaps first apar
       f.4 gaps.2 apart.0 apart.1,
 )
 
--- from the front of a text on, as behind a line end
+-- from the start of a text on, as after a line end
 pub front_is_allowed : (body : List Pair) (last : List ℕ) → FollowsFrom [] body last [] → AreAllowedGaps false body last → AreApart body → AllStand LineEnd [] body
 front_is_allowed body last f gaps apart =
     tokens_are_allowed LineEnd [] [] [] body last (λ h. absurd (false≢true h)) (λ h. absurd (false≢true h)) f gaps (first body) apart

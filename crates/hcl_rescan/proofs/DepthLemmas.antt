@@ -1,4 +1,4 @@
--- How many openings are open is told by kinds alone.
+-- How many openings are open depends on kinds alone.
 use Rattle.std.proofs.Common.{◌≡◌, true, ℕ, ◌+◌, ◌<◌, ◌≤◌, List, [], ◌∷◌, ◌++◌, length, drop, slice_range, Some, refl, sym, ap, ap₂, subst, ◌∙◌, arith, suc, length-drop}
 use Rattle.std.proofs.lemmas.Bool.{cond_both}
 use Rattle.std.proofs.lemmas.List.Folds.{drop_split}
@@ -97,7 +97,7 @@ allowed_after : (ps : List Pair) (q : Pair) (qs : List Pair) (modes : List Mode)
 allowed_after [] q qs modes last f = f.2.0
 allowed_after (p ∷ ps) q qs modes last f = allowed_after ps q qs (modes_after p.kind p.spelling modes) last f.4
 
--- behind one token more
+-- after one more token
 pub depth_more : (cut : TokenizedText) (from at i depth : ℕ) (kind : Kind) → IsLineStart cut from at → from ≤ i → i < length cut.pairs → Some kind ≡ kind_of cut.pairs i
     → depth ≡ length (modes_after_pairs [] (slice_range cut.pairs from i)) → depth_after kind depth ≡ length (modes_after_pairs [] (slice_range cut.pairs from (i + 1)))
 depth_more cut from at i depth kind f le within is so_far =

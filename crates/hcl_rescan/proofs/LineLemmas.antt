@@ -1,4 +1,4 @@
--- Whole lines: where they can be cut off from what is behind them, and put before other lines.
+-- Whole lines: where they can be cut off from what follows them, and put before other lines.
 use Rattle.std.proofs.Common.{◌≡◌, ◌≢◌, true, ℕ, zero, suc, ◌+◌, ◌-◌, ◌<◌, ◌≤◌, false, List, [], ◌∷◌, ◌++◌, length, take, drop, slice_get, slice_range, Some, refl, sym, ap, ap₂, subst, ◌∙◌, inl, inr, ◌⊎◌, arith, append_assoc, length-append, length-drop, length-take-le, take-append-drop, drop-drop, take_at, drop_at, take_all}
 use Rattle.std.proofs.lemmas.List.Folds.{drop_split}
 use Rattle.std.specs.List.{list_all}
@@ -20,7 +20,7 @@ use Rattle.hcl_rescan.specs.Inner.WholeLines.{EndsWithLineEnd, AreWholeLines, Ar
 use Rattle.hcl_scan.proofs.PairLemmas.{modes_after_pairs, joining_rest}
 use Rattle.hcl_scan.proofs.WritesBack.{writes_back}
 
--- ---- the last line end asks nothing of what is behind it
+-- ---- the last line end requires nothing of what follows it
 
 -- what a token asks of the next ones is asked of the first of them alone
 allows_next_first : (kind : Kind) (q : Pair) (ps others : List Pair) (last other : List ℕ) → AllowsNext kind (q ∷ ps) last → AllowsNext kind (q ∷ others) other
@@ -47,7 +47,7 @@ apart_end kind s (q ∷ qs) e = λ _. joins_end kind q.kind s q.spelling e
 
 -- ---- cut off
 
--- behind a stretch that ends in a line end with no opening open, the rest goes on by itself
+-- after a stretch that ends in a line end with no opening open, the rest goes on by itself
 follow_prefix : (ps rest : List Pair) (modes : List Mode) (last : List ℕ) → EndsWithLineEnd ps → modes_after_pairs modes ps ≡ [] → FollowsFrom modes (ps ++ rest) last [] → FollowsFrom modes ps [] []
 follow_prefix [] rest modes last end none f = none
 follow_prefix (p ∷ []) rest modes last end none f =
@@ -188,7 +188,7 @@ unmarked pairs last kind f e other = at_front f.prefix
         let first : Some kind ≡ Some Mark = e ∙ ap (λ (x : List Pair). kind_of x 0) same in
         absurd (other (cc))
 
--- the line that ends with this token, and what stands behind it
+-- the line that ends with this token, and what follows it
 pub next_line : (cut : TokenizedText) (from at i : ℕ) (p : Pair) → IsLineStart cut from at → from ≤ i → i < length cut.pairs → slice_get cut.pairs i ≡ Some p → p.kind ≡ LineEnd
     → modes_after_pairs [] (slice_range cut.pairs from i) ≡ []
     → IsLineStart cut (i + 1) (length (whole_text (take (i + 1) cut.pairs) [])) × IsLineRange cut.pairs from (i + 1)
@@ -263,7 +263,7 @@ range_at text a b rest at e =
 same_pair : (p : Pair) (gap spelling : List ℕ) → gap ≡ p.gap → spelling ≡ p.spelling → ◌≡◌ {A = Pair} (record { gap = gap; kind = p.kind; spelling = spelling }) p
 same_pair p gap spelling e f = ap₂ (λ (x y : List ℕ). record { gap = x; kind = p.kind; spelling = y }) e f
 
--- pairs that stand in a text are those of their tokens
+-- pairs that are in a text are those of their tokens
 pub pairs_again : (ps : List Pair) (text : List ℕ) (at : ℕ) (rest : List ℕ) → drop at text ≡ whole_text ps rest → pairs_from text at (spans_from at ps) ≡ ps
 pairs_again [] text at rest e = refl
 pairs_again (p ∷ ps) text at rest e =
@@ -293,12 +293,12 @@ order_both : (xs ys : List Span) (from at to : ℕ) → InOrder from xs at → I
 order_both [] ys from at to a b = subst (λ n. InOrder n ys to) (sym a) b
 order_both (x ∷ xs) ys from at to a b = (a.0, a.1, order_both xs ys x.stop at to a.2 b)
 
--- tokens behind others begin where these end
+-- tokens after others begin where these end
 pairs_both : (text : List ℕ) (xs ys : List Span) (from at : ℕ) → InOrder from xs at → pairs_from text from (xs ++ ys) ≡ pairs_from text from xs ++ pairs_from text at ys
 pairs_both text [] ys from at a = ap (λ n. pairs_from text n ys) a
 pairs_both text (x ∷ xs) ys from at a = ap (λ (ps : List Pair). pair_at text from x ∷ ps) (pairs_both text xs ys x.stop at a.2)
 
--- what pairs that stand behind the text begun do to it
+-- what pairs do to the new text, where they follow what is made of it
 record Grown (text : List ℕ) (tokens : List Span) (at : ℕ) (ps : List Pair) (rest : List ℕ) : Type 0 where
   pairs : pairs_of text (tokens ++ spans_from at ps) ≡ pairs_of text tokens ++ ps
   text_is : text ≡ whole_text (pairs_of text (tokens ++ spans_from at ps)) rest
@@ -410,7 +410,7 @@ line_start_at_line_end cut from at i kind item f le within is end is_item none =
 
 -- ---- lines taken over
 
--- lines of the one text whose bytes stand in the other behind what is begun
+-- lines of the one text whose bytes are in the other, after what is made of it
 pub taken : (text : List ℕ) (tokens new : List Span) (at : ℕ) (cut : TokenizedText) (from front to end : ℕ) (bytes : List ℕ) → IsRescannedTo text tokens at → IsLineRange cut.pairs from to → RangeText cut from front to end
     → bytes ≡ slice_range cut.text front end → drop at text ≡ bytes ++ drop (at + length bytes) text → new ≡ tokens ++ spans_from at (slice_range cut.pairs from to) → IsRescannedTo text new (at + length bytes)
 taken text tokens new at cut from front to end bytes b s t e stands is =

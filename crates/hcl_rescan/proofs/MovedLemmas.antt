@@ -147,7 +147,7 @@ pub spans_length : (at : ℕ) (ps : List Pair) → length (spans_from at ps) ≡
 spans_length at [] = refl
 spans_length at (p ∷ ps) = ap suc (spans_length (at + length p.gap + length p.spelling) ps)
 
--- what stands behind others
+-- what follows others
 pub behind_is : (first more : List Span) → slice_range (first ++ more) (length first) (length (first ++ more)) ≡ more
 behind_is [] more = take_all (length more - 0) more (omega arith)
 behind_is (x ∷ first) more =

@@ -1,5 +1,5 @@
-//! Where a line of a text begins, without keeping what is open from token to token: a line end is in
-//! no opening if as many template sequences were closed before it as were opened, and these are
+//! Where a line of a text begins, without keeping what is open from token to token: a line end is
+//! in no opening if as many template sequences were closed before it as were opened, and these are
 //! counted by a table.
 
 ghost use Rattle.std.specs.Prelude.{◌≡◌, ◌<◌, ◌≤◌, ◌+◌, ◌-◌, ◌*◌, ◌%◌, ◌^◌, true, length, slice_get};

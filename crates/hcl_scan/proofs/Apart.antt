@@ -1,4 +1,4 @@
--- What stands behind a token does not go on with it, if the two do not join.
+-- What follows a token does not go on with it, if the two do not join.
 use Rattle.std.proofs.Common.{◌≡◌, ℕ, ◌<◌, Bool, true, false, not, nat_lt, ◌&&◌, ◌||◌, ◌==◌, List, [], ◌∷◌, ◌++◌, length, slice_index, codes, None, refl, sym, ap, subst, ◌∙◌, ◌⊎◌, inl, inr, arith}
 use Rattle.std.proofs.lemmas.Bool.{cond_both, and_parts, or_parts, or_cases, eqb-true, not-true, both_ways, false≢true, ltb-true}
 use Rattle.std.proofs.lemmas.Bool.Decides.{nat_tests}
@@ -30,24 +30,24 @@ use Rattle.hcl_scan.proofs.HeredocBeats.{chars_first, no_continue}
 use Rattle.hcl_scan.proofs.Heads.{heads, HeadIs, begins_so, one_passes, Passes, head_passes}
 use Rattle.hcl_scan.proofs.Ends.{IsNot, Ends}
 
--- ---- what stands behind a token
+-- ---- what follows a token
 
--- tokens of this mode and those behind, as far as the first token tells
+-- tokens of this mode and those after them, as far as the first token shows
 abbrev pub Rest : Mode → List Pair → List ℕ → Type 0
 Rest mode [] last = (list_all is_whitespace last ≡ true) × (is_literal mode ≡ false)
 Rest mode (q ∷ qs) last = IsGap mode q.gap × IsLexeme mode q.kind q.spelling (whole_text qs last)
 
--- what stands behind the first token does not go on with it
+-- what follows the first token does not go on with it
 abbrev pub NextEnds : Mode → List Pair → List ℕ → Type 0
 NextEnds mode [] last = Unit {0}
 NextEnds mode (q ∷ qs) last = Ends mode q.kind q.spelling (whole_text qs last)
 
--- of the first token, where no gap stands before it
+-- of the first token, where it has no gap before it
 abbrev NextToken : (Kind → List ℕ → Type 0) → List Pair → Type 0
 NextToken Holds [] = Unit {0}
 NextToken Holds (q ∷ qs) = q.gap ≡ [] → Holds q.kind q.spelling
 
--- 0 stands for the end of a text
+-- 0 represents the end of a text
 abbrev PassesBlanks : (ℕ → Bool) → Type 0
 PassesBlanks p = (p 0 ≡ true) × (p 32 ≡ true) × (p 9 ≡ true)
 
@@ -62,7 +62,7 @@ gap_passes : (p : ℕ → Bool) → PassesBlanks p → (gap t : List ℕ) → li
 gap_passes p h [] t all none = none refl
 gap_passes p h (b ∷ gap) t all none = whitespace_passes p h b (and_parts (is_whitespace b) (list_all is_whitespace gap) all).0
 
--- the byte behind a token: a blank, the end of the text, or the first byte of the token behind it
+-- the byte after a token: a blank, the end of the text, or the first byte of the next token
 byte_after : (p : ℕ → Bool) (mode : Mode) → is_literal mode ≡ false → PassesBlanks p → (ps : List Pair) (last : List ℕ) → Rest mode ps last
     → NextToken (λ kind s. HeadIs kind (slice_index s 0) → p (slice_index s 0) ≡ true) ps → p (slice_index (whole_text ps last) 0) ≡ true
 byte_after p mode plain h [] last rest next = whitespace_pass p h last rest.0
@@ -353,7 +353,7 @@ ordinary_ends mode plain QuoteLit s ps last behind apart rest ends st = absurd (
 ordinary_ends mode plain HereLit s ps last behind apart rest ends st = absurd (not_heredoc mode plain st)
 ordinary_ends mode plain kind s ps last behind apart rest ends st = tt
 
--- what stands behind a token, told by the modes behind it
+-- what follows a token, by the modes after it
 abbrev EndsHere : List Mode → Kind → List ℕ → List Pair → List ℕ → Type 0
 EndsHere modes kind s ps last =
     HaveMarkers modes → IsLexeme (mode_of modes) kind s (whole_text ps last) → AllowsNext kind ps last → IsApart kind s ps

@@ -116,7 +116,7 @@ tail_le f x rest (inr (digits, e, decimal)) is =
     subst (λ (y : List ℕ). length (y ++ x) ≤ tail_length ((y ++ x) ++ rest)) (sym e)
     (subst (λ (y : List ℕ). suc (length (digits ++ x)) ≤ tail_length (46 ∷ y)) (sym (append_assoc digits x rest)) (fraction_tail digits x rest decimal is))
 
--- what stands behind the whole part begins with no digit
+-- what follows the whole part begins with no digit
 pub tail_head : (f x : List ℕ) → IsFraction f → IsExponent x → 0 < length (f ++ x) → is_ascii_digit (slice_index (f ++ x) 0) ≡ false
 tail_head f x (inl e) is some =
     let none : f ++ x ≡ x = ap (λ (y : List ℕ). y ++ x) e in

@@ -1,4 +1,4 @@
--- What stands behind a token and does not go on with it.
+-- What follows a token and does not go on with it.
 use Rattle.std.proofs.Common.{◌≡◌, ℕ, true, false, ◌&&◌, ◌==◌, List, ◌∷◌, length, slice_index, None}
 use Rattle.std.specs.Char.{is_ascii_digit}
 use Rattle.std.specs.Str.{chars}
@@ -16,7 +16,7 @@ use Rattle.hcl_scan.specs.Inner.NextToken.{id_continue_length, fraction_length, 
 abbrev pub IsNot : ℕ → List ℕ → Type 0
 IsNot b t = (slice_index t 0 == b) ≡ false
 
--- behind a number: no digit, no letter of an exponent, and behind digits alone no fraction
+-- after a number: no digit, no letter of an exponent, and after digits alone no fraction
 abbrev pub EndsNumber : List ℕ → List ℕ → Type 0
 EndsNumber s rest =
     (is_ascii_digit (slice_index rest 0) ≡ false)

@@ -1,4 +1,4 @@
--- A number is what is found, if what stands behind does not go on with it.
+-- A number is what is found, if what follows does not go on with it.
 use Rattle.std.proofs.Common.{◌≡◌, ℕ, suc, ◌+◌, ◌≤◌, true, false, List, [], ◌∷◌, ◌++◌, length, drop, slice_index, refl, sym, ap, subst, ◌∙◌, inl, inr, arith, append_assoc, append-nil, length-append, drop_at}
 use Rattle.std.proofs.lemmas.Bool.{and_parts, cases_lt}
 use Rattle.std.proofs.lemmas.Bool.Decides.{nat_tests}
@@ -42,7 +42,7 @@ module _ (rest : List ℕ) (no_digit : is_ascii_digit (slice_index rest 0) ≡ f
 
   -- ---- fractions
 
-  -- with no fraction and no exponent nothing is found, if no fraction stands behind
+  -- with no fraction and no exponent nothing is found, if no fraction follows
   exponent_tail : (x : List ℕ) → IsExponent x → (x ≡ [] → fraction_length rest ≡ 0) → tail_length (x ++ rest) ≡ length x
   exponent_tail x is none =
       elim (cases_lt 0 (length x)) [

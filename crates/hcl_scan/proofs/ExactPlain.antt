@@ -1,4 +1,4 @@
--- Outside of literal text, a lexeme is what is found, if what stands behind does not go on with it.
+-- Outside of literal text, a lexeme is what is found, if what follows does not go on with it.
 use Rattle.std.proofs.Common.{◌≡◌, ℕ, suc, Bool, true, false, not, nat_lt, ◌||◌, ◌==◌, List, [], ◌∷◌, ◌++◌, length, slice_index, Some, None, refl, sym, ap, subst, ◌∙◌, inl, inr, arith, append_assoc, length-append}
 use Rattle.std.proofs.lemmas.Bool.{both_ways, or_parts, lt-ltb, and_parts, not-true, false≢true}
 use Rattle.std.specs.Char.{is_ascii_digit}

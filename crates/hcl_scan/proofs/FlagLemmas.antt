@@ -12,12 +12,12 @@ use Rattle.std.proofs.lemmas.Simd.{SwzOk, swz_l, SwzOk-from_below, Each1-all, Ea
 use lib.Lanes.{zip2, chunk, Each1}
 use Rattle.hcl_scan.specs.Characters.{is_whitespace}
 use Rattle.hcl_scan.specs.Runs.{UnitLength}
-use Rattle.hcl_scan.specs.Inner.Flags.{flags_of}
+use Rattle.hcl_scan.specs.Inner.Flags.{flags_of, difference_at}
 use Rattle.hcl_scan.specs.Inner.Openings.{is_not_line_break}
 use Rattle.hcl_scan.specs.Inner.RunLength.{run_length, is_ordinary_inline, is_ordinary_quoted, is_ordinary_heredoc, IsOrdinary}
 use Rattle.hcl_scan.proofs.RunLemmas.{run_length-on}
 use Rattle.hcl_scan.specs.Inner.LexemeStarts.{is_ascii_id_continue}
-use Rattle.hcl_scan.specs.declared.sixteen.TheConstants.{ID_LOW, ID_HIGH, COMMENT_LOW, COMMENT_HIGH, INLINE_LOW, INLINE_HIGH, QUOTED_LOW, QUOTED_HIGH, HEREDOC_LOW, HEREDOC_HIGH, DIGIT_LOW, DIGIT_HIGH}
+use Rattle.hcl_scan.specs.declared.sixteen.TheConstants.{ID_LOW, ID_HIGH, COMMENT_STOPS, INLINE_LOW, INLINE_HIGH, DIGIT_LOW, DIGIT_HIGH, QUOTED_STOPS, HEREDOC_STOPS}
 use Rattle.hcl_scan.proofs.TableLemmas.{agree_below, agree_at}
 
 abbrev pub down : ℕ → ℕ → ℕ
@@ -89,25 +89,43 @@ passing low high passes size agree b has =
     not_both : (x y : Bool) → x ≡ false → x ≡ true → y ≡ true
     not_both x y is has = cc
 
-pub comment_flags : (b : ℕ) → has_flags COMMENT_LOW COMMENT_HIGH b ≡ true → is_not_line_break b ≡ true
-unfolding agree_below
-comment_flags = passing COMMENT_LOW COMMENT_HIGH is_not_line_break refl refl
-
 pub inline_flags : (b : ℕ) → has_flags INLINE_LOW INLINE_HIGH b ≡ true → is_ordinary_inline b ≡ true
 unfolding agree_below
 inline_flags = passing INLINE_LOW INLINE_HIGH is_ordinary_inline refl refl
 
-pub quoted_flags : (b : ℕ) → has_flags QUOTED_LOW QUOTED_HIGH b ≡ true → is_ordinary_quoted b ≡ true
-unfolding agree_below
-quoted_flags = passing QUOTED_LOW QUOTED_HIGH is_ordinary_quoted refl refl
-
-pub heredoc_flags : (b : ℕ) → has_flags HEREDOC_LOW HEREDOC_HIGH b ≡ true → is_ordinary_heredoc b ≡ true
-unfolding agree_below
-heredoc_flags = passing HEREDOC_LOW HEREDOC_HIGH is_ordinary_heredoc refl refl
-
 pub digit_flags : (b : ℕ) → has_flags DIGIT_LOW DIGIT_HIGH b ≡ true → is_ascii_digit b ≡ true
 unfolding agree_below
 digit_flags = passing DIGIT_LOW DIGIT_HIGH is_ascii_digit refl refl
+
+-- ---- a table of the bytes that do not pass
+
+unlisted : (table : List ℕ) (passes : ℕ → Bool) → agree_below (λ b. not (difference_at table b == 0)) passes 256 ≡ true → ((b : ℕ) → 256 ≤ b → passes b ≡ true) → (b : ℕ) → (difference_at table b == 0) ≡ false → passes b ≡ true
+unlisted table passes agree past b differs =
+    elim (cases_lt b 256) [
+      | inl lt ↦ sym (agree_at (λ x. not (difference_at table x == 0)) passes 256 agree b lt) ∙ ap not differs
+      | inr more ↦ past b more
+    ]
+
+pub comment_unlisted : (b : ℕ) → (difference_at COMMENT_STOPS b == 0) ≡ false → is_not_line_break b ≡ true
+unfolding agree_below
+comment_unlisted = unlisted COMMENT_STOPS is_not_line_break refl ordinary
+  where
+    ordinary : (b : ℕ) → 256 ≤ b → is_not_line_break b ≡ true
+    ordinary b past = grind (arith, nat_tests)
+
+pub heredoc_unlisted : (b : ℕ) → (difference_at HEREDOC_STOPS b == 0) ≡ false → is_ordinary_heredoc b ≡ true
+unfolding agree_below
+heredoc_unlisted = unlisted HEREDOC_STOPS is_ordinary_heredoc refl ordinary
+  where
+    ordinary : (b : ℕ) → 256 ≤ b → is_ordinary_heredoc b ≡ true
+    ordinary b past = grind (arith, nat_tests)
+
+pub quoted_unlisted : (b : ℕ) → (difference_at QUOTED_STOPS b == 0) ≡ false → is_ordinary_quoted b ≡ true
+unfolding agree_below
+quoted_unlisted = unlisted QUOTED_STOPS is_ordinary_quoted refl ordinary
+  where
+    ordinary : (b : ℕ) → 256 ≤ b → is_ordinary_quoted b ≡ true
+    ordinary b past = grind (arith, nat_tests)
 
 -- ---- spaces
 
@@ -122,7 +140,7 @@ spaces_before text at n room count k from to =
     let byte = get_or-chunk at 16 text i 0 within ∙ ap (slice_index text) (omega arith) in
     sym byte ∙ eqb-true _ 32 (not-false _ (not-true _ passes))
 
--- the bytes that pass, after so many of them
+-- the bytes that pass, after n of them
 pub passing_after : (passes : ℕ → Bool) (text : List ℕ) (at n : ℕ) → at + n ≤ length text → ((k : ℕ) → at ≤ k → k < at + n → passes (slice_index text k) ≡ true)
     → prefix_len passes (drop at text) ≡ n + prefix_len passes (drop (at + n) text)
 passing_after passes text at zero h all =
@@ -136,7 +154,7 @@ passing_after passes text at (suc n) h all =
     let same = ap (λ k. prefix_len passes (drop k text)) place in
     omega (arith, before, step, same)
 
--- the run of whitespace after so many spaces
+-- the run of whitespace after n spaces
 pub whitespace_after : (text : List ℕ) (at n : ℕ) → at + n ≤ length text → ((k : ℕ) → at ≤ k → k < at + n → slice_index text k ≡ 32)
     → prefix_len is_whitespace (drop at text) ≡ n + prefix_len is_whitespace (drop (at + n) text)
 whitespace_after text at n h spaces = passing_after is_whitespace text at n h (λ k from to. ap is_whitespace (spaces k from to))

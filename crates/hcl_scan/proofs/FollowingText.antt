@@ -1,4 +1,4 @@
--- A token is a lexeme with its neighbour behind it where it is one with all that stands behind it, and the other way round.
+-- A token is a lexeme with the next token after it if and only if it is one with all that follows.
 use Rattle.std.proofs.Common.{◌≡◌, ◌≢◌, ℕ, ◌<◌, Bool, true, false, ◌||◌, ◌==◌, List, [], ◌∷◌, ◌++◌, length, slice_index, refl, sym, ap, subst, ◌∙◌, ◌⊎◌, inl, inr, arith, append_assoc}
 use Rattle.std.proofs.lemmas.Bool.{and_parts, both_ways, false≢true}
 use Rattle.std.proofs.lemmas.Bool.Decides.{nat_tests}
@@ -21,9 +21,9 @@ use Rattle.hcl_scan.proofs.Heads.{begins_so}
 use Rattle.hcl_scan.proofs.Apart.{Rest}
 use Rattle.hcl_scan.proofs.RunFollowingText.{IsAlike, comment_same, inline_same, quote_same, heredoc_before_opening, heredoc_before_line}
 
--- ---- two texts behind a token
+-- ---- two texts after a token
 
--- an opening stands at the front of both
+-- both begin with the same sigil
 abbrev pub BothOpen : List ℕ → List ℕ → Type 0
 BothOpen r r' = (c : ℕ) × (t : List ℕ) × (t' : List ℕ) × (r ≡ c ∷ t) × (r' ≡ c ∷ t') × (is_sigil c ≡ true)
 
@@ -53,7 +53,7 @@ spells_alike mode HereLit s r r' m st a h = absurd (false≢true st)
 spells_alike mode HereClose s r r' m st a (before, behind, e, all, all', ends) = (before, behind, e, all, all', a ends)
 spells_alike mode kind s r r' m st a h = h
 
--- ---- the token behind
+-- ---- the token after it
 
 alike_more : (b : ℕ) (t more : List ℕ) → is_sigil b ≡ false → IsAlike (b ∷ t) (b ∷ (t ++ more))
 alike_more b t more h = record { first = refl; second = λ k. absurd (both_ways _ h k) }
@@ -112,7 +112,7 @@ heredoc_next name at_line_start DirectiveOpen t more ident other (st, e) = (open
 heredoc_next name at_line_start HereLit t more ident other (st, e) = absurd (other refl)
 heredoc_next name at_line_start kind t more ident other (st, e) = absurd (false≢true st)
 
--- ---- behind a closing line
+-- ---- after a closing line
 
 pub ends_more : (b : ℕ) (t more : List ℕ) → is_at_line_end_or_eof (b ∷ t) ≡ true → is_at_line_end_or_eof (b ∷ (t ++ more)) ≡ true
 ends_more b [] more h =
@@ -151,7 +151,7 @@ lexeme_filled Braces kind s rest m h = (begins_so Braces kind s rest refl h.0 h.
 lexeme_filled Quoted kind s rest m h = quoted_some kind s rest h
 lexeme_filled (Heredoc name at_line_start) kind s rest m h = heredoc_some name at_line_start kind s rest m h
 
--- ---- the neighbour and all that stands behind
+-- ---- the next token and all that follows
 
 always_alike : (r : List ℕ) → IsAlike r r
 always_alike r = record { first = refl; second = λ _. refl }
@@ -200,7 +200,7 @@ close_far mode m (q ∷ qs) last rest h = behind_gap q.gap h
     behind_gap [] k = front q.spelling (lexeme_filled mode q.kind q.spelling (whole_text qs last) m rest.1) k
     behind_gap (b ∷ gap) k = ap (λ (x : List ℕ). is_at_line_end_or_eof (b ∷ x)) (sym (append_assoc gap q.spelling (whole_text qs last))) ∙ ends_more b (gap ++ q.spelling) (whole_text qs last) k
 
--- a token of the kind behind which these stand
+-- a token of this kind, and what may follow it
 abbrev pub Stands : List Mode → Kind → List ℕ → List Pair → List ℕ → Type 0
 Stands modes kind s ps last =
     HaveMarkers modes × (is_allowed_in (mode_of modes) kind ≡ true) × AllowsNext kind ps last × HasMarker (mode_of (modes_after kind s modes)) × Rest (mode_of (modes_after kind s modes)) ps last

@@ -6,7 +6,7 @@ use Rattle.hcl_scan.specs.Modes.{Mode}
 use Rattle.hcl_scan.specs.Lexeme.{IsLexeme}
 use Rattle.hcl_scan.specs.Inner.LexemeStarts.{LexedToken}
 
--- a lexeme of the kind, with so many bytes, stands at the front
+-- the text begins with a lexeme of the kind, of n bytes
 pub record IsFound (mode : Mode) (t : List ℕ) (kind : Kind) (n : ℕ) : Type 0 where
   pub spelling : List ℕ
   pub rest : List ℕ

@@ -1,4 +1,5 @@
--- Each lexeme that stands in the text of a heredoc, and each opening of one, is what is found there, or shorter.
+-- Each lexeme in the text of a heredoc, and each opening of one, is what is found there, or
+-- shorter.
 use Rattle.std.proofs.Common.{◌≡◌, ◌≢◌, ℕ, ◌+◌, ◌<◌, Bool, true, false, ◌&&◌, ◌==◌, if◌then◌else◌, List, [], ◌∷◌, ◌++◌, length, drop, slice_index, IsUtf8, Some, None, refl, sym, ap, subst, ◌∙◌, ◌⊎◌, inl, inr, arith, append_assoc, length-append, drop_at, encode_utf8, encode_utf8_all, codes}
 use Rattle.std.proofs.lemmas.Bool.{cond_both, and_parts, ne_eqb, false_from_ne_true, false≢true, lt-ltb}
 use Rattle.std.proofs.lemmas.Bool.Decides.{nat_tests}
@@ -26,7 +27,7 @@ use Rattle.hcl_scan.proofs.HeredocLemmas.{identifier_some, close_found, closing_
 
 -- ---- the opening of a template sequence in literal text
 
--- what is found at an opening is that opening, with a `~` where one stands
+-- what is found at an opening is that opening, with its `~` if it has one
 abbrev pub OpeningBeats : Kind → List ℕ → List ℕ → Type 0
 OpeningBeats kind s rest = (is_at_opening (s ++ rest) ≡ true) × Beats (Some (opening (s ++ rest))) kind (length s)
 
@@ -117,11 +118,11 @@ identifier_at s rest (x ∷ cs) u e h none =
     let sum : len_utf8 x + id_continue_length (cs ++ chars rest) ≡ length s = omega (arith, continues_sum cs (chars rest) both.1) in
     rw (all, both.0, sum) refl
 
--- an identifier that what stands behind does not go on
+-- an identifier that what follows does not go on
 pub identifier_exact : (name rest : List ℕ) → IsIdentifier name → id_continue_length (chars rest) ≡ 0 → identifier (name ++ rest) ≡ Some (Identifier, length name)
 identifier_exact name rest (u, h) none = identifier_at name rest (chars name) u refl h none
 
--- the name and the line end behind `<<` or `<<-`
+-- the name and the line end after `<<` or `<<-`
 named_exact : (before : ℕ) (name end rest : List ℕ) → IsIdentifier name → IsLineEnd end
     → open_with_marker before (name ++ (end ++ rest)) (identifier (name ++ (end ++ rest))) ≡ Some (HereOpen, before + length name + length end)
 named_exact before name end rest ident line =

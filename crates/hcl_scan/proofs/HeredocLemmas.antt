@@ -1,4 +1,4 @@
--- Heredocs: markers, closing lines in both directions, and what stands where a unit begins or does not.
+-- Heredocs: markers, closing lines in both directions, and what is where a unit begins or does not.
 use Rattle.std.proofs.Common.{◌≡◌, ℕ, ◌+◌, ◌<◌, Bool, true, false, ◌&&◌, ◌==◌, List, [], ◌∷◌, ◌++◌, length, take, drop, slice_index, IsUtf8, IsCharBoundary, refl, sym, ap, ap₂, subst, ◌∙◌, ◌⊎◌, inl, inr, arith, append_assoc, length-append, drop_at, length-take-le, take-append-drop, get_or-append-add, encode_utf8, encode_utf8_all}
 use Rattle.std.proofs.lemmas.Bool.{cond_both, and_parts, eqb-true, eq-eqb, ne_eqb, cases_lt, false_from_ne_true}
 use Rattle.std.proofs.lemmas.Bool.Decides.{nat_tests}
@@ -182,7 +182,7 @@ unit_begins name at_line_start (b ∷ rest) h =
           absurd (omega (arith, none))),
     )
 
--- where none begins, a closing line does, or an ASCII byte stands
+-- where none begins, there is a closing line or an ASCII byte
 pub heredoc_stops : (name : List ℕ) (at_line_start : Bool) (t : List ℕ) → heredoc_unit name at_line_start t ≡ 0
     → ((at_line_start && is_closing_line name t) ≡ true) ⊎ (slice_index t 0 < 128)
 heredoc_stops name at_line_start [] h = inr (omega arith)

@@ -75,7 +75,7 @@ identifier_fits text at kind n u within e =
     let size : length (drop at text) ≡ length text - at = length-drop {A = ℕ} at text in
     omega (arith, fits_at (drop at text) (identifier (drop at text)) (words (drop at text) u) kind n e, size)
 
--- behind `<<` or `<<-` the text is UTF-8
+-- after `<<` or `<<-` the text is UTF-8
 pub utf8_past_intro : (text : List ℕ) (at n : ℕ) → is_at_heredoc_start (drop at text) ≡ true → n ≡ heredoc_start_length (drop at text) → IsUtf8 (drop at text) → IsUtf8 (drop (at + n) text)
 utf8_past_intro text at n h e u =
     let t : List ℕ = drop at text in

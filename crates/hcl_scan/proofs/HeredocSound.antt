@@ -1,4 +1,4 @@
--- What is found where a heredoc opens, and in its text, is a lexeme; and what stands behind it is UTF-8.
+-- What is found where a heredoc opens, and in its text, is a lexeme; and what follows it is UTF-8.
 use Rattle.std.proofs.Common.{◌≡◌, ◌≢◌, ℕ, ◌+◌, ◌<◌, Bool, true, false, not, ◌&&◌, ◌==◌, if◌then◌else◌, List, [], ◌∷◌, ◌++◌, length, drop, slice_index, IsUtf8, Some, None, refl, sym, ap, ap₂, subst, ◌∙◌, ◌⊎◌, inl, inr, arith, append_assoc, length-append, get_or-drop, drop_at, drop-drop, encode_utf8, encode_utf8_all, codes}
 use Rattle.std.proofs.lemmas.Bool.{cond_both, and_parts, eqb-true}
 use Rattle.std.proofs.lemmas.Bool.Decides.{nat_tests}
@@ -107,7 +107,7 @@ heredoc_token_sound name at_line_start t ident u =
 
 -- ---- where a heredoc opens
 
--- a line end of so many bytes stands at the front
+-- the text begins with a line end of n bytes
 record LineEndSplit (t : List ℕ) (n : ℕ) : Type 0 where
   pub end : List ℕ
   pub rest : List ℕ
@@ -141,7 +141,7 @@ line_end_split t =
     })
     (λ _ z. absurd (cc)))
 
--- an identifier of so many bytes stands at the front
+-- the text begins with an identifier of n bytes
 pub record WordSplit (t : List ℕ) (n : ℕ) : Type 0 where
   pub name : List ℕ
   pub rest : List ℕ
@@ -178,7 +178,7 @@ pub words : (t : List ℕ) → IsUtf8 t → Words t (identifier t)
 words t u = words_at t (chars t) (encodes-chars t u) (scalars-chars t u)
 
 module _ (mode : Mode) (plain : is_literal mode ≡ false) (t : List ℕ) (u : IsUtf8 t) where
-  -- behind `<<` or `<<-`
+  -- after `<<` or `<<-`
   named_sound : (dash : List ℕ) (more : List ℕ) (found : LexedToken) → (dash ≡ []) ⊎ (dash ≡ codes "-") → t ≡ codes "<<" ++ (dash ++ more)
       → Words more found → Sound mode t (open_with_marker (2 + length dash) more found)
   named_sound dash more None is e words = tt

@@ -59,7 +59,7 @@ id_continue_at text at u h on =
     let ascii : slice_index text at < 128 = id_continue_ascii (slice_index text at) on in
     rw (continues_same (slice_index text at) ascii, on) at (id_continue_length_ascii text at u h ascii)
 
--- the run goes on by so many bytes
+-- the run goes on by n bytes
 abbrev pub GoesOn : List ℕ → ℕ → ℕ → Type 0
 GoesOn text at n =
     (n + id_continue_length (chars (drop (at + n) text)) ≡ id_continue_length (chars (drop at text))) × IsUtf8 (drop (at + n) text)

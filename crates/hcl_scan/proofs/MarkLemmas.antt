@@ -1,4 +1,4 @@
--- The byte order mark at the front of a text, and what stands behind it.
+-- The byte order mark that a text begins with, and what follows it.
 use Rattle.std.proofs.Common.{◌≡◌, ℕ, Bool, true, false, List, [], ◌∷◌, ◌++◌, length, drop, slice_range, IsUtf8, if◌then◌else◌, refl, sym, ap, ◌∙◌, arith}
 use Rattle.std.proofs.lemmas.Str.{IsUtf8-past_char}
 use lib.Utf8.{encode}
@@ -22,7 +22,7 @@ behind : (b : Bool) (text : List ℕ) (body : List Pair) (rest : List ℕ)
 behind true text body rest e = sym (ap (drop 3) e)
 behind false text body rest e = sym e
 
--- behind the mark the other pairs stand
+-- after the mark come the other pairs
 pub after_mark_prefix : (text : List ℕ) (pairs : List Pair) (rest : List ℕ) (left : List Mode) (c : TokenizesPrefix text pairs rest left) → whole_text c.body rest ≡ drop (mark_length text) text
 after_mark_prefix text pairs rest left c = behind (is_prefix_of byte_order_mark text) text c.body rest (c.text_is ∙ ap (λ (x : List Pair). whole_text x rest) c.prefix)
 

@@ -17,7 +17,7 @@ use Rattle.hcl_scan.specs.Inner.Markers.{HasMarker}
 use Rattle.hcl_scan.proofs.OpenMarkers.{HaveMarkers}
 use Rattle.hcl_scan.proofs.HeredocLemmas.{prefix_adds, identifier_some}
 
--- ---- bytes that stand in no identifier
+-- ---- bytes that are in no identifier
 
 all_bytes : (p : ℕ → Bool) (t : List ℕ) → ((i : ℕ) → i < length t → p (slice_index t i) ≡ true) → list_all p t ≡ true
 all_bytes p [] each = refl
@@ -69,7 +69,7 @@ ends_no_continue b low h = let e = rw (is_xid_continue-ascii b low) at h in grin
 abbrev on_line : ℕ → Bool
 on_line b = not (ends b)
 
--- an identifier stands before the first LF or CR
+-- an identifier is before the first LF or CR
 identifier_line : (name : List ℕ) → IsIdentifier name → list_all on_line name ≡ true
 identifier_line name ident = identifier_avoids ends ends_ascii ends_no_start ends_no_continue name ident
 

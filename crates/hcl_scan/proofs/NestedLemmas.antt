@@ -1,4 +1,4 @@
--- Below a heredoc no literal text stands open: it opens outside of literal text alone.
+-- Below a heredoc no literal text is open: it opens outside of literal text alone.
 use Rattle.std.proofs.Common.{◌≡◌, true, false, List, [], ◌∷◌, drop, ℕ}
 use Rattle.std.proofs.lemmas.Bool.{cond_both, not-true}
 use Rattle.hcl_token.specs.declared.kind.Kind.{Kind}

@@ -1,4 +1,4 @@
--- What one opening more does to the modes and the places, and whether a line begins behind a text.
+-- What one more opening does to the modes and the places, and whether a line begins after a text.
 use Rattle.std.proofs.Common.{◌≡◌, ℕ, suc, ◌-◌, ◌<◌, ◌==◌, Bool, List, [], ◌∷◌, ◌++◌, length, map, reverse, slice_index, refl, sym, ap, ◌∙◌, arith, take_all}
 use Rattle.std.proofs.lemmas.List.{reverse-append, length-reverse, length-map}
 use Rattle.hcl_scan.specs.Runs.{is_line_start_after}

@@ -1,4 +1,5 @@
--- The places that the scanner keeps beside its modes are those of the openings, so the innermost template begins where the definition of an error says.
+-- The places that the scanner keeps next to its modes are those of the openings, so the innermost
+-- template begins where the definition of an error says.
 use Rattle.std.proofs.Common.{◌≡◌, ℕ, suc, ◌+◌, ◌-◌, true, false, List, [], ◌∷◌, length, map, drop, if◌then◌else◌, refl, sym, ap, ap₂, ◌∙◌, arith}
 use Rattle.std.specs.Prelude.{zip}
 use Rattle.hcl_token.specs.declared.kind.Kind.{Kind}

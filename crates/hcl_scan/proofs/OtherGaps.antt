@@ -47,7 +47,7 @@ next_same (q ∷ qs) (p ∷ ps) e = let h = same_head q p qs ps e in (h.kinds, h
 
 -- ---- gaps
 
--- a token that stands in literal text has no gap before it
+-- a token that is in literal text has no gap before it
 literal_no_gap : (mode : Mode) (kind : Kind) → is_allowed_in mode kind ≡ true → is_literal mode ≡ true → has_no_gap_before kind ≡ true
 literal_no_gap mode Mark st h = refl
 literal_no_gap mode QuoteClose st h = refl
@@ -61,7 +61,7 @@ literal_no_gap Sequence SeqClose st h = absurd (false≢true h)
 literal_no_gap mode SeqClose st h = absurd (false≢true st)
 literal_no_gap mode kind st h = absurd (both_ways _ (not-true (is_literal mode) st) h)
 
--- no gap stands before the next token, or at the end
+-- there is no gap before the next token, or at the end
 abbrev NoGap : List Pair → List ℕ → Type 0
 NoGap [] last = last ≡ []
 NoGap (p ∷ ps) last = p.gap ≡ []
@@ -92,7 +92,7 @@ first_of_list modes (p ∷ ps) last blank f = (f.0, f.2)
 no_line : (b : ℕ) (t : List ℕ) → is_whitespace b ≡ true → is_at_line_end_or_eof (b ∷ t) ≡ true → ⊥
 no_line b t blank h = both_ways _ (whitespace_no_line b blank) (line_byte b t h)
 
--- behind a closing line no gap stands
+-- after a closing line there is no gap
 close_none : (mode : Mode) (ps : List Pair) (last : List ℕ) → FirstOf mode ps last → is_at_line_end_or_eof (following_text ps last) ≡ true → NoGap ps last
 close_none mode [] last first h = empty last first.0 h
   where
@@ -105,7 +105,7 @@ close_none mode (p ∷ ps) last first h = empty p.gap first.0.0 h
     empty [] all k = refl
     empty (b ∷ gap) all k = absurd (no_line b (gap ++ p.spelling) (and_parts (is_whitespace b) (list_all is_whitespace gap) all).0 k)
 
--- in literal text no gap stands, in the one list and in the other
+-- in literal text there is no gap, in the one list and in the other
 literal_none : (mode : Mode) → is_literal mode ≡ true → (ps : List Pair) (last : List ℕ) → FirstOf mode ps last → NoGap ps last
 literal_none mode literal [] last first = absurd (both_ways _ first.1 literal)
 literal_none mode literal (p ∷ ps) last first = first.0.1 literal
@@ -196,7 +196,7 @@ allows_next_same kind qs ps other last same gaps h = tt
 
 -- ---- the tokens
 
--- what a token, told by its parts, owes
+-- what has to hold of a token, given by its parts
 abbrev Step : List Mode → List ℕ → Kind → List ℕ → List Pair → List ℕ → Type 0
 Step modes gap kind s qs other =
     IsGap (mode_of modes) gap × IsUtf8 s × IsLexeme (mode_of modes) kind s (following_text qs other) × AllowsNext kind qs other × FollowsFrom (modes_after kind s modes) qs other []
@@ -263,7 +263,7 @@ no_gap_literal mode HereClose st h = heredoc_literal mode (and_parts (is_heredoc
 no_gap_literal mode HereLit st h = heredoc_literal mode st
 no_gap_literal mode kind st h = absurd (false≢true h)
 
--- behind a token that asks for no gap there is none
+-- after a token that allows no gap after it there is none
 shuts_none : (modes : List Mode) (kind : Kind) (s : List ℕ) (ps : List Pair) (last : List ℕ) → Spells (mode_of modes) kind s (following_text ps last) → AllowsNext kind ps last → FirstOf (mode_of (modes_after kind s modes)) ps last → has_no_gap_after kind ≡ true → NoGap ps last
 shuts_none modes LineComment s ps last spells behind first h = line_none ps last behind
 shuts_none modes HereClose s ps last spells behind first h = close_none (mode_of (modes_after HereClose s modes)) ps last first spells.5

@@ -23,7 +23,7 @@ prefix_all p (b ∷ t) =
     subst (λ n. list_all p (take n (b ∷ t)) ≡ true) more (both_true h (prefix_all p t)))
     (λ _. refl)
 
--- the text is cut behind a piece of so many bytes
+-- the text is a piece of n bytes, and the rest
 pub record Split (Is : List ℕ → Type 0) (n : ℕ) (t : List ℕ) : Type 0 where
   pub prefix : List ℕ
   pub rest : List ℕ

@@ -1,4 +1,4 @@
--- A run stays one where other text stands behind it, as far as the two texts begin alike.
+-- A run stays one where other text follows it, as far as the two texts begin alike.
 use Rattle.std.proofs.Common.{◌≡◌, ℕ, suc, ◌+◌, ◌<◌, ◌≤◌, Bool, true, false, not, ◌&&◌, ◌||◌, ◌==◌, if◌then◌else◌, List, [], ◌∷◌, ◌++◌, length, drop, slice_index, refl, sym, ap, ap₂, subst, ◌∙◌, arith, append_assoc}
 use Rattle.std.proofs.lemmas.Bool.{or_right, cond_both, and_parts, eqb-true, ne_eqb, not-true, false≢true}
 use Rattle.std.proofs.lemmas.Bool.Decides.{nat_tests}
@@ -13,7 +13,7 @@ use Rattle.hcl_scan.proofs.MarkerLemmas.{identifier_avoids}
 
 -- ---- two texts that begin alike
 
--- as far as a unit before them looks: at the byte at the front, and behind a `$` or a `%` at the next
+-- as far as a unit before them looks: at the first byte, and after a `$` or a `%` at the next
 pub record IsAlike (r r' : List ℕ) : Type 0 where
   pub first : slice_index r 0 ≡ slice_index r' 0
   pub second : is_sigil (slice_index r 0) ≡ true → slice_index r 1 ≡ slice_index r' 1
@@ -21,7 +21,7 @@ pub record IsAlike (r r' : List ℕ) : Type 0 where
 pub alike_back : (r r' : List ℕ) → IsAlike r r' → IsAlike r' r
 alike_back r r' a = record { first = sym a.first; second = λ h. sym (a.second (ap is_sigil a.first ∙ h)) }
 
--- behind the same text
+-- after the same text
 pub alike_after : (mid r r' : List ℕ) → IsAlike r r' → IsAlike (mid ++ r) (mid ++ r')
 alike_after [] r r' a = a
 alike_after (b ∷ []) r r' a = record { first = refl; second = λ _. a.first }
@@ -64,7 +64,7 @@ inline_step r r' a at_line_start (b ∷ v) mid some h is =
     let near = alike_after v (mid ++ r) (mid ++ r') (alike_after mid r r' a) in
     ap (λ x. if not (b == 42 && x == 47) then 1 else 0) (sym near.first) ∙ is
 
--- behind the text of an inline comment its `*/` stands
+-- the text of an inline comment is followed by its `*/`
 pub inline_same : (r r' s : List ℕ) → IsRun inline_unit false s (42 ∷ 47 ∷ r) → IsRun inline_unit false s (42 ∷ 47 ∷ r')
 inline_same r r' s run =
     let a : IsAlike (42 ∷ 47 ∷ r) (42 ∷ 47 ∷ r') = record { first = refl; second = λ _. refl } in
@@ -100,7 +100,7 @@ next_own (a ∷ b ∷ []) z z' h = absurd (omega arith)
 next_own (a ∷ b ∷ c ∷ []) z z' h = absurd (omega arith)
 next_own (a ∷ b ∷ c ∷ d ∷ w) z z' h = four_own w z z' (omega arith)
 
--- an escape is told by its own bytes
+-- an escape is known by its own bytes
 escape_own : (v z z' : List ℕ) → 0 < length v → escape_length (v ++ z) ≡ length v → escape_length (v ++ z') ≡ length v
 escape_own [] z z' some is = absurd (omega arith)
 escape_own (e ∷ w) z z' some is =
@@ -189,7 +189,7 @@ skip_own (b ∷ w) z h =
       | false ↦ λ e. (rw e refl, rw e h)
     ] refl
 
--- where a marker stands, and what stands behind it, up to a stop
+-- whether a marker is there, and what follows it, up to a stop
 marker_own : (name w z : List ℕ) → has_none name ≡ true → has_stop w ≡ true
     → (is_prefix_of name (w ++ z) ≡ is_prefix_of name w) × (is_prefix_of name w ≡ true → (drop (length name) (w ++ z) ≡ drop (length name) w ++ z) × (has_stop (drop (length name) w) ≡ true))
 marker_own [] w z none h = (refl, λ _. (refl, h))
@@ -211,7 +211,7 @@ ends_own (b ∷ []) z h =
     rw other refl
 ends_own (b ∷ c ∷ w) z h = refl
 
--- whether a line closes a heredoc is told by what stands up to a stop
+-- whether a line closes a heredoc depends only on what is up to a stop
 closing_own : (name w z : List ℕ) → has_none name ≡ true → has_stop w ≡ true → is_closing_line name (w ++ z) ≡ is_closing_line name w
 closing_own name w z none h =
     let first = skip_own w z h in

@@ -53,7 +53,7 @@ module _ (unit : UnitLength) where
       line_start_after-last at_line_start (drop at text) n (omega arith) ∙ ap (λ b. b == 10) (get_or-drop at text n 0 ∙ ap (slice_index text) last) in
       step ∙ ap (λ r. suc n + r) (ap₂ (λ f (t : List ℕ). run_length unit f t) flag (drop-drop (suc n) at text))
 
-  -- the longest run at the front of a run and what stands behind it
+  -- the longest run at the start of a run and what follows it
   pub run-adds : (at_line_start : Bool) (us : List (List ℕ)) (rest : List ℕ) → AreUnitsOf unit at_line_start us rest
       → run_length unit at_line_start (concat us ++ rest) ≡ length (concat us) + run_length unit (is_line_start_after at_line_start (concat us)) rest
   run-adds at_line_start [] rest are = omega arith
@@ -72,14 +72,14 @@ module _ (unit : UnitLength) where
   IsRun-adds at_line_start s rest (us, e, are) =
       subst (λ (x : List ℕ). run_length unit at_line_start (x ++ rest) ≡ length x + run_length unit (is_line_start_after at_line_start x) rest) (sym e) (run-adds at_line_start us rest are)
 
-  -- the text is cut behind its longest run
+  -- the text is its longest run, and the rest
   pub record RunSplit (at_line_start : Bool) (t : List ℕ) : Type 0 where
     pub prefix : List ℕ
     pub rest : List ℕ
     pub text_is : t ≡ prefix ++ rest
     pub len : length prefix ≡ run_length unit at_line_start t
     pub run : IsRun unit at_line_start prefix rest
-    -- no unit begins behind it
+    -- no unit begins after it
     pub stops : unit (is_line_start_after at_line_start prefix) rest ≡ 0
 
   module _ (fits : (at_line_start : Bool) (t : List ℕ) → unit at_line_start t ≤ length t) where

@@ -156,7 +156,7 @@ prefix_then_not p (b ∷ t) h =
       | false ↦ λ k. rw k k
     ] refl
 
--- past the blanks no blank stands
+-- after the blanks there is no blank
 past_gap : (mode : Mode) (t : List ℕ) → is_literal mode ≡ false → is_whitespace (slice_index (drop (gap_length mode t) t) 0) ≡ false
 past_gap mode t plain = rw plain (prefix_then_not is_whitespace t refl)
 

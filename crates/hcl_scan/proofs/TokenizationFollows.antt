@@ -178,7 +178,7 @@ heredoc_other name at_line_start s (q ∷ qs) last filled run is rest = λ same.
     let none : heredoc_unit name begun (q.spelling ++ whole_text qs last) ≡ 0 = ap (heredoc_unit name begun) (sym whole) ∙ stop in
     absurd (omega (arith, is_prefix_of, none))
 
--- ---- what a token asks of those behind
+-- ---- what a token requires of those after it
 
 allows_next_of : (modes : List Mode) (kind : Kind) (s : List ℕ) (ps : List Pair) (last : List ℕ) → token (mode_of modes) (s ++ whole_text ps last) ≡ Some (kind, length s) → IsLexeme (mode_of modes) kind s (whole_text ps last)
     → Rest (mode_of (modes_after kind s modes)) ps last → AllowsNext kind ps last
@@ -192,7 +192,7 @@ allows_next_of (Heredoc name at_line_start ∷ ms) HereLit s ps last is h rest =
 allows_next_of modes HereLit s ps last is h rest = absurd (false≢true h.0)
 allows_next_of modes kind s ps last is h rest = tt
 
--- ---- behind a closing line
+-- ---- after a closing line
 
 line_close : (mode : Mode) (kind : Kind) (t more : List ℕ) → kind ≡ LineEnd → Spells mode kind t more → is_at_line_end_or_eof t ≡ true
 line_close mode LineEnd t more same (inl e) = rw e refl

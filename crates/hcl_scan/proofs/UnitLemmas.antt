@@ -24,7 +24,7 @@ hex_in_text t i h = in_text t i (grind (arith, nat_tests))
 simple_in_text : (b : ℕ) → is_simple_escape b ≡ true → 0 < b
 simple_in_text b h = grind (arith, nat_tests)
 
--- four hexadecimal digits behind the first n bytes
+-- four hexadecimal digits after the first n bytes
 pub four_hex_fit : (t : List ℕ) (n : ℕ) → has_four_hex (drop n t) ≡ true → n + 4 ≤ length t
 four_hex_fit t n h =
     let digit : ℕ → Bool = λ i. is_ascii_hexdigit (slice_index (drop n t) i) in
@@ -68,7 +68,7 @@ heredoc_unit_fits name at_line_start (b ∷ rest) =
     cond_both (at_line_start && is_closing_line name (b ∷ rest)) 0 _ P (λ _. omega arith)
     (λ _. cond_both (is_sigil b) _ 1 P (λ _. sigil_fits b rest) (λ _. omega arith))
 
--- ---- what stands where no unit begins
+-- ---- what is where no unit begins
 
 abbrev EndsInFault : List ℕ → ℕ → Type 0
 EndsInFault t n = n ≡ 0 → slice_index t 0 < 128
@@ -86,7 +86,7 @@ quote_stops at_line_start (b ∷ rest) =
     (λ _. cond_both (b == 34) 0 _ (EndsInFault (b ∷ rest)) (λ is _. grind (arith, nat_tests))
     (λ _. cond_both (is_at_line_end (b ∷ rest)) 0 1 (EndsInFault (b ∷ rest)) (λ is _. grind (arith, nat_tests)) (λ _ h. absurd (omega arith)))))
 
--- where the run of an inline comment's body ends before the text does, a `*/` stands
+-- where the run of an inline comment's body ends before the text does, there is a `*/`
 pub inline_stops : (at_line_start : Bool) (t : List ℕ) → inline_unit at_line_start t ≡ 0 → 0 < length t → (slice_index t 0 ≡ 42) × (slice_index t 1 ≡ 47)
 inline_stops at_line_start [] = λ _ some. absurd (omega arith)
 inline_stops at_line_start (b ∷ rest) =

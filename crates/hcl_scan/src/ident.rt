@@ -53,7 +53,8 @@ fn count_id_bytes_of_16(text: &str, at: usize) -> usize
         ≡ id_continue_length (chars (drop at text.now)) }
     ensures within { result ≤ 16 }
     ensures rest { IsUtf8 (drop (at + result) text.now) }
-    ensures stops { result < 16 → is_ascii_id_continue (slice_index text.now (at + result)) ≡ false }
+    ensures stops { result < 16
+        → is_ascii_id_continue (slice_index text.now (at + result)) ≡ false }
 {
     count_id_bytes(text.as_bytes(), at)
 }

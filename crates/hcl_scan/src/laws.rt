@@ -11,7 +11,8 @@ ghost use Rattle.hcl_scan.specs.Follows.{Follows, AreApart, AreAllowedGaps, toke
 /// A text has at most one list of gaps and tokens.
 pub fn one_tokenization()
     ensures { (text : List ℕ) (pairs others : List Pair) (last other : List ℕ)
-        → IsTokenization text pairs last → IsTokenization text others other → (pairs ≡ others) × (last ≡ other) }
+        → IsTokenization text pairs last → IsTokenization text others other
+        → (pairs ≡ others) × (last ≡ other) }
 {}
 
 /// A text with an error has no tokens.
@@ -55,6 +56,7 @@ pub fn other_gaps()
 
 /// Each text has tokens or an error.
 pub fn tokenization_or_fault()
-    ensures { (text : List ℕ) → ((pairs : List Pair) × (last : List ℕ) × IsTokenization text pairs last)
+    ensures { (text : List ℕ)
+        → ((pairs : List Pair) × (last : List ℕ) × IsTokenization text pairs last)
         ⊎ ((fault : ScanFault) × IsFault text fault) }
 {}

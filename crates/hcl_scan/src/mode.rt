@@ -222,7 +222,8 @@ fn set_line_start<'t>(
     at_line_start: bool,
 ) -> Result<(), AllocError>
     ensures modes { OnOk result
-        (modes_of openings.new.items ≡ with_line_start_in at_line_start (modes_of openings.old.items)) }
+        (modes_of openings.new.items
+        ≡ with_line_start_in at_line_start (modes_of openings.old.items)) }
     ensures places { OnOk result (places_of openings.new.items ≡ places_of openings.old.items) }
 {
     match openings.pop() {
@@ -244,7 +245,8 @@ fn open_sequence<'t>(
 ) -> Result<(), AllocError>
     requires { region ≡ region_of (mode_of (modes_of openings.old.items)) }
     ensures modes { OnOk result
-        (modes_of openings.new.items ≡ Sequence ∷ with_line_start_in false (modes_of openings.old.items)) }
+        (modes_of openings.new.items
+        ≡ Sequence ∷ with_line_start_in false (modes_of openings.old.items)) }
     ensures places { OnOk result
         (places_of openings.new.items ≡ at ∷ places_of openings.old.items) }
 {
@@ -261,7 +263,8 @@ fn open_sequence_in_heredoc<'t>(
     at: usize,
 ) -> Result<(), AllocError>
     ensures modes { OnOk result
-        (modes_of openings.new.items ≡ Sequence ∷ with_line_start_in false (modes_of openings.old.items)) }
+        (modes_of openings.new.items
+        ≡ Sequence ∷ with_line_start_in false (modes_of openings.old.items)) }
     ensures places { OnOk result
         (places_of openings.new.items ≡ at ∷ places_of openings.old.items) }
 {
@@ -298,7 +301,8 @@ fn open_heredoc<'t>(
 #[inline(never)]
 fn continue_heredoc<'t>(openings: &mut Vec<Opening<'t>>, piece: &[u8]) -> Result<(), AllocError>
     ensures modes { OnOk result
-        (modes_of openings.new.items ≡ modes_after HereLit piece.now (modes_of openings.old.items)) }
+        (modes_of openings.new.items
+        ≡ modes_after HereLit piece.now (modes_of openings.old.items)) }
     ensures places { OnOk result (places_of openings.new.items ≡ places_of openings.old.items) }
 {
     let at_line_start = is_line_start_after(is_at_line_start(mode_of(openings)), piece);
@@ -330,7 +334,8 @@ pub fn can_change_openings(kind: Kind) -> bool
 /// `can_change_openings` in a mode: outside of every template braces change nothing.
 #[inline(always)]
 pub fn can_change_openings_in(mode: Mode<'_>, kind: Kind) -> bool
-    ensures modes { (spelling : List ℕ) (modes : List spec.Mode) → mode_view mode.entry ≡ mode_of modes
+    ensures modes { (spelling : List ℕ) (modes : List spec.Mode)
+        → mode_view mode.entry ≡ mode_of modes
         → result ≡ false → modes_after kind spelling modes ≡ modes }
     ensures places { (at : ℕ) (modes : List spec.Mode) (places : List ℕ)
         → mode_view mode.entry ≡ mode_of modes → result ≡ false
@@ -353,10 +358,12 @@ pub fn update_openings<'t>(
 ) -> Result<(), AllocError>
     requires { region.old ≡ region_of (mode_of (modes_of openings.old.items)) }
     ensures modes { OnOk result
-        (modes_of openings.new.items ≡ modes_after kind spelling.now (modes_of openings.old.items)) }
+        (modes_of openings.new.items
+        ≡ modes_after kind spelling.now (modes_of openings.old.items)) }
     ensures places { OnOk result
         (places_of openings.new.items
-        ≡ opening_places_after kind at (modes_of openings.old.items) (places_of openings.old.items)) }
+        ≡ opening_places_after kind at (modes_of openings.old.items)
+        (places_of openings.old.items)) }
     ensures region { OnOk result
         (region.new ≡ region_of (mode_of (modes_of openings.new.items))) }
 {

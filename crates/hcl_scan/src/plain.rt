@@ -2,19 +2,20 @@
 //! text, and the text in quotes.
 //!
 //! Most tokens are such, and a `"`, its text and the `"` after it are so together. Here no call is
-//! given the address of the list, so its place and its length are in registers, and a token's kind is
-//! tested where it is known.
+//! given the address of the list, so its place and its length are in registers, and a token's kind
+//! is tested where it is known.
 //!
 //! How many tokens are added here is not fixed by a clause: it decides only how long a scan takes.
 //! `tokenize_str` adds each token that is not added here.
 
-ghost use Rattle.std.specs.Prelude.{◌≡◌, ◌+◌, ◌<◌, ◌≤◌, ◌++◌, ◌∷◌, ℕ, List, [], true, false, length, drop, slice_index, Some, IfSome, IfOk, IfErr, IsUtf8, vec_len, vec_capacity};
+ghost use Rattle.std.specs.Prelude.{◌≡◌, ◌+◌, ◌<◌, ◌≤◌, ◌++◌, ◌∷◌, ℕ, List, [], true, false, length, drop, slice_index, Some, IfSome, IsUtf8, vec_len, vec_capacity};
 ghost use Rattle.hcl_token.specs.declared.kind.Kind.TheVariants.{QuoteOpen, QuoteLit, QuoteClose};
 ghost use Rattle.hcl_scan.specs.Tokenization.{MAX_TEXT};
 ghost use Rattle.hcl_scan.specs.Modes as spec;
 ghost use Rattle.hcl_scan.specs.Modes.{mode_of, is_literal};
 ghost use Rattle.hcl_scan.specs.Modes.Mode.{Quoted};
 ghost use Rattle.hcl_scan.specs.Lexeme.{quote_unit};
+ghost use Rattle.hcl_scan.specs.Inner.Additions.{IfAdded, IfNotAdded};
 ghost use Rattle.hcl_scan.specs.Inner.NextToken.{gap_length, token};
 ghost use Rattle.hcl_scan.specs.Inner.MarkToken.{token_at};
 ghost use Rattle.hcl_scan.specs.Inner.OpeningPlaces.{LeavesOpenings};
@@ -30,6 +31,19 @@ use crate::token::{
     NextToken, next_heredoc_token, next_plain_token, next_plain_token_apart, next_quoted_token,
 };
 use hcl_token::{Kind, MAX_TEXT, Span};
+
+/// Tokens that leave the openings as they are, and what follows them.
+#[derive(Drop)]
+pub struct PlainTokens {
+    /// The list to which they were added.
+    pub tokens: Vec<Span>,
+    /// Where they stop.
+    pub at: usize,
+    /// The gap and the token there.
+    pub next: NextToken,
+    /// If that token is a `"`, the length of the text after it; 0 if that is not known.
+    pub text_len: usize,
+}
 
 /// Adds a token in reserved memory.
 #[inline(always)]
@@ -122,11 +136,20 @@ fn put_quoted(tokens: &mut Vec<Span>, text: &[u8], from: usize) -> usize
     from + len
 }
 
-/// Adds a token that leaves the openings as they are, or quoted text in quotes, and returns where
-/// it stops. Where `is_free` it is known to leave them so.
+/// What `put_plain` added.
+enum Addition {
+    /// Tokens, which stop here.
+    Added { stop: usize },
+    /// None: the token is another. If it is a `"`, this is the length of the text after it; 0 if
+    /// that is not known.
+    NotAdded { text_len: usize },
+}
+
+/// Adds a token that leaves the openings as they are, or quoted text in quotes. Where `is_free` it
+/// is known to leave them so.
 ///
-/// Adds nothing if the token is another, and returns, as the error, how many bytes of text follow
-/// it if it is a `"`, so that they are not read again; 0 if that is not known.
+/// Adds nothing if the token is another. The text after a `"` has been read then, so its length is
+/// returned.
 #[inline(always)]
 fn put_plain(
     tokens: &mut Vec<Span>,
@@ -136,18 +159,18 @@ fn put_plain(
     len: usize,
     mode: Mode<'_>,
     is_free: bool,
-) -> Result<usize, usize>
+) -> Addition
     requires short { length text.now ≤ MAX_TEXT }
     requires some { 0 < len }
     requires within { start + len ≤ length text.now }
     requires reserved { vec_len tokens.old + 3 ≤ vec_capacity tokens.old }
     requires free { is_free ≡ true → LeavesOpenings kind }
-    ensures none { IfErr result (λ _. tokens.new.items ≡ tokens.old.items) }
-    ensures text { IfErr result (λ text_len. 0 < text_len
+    ensures none { IfNotAdded result (λ _. tokens.new.items ≡ tokens.old.items) }
+    ensures text { IfNotAdded result (λ text_len. 0 < text_len
         → IsTextAfter text.now start (Some (kind, len)) text_len) }
     ensures capacity { vec_capacity tokens.new ≡ vec_capacity tokens.old }
-    ensures onward { IfOk result (λ stop. start < stop) }
-    ensures state { IfOk result (λ stop. (at : ℕ) (modes : List spec.Mode) (places : List ℕ)
+    ensures onward { IfAdded result (λ stop. start < stop) }
+    ensures state { IfAdded result (λ stop. (at : ℕ) (modes : List spec.Mode) (places : List ℕ)
         → mode_view mode.entry ≡ mode_of modes
         → start ≡ at + gap_length (mode_of modes) (drop at text.now)
         → token (mode_of modes) (drop start text.now) ≡ Some (kind, len)
@@ -157,24 +180,26 @@ fn put_plain(
     let stop = start + len;
     if is_free {
         put(tokens, start, stop, kind);
-        return Ok(stop);
+        return Addition::Added { stop };
     }
     match kind {
         Kind::QuoteOpen => {
             let text_len = quoted_len(text, stop);
             if byte_at(text, stop + text_len) == b'"' {
                 put_string(tokens, text, start, len, text_len);
-                Ok(stop + text_len + 1)
+                Addition::Added {
+                    stop: stop + text_len + 1,
+                }
             } else {
-                Err(text_len)
+                Addition::NotAdded { text_len }
             }
         }
         _ => {
             if can_change_openings_in(mode, kind) {
-                Err(0)
+                Addition::NotAdded { text_len: 0 }
             } else {
                 put(tokens, start, stop, kind);
-                Ok(stop)
+                Addition::Added { stop }
             }
         }
     }
@@ -201,24 +226,24 @@ fn push_in_mode(
     from: usize,
     mode: Mode<'_>,
     openings: &Vec<Opening<'_>>,
-) -> (Vec<Span>, usize, NextToken, usize)
+) -> PlainTokens
     requires short { length text.now ≤ MAX_TEXT }
     requires state { IsTokenizedTo text.now buffer.items from
         (modes_of openings.now.items) (places_of openings.now.items) }
     requires mode { mode_view mode ≡ mode_of (modes_of openings.now.items) }
     requires plain { is_literal (mode_view mode) ≡ false }
-    ensures state { IsTokenizedTo text.now result.0.items result.1
+    ensures state { IsTokenizedTo text.now result.tokens.items result.at
         (modes_of openings.now.items) (places_of openings.now.items) }
-    ensures onward { from ≤ result.1 }
-    ensures gap { result.2.start
-        ≡ result.1 + gap_length (mode_of (modes_of openings.now.items)) (drop result.1 text.now) }
-    ensures start { result.2.start ≤ length text.now }
-    ensures token { result.2.token
-        ≡ token (mode_of (modes_of openings.now.items)) (drop result.2.start text.now) }
-    ensures within { IfSome result.2.token
-        (λ found. (0 < found.1) × (result.2.start + found.1 ≤ length text.now)) }
-    ensures text { 0 < result.3
-        → IsTextAfter text.now result.2.start result.2.token result.3 }
+    ensures onward { from ≤ result.at }
+    ensures gap { result.next.start
+        ≡ result.at + gap_length (mode_of (modes_of openings.now.items)) (drop result.at text.now) }
+    ensures start { result.next.start ≤ length text.now }
+    ensures token { result.next.token
+        ≡ token (mode_of (modes_of openings.now.items)) (drop result.next.start text.now) }
+    ensures within { IfSome result.next.token
+        (λ found. (0 < found.1) × (result.next.start + found.1 ≤ length text.now)) }
+    ensures text { 0 < result.text_len
+        → IsTextAfter text.now result.next.start result.next.token result.text_len }
 {
     let bytes = text.as_bytes();
     let mut tokens = buffer;
@@ -227,15 +252,32 @@ fn push_in_mode(
     while tokens.len() < limit {
         let (next, is_free) = next_plain_token(text, at, mode);
         let Some((kind, len)) = next.token else {
-            return (tokens, at, next, 0);
+            return PlainTokens {
+                tokens,
+                at,
+                next,
+                text_len: 0,
+            };
         };
         match put_plain(&mut tokens, bytes, next.start, kind, len, mode, is_free) {
-            Ok(stop) => at = stop,
-            Err(text_len) => return (tokens, at, next, text_len),
+            Addition::Added { stop } => at = stop,
+            Addition::NotAdded { text_len } => {
+                return PlainTokens {
+                    tokens,
+                    at,
+                    next,
+                    text_len,
+                };
+            }
         }
     }
     let next = next_plain_token_apart(text, at, without_marker(mode));
-    (tokens, at, next, 0)
+    PlainTokens {
+        tokens,
+        at,
+        next,
+        text_len: 0,
+    }
 }
 
 /// `push_plain_tokens` in quoted text.
@@ -245,31 +287,36 @@ fn push_in_quotes(
     text: &str,
     from: usize,
     openings: &Vec<Opening<'_>>,
-) -> (Vec<Span>, usize, NextToken)
+) -> PlainTokens
     requires short { length text.now ≤ MAX_TEXT }
     requires state { IsTokenizedTo text.now buffer.items from
         (modes_of openings.now.items) (places_of openings.now.items) }
     requires mode { Quoted ≡ mode_of (modes_of openings.now.items) }
-    ensures state { IsTokenizedTo text.now result.0.items result.1
+    ensures state { IsTokenizedTo text.now result.tokens.items result.at
         (modes_of openings.now.items) (places_of openings.now.items) }
-    ensures onward { from ≤ result.1 }
-    ensures gap { result.2.start
-        ≡ result.1 + gap_length (mode_of (modes_of openings.now.items)) (drop result.1 text.now) }
-    ensures start { result.2.start ≤ length text.now }
-    ensures token { result.2.token
-        ≡ token (mode_of (modes_of openings.now.items)) (drop result.2.start text.now) }
-    ensures within { IfSome result.2.token
-        (λ found. (0 < found.1) × (result.2.start + found.1 ≤ length text.now)) }
+    ensures onward { from ≤ result.at }
+    ensures gap { result.next.start
+        ≡ result.at + gap_length (mode_of (modes_of openings.now.items)) (drop result.at text.now) }
+    ensures start { result.next.start ≤ length text.now }
+    ensures token { result.next.token
+        ≡ token (mode_of (modes_of openings.now.items)) (drop result.next.start text.now) }
+    ensures within { IfSome result.next.token
+        (λ found. (0 < found.1) × (result.next.start + found.1 ≤ length text.now)) }
+    ensures text { result.text_len ≡ 0 }
 {
     let mut tokens = buffer;
     let at = put_quoted(&mut tokens, text.as_bytes(), from);
     let next = next_quoted_token(text, at);
-    (tokens, at, next)
+    PlainTokens {
+        tokens,
+        at,
+        next,
+        text_len: 0,
+    }
 }
 
 /// Adds the tokens from a place on that leave the openings as they are, while memory is reserved
-/// for them, and quoted text in quotes. Returns the list, where they stop, and what follows; and, if
-/// that is a `"`, how many bytes of text follow it, 0 if that is not known.
+/// for them, and quoted text in quotes.
 #[inline(always)]
 pub fn push_plain_tokens(
     buffer: Vec<Span>,
@@ -277,36 +324,38 @@ pub fn push_plain_tokens(
     from: usize,
     region: Region,
     openings: &Vec<Opening<'_>>,
-) -> (Vec<Span>, usize, NextToken, usize)
+) -> PlainTokens
     requires short { length text.now ≤ MAX_TEXT }
     requires state { IsTokenizedTo text.now buffer.items from
         (modes_of openings.now.items) (places_of openings.now.items) }
     requires region { region ≡ region_of (mode_of (modes_of openings.now.items)) }
-    ensures state { IsTokenizedTo text.now result.0.items result.1
+    ensures state { IsTokenizedTo text.now result.tokens.items result.at
         (modes_of openings.now.items) (places_of openings.now.items) }
-    ensures onward { from ≤ result.1 }
-    ensures gap { result.2.start
-        ≡ result.1 + gap_length (mode_of (modes_of openings.now.items)) (drop result.1 text.now) }
-    ensures start { result.2.start ≤ length text.now }
-    ensures token { result.2.token
-        ≡ token (mode_of (modes_of openings.now.items)) (drop result.2.start text.now) }
-    ensures within { IfSome result.2.token
-        (λ found. (0 < found.1) × (result.2.start + found.1 ≤ length text.now)) }
-    ensures text { 0 < result.3
-        → IsTextAfter text.now result.2.start result.2.token result.3 }
+    ensures onward { from ≤ result.at }
+    ensures gap { result.next.start
+        ≡ result.at + gap_length (mode_of (modes_of openings.now.items)) (drop result.at text.now) }
+    ensures start { result.next.start ≤ length text.now }
+    ensures token { result.next.token
+        ≡ token (mode_of (modes_of openings.now.items)) (drop result.next.start text.now) }
+    ensures within { IfSome result.next.token
+        (λ found. (0 < found.1) × (result.next.start + found.1 ≤ length text.now)) }
+    ensures text { 0 < result.text_len
+        → IsTextAfter text.now result.next.start result.next.token result.text_len }
 {
     let mode = mode_in(region, openings);
     match mode {
-        Mode::Quoted => {
-            let (tokens, at, next) = push_in_quotes(buffer, text, from, openings);
-            (tokens, at, next, 0)
-        }
+        Mode::Quoted => push_in_quotes(buffer, text, from, openings),
         Mode::Heredoc {
             marker,
             at_line_start,
         } => {
             let next = next_heredoc_token(text, from, marker, at_line_start);
-            (buffer, from, next, 0)
+            PlainTokens {
+                tokens: buffer,
+                at: from,
+                next,
+                text_len: 0,
+            }
         }
         _ => push_in_mode(buffer, text, from, mode, openings),
     }

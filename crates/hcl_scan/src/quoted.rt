@@ -7,7 +7,7 @@ ghost use Rattle.hcl_scan.specs.Inner.RunLength.{run_length};
 
 use crate::bytes::byte_at;
 use crate::heredoc::is_at_opening;
-use crate::runs::{QuoteUnit, Unit, ordinary_end, short_ordinary_end};
+use crate::runs::{QuoteUnit, Unit, ordinary_end};
 
 /// Whether a `"` or the opening of a template sequence is at the place, where quoted text ends.
 #[inline(always)]
@@ -35,9 +35,24 @@ fn skip_ordinary(text: &[u8], from: usize) -> usize
     }
 }
 
-/// Returns the end of the longest run of units of quoted text from a place on.
+/// Skips bytes that are units of quoted text whatever follows them, after another unit.
 ///
-/// The text between two escapes is most often short.
+/// Two escapes most often have few bytes between them, so after one no more than 16 are looked at.
+#[inline(always)]
+fn skip_ordinary_after(text: &[u8], from: usize, is_after_escape: bool) -> usize
+    requires { from ≤ length text.now }
+    ensures run { result + run_length quote_unit false (drop result text.now)
+        ≡ from + run_length quote_unit false (drop from text.now) }
+    ensures within { (from ≤ result) × (result ≤ length text.now) }
+{
+    if is_after_escape {
+        skip_ordinary(text, from)
+    } else {
+        ordinary_end(&QuoteUnit, text, from)
+    }
+}
+
+/// Returns the end of the longest run of units of quoted text from a place on.
 #[inline(never)]
 pub fn rest_end(text: &[u8], from: usize) -> usize
     requires { from ≤ length text.now }
@@ -50,7 +65,7 @@ pub fn rest_end(text: &[u8], from: usize) -> usize
         if len == 0 {
             return at;
         }
-        at = short_ordinary_end(&QuoteUnit, text, at + len);
+        at = skip_ordinary_after(text, at + len, text[at] == b'\\');
     }
     at
 }

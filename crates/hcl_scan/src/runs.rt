@@ -35,47 +35,6 @@ pub trait Unit {
             → IsOrdinary (len self.now) (slice_index text.now k) };
 }
 
-/// Returns how many of the four bytes at a place are ordinary, up to the first that is not; no line
-/// begins there.
-fn count_ordinary_of_4<U: Unit>(unit: &U, text: &[u8], at: usize) -> usize
-    requires { at + 4 ≤ length text.now }
-    ensures run { result + run_length (U.len unit.now) false (drop (at + result) text.now)
-        ≡ run_length (U.len unit.now) false (drop at text.now) }
-    ensures within { result ≤ 4 }
-{
-    if !unit.is_ordinary(text[at]) {
-        0
-    } else if !unit.is_ordinary(text[at + 1]) {
-        1
-    } else if !unit.is_ordinary(text[at + 2]) {
-        2
-    } else if !unit.is_ordinary(text[at + 3]) {
-        3
-    } else {
-        4
-    }
-}
-
-/// `ordinary_end` where most often few bytes are ordinary: four are looked at one by one, which takes
-/// less than to look at 16 at once where no more than these are.
-#[inline(always)]
-pub fn short_ordinary_end<U: Unit>(unit: &U, text: &[u8], from: usize) -> usize
-    requires { from ≤ length text.now }
-    ensures run { result + run_length (U.len unit.now) false (drop result text.now)
-        ≡ from + run_length (U.len unit.now) false (drop from text.now) }
-    ensures within { result ≤ length text.now }
-    ensures onward { from ≤ result }
-{
-    if from + 4 > text.len() {
-        return ordinary_end_bytewise(unit, text, from);
-    }
-    let count = count_ordinary_of_4(unit, text, from);
-    if count < 4 {
-        return from + count;
-    }
-    ordinary_end(unit, text, from + count)
-}
-
 /// Returns the end of the ordinary bytes from a place on, at which no line begins.
 pub fn ordinary_end<U: Unit>(unit: &U, text: &[u8], from: usize) -> usize
     requires { from ≤ length text.now }

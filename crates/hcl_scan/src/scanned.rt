@@ -60,7 +60,8 @@ pub fn scan_in<'t>(
 impl<'t> Scanned<'t> {
     /// Returns a text with its tokens; the gap after the last begins at byte `last_gap_at`.
     pub fn of_tokens(text: &'t [u8], tokens: Vec<Span>, last_gap_at: usize) -> Scanned<'t>
-        requires tokenization { IsTokenization text.now (pairs_of text.now tokens.items) (drop last_gap_at text.now) }
+        requires tokenization { IsTokenization text.now (pairs_of text.now tokens.items)
+            (drop last_gap_at text.now) }
         requires order { InOrder 0 tokens.items last_gap_at }
         requires within { last_gap_at ≤ length text.now }
         ensures text { result.text ≡ text.now }
@@ -89,7 +90,8 @@ impl<'t> Scanned<'t> {
     pub fn attach(text: &'t [u8], list: TokenList) -> Scanned<'t>
         requires { (cut : TokenizedText) × (cut.text ≡ text.now) × IsTokenListOf cut list
             × IsTokenization cut.text cut.pairs cut.last }
-        ensures { (cut : TokenizedText) → cut.text ≡ text.now → IsTokenListOf cut list → result ≡ cut }
+        ensures { (cut : TokenizedText) → cut.text ≡ text.now → IsTokenListOf cut list
+            → result ≡ cut }
     {
         Scanned {
             tokens: Tokens::attach(text, list),

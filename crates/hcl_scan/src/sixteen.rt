@@ -1,9 +1,9 @@
-//! Runs of bytes by two tables, 16 bytes at a time.
+//! Runs of bytes by tables, 16 bytes at a time.
 
 ghost use Rattle.std.specs.Prelude.{◌≡◌, ℕ, ◌+◌, ◌==◌, ◌<◌, ◌≤◌, not, true, false, length, slice_index};
 ghost use Rattle.std.specs.Char.{is_ascii_digit};
 ghost use Rattle.std.specs.List.{prefix_len};
-ghost use Rattle.hcl_scan.specs.Inner.Flags.{flags_of};
+ghost use Rattle.hcl_scan.specs.Inner.Flags.{flags_of, difference_at};
 ghost use Rattle.hcl_scan.specs.Inner.LexemeStarts.{is_ascii_id_continue};
 ghost use Rattle.hcl_scan.specs.Inner.Openings.{is_not_line_break};
 ghost use Rattle.hcl_scan.specs.Inner.RunLength.{is_ordinary_inline, is_ordinary_quoted, is_ordinary_heredoc};
@@ -16,32 +16,29 @@ const ID_LOW: [u8; 16] = [26, 30, 30, 30, 30, 30, 30, 30, 30, 30, 28, 4, 4, 5, 4
 
 const ID_HIGH: [u8; 16] = [0, 0, 1, 2, 4, 8, 4, 16, 0, 0, 0, 0, 0, 0, 0, 0];
 
-// So with bytes that are text of a comment that ends with its line: neither LF nor CR.
-const COMMENT_LOW: [u8; 16] = [3, 3, 3, 3, 3, 3, 3, 3, 3, 3, 2, 3, 3, 2, 3, 3];
-
-const COMMENT_HIGH: [u8; 16] = [1, 2, 2, 2, 2, 2, 2, 2, 2, 2, 2, 2, 2, 2, 2, 2];
-
-// Of a comment that ends at `*/`: neither `*` nor LF.
+// So with bytes that are text of a comment that ends at `*/`: neither `*` nor LF.
 const INLINE_LOW: [u8; 16] = [3, 3, 3, 3, 3, 3, 3, 3, 3, 3, 2, 3, 3, 3, 3, 3];
 
 const INLINE_HIGH: [u8; 16] = [1, 2, 1, 2, 2, 2, 2, 2, 2, 2, 2, 2, 2, 2, 2, 2];
-
-// Of quoted text: neither `"`, `$`, `%`, `\`, LF nor CR.
-const QUOTED_LOW: [u8; 16] = [
-    15, 15, 11, 15, 11, 11, 15, 15, 15, 15, 14, 15, 7, 14, 15, 15,
-];
-
-const QUOTED_HIGH: [u8; 16] = [1, 2, 4, 2, 2, 8, 2, 2, 2, 2, 2, 2, 2, 2, 2, 2];
-
-// Of a heredoc: neither `$`, `%` nor LF.
-const HEREDOC_LOW: [u8; 16] = [7, 7, 7, 7, 3, 3, 7, 7, 7, 7, 6, 7, 7, 7, 7, 7];
-
-const HEREDOC_HIGH: [u8; 16] = [1, 2, 4, 2, 2, 2, 2, 2, 2, 2, 2, 2, 2, 2, 2, 2];
 
 // Of the digits of a number.
 const DIGIT_LOW: [u8; 16] = [1, 1, 1, 1, 1, 1, 1, 1, 1, 1, 0, 0, 0, 0, 0, 0];
 
 const DIGIT_HIGH: [u8; 16] = [0, 0, 0, 1, 0, 0, 0, 0, 0, 0, 0, 0, 0, 0, 0, 0];
+
+// Bytes at which text stops. No two bytes of a set have the same low four bits, so one table is
+// enough: at these bits it has the byte, or a number whose low four bits are others.
+//
+// Of a comment that ends with its line: LF and CR.
+const COMMENT_STOPS: [u8; 16] = [1, 0, 0, 0, 0, 0, 0, 0, 0, 0, b'\n', 0, 0, b'\r', 0, 0];
+
+// Of quoted text: `"`, `$`, `%`, LF, `\` and CR.
+const QUOTED_STOPS: [u8; 16] = [
+    1, 0, b'"', 0, b'$', b'%', 0, 0, 0, 0, b'\n', 0, b'\\', b'\r', 0, 0,
+];
+
+// Of a heredoc: `$`, `%` and LF.
+const HEREDOC_STOPS: [u8; 16] = [1, 0, 0, 0, b'$', b'%', 0, 0, 0, 0, b'\n', 0, 0, 0, 0, 0];
 
 /// The bits that the two tables have in common at each byte.
 #[inline(always)]
@@ -81,6 +78,31 @@ fn count_flagged(text: &[u8], at: usize, low: u8x16, high: u8x16) -> usize
     count_nonzero(flags(u8x16::from_slice(&text[at..]), low, high))
 }
 
+/// The bits in which each byte differs from what the table has at its low four bits.
+#[inline(always)]
+fn differences(v: u8x16, table: u8x16) -> u8x16
+    requires { (length v ≡ 16) × (length table ≡ 16) }
+    ensures { (length result ≡ 16)
+        × ((i : ℕ) → i < 16
+        → slice_index result i ≡ difference_at table (slice_index v i)) }
+{
+    v ^ table.swizzle_dyn(v & u8x16::splat(15))
+}
+
+/// How many of the 16 bytes at a place are not in the table, up to the first that is.
+#[inline(always)]
+fn count_unlisted(text: &[u8], at: usize, table: u8x16) -> usize
+    requires within { at + 16 ≤ length text.now }
+    requires table { length table ≡ 16 }
+    ensures within { result ≤ 16 }
+    ensures unlisted { (k : ℕ) → at ≤ k → k < at + result
+        → (difference_at table (slice_index text.now k) == 0) ≡ false }
+    ensures stops { result < 16
+        → (difference_at table (slice_index text.now (at + result)) == 0) ≡ true }
+{
+    count_nonzero(differences(u8x16::from_slice(&text[at..]), table))
+}
+
 /// How many of the 16 bytes at a place continue an identifier, up to the first that does not.
 #[inline(always)]
 pub fn count_id_bytes(text: &[u8], at: usize) -> usize
@@ -104,9 +126,8 @@ pub fn count_comment_bytes(text: &[u8], at: usize) -> usize
     ensures ordinary { (k : ℕ) → at ≤ k → k < at + result
         → is_not_line_break (slice_index text.now k) ≡ true }
 {
-    let low = u8x16::from_array(COMMENT_LOW);
-    let high = u8x16::from_array(COMMENT_HIGH);
-    count_flagged(text, at, low, high)
+    let stops = u8x16::from_array(COMMENT_STOPS);
+    count_unlisted(text, at, stops)
 }
 
 /// How many of the 16 bytes at a place are neither `*` nor LF, up to one that is.
@@ -131,9 +152,8 @@ pub fn count_quoted_bytes(text: &[u8], at: usize) -> usize
     ensures ordinary { (k : ℕ) → at ≤ k → k < at + result
         → is_ordinary_quoted (slice_index text.now k) ≡ true }
 {
-    let low = u8x16::from_array(QUOTED_LOW);
-    let high = u8x16::from_array(QUOTED_HIGH);
-    count_flagged(text, at, low, high)
+    let stops = u8x16::from_array(QUOTED_STOPS);
+    count_unlisted(text, at, stops)
 }
 
 /// How many of the 16 bytes at a place are neither `$`, `%` nor LF, up to one that is.
@@ -144,9 +164,8 @@ pub fn count_heredoc_bytes(text: &[u8], at: usize) -> usize
     ensures ordinary { (k : ℕ) → at ≤ k → k < at + result
         → is_ordinary_heredoc (slice_index text.now k) ≡ true }
 {
-    let low = u8x16::from_array(HEREDOC_LOW);
-    let high = u8x16::from_array(HEREDOC_HIGH);
-    count_flagged(text, at, low, high)
+    let stops = u8x16::from_array(HEREDOC_STOPS);
+    count_unlisted(text, at, stops)
 }
 
 /// How many of the 16 bytes at a place are digits, up to the first that is not.

@@ -287,7 +287,8 @@ pub fn next_heredoc_token(text: &str, at: usize, marker: &[u8], at_line_start: b
     requires within { at ≤ length text.now }
     requires utf8 { IsUtf8 (drop at text.now) }
     requires marker { HasMarker (Heredoc marker.now at_line_start) }
-    ensures gap { result.start ≡ at + gap_length (Heredoc marker.now at_line_start) (drop at text.now) }
+    ensures gap { result.start
+        ≡ at + gap_length (Heredoc marker.now at_line_start) (drop at text.now) }
     ensures start { result.start ≤ length text.now }
     ensures token { result.token
         ≡ token (Heredoc marker.now at_line_start) (drop result.start text.now) }

@@ -15,7 +15,7 @@ use crate::fault::ScanFault;
 use crate::mode::{
     Mode, Opening, Region, can_change_openings, innermost_template_start, mode_in, update_openings,
 };
-use crate::plain::{push_plain_tokens, put};
+use crate::plain::{PlainTokens, push_plain_tokens, put};
 use hcl_token::{Kind, MAX_TEXT, Span};
 use std::alloc::{AllocError, Global};
 
@@ -142,7 +142,12 @@ fn tokenize_str(
     let mut at = push_mark(&mut tokens, bytes)?;
     let mut region = Region::Expression;
     'scan: loop {
-        let (list, from, next, text_len) = push_plain_tokens(tokens, text, at, region, &openings);
+        let PlainTokens {
+            tokens: list,
+            at: from,
+            next,
+            text_len,
+        } = push_plain_tokens(tokens, text, at, region, &openings);
         tokens = list;
         at = from;
         let start = next.start;

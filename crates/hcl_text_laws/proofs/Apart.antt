@@ -14,7 +14,7 @@ use Rattle.hcl_grammar_laws.specs.Glue.{glues, NoGlue}
 use Rattle.hcl_text_laws.proofs.Rows.{rows}
 use Rattle.hcl_text_laws.specs.Parses.{ParsedTokensAreApart}
 
--- no token stands beside one that it must not
+-- no token is next to one that it must not be next to
 abbrev Loose : List Token → Type 0
 Loose ts = (n : ℕ) (a b : Token) → slice_get ts n ≡ Some a → slice_get ts (suc n) ≡ Some b → glues a.0 b.0 b.1 ≡ false
 
@@ -22,7 +22,7 @@ join_no : (b c : Bool) → (b ≡ true → c ≡ true) → c ≡ false → b ≡
 join_no true c f g = absurd (let clash : true ≡ false = sym (f refl) ∙ g in cc)
 join_no false c f g = refl
 
--- two tokens and all that is behind them
+-- two tokens and all that follows them
 two : (mode other : Mode) (a b : Kind) (s n gap r : List ℕ) → IsLongest mode a s (gap ++ (n ++ r)) → IsLongest other b n r → glues a b n ≡ false → gap ≡ [] → joins_with a s b n ≡ false
 two mode other a b s n gap r g w loose e =
     join_no (joins_with a s b n) (glues a b n) (rows mode other s n r a b (subst (λ gap. IsLongest mode a s (gap ++ (n ++ r))) e g) w.0.1) loose
@@ -35,7 +35,7 @@ tokens_apart modes left (p ∷ q ∷ ps) last h loose = (
   tokens_apart (modes_after p.kind p.spelling modes) left (q ∷ ps) last h.2 (λ n a b x y. loose (suc n) a b x y),
 )
 
--- behind the byte order mark too
+-- after the byte order mark too
 mark_apart : (p : Pair) (ps : List Pair) → p.kind ≡ k.Mark → AreApart ps → AreApart (p ∷ ps)
 mark_apart p [] e h = (tt, h)
 mark_apart p (q ∷ ps) e h = (λ _. ap (λ kind. joins_with kind p.spelling q.kind q.spelling) e, h)

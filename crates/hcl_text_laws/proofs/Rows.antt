@@ -44,7 +44,7 @@ dot_digit mode d r h = (d ∷ [], refl, both_true h refl)
 head_of : (n r : List ℕ) (b : ℕ) → starts_with b n ≡ true → slice_index (n ++ r) 0 ≡ b
 head_of n r b h = let f = mark_prefix b n h in ap (λ n. slice_index (n ++ r) 0) f.is
 
--- a `/` has no `*` and no `/` behind it
+-- a `/` has no `*` and no `/` after it
 no_slash : (b : ℕ) (n r : List ℕ) → (b == 42 || b == 47) ≡ true → starts_with b n ≡ true → (slice_index (n ++ r) 0 == 42 || slice_index (n ++ r) 0 == 47) ≡ false → ⊥
 no_slash b n r c h g = let clash : true ≡ false = sym c ∙ ap (λ b. b == 42 || b == 47) (sym (head_of n r b h)) ∙ g in absurd (cc)
 

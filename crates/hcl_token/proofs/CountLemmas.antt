@@ -17,7 +17,7 @@ use Rattle.hcl_token.proofs.LineColumnLemmas.{start_bounded}
 abbrev LfsCount : Pair → Type 0
 LfsCount p = is_mark p.kind ≡ true → count_by is_lf p.spelling ≡ 0
 
--- the line behind a pair, by the LFs of its gap and its spelling
+-- the line after a pair, by the LFs of its gap and its spelling
 counted_pair : (at : Place) (p : Pair) → LfsCount p → (place_after_pair at p).line ≡ at.line + count_by is_lf p.gap + count_by is_lf p.spelling
 counted_pair at p counts =
     elim (is_mark p.kind) as (λ v. is_mark p.kind ≡ v → (place_after_pair at p).line ≡ at.line + count_by is_lf p.gap + count_by is_lf p.spelling) [

@@ -48,7 +48,7 @@ pub last_line-none : (t : List ℕ) → list_any is_lf t ≡ false → last_line
 last_line-none [] h = refl
 last_line-none (b ∷ t) h = rw h refl
 
--- an LF with none behind it ends the line before the last
+-- an LF with none after it ends the line before the last
 pub last_line-after : (t : List ℕ) (k : ℕ) → is_lf (get_or t k 0) ≡ true → list_any is_lf (drop (suc k) t) ≡ false → last_line t ≡ drop (suc k) t
 last_line-after [] k h none = refl
 last_line-after (b ∷ t) zero h none = rw h (last_line-none t none)
@@ -80,7 +80,7 @@ last_line-append_none (b ∷ s) t e =
       | false ↦ λ any. rw (same, any) refl
     ] refl
 
--- what stands behind an LF of a text in UTF-8 is in UTF-8
+-- what follows an LF of a text in UTF-8 is in UTF-8
 utf8_after : (t : List ℕ) (k : ℕ) → k < length t → is_lf (get_or t k 0) ≡ true → IsUtf8 t → IsUtf8 (drop (suc k) t)
 utf8_after t k inside h u =
     let byte : get_or t k 0 ≡ 10 = eqb-true (get_or t k 0) 10 h in

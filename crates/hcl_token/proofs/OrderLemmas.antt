@@ -1,4 +1,4 @@
--- Tokens in order, and the parts of a text that they stand for.
+-- Tokens in order, and the parts of a text that they represent.
 use Rattle.std.proofs.Common.{◌≡◌, ℕ, zero, suc, ◌+◌, ◌-◌, ◌<◌, ◌≤◌, List, [], ◌∷◌, ◌++◌, length, take, drop, get_or, slice_range, slice_get, Some, IsUtf8, refl, sym, ap, ap₂, subst, ◌∙◌, arith, append_assoc, length-append, length-drop}
 use Rattle.std.proofs.lemmas.List.{append_cancel_right, length-take-le, get_or_default}
 use Rattle.std.proofs.lemmas.List.Folds.{drop_split}
@@ -155,7 +155,7 @@ token_at text tokens last i token d o h e =
       pair = pair-at text tokens 0 i token h same;
     }
 
--- what stands before token i, and the token by the lengths of that
+-- what is before token i, and the token by the lengths of that
 pub text_is-before : (text : List ℕ) (tokens : List Span) (last i : ℕ) → InOrder 0 tokens last → whole_text (take i (pairs_of text tokens)) [] ≡ slice_range text 0 (gap_at tokens i)
 text_is-before text tokens last i o =
     ap (λ (ps : List Pair). whole_text ps []) (pairs-take text tokens 0 i)

@@ -16,7 +16,7 @@ use Rattle.hcl_token.proofs.LineLemmas.{count-append, count_none, count_some, la
 pub place_is : (l l' c c' : ℕ) → l ≡ l' → c ≡ c' → let p : Place = record { line = l; column = c } in let q : Place = record { line = l'; column = c' } in p ≡ q
 place_is l l' c c' e f = cc
 
--- the column behind a piece, where it has no LF, and where it has one
+-- the column after a piece, where it has no LF, and where it has one
 pub column-none : (at : Place) (piece : List ℕ) → list_any is_lf piece ≡ false → (place_after_piece at piece).column ≡ at.column + clusters piece
 column-none at piece h = rw (count_none piece h) refl
 
@@ -25,7 +25,7 @@ column-some at piece h =
     let some : (count_by is_lf piece == 0) ≡ false = grind (arith, count_some piece h) in
     rw some refl
 
--- the place behind pieces, one after the other
+-- the place after consecutive pieces
 abbrev after_pieces : Place → List (List ℕ) → Place
 after_pieces at [] = at
 after_pieces at (piece ∷ pieces) = after_pieces (place_after_piece at piece) pieces
@@ -83,7 +83,7 @@ place_after_pairs-pieces at (q ∷ pairs) zero p h =
 place_after_pairs-pieces at (q ∷ pairs) (suc i) p h =
     place_after_pairs-pieces (place_after_pair at q) pairs i p h ∙ ap (λ (x : Place). after_pieces x (pieces_before pairs i)) (place_after_pair-pieces at q)
 
--- behind the gap of a token, from the front on, is its place
+-- after the gap of a token, from the start of the text, is its place
 pub place_found : (pairs : List Pair) (i : ℕ) (p : Pair) → slice_get pairs i ≡ Some p → place_after_piece (place_after_pairs first_place (take i pairs)) p.gap ≡ place_of pairs i
 place_found pairs i p h =
     let pieces : List (List ℕ) = pieces_before pairs i in

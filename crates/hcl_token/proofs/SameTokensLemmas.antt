@@ -33,7 +33,7 @@ parts_same a b g s p h t q gs sp ht tq even same = (
   sym (back_part a g s p gs sp) ∙ ap (λ (l : List ℕ). drop (s - g) l) same ∙ ap (λ n. drop n (slice_range b h q)) even ∙ back_part b h t q ht tq,
 )
 
--- ---- places that are so many bytes apart, modulo 2 ^ 32
+-- ---- places that are a number of bytes apart, modulo 2 ^ 32
 
 even_from : (apart i j x y : ℕ) → (apart + j) % 2 ^ 32 ≡ i → (apart + y) % 2 ^ 32 ≡ x → i ≤ x → j ≤ y → y < 2 ^ 32 → x + j ≡ y + i
 even_from apart i j x y base lies ix jy short = omega arith
@@ -153,7 +153,7 @@ run_text text tokens r =
     ∙ text_is-slice text tokens (begin_of tokens) r.order.1 (order-here tokens r.order.0 r.order.1 r.order.2 r.some)
     ∙ ap (slice_range text (begin_of tokens)) (sym (end_is text tokens r))
 
--- ---- words so far apart
+-- ---- words that are this distance apart
 
 pub and_more : (P : ℕ → Type 0) (k : ℕ) (a b : Bool) → IsTrue a ↔ ((m : ℕ) → m < k → P m) → IsTrue b ↔ P k → IsTrue (a && b) ↔ ((m : ℕ) → m < k + 1 → P m)
 and_more P k true true f g = (λ _. below_more P k (f.0 refl) (g.0 refl), λ _. refl)

@@ -37,7 +37,7 @@ pub record IsAlong (text : List ℕ) (tokens : List Span) (begin : ℕ) (start :
   pub rest : (to : ℕ) × IsTokenRange text (drop i tokens) from to at
   pub value : place_after_pairs at (pairs_from text from (drop i tokens)) ≡ place_after_pairs start (pairs_from text begin tokens)
 
--- token i, and those behind it
+-- token i, and those after it
 split_at : (tokens : List Span) (i : ℕ) (token : Span) → i < length tokens → token ≡ get_or tokens i token → drop i tokens ≡ token ∷ drop (i + 1) tokens
 split_at tokens i token h is = drop_more tokens i token h ∙ ap (λ (x : Span). x ∷ drop (i + 1) tokens) (sym is)
 
@@ -86,7 +86,7 @@ take-nil : (n : ℕ) → take {A = Span} n [] ≡ []
 take-nil zero = refl
 take-nil (suc n) = refl
 
--- one stretch behind another
+-- a stretch, and the one that follows it
 pub place_after_pairs-slice : (text : List ℕ) (tokens : List Span) (begin : ℕ) (at : Place) (from n : ℕ)
     → place_after_pairs (place_after_pairs at (take from (pairs_from text begin tokens))) (pairs_from text (gap_from begin tokens from) (take n (drop from tokens)))
     ≡ place_after_pairs at (take (from + n) (pairs_from text begin tokens))

@@ -28,7 +28,7 @@ number_below kind = omega arith
 pub kind_same : (kind other : Kind) → number_of kind ≡ number_of other → kind ≡ other
 kind_same kind other e = sym (kind_again kind) ∙ ap kind_at e ∙ kind_again other
 
--- ---- two words so far apart as their tokens
+-- ---- two words that are as far apart as their tokens
 
 pub words_alike : (n m s t p q i j : ℕ) → n < 256 → m < 256 → i ≤ s → s ≤ p → p ≤ 16777216 → j ≤ t → t ≤ q → q ≤ 16777216
     → (n + 256 * s + 4294967296 * p + 2 ^ 64 - (m + 256 * t + 4294967296 * q)) % 2 ^ 64 ≡ (4294967552 * i + 2 ^ 64 - 4294967552 * j) % 2 ^ 64

@@ -11,9 +11,9 @@ use std::marker::Model;
 /// counted from 0. The gap before it begins where the token before it stops, or at 0.
 ///
 /// It takes 8 bytes: a token begins before the end of its text, so 24 bits hold its start, which is
-/// `low` + 256 * `high`. As fields are laid out today these are one word in memory (`word`), so that
-/// the processor moves and compares a token by one addition, and several at once: speed alone rests
-/// on that.
+/// `low` + 256 * `high`. As fields are laid out today these are one word in memory (`word`), so
+/// that the processor moves and compares a token by one addition, and several at once: speed alone
+/// rests on that.
 #[derive(Clone, Copy)]
 pub struct Span {
     kind: Kind,

@@ -1,4 +1,4 @@
--- A turn of the pure parser of bodies, of which so many are left; and a file, part by part.
+-- A turn of the pure parser of bodies, given how many are left; and a file, part by part.
 use Rattle.std.proofs.Common.{◌≡◌, ◌≢◌, ℕ, zero, suc, Bool, true, false, List, [], ◌∷◌, ◌++◌, length, Some, None, Result, Ok, Err, refl, subst}
 use Rattle.hcl_grammar.specs.Nodes as node
 use Rattle.hcl_grammar.specs.Pure.BodyParser.{deeper_members, expect_end, file, member_of, members, members_from}
@@ -65,7 +65,7 @@ module _ (ts : List Token) (d i : ℕ) where
   pub body_refused : (f : TokenFault) (at : ℕ) → at ≡ after_if_next ts false k.Mark i → (f ≢ Memory → members ts d at ≡ Err f) → f ≢ Memory → file ts d i ≡ Err f
   body_refused f at is h other = unread_body f (subst (λ n. members ts d n ≡ Err f) is (h other))
 
-  -- and so is what stands behind it
+  -- and so is what follows it
   pub end_refused : (ms : List Member) (f : TokenFault) (at j behind : ℕ) → at ≡ after_if_next ts false k.Mark i → members ts d at ≡ Ok (ms, j) → behind ≡ after_if_next ts false k.LineComment j
       → expect_end ts (next_kind ts false behind) behind ≡ Err f → file ts d i ≡ Err f
   end_refused ms f at j behind is e is_behind h =

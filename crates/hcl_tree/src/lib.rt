@@ -1,7 +1,7 @@
 //! The parser of the HCL native syntax: the tree of a text, if it parses.
 //!
-//! `parse` returns the one tree of a text, by its tokens. `hcl_grammar` and `hcl_text_laws` say which
-//! texts parse, and to which tree.
+//! `parse` returns the one tree of a text, by its tokens. `hcl_grammar` and `hcl_text_laws` say
+//! which texts parse, and to which tree.
 #![tactic(auto)]
 
 mod bodies;

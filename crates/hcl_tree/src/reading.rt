@@ -1,4 +1,5 @@
-//! A text read one attribute or block at a time, for a caller that keeps no whole tree (the linter).
+//! A text read one attribute or block at a time, for a caller that keeps no whole tree (the
+//! linter).
 
 pub use crate::bodies::member;
 pub use hcl_expr::Reader;

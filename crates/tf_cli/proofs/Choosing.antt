@@ -10,7 +10,7 @@ use Rattle.tf_rules.specs.Table.{all_rules, index_of}
 use Rattle.tf_cli.specs.Choices.{choice_names, is_chosen}
 use Rattle.tf_cli.specs.declared.rule_choice.Choice.{Choice}
 
--- each rule stands at its number, so a number is that of one rule
+-- each rule is at its number, so a number is that of one rule
 stands : (rule d : Rule) → get_or all_rules (index_of rule) d ≡ rule
 stands CommentSyntax d = refl
 stands rule d = refl

@@ -131,8 +131,8 @@ impl<'a, F: Drop> Save<'a, F> {
 }
 
 impl<'a, F: Read + Write + Seek + OpenFile + Drop> Save<'a, F> {
-    /// Makes its calls up to the next that waits for the disk. So the file is renamed right after it
-    /// was compared.
+    /// Makes its calls up to the next that waits for the disk. So the file is renamed right after
+    /// it was compared.
     fn make_calls<R: Files<File = F>>(&mut self, rt: &R, alloc: Global) {
         self.synced = None;
         let mut step = self.step;
@@ -145,7 +145,8 @@ impl<'a, F: Read + Write + Seek + OpenFile + Drop> Save<'a, F> {
         self.step = step;
     }
 
-    /// Makes the call that waits, if it is at one; `before` are the saves that have waited in this row.
+    /// Makes the call that waits, if it is at one; `before` are the saves that have waited in this
+    /// row.
     fn wait<R: Files<File = F>>(&mut self, rt: &R, alloc: Global, before: &[Save<'a, F>]) {
         let reply = match self.step.call() {
             Ok(Call::SyncDirectory(part)) => self.sync_directory(rt, part, before),
@@ -155,7 +156,8 @@ impl<'a, F: Read + Write + Seek + OpenFile + Drop> Save<'a, F> {
         self.step = self.step.after(reply);
     }
 
-    /// Syncs the part's directory, unless it was synced in this row: no name has changed since then.
+    /// Syncs the part's directory, unless it was synced in this row: no name has changed since
+    /// then.
     fn sync_directory<R: Files<File = F>>(
         &mut self,
         rt: &R,

@@ -33,14 +33,14 @@ covers_not line at h = grind (arith, nat_tests)
 covers_past : (line at : ℕ) → at + 1 < line → covers_line line at ≡ false
 covers_past line at h = grind (arith, nat_tests)
 
--- none that lies behind the line
+-- none that is after the line
 pub far : (rule : Rule) (line a : ℕ) (ms : List Annotation) (b : ℕ) → AreLinesIncreasing a ms b → line ≤ a → is_silenced_by rule line ms ≡ false
 far rule line a [] b h le = refl
 far rule line a (m ∷ ms) b h le =
     let less : line < m.line = omega (arith, h.0, le) in
     rw (covers_not line m.line less) (far rule line m.line ms b h.1 (omega (arith, less)))
 
--- of those behind the first, the next alone
+-- of those after the first, the next alone
 pub two_alone : (rule : Rule) (line : ℕ) (a : ℕ) (ms : List Annotation) (b : ℕ) → AreLinesIncreasing a ms b → line ≤ a + 1 → is_silenced_by rule line ms ≡ is_silenced_by rule line (take 1 ms)
 two_alone rule line a [] b h le = refl
 two_alone rule line a (n ∷ ms) b h le = ap (λ x. covers rule line n || x) (far rule line n.line ms b h.1 (omega (arith, h.0, le)))

@@ -29,7 +29,7 @@ nothing_found : (rules : RuleSet) (pairs : List Pair) (role : Role) (t : Term) �
 nothing_found rules pairs role t sole called =
     both _ _ (chosen (has_rule rules DeprecatedInterpolation) _ (ap (interpolation_findings pairs role t.first t.past) sole)) (chosen (has_rule rules DeprecatedLookup) _ called)
 
--- a term at which nothing is found, with what stands in it
+-- a term at which nothing is found, with what is in it
 pub branch : (rules : RuleSet) (pairs : List Pair) (role : Role) (t : Term) {xs ys : List Finding} → sole_interpolation (out-Primary t.kind) ≡ None
     → lookup_findings pairs t.first t.past (out-Primary t.kind) ≡ [] → Collects rules pairs (primary_children (out-Primary t.kind)) xs ys
     → Collects rules pairs (term role t ∷ []) xs ys

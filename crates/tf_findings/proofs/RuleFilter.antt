@@ -54,7 +54,7 @@ use Rattle.tf_rules.specs.Spelling.{token_text}
 
 -- ---- rules and their ranks
 
--- each rule stands at its number
+-- each rule is at its number
 stands : (rule : Rule) → slice_get all_rules (index_of rule) ≡ Some rule
 stands CommentSyntax = refl
 stands rule = refl

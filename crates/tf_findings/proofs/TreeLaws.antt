@@ -1,4 +1,4 @@
--- What stands in a tree is one list, and what is collected is found there.
+-- What is in a tree is one list, and what is collected is found there.
 use Rattle.std.proofs.Common.{◌≡◌, Bool, List, [], ◌∷◌, ◌++◌, length, filter, refl, sym, ap, ◌∙◌, append-nil, append_assoc}
 use Rattle.std.specs.List.{flat_map}
 use Rattle.std.proofs.lemmas.List.Elements.{filter-append}
@@ -12,7 +12,7 @@ use Rattle.tf_rules.specs.Preorder as nodes
 use Rattle.tf_rules.specs.Preorder.{Node, IsPreorder, children}
 use Rattle.tf_findings.specs.TreeFindings.{AreAddedFindings, AreTreeFindings}
 
--- one list of nodes stands in a tree
+-- a tree has one list of nodes
 pub one_tree : {ns xs ys : List Node} → IsPreorder ns xs → IsPreorder ns ys → xs ≡ ys
 one_tree nodes.no_nodes nodes.no_nodes = refl
 one_tree (nodes.visit {n = n} {inside = inside} {others = others} a c) (nodes.visit {inside = inside'} {others = others'} b d) =

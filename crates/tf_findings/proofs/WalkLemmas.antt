@@ -16,7 +16,7 @@ where_ok (Ok x) f h = f h
 where_ok (Err e) f h = tt
 
 module _ {rules : RuleSet} {pairs : List Pair} where
-  -- one list of nodes behind another
+  -- one list of nodes after another
   pub joined : {ms ns : List Node} {xs ys zs : List Finding} → Collects rules pairs ms xs ys → Collects rules pairs ns ys zs → Collects rules pairs (ms ++ ns) xs zs
   joined no_nodes b = b
   joined (visit a c) b = visit a (joined c b)
@@ -27,7 +27,7 @@ module _ {rules : RuleSet} {pairs : List Pair} where
   pub among : {ms ns : List Node} {xs ys : List Finding} → ms ≡ ns → Collects rules pairs ns xs ys → Collects rules pairs ms xs ys
   among {ms} {ns} {xs} {ys} e c = subst (λ ls. Collects rules pairs ls xs ys) (sym e) c
 
-  -- a node with what stands in it
+  -- a node with what is in it
   pub whole : (n : Node) {xs ys zs : List Finding} → ys ≡ xs ++ valid_findings (length pairs) (node_findings rules pairs n) → Collects rules pairs (children n) ys zs → Collects rules pairs (n ∷ []) xs zs
   whole n {xs} {ys} {zs} e c = visit (subst (λ l. Collects rules pairs (children n) l zs) e c) no_nodes
 

@@ -253,8 +253,8 @@ fn walk_term(
     }
 }
 
-// `walk_term` alone calls it, and not at numbers, names, tuples, objects and parentheses: their arms
-// are there since a `match` has all of them, and its clause speaks of each node.
+// `walk_term` alone calls it, and not at numbers, names, tuples, objects and parentheses: their
+// arms are there since a `match` has all of them, and its clause speaks of each node.
 #[cycle(expressions)]
 fn walk_primary(
     cx: &WalkContext<'_, '_>,

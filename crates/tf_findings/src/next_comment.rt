@@ -63,8 +63,8 @@ fn is_free_block(scanned: &Scanned<'_>, from: usize) -> bool
     is_free
 }
 
-/// Passes blocks without a comment from token `from` on. Returns the number at which a block with one
-/// begins, or after which fewer tokens are left than a block has.
+/// Passes blocks without a comment from token `from` on. Returns the number at which a block with
+/// one begins, or after which fewer tokens are left than a block has.
 fn past_blocks(scanned: &Scanned<'_>, from: usize) -> usize
     requires { from ≤ length scanned.now.pairs }
     ensures later { from ≤ result }

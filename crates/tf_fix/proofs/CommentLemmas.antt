@@ -47,7 +47,7 @@ text_after (p ∷ ps) last rest =
     ap (λ t. p.gap ++ (p.spelling ++ t)) (text_after ps last rest) ∙ ap (λ t. p.gap ++ t) (sym (append_assoc p.spelling (whole_text ps last) rest))
     ∙ sym (append_assoc p.gap (p.spelling ++ whole_text ps last) rest)
 
--- pairs, a gap, a spelling, and what stands behind
+-- pairs, a gap, a spelling, and what follows
 pair_text : (ps : List Pair) (gap spelling rest : List ℕ) → whole_text ps (gap ++ (spelling ++ rest)) ≡ whole_text ps gap ++ (spelling ++ rest)
 pair_text ps gap spelling rest = text_after ps gap (spelling ++ rest)
 
@@ -100,7 +100,7 @@ is_taken pairs f fits is comment =
       has_fix = slash_fixed pairs f.first f.past f.fix is ∙ ap (map fixed_comment) (one_pair pairs f.first f.past p _ next here);
     }
 
--- comments one behind the other
+-- comments in order
 abbrev AreComments : ℕ → List Pair → List Finding → Type 0
 AreComments at pairs [] = Unit {0}
 AreComments at pairs (f ∷ fs) = (at ≤ f.first) × IsTaken pairs f × AreComments f.past pairs fs

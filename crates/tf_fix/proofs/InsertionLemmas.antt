@@ -1,4 +1,4 @@
--- What comes is settled alike with the gaps beside it and without.
+-- What is inserted is settled alike with the gaps next to it and without.
 use Rattle.std.proofs.Common.{◌≡◌, ℕ, List, [], ◌∷◌, ◌++◌, refl, ap, ◌∙◌}
 use Rattle.std.proofs.lemmas.List.{append-nil}
 use Rattle.hcl_token.specs.Tokens.{Pair}
@@ -22,7 +22,7 @@ tail_after : (prev : Prev) (xs : List Part) (to : Boundary) → prev_after prev 
 tail_after prev xs (BeforeGap i) = ap (prev_after prev) (append-nil xs)
 tail_after prev xs (BeforeToken i) = after-append prev xs empty_gap
 
--- no gap stands before what is written
+-- no gap is before what is written
 pub data Bare : List Pair → Type 0 where
   bare : {p : Pair} {ps : List Pair} → p.gap ≡ [] → Bare (p ∷ ps)
   none : Bare []

@@ -250,7 +250,7 @@ both_real : (xs : List Part) (rs ss : List Replacement) → AreReal xs rs → Ar
 both_real xs [] ss a b = b
 both_real xs (r ∷ rs) ss a b = (a.0, both_real xs rs ss a.1 b)
 
--- what goes between two places of which the second stands behind more tokens
+-- what is removed between two places has a byte, if the second is after more tokens
 goes : (pairs : List Pair) (last : List ℕ) (at n place skip to : ℕ) → AreNonempty pairs → place ≡ 2 * at + skip → skip ≤ 1 → at < n → n ≤ length pairs → 2 * n ≤ to
     → 0 < length (text_of_parts (slice_range (parts_of pairs last) place to))
 goes pairs last at n place zero to are e le lt within past =

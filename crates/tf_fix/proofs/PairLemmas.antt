@@ -69,7 +69,7 @@ open_range pairs last a b le within =
     ∙ ap (λ t. t ++ Gap p.gap ∷ []) (whole_range pairs last a b le (omega (arith, within)))
     ∙ ap (λ g. pairs_parts (slice_range pairs a b) ++ Gap g ∷ []) gap
 
--- from a token on, behind another gap
+-- from a token on, after another gap
 inner_range : (pairs : List Pair) (last gap : List ℕ) (a b : ℕ) → a < b → b ≤ length pairs → Gap gap ∷ slice_range (parts_of pairs last) (2 * a + 1) (2 * b) ≡ pairs_parts (with_gap gap (slice_range pairs a b))
 inner_range pairs last gap a b lt within =
     let (p, found, front) = known pairs a (omega (arith, lt, within)) in
@@ -87,7 +87,7 @@ inner_range pairs last gap a b lt within =
     ∙ ap (λ t. Gap gap ∷ Token p.kind p.spelling ∷ t) rest
     ∙ sym (ap (λ t. pairs_parts (with_gap gap t)) side)
 
--- from a place on, what stands before the first that is kept stays
+-- from a place on, what is before the first that is kept stays
 from_place : (pairs : List Pair) (last : List ℕ) (first a place skip : ℕ) (w : Insertion) (kept : List (Option KeptTokens)) (past : ℕ) (rs : List Replacement)
     → replaced_from a (parts_of pairs last) (replacements_from pairs first place skip w kept past ++ rs)
     ≡ slice_range (parts_of pairs last) a place ++ replaced_from place (parts_of pairs last) (replacements_from pairs first place skip w kept past ++ rs)
@@ -100,7 +100,7 @@ from_place pairs last first a place skip w (Some k ∷ kept) past rs =
     ap (λ t. slice_range xs a place ++ (t ++ (inserted_parts skip (inserted pairs first w) empty_gap ++ replaced_from (2 * k.from + 1) xs (replacements_from pairs first (2 * k.to) 0 k.after kept past ++ rs))))
     (sym (range_none xs place place (omega arith)))
 
--- a range that is kept, and what stands behind it
+-- a range that is kept, and what follows it
 kept_one : (pairs : List Pair) (last gap : List ℕ) (first past : ℕ) (k : KeptTokens) (kept : List (Option KeptTokens)) (rs : List Replacement) (behind : List Part) → k.from < k.to → k.to ≤ length pairs
     → replaced_from (2 * k.to) (parts_of pairs last) (replacements_from pairs first (2 * k.to) 0 k.after kept past ++ rs) ≡ behind
     → Gap gap ∷ replaced_from (2 * k.from + 1) (parts_of pairs last) (replacements_from pairs first (2 * k.to) 0 k.after kept past ++ rs) ≡ pairs_parts (with_gap gap (slice_range pairs k.from k.to)) ++ behind
@@ -110,7 +110,7 @@ kept_one pairs last gap first past k kept rs behind some within rest =
     ∙ ap (λ t. t ++ replaced_from (2 * k.to) xs (replacements_from pairs first (2 * k.to) 0 k.after kept past ++ rs)) (inner_range pairs last gap k.from k.to some within)
     ∙ ap (λ t. pairs_parts (with_gap gap (slice_range pairs k.from k.to)) ++ t) rest
 
--- what stands behind a range that is kept
+-- what follows a range that is kept
 kept_body : (pairs : List Pair) (last : List ℕ) (first past at : ℕ) (w : Insertion) (kept : List (Option KeptTokens)) (rs : List Replacement) → AreKeptInOrder first past at w kept → past ≤ length pairs
     → replaced_from (2 * at) (parts_of pairs last) (replacements_from pairs first (2 * at) 0 w kept past ++ rs) ≡ pairs_parts (inserted_and_kept_pairs pairs first w kept) ++ replaced_from (2 * past) (parts_of pairs last) rs
 kept_body pairs last first past at w [] rs o le =
@@ -182,7 +182,7 @@ start_body pairs last gap first past w (Some k ∷ kept) rs o le =
     ∙ front_kept pairs gap first k.from k.to w (inserted_and_kept_pairs pairs first k.after kept) behind more (written_is pairs first w) o.1 (omega (arith, end, le))
     (λ g. kept_one pairs last g first past k kept rs _ o.1 (omega (arith, end, le)) (kept_body pairs last first past k.to k.after kept rs o.2 le))
 
--- one finding: what comes before it, its tokens, and what is behind it
+-- one finding: what comes before it, its tokens, and what follows it
 one_fixed : (pairs : List Pair) (last : List ℕ) (at first past : ℕ) (fix : Option Fix) (rs : List Replacement) → is_comment_fix fix ≡ false → at ≤ first → first < past → past ≤ length pairs → HasValidFix first past fix
     → replaced_from (2 * at) (parts_of pairs last) (fix_replacements pairs first past fix ++ rs)
     ≡ pairs_parts (slice_range pairs at first) ++ (pairs_parts (fixed_pairs pairs first past fix) ++ replaced_from (2 * past) (parts_of pairs last) rs)

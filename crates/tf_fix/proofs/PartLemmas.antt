@@ -69,7 +69,7 @@ parts_drop (p ∷ ps) last (suc i) le =
     let two : 2 * suc i ≡ suc (suc (2 * i)) = omega arith in
     ap (λ k. drop k (parts_of (p ∷ ps) last)) two ∙ parts_drop ps last i (omega (arith, le))
 
--- the gap and the token of this number, and what stands behind
+-- the gap and the token of this number, and what follows
 pub gap_front : (pairs : List Pair) (last : List ℕ) (i : ℕ) (p : Pair) → slice_get pairs i ≡ Some p
     → drop (2 * i) (parts_of pairs last) ≡ Gap p.gap ∷ Token p.kind p.spelling ∷ drop (2 * i + 2) (parts_of pairs last)
 gap_front [] last i p found = absurd (cc found)
@@ -90,7 +90,7 @@ token_front (q ∷ ps) last (suc i) p found =
     ap (λ k. drop k (parts_of (q ∷ ps) last)) three ∙ token_front ps last i p found
     ∙ ap (λ k. Token p.kind p.spelling ∷ drop k (parts_of (q ∷ ps) last)) (sym four)
 
--- ---- what stands before a place, as text
+-- ---- what is before a place, as text
 
 pub start_text : (pairs : List Pair) (last : List ℕ) (i : ℕ) (p : Pair) → slice_get pairs i ≡ Some p
     → text_of_parts (take (2 * i + 1) (parts_of pairs last)) ≡ whole_text (take i pairs) p.gap
@@ -137,7 +137,7 @@ text_within xs to =
     let whole = ap (λ t. length (text_of_parts t)) (sym (take-append-drop to xs)) ∙ ap length (written-append (take to xs) (drop to xs)) ∙ length-append (text_of_parts (take to xs)) (text_of_parts (drop to xs)) in
     omega (arith, whole)
 
--- ---- the neighbour behind a slice
+-- ---- the token that the next one after a slice may join
 
 pub after_token : (prev : Prev) (xs : List Part) (kind : Kind) (spelling : List ℕ) → prev_after prev (xs ++ Token kind spelling ∷ []) ≡ Some (kind, spelling)
 after_token prev xs kind spelling = after-append prev xs (Token kind spelling ∷ [])

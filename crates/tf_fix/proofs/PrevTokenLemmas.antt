@@ -1,4 +1,4 @@
--- What the code reads of the tokens beside a place.
+-- What the code reads of the tokens next to a place.
 use Rattle.std.proofs.Common.{◌≡◌, ◌↔◌, ℕ, ◌+◌, ◌-◌, ◌*◌, ◌≤◌, ◌<◌, ◌==◌, nat_lt, Bool, true, false, IsTrue, List, [], ◌∷◌, length, take, drop, slice_range, slice_get, Some, None, refl, sym, ap, ◌∙◌, arith}
 use Rattle.std.specs.Option.{option_map}
 use Rattle.std.proofs.lemmas.Bool.{ltb-true, ltb-false}
@@ -68,7 +68,7 @@ prev_blank pairs last prev from i gap le lt told some =
     let whole = range_last (parts_of pairs last) from (2 * i) (Gap p.gap) _ le (gap_front pairs last i p found) in
     sym (ap (prev_after prev) whole ∙ after_blank prev (slice_range (parts_of pairs last) from (2 * i)) p.gap (λ e. some (same ∙ e)))
 
--- whether the neighbour joins with the token behind
+-- whether the neighbor joins with the token after it
 read_token : (pairs : List Pair) (i : ℕ) (p : Pair) (kind : Kind) (spelling : List ℕ) → slice_get pairs i ≡ Some p → Some kind ≡ kind_of pairs i
     → Some spelling ≡ spelling_of pairs i → (prev : Prev) → joins_prev prev kind spelling ≡ joins_prev prev p.kind p.spelling
 read_token pairs i p kind spelling found k s prev =

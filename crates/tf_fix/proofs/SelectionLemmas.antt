@@ -27,7 +27,7 @@ pub bytes_push : (pairs : List Pair) (rs : List Replacing) (r : Replacing) → H
 bytes_push pairs [] r are is = (is, tt)
 bytes_push pairs (x ∷ rs) r are is = (are.0, bytes_push pairs rs r are.1 is)
 
--- where there is a fix, what it keeps stands in order
+-- where there is a fix, what it keeps is in order
 is_fixable_within : (first past : ℕ) (fix : Option Fix) → is_fixable fix ≡ true → IsFixValid first past fix → HasValidFix first past fix
 is_fixable_within first past None e fits = absurd (cc e)
 is_fixable_within first past (Some fix) e fits = fits
@@ -37,7 +37,8 @@ valid_if : (count : ℕ) (f : Finding) (rest : List Finding) (here : Bool) → A
 valid_if count f rest true are = (λ of fixable. (are.0.1, is_fixable_within _ _ _ fixable are.0.2, are.0.0), are.1)
 valid_if count f rest false are = (λ of. absurd (cc of), are)
 
--- one of the rule that can be fixed fits, and those of the rule behind it are sound
+-- a finding of the rule that can be fixed is within the text, and those of the rule after it are
+-- valid
 pub is_valid : (pairs : List Pair) (rule : Rule) (findings : List Finding) (i : ℕ) (d : Finding) → i < length findings → AreValidFindings (length pairs) (filter (is_found_by rule) (drop i findings))
     → (is_found_by rule (get_or findings i d) ≡ true → is_fixable (get_or findings i d).fix ≡ true → IsFixableWithin (length pairs) (get_or findings i d)) × AreValidFindings (length pairs) (filter (is_found_by rule) (drop (i + 1) findings))
 is_valid pairs rule findings i d lt are =
@@ -46,7 +47,7 @@ is_valid pairs rule findings i d lt are =
 
 -- ---- what is taken
 
--- findings of a text, one behind the other
+-- findings of a text, in order
 abbrev pub AreTaken : ℕ → List Pair → List Finding → Type 0
 AreTaken at pairs [] = at ≤ length pairs
 AreTaken at pairs (f ∷ fs) = (at ≤ f.first) × IsFixableWithin (length pairs) f × AreTaken f.past pairs fs
@@ -86,7 +87,7 @@ later_order : (at from end : ℕ) (rs : List Replacement) → at ≤ from → Ar
 later_order at from end [] le o = omega (arith, le, o)
 later_order at from end (r ∷ rs) le o = (omega (arith, le, o.0), o.1, o.2)
 
--- what is kept behind a place ends before the finding does
+-- what is kept after a place ends before the finding does
 pub kept_le : (first past at : ℕ) (written : Insertion) (kept : List (Option KeptTokens)) → AreKeptInOrder first past at written kept → at ≤ past
 kept_le first past at Nothing [] o = omega (arith, o.1)
 kept_le first past at written [] o = o
@@ -113,7 +114,7 @@ kept_order pairs first past at place skip written (Some k ∷ kept) o prev le =
           (kept_order pairs first past k.to (2 * k.to) 0 k.after kept o.2 (omega arith) (omega (arith, end))),
     )
 
--- those of a finding stand within its tokens
+-- those of a finding are within its tokens
 fixed_order : (pairs : List Pair) (first past : ℕ) (fix : Option Fix) → first < past → HasValidFix first past fix → AreInOrder (2 * first) (fix_replacements pairs first past fix) (2 * past)
 fixed_order pairs first past None some fits = absurd fits
 fixed_order pairs first past (Some CommentMarker) some fits = omega (arith, some)

@@ -81,7 +81,7 @@ stretch_if : (met : Bool) (k : Kind) (s : List ℕ) (rest same : List Part) → 
 stretch_if true k s rest same e = ap (λ t. space ++ (s ++ text_of_parts t)) e
 stretch_if false k s rest same e = ap (λ t. s ++ text_of_parts t) e
 
--- what stays, behind any neighbour: a space more at most, right at its front
+-- what stays, after any neighbor: a space more at most, right at its start
 pub stretch_settled : (prev : Prev) (xs : List Part) → Apart None xs → text_of_parts (settled prev xs) ≡ space_before prev xs ++ text_of_parts xs
 stretch_settled prev [] a = refl
 stretch_settled prev (Gap [] ∷ xs) a = stretch_settled prev xs a

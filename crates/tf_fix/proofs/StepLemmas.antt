@@ -131,7 +131,7 @@ replaced_step rule cut findings other is apart of sound =
       edits_are = refl;
     }
 
--- where comments are mended
+-- where comments are fixed
 comment_step : (rule : Rule) (cut : TokenizedText) (findings : List Finding) → is_comment_rule rule ≡ true → AreApart cut.pairs → AreOfRule rule cut.pairs findings → AreValidFindings (length cut.pairs) findings
     → InPieces cut (fix_step_text cut findings) (map (comment_edit cut.pairs) (selected findings))
 comment_step rule cut findings comment apart of sound = record {

@@ -40,7 +40,8 @@ space_before prev parts = if is_glued prev parts then space else []
 abbrev pub added : Prev → List Part → List Part → List ℕ
 added prev come stay = text_of_parts (settled prev come) ++ space_before (prev_after prev come) stay
 
--- The text in pieces: kept, or replaced by what is added. The neighbor is the token before place at.
+-- The text in pieces: kept, or replaced by what is added. The neighbor is the token before place
+-- at.
 abbrev pub pieces_from : Prev → ℕ → List Part → List Replacement → List Piece
 pieces_from prev at parts [] = Kept (text_of_parts (drop at parts)) ∷ []
 pieces_from prev at parts (r ∷ rs) =

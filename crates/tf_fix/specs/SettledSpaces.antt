@@ -5,7 +5,8 @@ use Rattle.hcl_token.specs.Joins.{joins_with}
 use Rattle.tf_fix.specs.Parts.{Part}
 use Rattle.tf_fix.specs.Parts.Part.{Gap, Token}
 
--- The token directly before, with nothing between; none at the start of a text and after whitespace.
+-- The token directly before, with nothing between; none at the start of a text and after
+-- whitespace.
 abbrev pub Prev : Type 0
 Prev = Option (Kind × List ℕ)
 

@@ -37,8 +37,8 @@ impl Model for PackedReplacement {
     } };
 }
 
-/// Returns how many gaps and tokens are before a place. A number that does not fit in 32 bits, which
-/// no list of tokens reaches, is an `AllocError`.
+/// Returns how many gaps and tokens are before a place. A number that does not fit in 32 bits,
+/// which no list of tokens reaches, is an `AllocError`.
 fn pack_boundary(boundary: Boundary) -> Result<u32, AllocError>
     ensures ok { IfOk result (λ n. boundary_at n ≡ boundary) }
     ensures err { IfErr result (λ _. 2 ^ 32 ≤ boundary_index boundary) }

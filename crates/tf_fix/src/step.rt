@@ -36,8 +36,8 @@ pub struct StepEdits {
 ///
 /// # Errors
 ///
-/// `TooLong` if the new text would have more than `MAX_TEXT` bytes, and `Memory`. It is not an error
-/// that the new text does not parse.
+/// `TooLong` if the new text would have more than `MAX_TEXT` bytes, and `Memory`. It is not an
+/// error that the new text does not parse.
 pub fn fix_step(
     alloc: Global,
     scanned: &Scanned<'_>,

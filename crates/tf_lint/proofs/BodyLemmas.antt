@@ -22,7 +22,7 @@ use Rattle.tf_rules.specs.Findings.{is_valid, valid_findings}
 use Rattle.tf_rules.specs.declared.rule_set.RuleSet.{RuleSet}
 use Rattle.tf_rules.specs.TopLevelFindings.{top_level_member_findings, top_level_findings}
 
--- what stands in some nodes and in others behind them
+-- what is in some nodes and in others after them
 preorder-append : {ns ms xs ys : List Node} → IsPreorder ns xs → IsPreorder ms ys → IsPreorder (ns ++ ms) (xs ++ ys)
 preorder-append no_nodes b = b
 preorder-append {ms = ms} {ys = ys} (visit {n = n} {ns = ns} {inside = inside} {others = others} a c) b =

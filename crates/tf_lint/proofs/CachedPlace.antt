@@ -1,4 +1,4 @@
--- Findings told one after the other.
+-- Findings that are reported in order.
 use Rattle.std.proofs.Common.{◌≡◌, ◌∙◌, ◌<◌, ◌+◌, ℕ, zero, suc, List, [], ◌∷◌, ◌++◌, length, take, map, get_or, ap, sym, arith}
 use Rattle.std.proofs.lemmas.List.{take_more, map-append}
 use Rattle.hcl_token.specs.declared.place.Place.{Place}
@@ -23,7 +23,7 @@ begins_there pairs places found i d same sound below = omega (arith, begins_insi
 pub place_there : (pairs places : List Pair) (i : ℕ) (place : Place) → places ≡ pairs → place ≡ place_of places i → place ≡ place_of pairs i
 place_there pairs places i place same is = is ∙ ap (λ (ps : List Pair). place_of ps i) same
 
--- the first i findings are told, and one more
+-- the first i findings are reported, and one more
 pub one_cached : (pairs : List Pair) (found : List Finding) (i : ℕ) (d : Finding) (issues grown : List Issue) (issue : Issue) → i < length found
     → reports issues ≡ map (report_of pairs) (take i found) → report issue ≡ report_of pairs (get_or found i d) → grown ≡ issues ++ issue ∷ []
     → reports grown ≡ map (report_of pairs) (take (i + 1) found)

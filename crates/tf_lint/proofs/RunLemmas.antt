@@ -89,7 +89,7 @@ stayed_pass rules rule order p count (Changed fixed change by rest) step chosen 
       λ unread. rw chosen (s.found, s.findings_are, inr (s.short, p, again, gone unread)),
     )
 
--- what steps from here on make, by what those behind the change make
+-- what steps from here on make, by what those after the change make
 abbrev pub GoesOn : RuleSet → List Rule → List Rule → Rule → Parsed → ℕ → NewText → Type 0
 GoesOn rules order rest by p n change =
     ((next : Parsed) (more : Steps) → IsParseOf change.text.items next → RunFixable rules rest next (Ok more)
@@ -158,7 +158,7 @@ and_refuses rules order text p count fixed change made_by by rest fault reads (n
 
 -- ---- from the first step on
 
--- others may go on behind a step, if they follow from those that did
+-- others may go on after a step, if they follow from those that did
 go_on : (rule : Rule) (p : Parsed) (found : List Finding) (A B : Parsed → Result Steps FixFault → Type 0) → ((c : Parsed) (r : Result Steps FixFault) → A c r → B c r)
     → (answer : Result Steps FixFault) → FoundThen rule p found A answer → FoundThen rule p found B answer
 go_on rule p found A B go (Ok steps) (short, next, more, reads, others, is) = (short, next, more, reads, go next (Ok more) others, is)

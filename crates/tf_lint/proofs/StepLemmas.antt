@@ -21,7 +21,7 @@ never_unmet lengths a b LengthsDiffer (t, u, v, first, second) other = absurd (o
 never_unmet lengths a b (Contradicts edit) can said = absurd (said.1.none can)
 never_unmet lengths a b Memory can said = refl
 
--- what the step's edits make of the text is the text behind the step
+-- what the step's edits make of the text is the text after the step
 pub made_is : {rule : Rule} {p : Parsed} {count : ℕ} {edits : EditList} (s : IsFixStep rule p count edits) {text made : List ℕ} → text ≡ p.scanned.text
     → ((new : List ℕ) → Transforms edits text new → made ≡ new) → made ≡ step_text_of p s.found
 made_is {rule} {p} {count} {edits} s is makes = makes (step_text_of p s.found) (subst (λ t. Transforms edits t (step_text_of p s.found)) (sym is) s.transforms)

@@ -20,12 +20,12 @@ front_more (x ∷ xs) [] (suc k) a b = absurd (cc)
 front_more (x ∷ xs) (y ∷ ys) zero a b = cc
 front_more (x ∷ xs) (y ∷ ys) (suc k) a b = let e : x ≡ y = cc in let h : take k xs ≡ take k ys = cc in rw e (ap (λ zs. y ∷ zs) (front_more xs ys k h b))
 
--- so many tokens that are the same from two places on, and one more
+-- k tokens that are the same from two places on, and one more
 pub same_more : (xs ys : List Token) (a b k : ℕ) → take k (drop a xs) ≡ take k (drop b ys) → slice_get xs (a + k) ≡ slice_get ys (b + k)
     → take (k + 1) (drop a xs) ≡ take (k + 1) (drop b ys)
 same_more xs ys a b k e h = let one : k + 1 ≡ suc k = omega arith in rw one (front_more (drop a xs) (drop b ys) k e (get_drop a k xs ∙ (h ∙ sym (get_drop b k ys))))
 
--- the tokens of so many pairs, from a place on
+-- the tokens of the first n pairs
 line_prefix : (n : ℕ) (ps : List Pair) → take n (tokens_of ps) ≡ tokens_of (take n ps)
 line_prefix zero ps = refl
 line_prefix (suc n) [] = refl

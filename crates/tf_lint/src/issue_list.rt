@@ -120,8 +120,8 @@ pub fn lines_of_findings(
     Ok(lines)
 }
 
-/// Returns a report on the file of this name: the line of each of these issues, in their order, each
-/// followed by LF.
+/// Returns a report on the file of this name: the line of each of these issues, in their order,
+/// each followed by LF.
 pub fn lines_of_issues(alloc: Global, name: &str, found: &[Issue]) -> Result<String, AllocError>
     ensures lines { IfOk result
         (λ lines. string_bytes lines ≡ lines_of name.now (reports found.now)) }

@@ -17,8 +17,8 @@ pub struct LintedText<'t> {
     pub members: Vec<LintedMember>,
 }
 
-/// What linting the next text needs of one that was linted, without the text, which is freed as soon
-/// as the next one was linted.
+/// What linting the next text needs of one that was linted, without the text, which is freed as
+/// soon as the next one was linted.
 #[derive(Drop)]
 pub struct PreviousText {
     pub tokens: TokenList,

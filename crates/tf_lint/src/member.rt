@@ -186,8 +186,8 @@ fn reuse_member(
     }))
 }
 
-/// Returns the member with this index of the old text, if there is one and its tokens are in the new
-/// one from number `at` on.
+/// Returns the member with this index of the old text, if there is one and its tokens are in the
+/// new one from number `at` on.
 fn reuse_member_at(
     alloc: Global,
     old: &Scanned<'_>,
@@ -205,8 +205,8 @@ fn reuse_member_at(
     reuse_member(alloc, old, scanned, &old_members[index], at)
 }
 
-/// Returns the next member, if there is one: that of the old text with this index, if its tokens are
-/// here, else as it is read.
+/// Returns the next member, if there is one: that of the old text with this index, if its tokens
+/// are here, else as it is read.
 pub fn next_member(
     alloc: Global,
     scanned: &Scanned<'_>,

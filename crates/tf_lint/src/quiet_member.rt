@@ -63,8 +63,8 @@ fn first_look(scanned: &Scanned<'_>, from: usize) -> Result<usize, Stop>
     quiet_end(scanned, from, scanned.len().min(from.saturating_add(LOOK)))
 }
 
-/// Returns whether a first look says that something is not quiet, or, of a long block whose body the
-/// rules on blocks read, that something seems not to be. To say so of more costs time alone.
+/// Returns whether a first look says that something is not quiet, or, of a long block whose body
+/// the rules on blocks read, that something seems not to be. To say so of more costs time alone.
 #[inline(always)]
 fn is_given_up(scanned: &Scanned<'_>, from: usize, first: Result<usize, Stop>) -> bool {
     match first {

@@ -123,8 +123,8 @@ pub struct RelintedText<'t> {
 }
 
 /// Lints the text that an edit made from `old_text`, reusing the old tokens and findings. The new
-/// tokens are stored in `token_buffer`. Of the old text only its token buffer is kept; if it has no members
-/// to reuse, its tokens are freed before the new text is parsed.
+/// tokens are stored in `token_buffer`. Of the old text only its token buffer is kept; if it has no
+/// members to reuse, its tokens are freed before the new text is parsed.
 fn relint_text<'t>(
     alloc: Global,
     text: &'t [u8],

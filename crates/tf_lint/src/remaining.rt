@@ -45,8 +45,8 @@ impl Remaining {
         lines_of_findings(alloc, name, &scanned, &self.found)
     }
 
-    /// Returns the issues that are left, in the order of a report. The text is the new one. The only
-    /// error is `Memory`; if nothing is left, nothing is allocated.
+    /// Returns the issues that are left, in the order of a report. The text is the new one. The
+    /// only error is `Memory`; if nothing is left, nothing is allocated.
     pub fn issues(self, alloc: Global, text: &[u8]) -> Result<Vec<Issue>, LintFault>
         requires { (rules : RuleSet) × IsRemaining rules text.now self }
         ensures issues { (rules : RuleSet) → IsRemaining rules text.now self

@@ -62,8 +62,8 @@ fn same_each(old: &Scanned<'_>, new: &Scanned<'_>, from: usize, to: usize, count
     true
 }
 
-/// Returns whether the `count` tokens of the old text from number `from` on are those of the new one
-/// from number `to` on.
+/// Returns whether the `count` tokens of the old text from number `from` on are those of the new
+/// one from number `to` on.
 pub fn same_tokens(
     old: &Scanned<'_>,
     new: &Scanned<'_>,

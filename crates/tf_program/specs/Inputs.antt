@@ -31,7 +31,7 @@ Formats file_outcome source target =
     (file_outcome ≡ FileOutcome.Nothing) × (d : Done) × (new : List ℕ) × (records : List JournalEntry)
     × streaming.StepsStream Fmt d new records source target
 
--- From the source came a whole text that a fmt does not refuse, and it is laid out, or is not.
+-- From the source came a whole text that a fmt does not refuse, and it is formatted, or is not.
 abbrev pub Checks : FileOutcome → Source → Type 0
 Checks FileOutcome.Nothing source = streaming.ChecksStream true source
 Checks FileOutcome.Issue source = ⊥

@@ -1,4 +1,5 @@
--- A member behind whose last token no line goes on ends with a line end: no expression and no block ends with one.
+-- A member after whose last token no line goes on ends with a line end: no expression and no block
+-- ends with one.
 use Rattle.std.proofs.Common.{◌≡◌, ◌≢◌, ℕ, ◌-◌, Bool, List, slice_get, Option, Some, refl, sym, ap, ◌∙◌, arith}
 use Rattle.hcl_token.specs.declared.kind.Kind.{Kind}
 use Rattle.hcl_token.specs.declared.kind.Kind.TheVariants as k
@@ -16,7 +17,7 @@ use Rattle.tf_reuse.proofs.MoveBodies.{IsLine, EndsLine}
 use Rattle.tf_reuse.specs.OneMember.{IsOneMember}
 use Rattle.tf_reuse.specs.OneMember as alone
 
--- a token of a kind that is no line end stands before place j
+-- a token of a kind that is no line end is before place j
 record Ends (ts : List Token) (j : ℕ) : Type 0 where
   mode : Bool
   kind : Kind
@@ -89,7 +90,7 @@ module _ {ts : List Token} where
     ends_filter c (no_filter {close} p) = last _ _ close c p
     ends_filter c (filter {close} w e p) = last _ _ close c p
 
-  -- a line end that stands before the place is no such token
+  -- a line end before the place is no such token
   not_line : {j : ℕ} (t : Token) → slice_get ts (j - 1) ≡ Some t → t.0 ≡ k.LineEnd → Ends ts j → ⊥
   unfolding after_next
   not_line {j} t h is e =

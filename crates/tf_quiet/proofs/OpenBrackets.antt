@@ -145,7 +145,7 @@ is_later (t ∷ ts) d n to h = by_later t.0 d n to _ h (λ e. let l = is_later t
 
 -- ---- walks
 
--- from the one place with so many open brackets the same line end is found as from the other
+-- from a place with d open brackets the same line end is found as from another with e
 pub record Goes (ts : List Token) (d i e j : ℕ) : Type 0 where
   pub is : line_end_from ts d i ≡ line_end_from ts e j
 

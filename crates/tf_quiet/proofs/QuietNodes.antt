@@ -47,7 +47,7 @@ use Rattle.tf_quiet.specs.QuietTokens.{is_quiet_token, is_quiet_operand, is_no_e
 abbrev IsNoEmpty : Operation → Type 0
 IsNoEmpty l = is_equality l.operator ≡ true → is_empty_list l.operand ≡ false
 
--- nor on its left, where this expression stands before the first of the links
+-- nor on its left, where this expression is before the first of the links
 abbrev IsNoEmptyBefore : Expr → List Operation → Type 0
 IsNoEmptyBefore head [] = Unit {0}
 IsNoEmptyBefore head (l ∷ ls) = is_equality l.operator ≡ true → is_empty_list head ≡ false

@@ -11,7 +11,7 @@ use Rattle.tf_quiet.proofs.QuietRuns.{below_or_not}
 use Rattle.tf_quiet.specs.QuietTokens.{continues, continues_by, is_quiet_after_quote, is_quiet_operand, is_no_equality, is_quiet_token}
 use Rattle.tf_rules.specs.Rules.Lookup.{is_lookup_token}
 
--- Token n is quiet, and how a walk through an interpolation goes on from it; the kind behind it is
+-- Token n is quiet, and how a walk through an interpolation goes on from it; the kind after it is
 -- known where there is a token there.
 pub record QuietAt (ts : List Token) (walk : ℕ → Bool) (n : ℕ) (t : Token) : Type 0 where
   pub next : Option Kind
@@ -88,7 +88,7 @@ pub comes : (ts : List Token) (m : Bool) (t : Kind) (i : ℕ) → NextIs ts m t 
 unfolding next_kind next_token
 comes ts m t i e = token_by ts m t i (slice_get ts (next_index ts m i)) refl e
 
--- where no token stands, none stands behind
+-- where there is no token, there is none after it
 beyond : (ts : List Token) (i n : ℕ) → slice_get ts i ≡ None → slice_get ts (i + n) ≡ None
 beyond [] i n h = refl
 beyond (t ∷ ts) zero n h = absurd (cc)
@@ -112,7 +112,7 @@ pub next_here : (ts : List Token) (m : Bool) (i : ℕ) (u : Token) → slice_get
 unfolding next_index
 next_here ts m i u h d = let z = kept_at (λ (t : Token). is_skipped m t.0) ts i u h d in omega (arith, z)
 
--- a token of some kind comes next where another stands that is not dropped, or none
+-- no token of this kind comes next where there is none, or one of another kind that is not dropped
 clash : (ts : List Token) (m : Bool) (t : Kind) (i : ℕ) (o : Option Token) → slice_get ts i ≡ o → ((u : Token) → o ≡ Some u → (is_skipped m u.0 ≡ false) × (u.0 ≢ t)) → NextIs ts m t i → ⊥
 clash ts m t i None e h r = none_next ts m t i e r
 clash ts m t i (Some u) e h r = let p = h u refl in p.1 (some_next ts m t i u e p.0 r)
@@ -184,7 +184,7 @@ module _ (ts : List Token) (quiet : AllQuiet ts) where
 
   -- ---- a comparison
 
-  -- no list begins behind it
+  -- no list begins after it
   quiet_operand : (m : Bool) (n : ℕ) (next : Option Kind) → is_quiet_operand next ≡ true → ((u : Token) → slice_get ts n ≡ Some u → next ≡ Some u.0) → NextIs ts m k.OpenBracket n → ⊥
   quiet_operand m n next f known r =
       clash ts m k.OpenBracket n (slice_get ts n) refl (λ u e.
@@ -199,7 +199,7 @@ module _ (ts : List Token) (quiet : AllQuiet ts) where
       let f = subst (λ (z : Kind). is_quiet_token (Some z) (Some c.token.1) q.next (quiet.walk (next_index ts m i + 2)) ≡ true) c.kind q.is in
       quiet_operand m (suc (next_index ts m i)) q.next (sym (operator (Some c.token.1) q.next (quiet.walk (next_index ts m i + 2))) ∙ f) q.behind r
 
-  -- right behind a token of which this is known no comparison stands
+  -- right after a token of which this is known there is no comparison
   no_operator : (n : ℕ) (t : Kind) (a u : Token) → slice_get ts n ≡ Some a → slice_get ts (suc n) ≡ Some u → u.0 ≡ t
       → ((s : Option (List ℕ)) (o : Option Kind) (w : Bool) → is_quiet_token (Some a.0) s o w ≡ is_no_equality o) → is_no_equality (Some t) ≡ true
   no_operator n t a u e f kind before =
@@ -223,7 +223,7 @@ module _ (ts : List Token) (quiet : AllQuiet ts) where
   not_before : (m : Bool) (i : ℕ) → (i < next_index ts m i) ⊎ (i ≡ next_index ts m i)
   not_before m i = elim (below_or_not i (next_index ts m i)) [ inl l ↦ inl l | inr l ↦ inr (let f = forth m i in omega (arith, l, f)) ]
 
-  -- no comparison stands behind the end of a list, and what is dropped
+  -- no comparison follows the end of a list, and what is dropped
   pub no_equality_behind : (m : Bool) (i : ℕ) (t : Kind) → NextIs ts true k.CloseBracket i → NextIs ts m t (after_next ts true i) → is_no_equality (Some t) ≡ true
   unfolding after_next
   no_equality_behind m i t p r =
@@ -283,7 +283,7 @@ module _ (ts : List Token) (quiet : AllQuiet ts) where
         absurd (cc);
   }
 
-  -- behind the end of the interpolation quoted text goes on, where the walk came there
+  -- after the end of the interpolation quoted text goes on, where the walk came there
   goes_behind : (m : Bool) (n : ℕ) (next : Option Kind) → continues next ≡ true → ((u : Token) → slice_get ts n ≡ Some u → next ≡ Some u.0) → NextIs ts m k.QuoteClose n → ⊥
   goes_behind m n next f known r =
       clash ts m k.QuoteClose n (slice_get ts n) refl (λ u e.
@@ -299,7 +299,7 @@ module _ (ts : List Token) (quiet : AllQuiet ts) where
       let e : quiet.walk n ≡ continues q.next = q.walks ∙ ap (λ (z : Kind). continues_by z (continues q.next) (quiet.walk (n + 1))) c.kind in
       goes_behind m (suc n) q.next (sym e ∙ to_next true j h) q.behind r
 
-  -- the walk begins behind an interpolation that begins right behind a quote
+  -- the walk begins after an interpolation that begins right after a quote
   begins_by : (m : Bool) (n : ℕ) (next : Option Kind) (w : Bool) → is_quiet_after_quote next w ≡ true → ((u : Token) → slice_get ts n ≡ Some u → next ≡ Some u.0)
       → (o : Option Token) → slice_get ts n ≡ o → NextIs ts m k.InterpOpen n → (w ≡ true) × (next_index ts m n ≡ n)
   begins_by m n next w f known None e r = absurd (none_next ts m k.InterpOpen n e r)

@@ -1,4 +1,4 @@
--- A walk through an interpolation passes each expression in which no template stands.
+-- A walk through an interpolation passes each expression that has no template in it.
 use Rattle.std.proofs.Common.{◌≡◌, ℕ, Bool, true, List, Option, Some, refl}
 use Rattle.hcl_token.specs.declared.kind.Kind.{Kind}
 use Rattle.hcl_token.specs.declared.kind.Kind.TheVariants as k

@@ -23,8 +23,8 @@ continues_by k.InterpOpen more rest = false
 continues_by k.DirectiveOpen more rest = false
 continues_by _ more rest = rest
 
--- In the tokens of an interpolation and what follows: no template is in it, and the quoted text goes
--- on after its end.
+-- In the tokens of an interpolation and what follows: no template is in it, and the quoted text
+-- goes on after its end.
 abbrev pub continues_after : List Pair → Bool
 continues_after [] = false
 continues_after (p ∷ ps) = continues_by p.kind (continues (kind_of ps 0)) (continues_after ps)
@@ -52,8 +52,8 @@ is_no_equality (Some k.DoubleEqual) = false
 is_no_equality (Some k.NotEqual) = false
 is_no_equality _ = true
 
--- A token by its kind, its spelling, the kind of the token after it, and whether quoted text goes on
--- after the end of an interpolation that begins with that: no legacy index, no comparison with a
+-- A token by its kind, its spelling, the kind of the token after it, and whether quoted text goes
+-- on after the end of an interpolation that begins with that: no legacy index, no comparison with a
 -- list, no `lookup`, no quoted text that is one interpolation.
 abbrev pub is_quiet_token : Option Kind → Option (List ℕ) → Option Kind → Bool → Bool
 is_quiet_token (Some k.DotIndex) spelling next more = false

@@ -1,4 +1,5 @@
--- What the rules on blocks find in a member whose tokens stand elsewhere: the same, its numbers moved.
+-- What the rules on blocks find in a member whose tokens are elsewhere too: the same, its numbers
+-- moved.
 use Rattle.std.proofs.Common.{◌≡◌, ℕ, zero, suc, ◌+◌, ◌<◌, Bool, true, false, not, ◌&&◌, ◌||◌, List, [], ◌∷◌, map, length, slice_get, Option, Some, None, unwrap_or, codes, refl, sym, ap, ap₂, ◌∙◌, subst, arith}
 use Rattle.std.specs.List.{flat_map}
 use Rattle.std.specs.Option.{option_map}

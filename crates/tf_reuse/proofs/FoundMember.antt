@@ -1,4 +1,5 @@
--- What is found in a member whose tokens stand elsewhere is what was found in it, its numbers moved.
+-- What is found in a member whose tokens are elsewhere too is what was found in it, its numbers
+-- moved.
 use Rattle.std.proofs.Common.{◌≡◌, ℕ, List, [], ◌∷◌, ◌++◌, map, length, refl, ap, sym, ◌∙◌}
 use Rattle.std.specs.List.{flat_map}
 use Rattle.hcl_grammar.specs.declared.tree.Member.{Member}
@@ -17,7 +18,7 @@ use Rattle.tf_rules.specs.declared.finding.Finding.{Finding}
 use Rattle.tf_rules.specs.Findings.{valid_findings}
 use Rattle.tf_rules.specs.declared.rule_set.RuleSet.{RuleSet}
 
--- one list of nodes stands in some nodes
+-- some nodes have one list of all nodes in them
 one_list : {ns xs ys : List Node} → IsPreorder ns xs → IsPreorder ns ys → xs ≡ ys
 one_list nodes.no_nodes nodes.no_nodes = refl
 one_list (nodes.visit {n = n} {inside = inside} {others = others} a c) (nodes.visit {inside = inside'} {others = others'} b d) =

@@ -1,4 +1,4 @@
--- What stands in a tree whose tokens stand elsewhere, and what is found there.
+-- What is in a tree whose tokens are elsewhere too, and what is found there.
 use Rattle.std.proofs.Common.{◌≡◌, ℕ, Bool, false, List, [], ◌∷◌, ◌++◌, map, Option, refl, sym, subst, append-nil, append_assoc}
 use Rattle.std.specs.List.{flat_map}
 use Rattle.std.proofs.lemmas.Grind.{flat_map-append}
@@ -34,7 +34,8 @@ use Rattle.tf_reuse.proofs.Window.{Here, Same}
 use Rattle.tf_reuse.specs.MembersKeep.{SameTokens}
 use Rattle.tf_rules.specs.declared.rule_set.RuleSet.{RuleSet}
 
--- in two lists of nodes stands as much, and in the second is found what is found in the first, its numbers moved
+-- all nodes in each of two lists, and that in the second is found what is found in the first, its
+-- numbers moved
 pub record SameFound (rules : RuleSet) (old new : List Pair) (from to : ℕ) (ns ns' : List Node) : Type 0 where
   pub nodes : List Node
   pub nodes' : List Node
@@ -42,7 +43,7 @@ pub record SameFound (rules : RuleSet) (old new : List Pair) (from to : ℕ) (ns
   pub stand' : IsPreorder ns' nodes'
   pub found : Moves old new from to (flat_map (node_findings rules old) nodes) (flat_map (node_findings rules new) nodes')
 
--- what stands in the nodes of two lists
+-- what is in the nodes of two lists
 preorder_both : {ns xs ms ys : List Node} → IsPreorder ns xs → IsPreorder ms ys → IsPreorder (ns ++ ms) (xs ++ ys)
 preorder_both nodes.no_nodes b = b
 preorder_both {ys} (nodes.visit {n} {ns} {inside} {others} a c) b = rw (append_assoc inside others ys) (nodes.visit a (preorder_both c b))
@@ -61,7 +62,7 @@ module _ {rules : RuleSet} {old new : List Pair} {from to : ℕ} where
     found = rw (flat_map-append (node_findings rules new) a.nodes' b.nodes', flat_map-append (node_findings rules old) a.nodes b.nodes) (append a.found b.found);
   }
 
-  -- one node, by what is found at it and what stands in it
+  -- one node, by what is found at it and what is in it
   pub one_node : (n n' : Node) → Moves old new from to (node_findings rules old n) (node_findings rules new n') → SameFound rules old new from to (children n) (children n')
       → SameFound rules old new from to (n ∷ []) (n' ∷ [])
   one_node n n' e a = record {

@@ -1,4 +1,4 @@
--- A member whose tokens stand elsewhere is read there, and what is found in it is the same.
+-- A member whose tokens are elsewhere too is read there, and what is found in it is the same.
 use Rattle.std.proofs.Common.{◌≡◌, ℕ, ◌+◌, List, refl, subst, arith}
 use Rattle.tf_reuse.specs.OneMember.{IsOneMember}
 use Rattle.hcl_grammar.specs.Tokens.{Token}
@@ -10,7 +10,7 @@ use Rattle.tf_reuse.proofs.MoveBodies.{move_member}
 use Rattle.tf_reuse.proofs.Window.{Here, one_place}
 
 module _ {old new : List Token} {from to count : ℕ} (w : SameTokens old new from to count) where
-  -- the first place, and the place behind the last
+  -- the first place, and the place after the last
   front : Here w from to
   front = record { before = 0; within = omega arith; in_old = omega arith; in_new = omega arith }
 

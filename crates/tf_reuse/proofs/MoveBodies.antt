@@ -1,4 +1,5 @@
--- A member of a body stands where its tokens stand too, and so do those in its block: the numbers of tokens are others, and nothing else.
+-- A member of a body is derived wherever its tokens are, and so are those in its block: the numbers
+-- of tokens differ, and nothing else.
 use Rattle.std.proofs.Common.{◌≢◌, ℕ, suc, ◌+◌, ◌<◌, ◌≤◌, false, List, [], ◌∷◌, Option, Some, None, ◌∙◌, arith}
 use Rattle.hcl_token.specs.declared.kind.Kind.{Kind}
 use Rattle.hcl_token.specs.declared.kind.Kind.TheVariants as k
@@ -60,7 +61,7 @@ module _ {old new : List Token} {from to count : ℕ} (w : SameTokens old new fr
   unfolding after_next next_index
   goes i = omega arith
 
-  -- what comes next is one of the tokens, if what comes behind it is
+  -- what comes next is one of the tokens, if what comes after it is
   back : (i : ℕ) → Comes w false (after_next old false i) → Comes w false i
   back i c = earlier w false i (after_next old false i) (omega (arith, goes i)) c
 
@@ -168,7 +169,7 @@ module _ {old new : List Token} {from to count : ℕ} (w : SameTokens old new fr
         moved.attribute {j' = n'} {e' = e'} (starts_here w false h c0) hn (omega (arith, begins i, goes i1, on, (span_eol el).forth)) m,
       )
 
-  -- a block whose body, as it stands in the braces, is moved
+  -- a block whose body, as it is in the braces, is moved
   move_block : {d : ℕ} {ls : List Label} {bs : List Member} {i i' j n o q : ℕ} → NextIs old false k.Identifier i → IsLabels old ls (after_next old false i) j → NextIs old false k.OpenBrace j
       → IsNewline old (after_next old false j) n → n ≤ o → (Comes w false o → (n' : ℕ) → Here w n n' → MovesMembers d bs n' o) → NextIs old false k.CloseBrace o → (el : IsEol old (after_next old false o) q)
       → Here w i i' → q ≤ from + count → IsLine el
@@ -214,7 +215,7 @@ module _ {old new : List Token} {from to count : ℕ} (w : SameTokens old new fr
         moved.block {j' = q'} {ls' = ls'} {x' = content.OneLine a'} (starts_here w false h c0) hq (omega (arith, begins i, (span_labels ls).forth, goes j, on, goes o, (span_eol el).forth)) lm (moved.on_line {o' = a'} am),
       )
 
-  -- a member that is moved, and those behind it
+  -- a member that is moved, and those after it
   then : {d : ℕ} {x : Member} {ms : List Member} {i' n l : ℕ} → MovesMember d x i' n → ((n' : ℕ) → Here w n n' → MovesMembers d ms n' l) → MovesMembers d (x ∷ ms) i' l
   then (y, n', hn, y', m) more = let (ns, l', hl, ns', ms) = more n' hn in (y ∷ ns, l', hl, in_front y' ns', moved.members m ms)
 

@@ -35,7 +35,7 @@ pub begins_keyword : {ts : List Token} {m : Bool} {v : List ℕ} {i j : ℕ} →
 begins_keyword {ts} (keyword {m} {i} p q r) = omega (arith, passed ts true (after_next ts m i), passed ts true (after_next ts true (after_next ts m i)))
 
 module _ {old new : List Token} {from to count : ℕ} (w : SameTokens old new from to count) where
-  -- a token that stands before place j
+  -- a token that is before place j
   pub inside : (m : Bool) (i j : ℕ) → after_next old m i ≤ j → j ≤ from + count → Comes w m i
   inside m i j l b = comes_within w m i (omega (arith, l, b))
 

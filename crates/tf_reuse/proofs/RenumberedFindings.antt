@@ -1,4 +1,4 @@
--- What is found at one node of a tree is found at it where its tokens stand elsewhere, its numbers moved.
+-- What is found at one node of a tree is found at it wherever its tokens are, its numbers moved.
 use Rattle.std.proofs.Common.{◌≡◌, ℕ, ◌+◌, ◌-◌, ◌<◌, Bool, true, false, ◌&&◌, ◌||◌, ◌==◌, not, List, [], Option, Some, refl, ap, ap₂, nat_lt, nat_le, ◌≤◌, arith, rules, if◌then◌else◌}
 use Rattle.std.proofs.lemmas.Bool.{leb-true, leb-false}
 use Rattle.hcl_grammar.specs.declared.tree.Call.{out-Call, roll-Call}
@@ -226,7 +226,7 @@ module _ (old new : List Pair) {from to count : ℕ} (w : SameTokens (tokens_of 
 
   -- ---- quoted text that is one interpolation
 
-  -- what stands between its braces, where there is such
+  -- what is between its braces, where there is such
   inside_moved : {i i' j j' : ℕ} → Here w i i' → Here w j j' → i + 5 ≤ j → SameFix old new w (Some (inside i j)) (Some (inside i' j'))
   inside_moved h g l =
       let a : Here w _ _ = record { before = h.before + 2; within = omega (arith, l, h.in_old, g.in_old, g.within); in_old = omega (arith, h.in_old); in_new = omega (arith, h.in_new) } in
@@ -296,7 +296,7 @@ module _ (old new : List Pair) {from to count : ℕ} (w : SameTokens (tokens_of 
   lookup_moved h g (moved.heredoc a) = simp (open_heredoc) moves.none
   lookup_moved h g (moved.parens a) = simp (open_parens) moves.none
 
-  -- ---- at a node, and not in what stands in it
+  -- ---- at a node, and not in what is in it
 
   pub at_expr : (rules : RuleSet) (role : Role) {e e' : Expr} → MovedExpr (Here w) (Same w) e e'
       → Moves old new from to (node_findings rules old (expr role e)) (node_findings rules new (expr role e'))

@@ -48,7 +48,7 @@ module _ {old new : List Pair} {from to : ℕ} where
 pub both : {x y x' y' : Bool} → x ≡ x' → y ≡ y' → (x && y) ≡ (x' && y')
 both e f = ap₂ (λ (a : Bool) (b : Bool). a && b) e f
 
--- a finding that stands in both lists, or in neither
+-- a finding that is in both lists, or in neither
 if_renumbered : (M : Finding → Finding) (b b' : Bool) (f f' : Finding) → b' ≡ b → f' ≡ M f → (if b' then f' ∷ [] else []) ≡ map M (if b then f ∷ [] else [])
 if_renumbered M true true f f' e h = rw h refl
 if_renumbered M false false f f' e h = refl

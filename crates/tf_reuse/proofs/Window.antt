@@ -1,4 +1,5 @@
--- Two lists of tokens in which the same tokens stand from some place on: which places are one, and what comes next there.
+-- Two lists of tokens that have the same tokens from some place on: which places are one, and what
+-- comes next there.
 use Rattle.std.proofs.Common.{◌≡◌, ◌≢◌, ◌==◌, ℕ, zero, suc, ◌+◌, ◌-◌, ◌<◌, ◌≤◌, Bool, true, false, cond, if◌then◌else◌, List, [], ◌∷◌, length, take, drop, slice_get, Option, Some, None, inl, inr, refl, sym, ap, ◌∙◌, subst, arith}
 use Rattle.std.proofs.lemmas.Bool.Decides.{eqb_tells}
 use Rattle.std.proofs.lemmas.List.{drop-take}
@@ -72,7 +73,7 @@ chosen P i j s i' j' s' to back x y = elim (eqb_tells i j) [
 module _ {old new : List Token} {from to count : ℕ} (w : SameTokens old new from to count) where
   -- place i of the old list is place j of the new one
   pub record Here (i j : ℕ) : Type 0 where
-    -- so many of the tokens stand before it
+    -- how many of the tokens are before it
     pub before : ℕ
     pub within : before ≤ count
     pub in_old : i ≡ from + before
@@ -93,7 +94,7 @@ module _ {old new : List Token} {from to count : ℕ} (w : SameTokens old new fr
   pub each_same : (k : ℕ) → k < count → slice_get new (to + k) ≡ slice_get old (from + k)
   each_same k l = sym (get_drop to k new) ∙ gets count k (drop from old) (drop to new) w.same l ∙ get_drop from k old
 
-  -- behind k of the tokens the other n are the same
+  -- after k of the tokens the other n are the same
   rest_same : (k n : ℕ) → k + n ≡ count → take n (drop (from + k) old) ≡ take n (drop (to + k) new)
   rest_same k n e =
       let all : take (k + n) (drop from old) ≡ take (k + n) (drop to new) = subst (λ (c : ℕ). take c (drop from old) ≡ take c (drop to new)) (sym e) w.same in
@@ -160,7 +161,7 @@ module _ {old new : List Token} {from to count : ℕ} (w : SameTokens old new fr
   unfolding next_index
   earlier m i j l c = omega (arith, later (λ (t : Token). is_skipped m t.0) i j old l, c)
 
-  -- a token that is not dropped stands at n
+  -- a token that is not dropped is at n
   pub earlier_than : (m : Bool) (i n : ℕ) (t : Token) → i ≤ n → slice_get old n ≡ Some t → is_skipped m t.0 ≡ false → n < from + count → Comes m i
   unfolding next_index
   earlier_than m i n t l e d b = let p : Token → Bool = λ (t : Token). is_skipped m t.0 in omega (arith, later p i n old l, kept_at p old n t e d, b)

@@ -44,11 +44,11 @@ pub one : {pairs : List Pair} {rule : Rule} {first past : ℕ} {message : Messag
 one other no_slashes mended =
     record { are = (record { rule_is = refl; inside = no_slashes ∙ sym other; has_slashes = λ e. absurd (false≢true (sym no_slashes ∙ e)); has_fix = mended }, tt) }
 
--- that no fix mends
+-- one without a fix
 pub plainly : {pairs : List Pair} {rule : Rule} {first past : ℕ} {message : Message} → is_comment_rule rule ≡ false → From pairs rule (finding_at rule first past message None)
 plainly other = one other refl (λ e. absurd (false≢true e))
 
--- that a fix mends, if it can
+-- one with a fix, if it can be fixed
 pub maybe : {pairs : List Pair} {rule : Rule} {first past : ℕ} {message : Message} (b : Bool) (fix : Fix) → is_comment_fix (Some fix) ≡ false → is_comment_rule rule ≡ false
     → has_fix rule ≡ true → From pairs rule (finding_at rule first past message (when b fix))
 maybe true fix no_slashes other fixed = one other no_slashes (λ e. fixed)

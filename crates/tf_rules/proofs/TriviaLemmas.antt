@@ -8,7 +8,7 @@ use Rattle.hcl_token.specs.declared.kind.Kind.{Kind}
 use Rattle.hcl_token.specs.Tokens.{Pair}
 use Rattle.tf_rules.specs.Trivia.{token_range, is_trivia, is_line_break, depth_after, has_trivia, has_line_break}
 
--- the token at a role, and those behind it
+-- the token at a role, and those after it
 pub tokens_more : (pairs : List Pair) (i past : ℕ) (kind : Kind) → i < past → Some kind ≡ kind_of pairs i
     → (p : Pair) × (token_range pairs i past ≡ p ∷ token_range pairs (i + 1) past) × (kind ≡ p.kind)
 tokens_more pairs i past kind below told = elim (slice_get_cases pairs i).1 [

@@ -49,8 +49,8 @@ fn past_whole_units(name: &[u8]) -> usize
     at
 }
 
-/// Passes bytes that may come one after the other, as many as units show: the last unit ends with the
-/// name, so that it may overlap the one before. Returns a place with a byte before it.
+/// Passes bytes that may come one after the other, as many as units show: the last unit ends with
+/// the name, so that it may overlap the one before. Returns a place with a byte before it.
 pub fn past_units(name: &[u8]) -> usize
     requires { 1 ≤ length name.now }
     ensures later { 1 ≤ result }

@@ -1,4 +1,4 @@
--- A node is told by what it has of its own and by its parts.
+-- A node is determined by what it has of its own and by its parts.
 use Rattle.std.proofs.Common.{◌≡◌, ℕ, Bool, false, List, [], ◌∷◌, ◌++◌, map, length, Option, Some, None, refl, sym, ap, ◌∙◌, arith}
 use Rattle.std.specs.List.{flat_map}
 use Rattle.hcl_grammar.specs.declared.tree.Attribute.{Attribute}
@@ -54,7 +54,7 @@ content_is x y e = sym (bodies.roll-out-Content x) ∙ (ap bodies.roll-Content e
 member_is : (x y : Member) → out-Member x ≡ out-Member y → x ≡ y
 member_is x y e = sym (bodies.roll-out-Member x) ∙ (ap bodies.roll-Member e ∙ bodies.roll-out-Member y)
 
--- ---- a struct is told by its fields
+-- ---- a struct is determined by its fields
 
 make-expr : ℕ → ℕ → ExprKind → Expr
 make-expr a b c = roll-Expr (record { first = a; past = b; kind = c })
@@ -208,7 +208,7 @@ filtered None (Some y) e = absurd (cc)
 filtered (Some x) None e = absurd (cc)
 filtered (Some x) (Some y) e = cc
 
--- the parts before `else`, which are counted, and those behind it
+-- the parts before `else`, which are counted, and those after it
 elsed : (xs ys : List Part) (x y : Option Template) → length xs ≡ length ys → else_payload x ≡ else_payload y
     → map part xs ++ else_children x ≡ map part ys ++ else_children y → (xs ≡ ys) × (x ≡ y)
 elsed [] [] None None n e f = (refl, refl)

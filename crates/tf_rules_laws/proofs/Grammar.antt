@@ -1,4 +1,4 @@
--- What stands in a body for the rules stands there for the grammar.
+-- What is in a body for the rules is in it for the grammar.
 use Rattle.std.proofs.Common.{◌≡◌, Bool, false, List, [], ◌∷◌, ◌++◌, map, Option, Some, None, refl, subst}
 use Rattle.std.specs.List.{flat_map}
 use Rattle.hcl_grammar.specs.declared.tree.Call.{out-Call}
@@ -51,7 +51,7 @@ pub data Seen (S : g.Node → Type 0) (T : Tail → Type 0) : Node → Type 0 wh
   a_part : {x : Part} → Each S (g.part_nodes (out-Part x)) → Seen S T (part x)
   a_member : {m : Member} → S (g.member_node (out-Member m)) → Seen S T (member m)
 
--- What is known of a node is known of what stands in it, and of the tails of an expression.
+-- What is known of a node is known of what is in it, and of the tails of an expression.
 pub record Closed (S : g.Node → Type 0) (T : Tail → Type 0) : Type 0 where
   pub inside : (n : g.Node) → S n → Each S (g.nodes n)
   pub tails : (e : Expr) (t : Term) (xs : List Tail) → out-ExprKind e.kind ≡ ExprKind-F.Postfix t xs → S (g.expr e) → Each T xs
@@ -173,7 +173,7 @@ module _ (S : g.Node → Type 0) (T : Tail → Type 0) (closed : Closed S T) whe
   one_visited x (m ∷ ms) (here s) a = same x m s a.0
   one_visited x (m ∷ ms) (there s) a = one_visited x ms s a.1
 
--- ---- what stands in a node of the grammar
+-- ---- what is in a node of the grammar
 
 mutual
   joined : {x p q : g.Node} → g.IsWithin x p → g.IsWithin p q → g.IsWithin x q
@@ -184,7 +184,7 @@ mutual
   joined_among s (g.in_first t) = g.in_first (joined s t)
   joined_among s (g.in_rest t) = g.in_rest (joined_among s t)
 
--- each of some nodes stands where all of them do
+-- each of some nodes is where all of them are
 listed : (root : g.Node) (xs : List g.Node) → ((x : g.Node) → g.IsWithinOneOf x xs → g.IsWithin x root) → Each (λ x. g.IsWithin x root) xs
 listed root [] h = tt
 listed root (x ∷ xs) h = (h x (g.in_first g.itself), listed root xs (λ y s. h y (g.in_rest s)))

@@ -1,4 +1,4 @@
--- Among the nodes that stand in some nodes are these and the parts of each.
+-- Among the nodes that are in some nodes are these and the parts of each.
 use Rattle.std.proofs.Common.{List, [], ◌∷◌, ◌++◌}
 use Rattle.tf_rules.specs.Preorder as nodes
 use Rattle.tf_rules.specs.Preorder.{Node, IsPreorder, children}

@@ -1,4 +1,4 @@
--- The tokens of what the rules name in a derived node stand in order, within the text.
+-- The tokens of what the rules name in a derived node are in order, within the text.
 use Rattle.std.proofs.Common.{◌≡◌, ℕ, suc, ◌+◌, ◌<◌, ◌≤◌, Bool, true, false, List, [], ◌∷◌, length, slice_get, Option, Some, sym, ap, ◌∙◌, subst, arith}
 use Rattle.hcl_token.specs.declared.kind.Kind.TheVariants as k
 use Rattle.hcl_grammar.specs.declared.tree.Attribute.{Attribute}
@@ -42,14 +42,14 @@ follows : (ts : List Token) (m : Bool) (i : ℕ) → suc (next_index ts m i) ≤
 unfolding after_next
 follows ts m i = omega arith
 
--- what stands from number first up to past, among the tokens from place i up to place j
+-- what is from number first up to past, among the tokens from place i up to place j
 pub record Sits (ts : List Token) (i j first past : ℕ) : Type 0 where
   pub begun : i ≤ first
   pub some : first < past
   pub ended : past ≤ j
   pub within : past ≤ length ts
 
--- the operands of links, each behind the one before it
+-- the operands of links, each after the one before it
 abbrev pub Rising : ℕ → List Operation → ℕ → Type 0
 Rising i [] j = i ≤ j
 Rising i (l ∷ ls) j = (i ≤ l.operand.first) × ((l.operand.first < l.operand.past) × Rising l.operand.past ls j)
@@ -60,7 +60,7 @@ pub record Chained (first past : ℕ) (head : Expr) (ls : List Operation) : Type
   pub some : head.first < head.past
   pub rise : Rising head.past ls past
 
--- two expressions, one behind the other
+-- two expressions, in order
 pub record Ordered (i j : ℕ) (a b : Expr) : Type 0 where
   pub begun : i ≤ a.first
   pub left : a.first < a.past

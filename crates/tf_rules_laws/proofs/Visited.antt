@@ -1,4 +1,4 @@
--- What stands in a body for the grammar stands there for the rules.
+-- What is in a body for the grammar is in it for the rules.
 use Rattle.std.proofs.Common.{◌≡◌, Bool, true, false, List, [], ◌∷◌, ◌++◌, map, Option, Some, None, refl, subst}
 use Rattle.std.specs.List.{flat_map}
 use Rattle.hcl_grammar.specs.declared.tree.Attribute.{Attribute}
@@ -33,7 +33,7 @@ use Rattle.tf_rules_laws.proofs.Inside as inside
 use Rattle.tf_rules_laws.proofs.Inside.{In, AllIn, first_all, last_all, roots_in, parts_in}
 use Rattle.tf_rules_laws.specs.NodeLists.{is_in_both, IsSameNode, same_expr, same_term, same_if, same_for, same_attribute, same_block, IsAmong, here, there, EveryNodeIsVisited}
 
--- a node of the grammar that stands among nodes of the rules, or whose parts do
+-- a node of the grammar that is among nodes of the rules, or whose parts are
 pub data Known (ns : List Node) : g.Node → Type 0 where
   a_body : {b : Body} → AllIn ns (map member b.members) → Known ns (g.body b)
   a_block : {m : Member} {b : Block} → out-Member m ≡ Member-F.Block b → In (member m) ns → Known ns (g.block b)

@@ -35,7 +35,7 @@ pub data Payload : Type 0 where
   operators : List BinaryOperator → Payload
   labels : List Label → Payload
 
--- ---- for each kind: its number, and what it has beside its parts
+-- ---- for each kind: its number, and what it has besides its parts
 
 abbrev pub expr_kind_payload : ExprKindLayer → List Payload
 expr_kind_payload (ExprKind-F.Conditional c met unmet) = number 0 ∷ []

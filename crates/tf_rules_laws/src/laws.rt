@@ -9,8 +9,8 @@ pub fn children_are_complete()
     ensures { ChildrenAreComplete }
 {}
 
-/// The nodes of a tree determine it, each by what it has of its own and by how many children it has:
-/// nothing of a tree is left out of the list of them.
+/// The nodes of a tree determine it, each by what it has of its own and by how many children it
+/// has: nothing of a tree is left out of the list of them.
 pub fn preorder_determines_tree()
     ensures { PreorderDeterminesTree }
 {}

@@ -1,5 +1,5 @@
--- Which new journals may replace the journal, as the laws take it for granted. What a command finds out about
--- that (`Checks`) is any function: these say what it has to answer.
+-- Which new journals may replace the journal, as the laws take it for granted. What a command finds
+-- out about that (`Checks`) is any function: these say what it has to answer.
 use Rattle.std.specs.Prelude.{◌≡◌, Option, true, false}
 use Rattle.tf_saving.specs.Disk.{File, Checks, new_after_power_loss}
 use Rattle.tf_saving.specs.Runs.{Pair}

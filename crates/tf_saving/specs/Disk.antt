@@ -1,5 +1,6 @@
 -- A text, its journal, and their new files on a disk: what each system call does to them, and what
--- a crash or a power loss leaves. A new file has a name of its own next to the file that it replaces.
+-- a crash or a power loss leaves. A new file has a name of its own next to the file that it
+-- replaces.
 use Rattle.std.specs.Prelude.{ℕ, List, [], ◌∷◌, ◌++◌, map, Option, Some, None, Bool, true, false}
 use Rattle.tf_saving.specs.declared.call.Part.{Part}
 use Rattle.tf_saving.specs.declared.call.Part.TheVariants.{Text, Journal}
@@ -71,7 +72,8 @@ created None f =
     }
 created (Some file) f = f
 
--- All bytes are written to an empty file. After other bytes they would not be those that were meant.
+-- All bytes are written to an empty file. After other bytes they would not be those that were
+-- meant.
 abbrev pub written : List ℕ → File → File
 written bytes Empty = Unsynced bytes
 written bytes (Durable others) = Torn

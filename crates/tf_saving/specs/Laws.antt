@@ -18,9 +18,9 @@ InitialIsStable = (p : Pair) (checks : Checks) →
       checks = checks;
     })
 
--- Wherever a save is interrupted, whichever calls fail, whatever a power loss leaves, and however often
--- the commands after it are interrupted too:
--- once a recovery succeeds, text and journal are both old or both new.
+-- Wherever a save is interrupted, whichever calls fail, whatever a power loss leaves, and however
+-- often the commands after it are interrupted too: once a recovery succeeds, text and journal are
+-- both old or both new.
 abbrev pub NothingIsLost : Type 0
 NothingIsLost =
     (old : Pair) (d : Disk) → IsStable old d → (s : Contents) → IsAdoptable d.checks (as_files s) → (fates : List Fate) (events : List Event) (last : List Fate)
@@ -28,8 +28,9 @@ NothingIsLost =
     let next = run s last (recovering (after_events s events stopped)) in
     next.step ≡ Ended Success → IsStable old next.disk ⊎ IsStable (as_files s) next.disk
 
--- A new journal that is found alone and may not be adopted replaces nothing, however often the commands
--- that find it are interrupted: once a recovery succeeds, text and journal are as they were.
+-- A new journal that is found alone and may not be adopted replaces nothing, however often the
+-- commands that find it are interrupted: once a recovery succeeds, text and journal are as they
+-- were.
 abbrev pub StrayIsNotAdopted : Type 0
 StrayIsNotAdopted =
     (p : Pair) (stray : File) (checks : Checks) → IsUnadoptable checks p (Some stray)
@@ -54,26 +55,30 @@ SuccessIsDurable =
     (old : Pair) (d : Disk) → IsStable old d → (s : Contents) → IsAdoptable d.checks (as_files s) → (fates : List Fate)
     → let m = run s fates (saving d) in m.step ≡ Ended Success → IsStable (as_files s) m.disk × HasNoNewFiles m.disk
 
--- A save that ends in an error, or that is to be written in place, has left both files as they were.
+-- A save that ends in an error, or that is to be written in place, has left both files as they
+-- were.
 abbrev pub ErrorsChangeNothing : Type 0
 ErrorsChangeNothing =
     (old : Pair) (d : Disk) → IsStable old d → (s : Contents) → IsAdoptable d.checks (as_files s) → (fates : List Fate)
     → let m = run s fates (saving d) in
     ((part : Part) → m.step ≡ Ended (Error part) → IsStable old m.disk) × (m.step ≡ Ended InPlace → IsStable old m.disk)
 
--- A save that ends late has replaced the text: unless the power fails, the next recovery finds both new.
+-- A save that ends late has replaced the text: unless the power fails, the next recovery finds both
+-- new.
 abbrev pub LateRecoversToNew : Type 0
 LateRecoversToNew =
     (old : Pair) (d : Disk) → IsStable old d → (s : Contents) → IsAdoptable d.checks (as_files s) → (fates : List Fate)
     → let m = run s fates (saving d) in m.step ≡ Ended Late
     → (last : List Fate) → let next = run s last (recovering m.disk) in next.step ≡ Ended Success → IsStable (as_files s) next.disk
 
--- On any disk a recovery of which no call fails succeeds, within eight calls, and leaves no new file.
+-- On any disk a recovery of which no call fails succeeds, within eight calls, and leaves no new
+-- file.
 abbrev pub RecoveryEnds : Type 0
 RecoveryEnds =
     (d : Disk) (s : Contents) → let m = run s (replicate 8 Succeeds) (recovering d) in (m.step ≡ Ended Success) × HasNoNewFiles m.disk
 
--- A save of which no call fails succeeds, within nineteen calls, if no other program changes anything.
+-- A save of which no call fails succeeds, within nineteen calls, if no other program changes
+-- anything.
 abbrev pub UnfailingSaveSucceeds : Type 0
 UnfailingSaveSucceeds =
     (text : File) (journal : Option File) (s : Contents) (can_adopt : Option File → Option File → Option File → Bool)

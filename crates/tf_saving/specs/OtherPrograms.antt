@@ -50,15 +50,15 @@ IsInPlace _ = ⊥
 abbrev pub IsUnchanged : Disk → Disk → Type 0
 IsUnchanged before after = (after.text.current.own ≡ before.text.current.own) × (after.journal.current.own ≡ before.journal.current.own)
 
--- On any disk, if the text is no longer the file that was read: at each call from there on text and journal
--- stay as they are, and the save ends in an error.
+-- On any disk, if the text is no longer the file that was read: at each call from there on text and
+-- journal stay as they are, and the save ends in an error.
 abbrev pub ChangedTextIsKept : Type 0
 ChangedTextIsKept =
     (m : State) (s : Contents) → PrecedesRename m.step → m.disk.checks.is_unchanged ≡ false → (fates : List Fate)
     → let n = run s fates m in IsUnchanged m.disk n.disk × ((end : End) → n.step ≡ Ended end → IsError end)
 
--- On any disk, if a new file is no longer the one that this command created: text and journal stay as they
--- are at each call, and the save ends in an error or is to be written in place.
+-- On any disk, if a new file is no longer the one that this command created: text and journal stay
+-- as they are at each call, and the save ends in an error or is to be written in place.
 abbrev pub ForeignFileIsNotRenamed : Type 0
 ForeignFileIsNotRenamed =
     (m : State) (s : Contents) → CreatesNewFiles m.step → (part : Part) → m.disk.checks.is_ours part ≡ false → (fates : List Fate)
@@ -80,9 +80,9 @@ edited file m =
       };
     }
 
--- If another program writes the text at any call from the first new file to the comparison of the text, and the
--- save is interrupted anywhere after it:
--- once a recovery succeeds, the text is what that program wrote, and the journal is the old one.
+-- If another program writes the text at any call from the first new file to the comparison of the
+-- text, and the save is interrupted anywhere after it: once a recovery succeeds, the text is what
+-- that program wrote, and the journal is the old one.
 abbrev pub EditIsKept : Type 0
 EditIsKept =
     (old : Pair) (d : Disk) → IsStable old d → (s : Contents) → IsAdoptable d.checks (as_files s) → (before : List Fate)

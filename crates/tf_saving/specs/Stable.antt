@@ -1,6 +1,6 @@
--- Disks from which every recovery finds one text and its journal. A reader of the laws need not believe these
--- definitions: what the laws take for granted is in Adoption, a disk without new files is stable
--- (`InitialIsStable`), and what a command leaves is stable again.
+-- Disks from which every recovery finds one text and its journal. A reader of the laws need not
+-- believe these definitions: what the laws take for granted is in Adoption, a disk without new
+-- files is stable (`InitialIsStable`), and what a command leaves is stable again.
 use Rattle.std.specs.Prelude.{◌≡◌, ◌⊎◌, ℕ, List, [], ◌∷◌, Option, Some, None}
 use Rattle.tf_saving.specs.Adoption.{IsAdoptable, IsUnadoptable}
 use Rattle.tf_saving.specs.Disk.{File, Durable, Names, Directory, Checks, Disk}

@@ -21,7 +21,8 @@ use Rattle.tf_session.specs.RemovalLaws.{RemovalIsUnique}
 use Rattle.tf_session.proofs.RemovalIsUnique.{Excludes, met_excludes, overflows_excludes, nth_once, numbers, there_is, passed_or_stuck, stuck_same}
 use Rattle.tf_session.proofs.Stacks.{undone_or_refused}
 
--- why record n cannot be swapped with the record of this number behind it, and the fault that this is
+-- why record n cannot be swapped with the record of this number after it, and the error that this
+-- is
 abbrev pub CannotSwap : ℕ → ℕ → Fault → EditList → EditList → Type 0
 CannotSwap n k f a b =
     ((f ≡ TooLong) × SwapIsTooLong a b)
@@ -93,7 +94,7 @@ same_records (r ∷ rs) (s ∷ ss) e w =
     λ i. same i ∷ rest i
 
 module _ (one_swap : SwapIsUnique) (takes_one : MoveToEndIsUnique) (unique : ChangeResultIsUnique) where
-  -- behind all later records the edits of record n are one list, and those are one list each
+  -- moved after all later records, the edits of record n are one list, and those are one list each
   moved_once : (n : ℕ) (js : List JournalEntry) (nth other : Nth n js) (cs ds : List EditList) (a b : EditList)
       → IsMovedToEnd nth.item.edits (edits_of nth.after) cs a → IsMovedToEnd other.item.edits (edits_of other.after) ds b → (cs ≡ ds) × (a ≡ b)
   moved_once n js nth other cs ds a b p q =

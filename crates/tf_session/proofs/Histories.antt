@@ -293,7 +293,8 @@ stays unique takes_one lengths (Fix rules) p e h st = refused_text (Fix rules) p
 stays unique takes_one lengths Revert p e h st = refused_last unique p e h st
 stays unique takes_one lengths (Take n) p e h st = refused_one unique takes_one lengths n p h st
 
--- What a session's step ensures takes a run, and the history that its records stand for, one command further.
+-- What a session's step ensures takes a run, and the history that its records represent, one
+-- command further.
 pub moved : ChangeResultIsUnique → MoveToEndIsUnique → TurnLengths → (first mid : History) (cs : List Command) (rs : List (Result Done Fault)) (command : Command) (reply : Result Done Fault) (t : List ℕ) (js : List JournalEntry) (u : List ℕ) (ks : List JournalEntry)
     → HistoryRun first cs rs mid → t ≡ top_text mid → js ≡ records_in mid.layers → IsHistory mid
     → IfOk reply (λ d. DoesStep command t js d u ks) → IfErr reply (RefusesStep command t js) → OnErr reply (u ≡ t) → OnErr reply (ks ≡ js)

@@ -61,7 +61,7 @@ given_up (Refused.Length expected found) answer new stands gives = cc
 given_up (Refused.Differs step edit) answer new stands gives = cc
 given_up Refused.Memory answer new stands gives = refl
 
--- the edits of a layout stand in the text, so that they are refused for want of memory alone
+-- the edits of a layout apply to the text, so they fail only if an allocation does
 pub only_memory : (forward : List ℕ → Result (List ℕ) Refused) (edits : EditList) (text lent : List ℕ) (t : Tree) (refused : Refused) → ((old new : List ℕ) → (forward old ≡ Ok new) ↔ Transforms edits old new)
     → IsLayoutEdits edits text t → lent ≡ text → AgreesWith (Err refused) (forward lent) → refused ≡ Refused.Memory
 only_memory forward edits text lent t refused exact lays same gives =

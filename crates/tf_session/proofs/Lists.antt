@@ -5,7 +5,7 @@ use Rattle.std.proofs.lemmas.Option.{slice_get_cases}
 use Rattle.std.proofs.lemmas.List.{take_more}
 use Rattle.std.proofs.Math.Seq.{take-length}
 
--- a list with a last member is what stands before it, and it
+-- a list with a last member is what precedes it, and it
 pub ends_with_last : {X : Type 0} (xs : List X) (x : X) → slice_get xs (length xs - 1) ≡ Some x → xs ≡ take (length xs - 1) xs ++ x ∷ []
 ends_with_last xs x h =
     elim (slice_get_cases xs (length xs - 1)).1 [

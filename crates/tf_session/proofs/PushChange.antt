@@ -89,7 +89,7 @@ pub push_fix : (rules : RuleSet) (lent t : List ℕ) (js : List JournalEntry) (c
     → IfOk reply (λ d. AddsRecord (texts_differ t (changed_text t change)) Word.Fix (changed_edits t change) js ks) → IfOk reply (λ d. DoesStep (Fix rules) t js d u ks)
 push_fix rules lent t js change fixed left reply u ks same makes turns replied put added = push_lent (Fix rules) Word.Fix refl lent t js change fixed left reply u ks same makes turns replied put added
 
--- ---- a text laid out or fixed, with no record before it
+-- ---- a text formatted or fixed, with no record before it
 
 abbrev record_of : Word → Bool → EditList → List JournalEntry
 record_of word true edits = record { word = word; edits = edits } ∷ []

@@ -29,7 +29,7 @@ pub only_old : (e : EditList) (u : List ℕ) (result : Result (Vec ℕ) Refused)
 only_old e u (Ok old) exact is = λ v turns. let other : apply_edits Backward e u ≡ Ok v = (exact v u).1 turns in cc
 only_old e u (Err refused) exact is = tt
 
--- the slice behind record n
+-- the slice after record n
 abbrev pub rest_of : ℕ → List JournalEntry → List JournalEntry
 rest_of n rs = take (length rs - n) (drop n rs)
 

@@ -89,7 +89,7 @@ why_fmt text (Refused refused) h = absurd h
 why_fmt text Memory h = absurd h
 why_fmt text (Blocked number) h = absurd h
 
--- tokens over which no tree stands
+-- tokens that have no tree
 has_tokens : (text : List ℕ) (fault : ParseFault) → IsParseFault text fault → (pairs : List Pair) × (last : List ℕ) × IsTokenization text pairs last
 has_tokens text (Syntax at) h = (h.0, h.1, h.2)
 has_tokens text (TooDeep at) h = (h.0, h.1, h.2)

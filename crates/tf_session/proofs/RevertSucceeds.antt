@@ -61,7 +61,7 @@ decoding (BadEnd at) bytes records is d = absurd (d.0 records is)
 decoding RecordFault.Memory bytes records is d = refl
 decoding (BadSteps at) bytes records is d = absurd (d.0 records is)
 
--- ---- the last record stands
+-- ---- the last record makes the text
 
 refusing : ChangeResultIsUnique → (refusal : Fault) (text new : List ℕ) (records earlier : List JournalEntry) (r : JournalEntry) → records ≡ earlier ++ r ∷ [] → record_transforms r text new
     → RefusesStep Revert new records refusal → is_from_outside (run_fault_of refusal) ≡ true

@@ -1,4 +1,4 @@
--- What a session does is a step of the stack of texts that its records stand for.
+-- What a session does is a step of the stack of texts that its records represent.
 use Rattle.std.proofs.Common.{◌≡◌, ◌∙◌, ℕ, List, [], ◌∷◌, ◌++◌, Bool, true, false, MatchBool, IfOk, IfErr, OnErr, Result, Ok, Err, ap, sym, refl, subst}
 use Rattle.std.proofs.lemmas.Slice.Eq.{bytes_eq-Decides}
 use Rattle.std.proofs.lemmas.Bool.{not-false}
@@ -27,7 +27,7 @@ stack t below = record { top = t; below = below }
 pub same_texts : (t u : List ℕ) → texts_differ t u ≡ false → t ≡ u
 same_texts t u h = (bytes_eq-Decides t u).0 (not-false _ h)
 
--- a text that a command made was put on, and the records stand for the stack
+-- a text that a command made was pushed, and the records represent the stack
 abbrev PutsStanding : Command → Rewrite → List ℕ → List StackEntry → Done → List ℕ → List JournalEntry → Type 0
 PutsStanding command made t below d u ks =
     (n : Stack) × PushesText command (Ok made) (stack t below) (Ok d) n × (u ≡ n.top) × IsJournalOfStack ks n.top n.below
@@ -48,7 +48,7 @@ push_cases false command made t below js d u ks e um dd a st = (
   subst (λ (x : List JournalEntry). IsJournalOfStack x t below) (sym a) st,
 )
 
--- a step of a session, over a stack that its records stand for
+-- a step of a session, over a stack that its records represent
 abbrev Did : Command → List ℕ → List StackEntry → Done → List ℕ → List JournalEntry → Type 0
 Did command t below d u ks = (n : Stack) × StackStep command (stack t below) (Ok d) n × (u ≡ n.top) × IsJournalOfStack ks n.top n.below
 
@@ -117,7 +117,8 @@ module _ (unique : ChangeResultIsUnique) where
   refused Revert _ t below js e p st = refused_take t below js e p st
   refused (Take n) untaken t below js e p st = absurd untaken
 
-  -- What a session's step ensures takes a run, and the records that stand for its stack, one command further.
+  -- What a session's step ensures takes a run, and the records that represent its stack, one
+  -- command further.
   pub stepped : (first mid : Stack) (cs : List Command) (rs : List (Result Done Fault)) (command : Command) (reply : Result Done Fault) (t : List ℕ) (js : List JournalEntry) (u : List ℕ) (ks : List JournalEntry)
       → IsNotTake command → StackRun first cs rs mid → t ≡ mid.top → IsJournalOfStack js mid.top mid.below
       → IfOk reply (λ d. DoesStep command t js d u ks) → IfErr reply (RefusesStep command t js) → OnErr reply (u ≡ t) → OnErr reply (ks ≡ js)

@@ -26,7 +26,7 @@ pub record Formats (text : List ℕ) (made : Rewrite) : Type 0 where
   pub fixed_is : made.fixed ≡ 0
   pub left_is : made.left ≡ 0
 
--- what was made of this text, if it was laid out so
+-- what a fmt makes of this text, given the change that it returns
 abbrev pub fmt_rewrite : List ℕ → Option NewText → Rewrite
 fmt_rewrite text change =
     record { text = changed_text text change; edits = changed_edits text change; fixed = 0; left = 0 }

@@ -41,8 +41,8 @@ pub record FailsAfter (n : ℕ) (records : List JournalEntry) (k : ℕ)
   pub fails : FailsAt nth.item.edits (edits_of nth.after) k Refuses
 
 -- The errors of a take over a history: there is none of this number; or the first record after it
--- that can't be swapped has an edit that meets one of record n; or the text without the one and with
--- the other would be too long.
+-- that can't be swapped has an edit that meets one of record n; or the text without the one and
+-- with the other would be too long.
 abbrev pub CannotRemove : ℕ → List JournalEntry → Fault → Type 0
 CannotRemove n records Fault.NoRecord = (n ≡ 0) ⊎ (length records < n)
 CannotRemove n records (Fault.Blocked number) =
@@ -68,9 +68,9 @@ RemovalMayAllocate n t js =
     × IsMovedToEnd nth.item.edits (edits_of nth.after) others moved_edits × HasExpectedLen Backward moved_edits t))
 
 -- Why record n is not removed, an error a row: there is none of this number. Or the first record
--- after it that can't be swapped has an edit that meets one of record n; or the text without the one
--- and with the other would be too long; or that record is for texts of another length. Or the edits
--- of record n can't be undone in the text. Or memory ran out.
+-- after it that can't be swapped has an edit that meets one of record n; or the text without the
+-- one and with the other would be too long; or that record is for texts of another length. Or the
+-- edits of record n can't be undone in the text. Or memory ran out.
 pub data RefusesRemoval (n : ℕ) (t : List ℕ) (js : List JournalEntry) : Fault → Type 0 where
   no_record : (n ≡ 0) ⊎ (length js < n) → RefusesRemoval n t js Fault.NoRecord
   blocked : {k : ℕ} → FailsAfter n js k SomeMeet → RefusesRemoval n t js (Fault.Blocked (n + k + 1))

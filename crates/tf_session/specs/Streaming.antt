@@ -1,5 +1,5 @@
 -- One command over a whole text, from a reader to a writer, with no journal before it; and whether
--- a whole text is laid out.
+-- a whole text is formatted.
 use Rattle.std.specs.Prelude.{◌↔◌, ◌⊎◌, ℕ, Bool, List, [], IsTrue}
 use Rattle.edit_record.specs.Lists.Journal.{JournalEntry}
 use Rattle.hcl_layout.specs.Layouts.{IsLayout, IsTooLong}

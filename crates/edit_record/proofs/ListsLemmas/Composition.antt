@@ -10,7 +10,7 @@ use Rattle.edit_record.specs.Lists.Inner.Exact.{walks_from_transforms, transform
 use Rattle.edit_record.proofs.ListsLemmas.Parts.{Ends, ends_from_same, same_from_ends}
 use Rattle.edit_record.proofs.ListsLemmas.Pairs.{Both}
 
--- ---- some text stands
+-- ---- there is such a text
 
 pub record SomeGo (from : ℕ) (es : List EditEntry) (K : ℕ → List ℕ → List ℕ → Type 0) : Type 0 where
   pub t : List ℕ

@@ -29,7 +29,7 @@ fronts {X} a b c d l e =
     let same : b ≡ a = p.whole ∙ ap (λ (y : List X). a ++ y) none ∙ append-nil a in
     (sym same, p.rest ∙ ap (λ (y : List X). y ++ d) none)
 
--- behind the edits the texts are one, and the old one ends at n
+-- after the edits the texts are one, and the old one ends at n
 abbrev pub Ends : ℕ → ℕ → List ℕ → List ℕ → Type 0
 Ends n from t u = (t ≡ u) × (from + length t ≡ n)
 
@@ -87,7 +87,7 @@ pass_back n from x (e ∷ es) t u g =
       rest = g.rest;
     }
 
--- so many bytes are there
+-- at least k bytes are there
 pub long : (n from k : ℕ) (es : List EditEntry) (t u : List ℕ) → AreDisjoint n (from + k) es → Walks Forward from es (Ends n) t u → k ≤ length t
 long n from k [] t u p g = let l = g.1 in omega (arith, p)
 long n from k (e ∷ es) t u p g =

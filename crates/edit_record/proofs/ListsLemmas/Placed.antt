@@ -20,7 +20,7 @@ abbrev pub Room : Direction → ℕ → ℕ → ℕ → List EditEntry → Type 
 Room Forward old_len from len es = from + len ≡ old_len
 Room Backward old_len from len es = from + len + removed_len es ≡ old_len + added_len es
 
--- the next gap and the bytes behind it are within the rest of the text
+-- the next gap and the bytes after it are within the rest of the text
 pub record HasRoom (direction : Direction) (old_len from len : ℕ) (e : EditEntry) (es : List EditEntry) : Type 0 where
   pub later : from ≤ e.at
   pub fits : (e.at - from) + length (read_bytes direction e) ≤ len

@@ -45,11 +45,11 @@ linked_one : squashed_extents (edit 0 (1 ∷ []) (2 ∷ []) ∷ edit 1 (3 ∷ []
 linked_one = refl
 
 -- three edits at one place, two of the first list (one with nothing added) and one of the second
--- behind them
+-- after them
 at_one_place : squashed_extents (edit 5 (1 ∷ []) (2 ∷ 2 ∷ 2 ∷ []) ∷ edit 6 (3 ∷ []) [] ∷ []) (edit 8 (4 ∷ []) [] ∷ []) ≡ is 5 3 3 ∷ []
 at_one_place = refl
 
--- places behind edits that change lengths, in both texts; what is dropped moves none
+-- places after edits that change lengths, in both texts; what is dropped moves none
 places : squashed_extents (edit 2 [] (1 ∷ 1 ∷ []) ∷ edit 10 (5 ∷ []) [] ∷ []) (edit 2 (1 ∷ 1 ∷ []) [] ∷ edit 6 [] (7 ∷ []) ∷ edit 20 (8 ∷ []) (8 ∷ 8 ∷ []) ∷ []) ≡ is 4 0 1 ∷ is 10 1 0 ∷ is 19 1 2 ∷ []
 places = refl
 

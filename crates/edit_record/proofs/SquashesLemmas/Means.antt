@@ -78,7 +78,7 @@ step_skip la lb p at n K L le s = record {
       };
 }
 
--- an edit, and then an empty one right behind it
+-- an edit, and then an empty one right after it
 pub step_finish : (p at end : ℕ) (r n : List ℕ) (K : List ℕ → List ℕ → Type 0) → at + length r ≡ end → Alike (EditStep Forward p (edit at r n) K) (EditStep Forward p (edit at r n) (EditStep Forward (at + length r) (edit end [] []) K))
 step_finish p at end r n K e = record {
   go = λ t v g. record {
@@ -105,7 +105,7 @@ step_finish p at end r n K e = record {
       };
 }
 
--- the same steps, and behind them what holds of the same texts
+-- the same steps, and after them what holds of the same texts
 pub step_alike : (p : ℕ) (e : EditEntry) (K L : List ℕ → List ℕ → Type 0) → Alike K L → Alike (EditStep Forward p e K) (EditStep Forward p e L)
 step_alike p e K L a = record {
   go = λ t v g. record { kept = g.kept; t_rest = g.t_rest; u_rest = g.u_rest; gap = g.gap; t_is = g.t_is; u_is = g.u_is; rest = a.go g.t_rest g.u_rest g.rest };

@@ -76,7 +76,8 @@ outside n m k f = elim (eqb n 0) as (λ b. eqb n 0 ≡ b → (b && leb m k) ≡ 
   | false ↦ λ e f. let z = eqb-false n 0 e in inl (omega arith)
 ] refl f
 
--- an edit of the other list d bytes behind a place joins those that end there, with so many bytes left
+-- an edit of the other list d bytes after a place joins those that end there, with this number of
+-- bytes left
 joins_is : (some : Bool) (from place d end left other : ℕ) → from ≡ place + d → place + left ≡ end + other → min other left ≡ 0 → (some && leb from end) ≡ (some && (eqb other 0 && leb d left))
 joins_is false from place d end left other at is one = refl
 joins_is true from place d end left other at is one =
@@ -146,7 +147,7 @@ module _ (la lb : ℕ) (a b : List EditEntry) where
         let first : group_extents g.old g.base (group s g ∷ rest) ≡ cons_nonempty (extent_of edit) later = λ i. cons_nonempty (record { at = at i; removed = removed i; added = added i }) (group_extents (old i) (to_is i) rest) in
         shape ∙ ap (λ (es : List Extent). map extent_of s.out ++ es) first ∙ sym (put_extents s.out edit later ((length edit.removed == 0) && (length edit.added == 0)))
 
-    -- and another begins behind n bytes that both keep
+    -- and another begins after n bytes that both keep
     opens : (first : Bool) (n later from : ℕ) → from ≡ g.mid + length s.second_pending + n → suc later ≡ length xs + length ys → Comes a b (λ g xs ys. g ∷ taking first later (empty_group from) xs ys) s g xs ys → AreDisjoint la (s.first_end + length s.second_pending) xs → AreDisjoint la (s.first_end + length s.second_pending + n) xs → GroupedReady a b (first, skip_kept n (finish_edit s)) xs ys
     opens first n later from from_is later_is shape near far =
         let sl = length s.second_pending in

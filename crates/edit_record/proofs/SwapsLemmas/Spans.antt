@@ -15,7 +15,7 @@ at_within i x [] h = absurd h
 at_within zero x (y ∷ ys) h = omega arith
 at_within (suc i) x (y ∷ ys) h = omega (arith, at_within i x ys h)
 
--- a member behind a front
+-- a member of what follows a first part
 pub at_behind : {X : Type 0} (i : ℕ) (x : X) (front xs : List X) → length front ≤ i → IsItem i x (front ++ xs) → IsItem (i - length front) x xs
 at_behind i x [] xs le h = subst (λ (k : ℕ). IsItem k x xs) (let e : i ≡ i - 0 = omega arith in e) h
 at_behind zero x (y ∷ front) xs le h = absurd (omega arith)
@@ -27,7 +27,7 @@ pub at_first : {X : Type 0} (x : X) (front xs : List X) → IsItem (length front
 at_first x [] xs = refl
 at_first x (y ∷ front) xs = subst (λ (k : ℕ). IsItem k x (y ∷ front ++ x ∷ xs)) (let e : suc (length front) ≡ length (y ∷ front) = omega arith in e) (at_first x front xs)
 
--- the spans of edits that are placed behind from begin there or later
+-- the spans of edits that are placed after `from` begin there or later
 pub removed_later : (n from : ℕ) (ys : List EditEntry) (k : ℕ) (x : Span) → AreDisjoint n from ys → IsItem k x (removed_spans ys) → from ≤ x.from
 removed_later n from [] k x p h = absurd h
 removed_later n from (y ∷ ys) zero x p h = let later = p.0.later in let e = ap (λ (z : Span). z.from) h in omega arith
@@ -104,7 +104,7 @@ before_none f y to (x ∷ xs) le h =
     let one : (if is_before x y then f x else 0) ≡ 0 = rw t refl in
     sum_by-cons (λ x. if is_before x y then f x else 0) x xs ∙ (λ k. one k + i k)
 
--- y stands behind all that are done, and before all others
+-- y is after all that are done, and before all others
 pub before_some : (f : Span → ℕ) (y : Span) (to : ℕ) (all done rest : List Span) → all ≡ done ++ rest → y.from ≤ to → AllByRecursion (λ x. span_end x < y.from) done → AllByRecursion (λ x. to < x.from) rest
     → sum_by (λ x. if is_before x y then f x else 0) all ≡ sum_by f done
 before_some f y to all done rest is le d r =

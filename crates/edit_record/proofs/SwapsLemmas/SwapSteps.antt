@@ -16,7 +16,7 @@ use Rattle.edit_record.proofs.ListsLemmas.Placed.{placed_room}
 use Rattle.edit_record.proofs.SwapsLemmas.SwapTrace.{left, placed_behind}
 use Rattle.edit_record.proofs.ListsLemmas.Composition.{both_from_turns, turns_from_both}
 
--- the relation from the start, behind what is done
+-- the relation from the start, after what is done
 pub record FromStart (a b us vs : List EditEntry) : Type 0 where
   pub moves : List Bool
   pub swaps : IsSwapTrace moves 0 0 0 a b us vs
@@ -41,7 +41,7 @@ pub record Under (la lb ab rb : ℕ) (a b : List EditEntry) (s : State) (xs ys :
   -- it ends before the others of the other list begin
   pub firsts_before : AllByRecursion (λ x. AllByRecursion (λ y. span_end x < y.from) (removed_spans ys)) done_firsts
   pub seconds_before : AllByRecursion (λ y. AllByRecursion (λ x. span_end y < x.from) (added_spans s.old s.mid xs)) done_seconds
-  -- the places behind it, by what it removes and adds
+  -- the places after it, by what it removes and adds
   pub mid_is : s.mid + sum_by (λ x. x.other) done_firsts ≡ s.old + sum_by (λ x. x.len) done_firsts
   pub other_is : s.other + sum_by (λ x. x.len) done_seconds ≡ s.old + sum_by (λ x. x.other) done_seconds
   -- of what is done nothing meets
@@ -83,7 +83,7 @@ added_len_of old mid [] = refl
 added_len_of old mid (e ∷ es) = let i = added_len_of (e.at + length e.removed) (mid + (e.at - old) + length e.added) es in omega (arith, i)
 
 module _ (la lb ab rb : ℕ) (a b : List EditEntry) where
-  -- the next edit of the first list meets none of the second, of which the next begins behind it
+  -- the next edit of the first list meets none of the second, whose next one begins after it
   first_apart : (s : State) (x : EditEntry) (xs ys : List EditEntry) (u : Under la lb ab rb a b s (x ∷ xs) ys) → StartsAfter (s.mid + (x.at - s.old) + length x.added) ys
       → (i j : ℕ) → Meet (as_list la a) (as_list lb b) i j → (length u.done_firsts + 1 ≤ i) × (length u.done_seconds ≤ j)
   first_apart s x xs ys u beh i j m =
@@ -158,7 +158,7 @@ module _ (la lb ab rb : ℕ) (a b : List EditEntry) where
         omega arith,
       )
 
-  -- the next edit of the second list meets none of the first, of which the next begins behind it
+  -- the next edit of the second list meets none of the first, whose next one begins after it
   second_apart : (s : State) (xs : List EditEntry) (y : EditEntry) (ys : List EditEntry) (u : Under la lb ab rb a b s xs (y ∷ ys)) → StartsAfter (s.old + (y.at - s.mid) + length y.removed) xs
       → (i j : ℕ) → Meet (as_list la a) (as_list lb b) i j → (length u.done_firsts ≤ i) × (length u.done_seconds + 1 ≤ j)
   second_apart s xs y ys u beh i j m =

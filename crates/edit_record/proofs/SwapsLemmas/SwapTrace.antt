@@ -7,7 +7,7 @@ use Rattle.edit_record.proofs.ListsLemmas.Placed.{placed_room}
 use Rattle.edit_record.proofs.ListsLemmas.Parts.{placed_earlier}
 use Rattle.edit_record.proofs.ListsLemmas.Pairs.{Both, Moved, Passes, passes_first, passes_second, passes_first_left, passes_second_left, Skips, skips, Alike}
 
--- so many bytes stay, r becomes n, and then L
+-- g bytes stay, r becomes n, and then L
 record Via (g : ℕ) (r n : List ℕ) (K L : List ℕ → List ℕ → Type 0) : Type 0 where
   go : (t v : List ℕ) → K t v → (w : List ℕ) × (length w ≡ g) × Moved (w ++ r) (w ++ n) L t v
   back : (w t v : List ℕ) → length w ≡ g → L t v → K ((w ++ r) ++ t) ((w ++ n) ++ v)

@@ -15,8 +15,8 @@ pub record HaveSums (es : List EditEntry) (s : EditSums) : Type 0 where
 abbrev pub AreSummedUp : List EditEntry → EditSums → Type 0
 AreSummedUp es s = s.end < 2 ^ 64 - 1 → HaveSums es s
 
--- an edit at this place that removes and adds these numbers of bytes is not empty, and follows edits
--- with these sums, which do not add too much
+-- an edit at this place that removes and adds these numbers of bytes is not empty, and follows
+-- edits with these sums, which do not add too much
 pub record Follows (s : EditSums) (at removes adds : ℕ) : Type 0 where
   pub later : s.end ≤ at
   pub few : s.added ≤ MAX_TEXT

@@ -69,8 +69,8 @@ AreRelocated others _ _ _ = ⊥
 
 -- The edits of b2 are those of b without a before them, and the edits of a2 are those of a with b
 -- before them. By a and then b the same texts turn into each other as by b2 and then a2. The last
--- alone would let another edit with the same bytes stand for the one that is meant, so the places
--- are said too.
+-- alone would let another edit with the same bytes take the place of the one that is meant, so the
+-- places are said too.
 pub record IsSwap (a b b2 a2 : EditList) : Type 0 where
   pub old_len_is : b2.old_len ≡ a.old_len
   pub mid_len_is : a2.old_len ≡ new_len b2

@@ -53,8 +53,8 @@ impl<T: Drop> From<AllocFailed<T>> for MoveFault {
 /// Undoing the moved edits on the last text gives the text without `first`.
 ///
 /// There is one pass over the edits of `first` for the first record, for each record after it that
-/// is as large, and one more for the first that is smaller; from this on each edit of a record takes
-/// a binary search among the edits of `first`.
+/// is as large, and one more for the first that is smaller; from this on each edit of a record
+/// takes a binary search among the edits of `first`.
 ///
 /// # Errors
 ///

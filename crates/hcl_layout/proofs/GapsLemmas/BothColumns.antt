@@ -1,5 +1,5 @@
--- The layout has both in columns: a closing comment stands behind an assignment, so that to move the
--- one does not move the other.
+-- The layout has both in columns: a closing comment is after an assignment, so that to move the one
+-- does not move the other.
 use Rattle.std.proofs.Common.{lt-ltb, true≢false, ◌≡◌, ℕ, zero, suc, ◌+◌, ◌<◌, Bool, true, false, ◌||◌, nat_lt, drop, List, [], ◌∷◌, length, Option, Some, None, if◌then◌else◌, inl, inr, refl, sym, ap, subst, ◌∙◌, arith}
 use Rattle.std.specs.Option.{option_map}
 use Rattle.hcl_token.specs.declared.kind.Kind.{Kind}
@@ -25,7 +25,7 @@ use Rattle.hcl_layout.proofs.GapsLemmas.ColumnLaw.{cells_aligned}
 use Rattle.hcl_layout.proofs.GapsLemmas.SplitLaw.{lines_are}
 use Rattle.hcl_layout.proofs.GapsLemmas.CellLaw.{aligned_is}
 
--- ---- no `=` stands behind a line comment
+-- ---- no `=` follows a line comment
 
 NoEquals : List Pair → Type 0
 NoEquals [] = Unit {0}
@@ -148,7 +148,7 @@ unfolding NoEquals
 none_equal [] h = refl
 none_equal (p ∷ ps) h = rw h.0 (ap (option_map suc) (none_equal ps h.1))
 
--- how much further the first of each stands
+-- how much further on the first of each is
 further : (o r : Option ℕ) (n m : ℕ) → ((i j : ℕ) → o ≡ Some i → r ≡ Some j → i < j)
     → option_map suc o ≡ Some n → option_map suc r ≡ Some m → n < m
 further None r n m less e c = absurd (cc)
@@ -225,7 +225,7 @@ cells_in_order f ps n m h e c = by_test (f || broken ps) refl
         (counted Assignment ps _ n (sym (free Assignment f (broken ps) ps refl t) ∙ e))
         (counted ClosingComment ps _ m (sym (free ClosingComment f (broken ps) ps refl t) ∙ c))
 
--- ---- what stands before a gap that is set keeps its column
+-- ---- what is before a gap that is set keeps its column
 
 column_kept : (n m : ℕ) (gap : List ℕ) (ps : List Pair) → n < m
     → column_at n (with_gap m gap ps) ≡ column_at n ps

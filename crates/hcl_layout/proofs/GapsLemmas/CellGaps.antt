@@ -181,7 +181,7 @@ gap_len n gap [] = refl
 gap_len zero gap (p ∷ ps) = refl
 gap_len (suc n) gap (p ∷ ps) = ap suc (gap_len n gap ps)
 
--- each cell that is found stands in its line
+-- each cell that is found is in its line
 abbrev pub AreInLines : (Line → Option ℕ) → List Line → Type 0
 AreInLines cell [] = Unit {0}
 AreInLines cell (line ∷ lines) = ((n : ℕ) → cell line ≡ Some n → n < length line.pairs) × AreInLines cell lines
@@ -217,7 +217,8 @@ small_first : (r : Option ℕ) (rs : List (Option ℕ)) → AreSmall (r ∷ rs) 
 small_first None rs h = (tt, h)
 small_first (Some r) rs h = ((h.0, tt), h.1)
 
--- What stands in front of these lines, and the lines. Spaces before their cells, by the numbers of tokens, are those of the lines.
+-- What is before these lines, and the lines. Spaces before their cells, by the numbers of tokens,
+-- are those of the lines.
 pub moved_gaps : (ps : List Pair) (cell : Line → Option ℕ) (rs : List (Option ℕ)) (lines : List Line) (front : List Pair) (at : ℕ) (ns : List ℕ)
     → length ns ≡ length ps → at ≡ length front → with_gaps ns ps ≡ front ++ pairs_in lines → AreInLines cell lines → AreSmall rs
     → with_gaps (set_cell_gaps ns (cell_tokens at cell lines) rs) ps ≡ front ++ pairs_in (with_cell_gaps cell rs lines)

@@ -1,4 +1,4 @@
--- The cells of a run begin in one column: behind its greatest width and one space.
+-- The cells of a run begin in one column: after its greatest width and one space.
 use Rattle.std.proofs.Common.{◌≡◌, ℕ, zero, suc, ◌+◌, ◌-◌, ◌<◌, ◌≤◌, List, [], ◌∷◌, length, take, Option, Some, None, refl, sym, ap, subst, ◌∙◌, arith}
 use Rattle.std.specs.Option.{option_map}
 use Rattle.hcl_token.specs.Tokens.{Pair}
@@ -32,7 +32,8 @@ moved_column cell line n c found =
     ap (option_map (λ m. column_at m qs)) (cell_same cell line qs (gap_same n (spaces c) line.pairs) ∙ found)
     ∙ ap Some (column_moved n c line.pairs (cell_inside cell line.frozen line.pairs n found))
 
--- a run goes on with this greatest width: if the first line has the cell, it begins behind that and one space
+-- a run goes on with this greatest width: if the first line has the cell, it begins after that and
+-- one space
 abbrev InColumn : ℕ → Option ℕ → Type 0
 InColumn top None = Unit {0}
 InColumn top (Some c) = c ≡ 1 + top
@@ -57,7 +58,7 @@ some_first : (cell : Line → Option ℕ) (x : Line) (top : ℕ) (lines : List L
 some_first cell x top [] e h = tt
 some_first cell x top (y ∷ lines) e h = (subst (λ c. SameColumn c (column cell y)) (sym e) (in_one top (column cell y) h.first), h.aligned)
 
--- one line in front of a run, or of lines behind it
+-- one line before a run, or before lines that follow
 next_line : (cell : Cell) (top : ℕ) (line : Line) (lines : List Line) (found : Option ℕ) → cell_of cell line ≡ found
     → ((t : ℕ) → greatest (widths (cell_of cell) lines) ≤ t → IsRun t (cell_of cell) (with_cell_gaps (cell_of cell) (cell_gaps_from_width t (widths (cell_of cell) lines)) lines))
     → greatest (option_map (λ n. width (take n line.pairs)) found ∷ widths (cell_of cell) lines) ≤ top

@@ -1,4 +1,4 @@
--- The stages, one behind the other, make the layout.
+-- The stages, in order, make the layout.
 use Rattle.std.proofs.Common.{◌≡◌, ℕ, ◌+◌, ◌≤◌, Bool, true, false, List, [], ◌∷◌, ◌++◌, length, take, drop, replicate, if◌then◌else◌, refl, sym, ap, ap₂, subst, ◌∙◌, arith, length-append, take_at, drop_at}
 use Rattle.std.proofs.lemmas.List.{length-take-le, take-append-drop, take-replicate, length-drop}
 use Rattle.hcl_token.specs.declared.kind.Kind.{Kind}

@@ -1,4 +1,4 @@
--- What is copied of a text at once: gaps that stay, each with the token behind it.
+-- What is copied of a text at once: gaps that stay, each with the token after it.
 use Rattle.std.proofs.Common.{◌≡◌, ℕ, ◌+◌, ◌-◌, ◌<◌, ◌≤◌, ◌==◌, Bool, true, false, if◌then◌else◌, List, [], ◌∷◌, ◌++◌, length, take, drop, get_or, slice_range, Some, refl, sym, ap, ap₂, ◌∙◌, arith, append_assoc, length-append, length-drop, take-append-drop, take_at}
 use Rattle.std.specs.Str.{bytes_eq}
 use Rattle.std.specs.Option.{option_map}
@@ -180,7 +180,7 @@ gap_place ps i item g inside item_is g_is =
       ap (λ (x : Item). x.start) f ∙ omega (arith, bytes_joining (take i ps) t.pair.gap, bytes_joining (take i ps) [], ap length (gap_is ps i (length ps) g t g_is)),
     )
 
--- behind the last token
+-- after the last token
 pub all_copied : (ns : List ℕ) (ps : List Pair) (last source : List ℕ) (i a : ℕ) (out whole : List ℕ) → length ns ≡ length ps → length ps ≤ i → source ≡ whole_text ps last
     → out ++ (slice_range source a (reached ps i) ++ whole_text (drop i (with_gaps ns ps)) []) ≡ whole
     → (reached ps i ≡ length source - length last) × (out ++ slice_range source a (reached ps i) ≡ whole)
@@ -239,7 +239,7 @@ gap_most n g = elim (n == KEEP_GAP) as (λ v. length (if v then g else spaces n)
   | false ↦ omega (arith, length_replicate n 32)
 ]
 
--- a text has no more bytes than it had with its old gaps, and the new ones beside
+-- a text has no more bytes than it had with its old gaps, plus the new ones
 pub most_len : (ns : List ℕ) (ps : List Pair) → length (whole_text (with_gaps ns ps) []) ≤ length (whole_text ps []) + sum_by space_count ns
 most_len [] ps = omega arith
 most_len (n ∷ ns) [] = omega arith

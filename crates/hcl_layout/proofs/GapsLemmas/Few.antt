@@ -74,7 +74,7 @@ identifier_some : (s : List ℕ) → is_identifier (chars s) ≡ true → 0 < le
 identifier_some [] h = absurd (false≢true (sym (ap is_identifier chars-nil) ∙ h))
 identifier_some (b ∷ t) h = omega arith
 
--- a token, with the heredocs open behind it, against its bytes, with those open before it
+-- a token, with the heredocs open after it, against its bytes, with those open before it
 a_byte : (kind : Kind) (s rest : List ℕ) (modes : List Mode) → IsLexeme (mode_of modes) kind s rest → 1 + heredocs (modes_after kind s modes) ≤ length s + heredocs modes
 a_byte Mark s rest modes (st, h) = absurd (false≢true st)
 a_byte LineEnd s rest modes (st, inl e) = omega (arith, ap length e)

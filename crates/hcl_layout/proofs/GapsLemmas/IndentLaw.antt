@@ -29,7 +29,7 @@ abbrev pub surpluses : List Line → List ℕ
 surpluses [] = []
 surpluses (line ∷ lines) = surpluses lines ++ one_if (stays_open 0 0 (line ∷ lines)) (opened (line ∷ lines) - closed (line ∷ lines))
 
--- what is left of them at a line that opens and closes so many
+-- what is left of them at a line that opens o and closes c
 abbrev left_of : ℕ → ℕ → List ℕ → List ℕ
 left_of o c [] = []
 left_of o c (s ∷ ss) = one_if (nat_lt c (s + o)) ((s + o) - c) ++ left_of o c ss
@@ -127,7 +127,7 @@ level_counts (l ∷ ls) x =
 
 -- ---- the stack
 
--- the surpluses that a stack stands for
+-- the surpluses that a stack represents
 abbrev pub running : ℕ → List ℕ → List ℕ
 running sum [] = []
 running sum (d ∷ ds) = (sum + d) ∷ running (sum + d) ds
@@ -192,7 +192,7 @@ length_running : (a : ℕ) (ds : List ℕ) → length (running a ds) ≡ length 
 length_running a [] = refl
 length_running a (d ∷ ds) = ap suc (length_running (a + d) ds)
 
--- The stack stands for the lines that are open behind these lines.
+-- The stack represents the lines that are open after these lines.
 pub record Stands (lines : List Line) (stack : List ℕ) : Type 0 where
   pub same : surpluses lines ≡ running 0 stack
   pub positive : ArePositive stack
@@ -243,7 +243,7 @@ line_deep lines stack x s =
     level_counts lines x ∙ ap (λ ss. length (left_of (openings x.pairs) (closings x.pairs) ss)) s.same
     ∙ (stack_step (openings x.pairs) (closings x.pairs) stack s.positive).deep
 
--- and the stack behind it
+-- and the stack after it
 pub line_is_at : (lines : List Line) (stack : List ℕ) (x : Line) → Stands lines stack → Stands (lines ++ x ∷ []) (open_after_line (openings x.pairs) (closings x.pairs) stack)
 line_is_at lines stack x s =
     let step = stack_step (openings x.pairs) (closings x.pairs) stack s.positive in

@@ -84,7 +84,7 @@ again_if : (p : Pair) (ps : List Pair) (b : Bool) → is_mark p.kind ≡ b → l
 again_if p ps true e = rw e (ap (λ qs. p ∷ qs) (body_again ps))
 again_if p ps false e = unmarked p ps (layout_body (p ∷ ps)) e (body_tokens (p ∷ ps)) ∙ body_again (p ∷ ps)
 
--- and what is laid out is its own layout
+-- and a layout is its own layout
 pub layout_again : (pairs : List Pair) → layout_pairs (layout_pairs pairs) ≡ layout_pairs pairs
 layout_again [] = refl
 layout_again (p ∷ ps) = again_if p ps (is_mark p.kind) refl
@@ -119,7 +119,7 @@ layout_made pieces_make cut is =
     let short : length (old_text ps) ≤ MAX_TEXT = omega (arith, ap length old, is.short) in
     made_from pieces_make ps cut.text (layout_text cut) (pieces_change cut.pairs (layout_pairs cut.pairs) cut.last (layout_tokens cut.pairs)) old (pieces_new cut.pairs (layout_pairs cut.pairs) cut.last (layout_tokens cut.pairs)) short
 
--- ---- what is told of calls
+-- ---- what is known of the results of calls
 
 answer_if : (over : Bool) (list : EditList) (answer : Result EditList BadEdits) (k : ℕ) → nat_lt MAX_TEXT k ≡ over → answer ≡ (if over then Err TooLong else Ok list)
     → elim answer as (λ r. Type 0) [ Ok e ↦ e ≡ list | Err e ↦ MAX_TEXT < k ]

@@ -18,7 +18,7 @@ use Rattle.std.proofs.Common.{take-add}
 use Rattle.hcl_layout.specs.declared.gaps.lines.LineSpan.{LineSpan}
 use Rattle.std.proofs.lemmas.Bool.Decides.{nat_tests}
 
--- token i, which stands before token `to`
+-- token i, which is before token `to`
 pub record Turn (pairs : List Pair) (i to : ℕ) : Type 0 where
   pub pair : Pair
   pub at : slice_get pairs i ≡ Some pair
@@ -45,7 +45,7 @@ gap_is pairs i to g t h = let e = h ∙ ap (option_map (λ (p : Pair). p.gap)) t
 
 -- ---- the first line
 
--- the first line and those behind it
+-- the first line and those after it
 IsSplit : ℕ → List Pair → Type 0
 IsSplit open_heredocs ps = lines_from open_heredocs ps ≡ record { frozen = nat_lt 0 open_heredocs; pairs = take (line_len open_heredocs ps) ps } ∷ lines_from (open_heredocs_after open_heredocs ps) (drop (line_len open_heredocs ps) ps)
 
@@ -224,14 +224,14 @@ lines_whole pairs at frozen (l ∷ lines) to next (first, rest) end = (first, li
 abbrev pub no_span : LineSpan
 no_span = record { past = 0; next_frozen = false; is_balanced = false; has_comment = false; has_equals = false }
 
--- the line of number i, and those behind it
+-- the line of number i, and those after it
 pub line_at : (pairs : List Pair) (at : ℕ) (frozen : Bool) (lines : List LineSpan) (i : ℕ) → i < length lines
     → AreLines pairs at frozen (drop i lines)
     → IsLine pairs at frozen (get_or lines i no_span)
     × AreLines pairs (get_or lines i no_span).past (get_or lines i no_span).next_frozen (drop (i + 1) lines)
 line_at pairs at frozen lines i h are = subst (AreLines pairs at frozen) (drop_more lines i no_span h) are
 
--- behind the last
+-- after the last
 pub no_line : (pairs : List Pair) (at : ℕ) (frozen : Bool) (lines : List LineSpan) (i : ℕ) → length lines ≤ i
     → AreLines pairs at frozen (drop i lines) → at ≡ length pairs
 no_line pairs at frozen lines i h are = subst (AreLines pairs at frozen) (drop_all i lines h) are

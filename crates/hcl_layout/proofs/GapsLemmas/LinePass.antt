@@ -226,7 +226,7 @@ kept_line pairs at past deep b old new less within is =
     let count : length (slice_range pairs at past) ≡ past - at = length-take-le (past - at) (drop at pairs) (omega (arith, length-drop at pairs)) in
     is ∙ ap (λ n. old ++ replicate n KEEP_GAP) (sym count)
 
--- before the first line, and behind the last
+-- before the first line, and after the last
 pub left_begins : (pairs : List Pair) (first : ℕ) (gaps surplus : List ℕ) → surplus ≡ [] → gaps_left pairs first first false gaps surplus ≡ gaps ++ all_gap_lens [] [] (lines_from 0 (drop first pairs))
 left_begins pairs first gaps surplus none =
     ap₂ (λ (s : List ℕ) (ps : List Pair). gaps ++ all_gap_lens (reverse s) (prev_after_all ps []) (lines_from 0 (drop first pairs))) none (none_there pairs first)

@@ -28,7 +28,7 @@ run_push : (b : Bool) (starts : List (Option CellStart)) (start : Option CellSta
 run_push b [] start = refl
 run_push b (s ∷ starts) start = run_push (is_cell s) starts start
 
--- the cells so far, without repeats
+-- the cells up to here, without repeats
 pub record KeptSoFar (cell : Cell) (ns : List ℕ) (ps : List Pair) (first at : ℕ) (f in_run : Bool) (starts : List (Option CellStart)) : Type 0 where
   pub all : List (Option CellStart)
   pub so_far : StartsSoFar cell ns ps first at f all

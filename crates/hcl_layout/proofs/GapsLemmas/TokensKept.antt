@@ -145,7 +145,7 @@ assignment_free line h = rw (no_cells line h) refl
 comment_free : IsOfFree closing_comment
 comment_free line h = rw (no_cells line h) refl
 
--- the lines as they are laid out have the tokens of the lines, and their frozen lines
+-- the lines of a layout have the tokens of the lines, and their frozen lines
 pub layout_alike : (lines : List Line) → Alike (layout_lines lines) lines × SameFrozen (layout_lines lines) lines
 layout_alike lines =
     let first : List Line = format_lines [] [] lines in
@@ -166,7 +166,7 @@ equals_alike lines =
     let first : List Line = format_lines [] [] lines in
     alike_trans (aligned assignment first) first lines (aligned_alike assignment first assignment_free).0 (set_alike_lines lines)
 
--- ---- lines of what was laid out
+-- ---- lines of a layout
 
 same_line : (f g : Bool) (qs : List Pair) (xs : List Line) → f ≡ g → ◌≡◌ {A = List Line} (record { frozen = g; pairs = qs } ∷ xs) (record { frozen = f; pairs = qs } ∷ xs)
 same_line f g qs xs e = ap (λ h. record { frozen = h; pairs = qs } ∷ xs) (sym e)
@@ -211,7 +211,7 @@ split_again open_heredocs [] [] h = refl
 split_again open_heredocs [] (x ∷ xs) h = absurd h
 split_again open_heredocs (p ∷ ps) xs h = again_if open_heredocs p ps (ends_line open_heredocs p.kind) refl xs h (λ zs k. split_again (heredocs_after open_heredocs p.kind) ps zs k)
 
--- ---- lines that are alike are laid out alike
+-- ---- lines that are alike have layouts that are alike
 
 pair_same : (gap : List ℕ) (p q : Pair) → p.kind ≡ q.kind → p.spelling ≡ q.spelling → ◌≡◌ {A = Pair} (record { gap = gap; kind = p.kind; spelling = p.spelling }) (record { gap = gap; kind = q.kind; spelling = q.spelling })
 pair_same gap p q h k = ap₂ (λ a b. record { gap = gap; kind = a; spelling = b }) h k
@@ -283,7 +283,7 @@ body_tokens ps =
     let same = alike_tokens (layout_lines (lines_of ps)) (lines_of ps) (layout_alike (lines_of ps)).0 in
     subst (λ (qs : List Pair). SameTokens (layout_body ps) qs) (pairs_of_text ps) same
 
--- what is laid out is its own layout
+-- a layout is its own layout
 pub body_again : (ps : List Pair) → layout_body (layout_body ps) ≡ layout_body ps
 body_again ps =
     let lines : List Line = lines_of ps in

@@ -28,7 +28,8 @@ fn token_len(item: Item, new: u32) -> usize
 ///
 /// # Errors
 ///
-/// `TooLong` if and only if they are more than `MAX_TEXT`. It takes no memory, so there is no other.
+/// `TooLong` if and only if they are more than `MAX_TEXT`. It takes no memory, so there is no
+/// other.
 fn len_within_limit(scanned: &Scanned<'_>, gaps: &[u32]) -> Result<usize, LayoutFault>
     requires { length gaps.now ≡ length scanned.now.pairs }
     ensures len { IfOk result (λ len.

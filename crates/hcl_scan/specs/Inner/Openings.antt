@@ -1,4 +1,4 @@
--- What the openings that the scanner keeps, the innermost last, stand for.
+-- What the openings that the scanner keeps, the innermost last, represent.
 use Rattle.std.specs.Prelude.{ℕ, Bool, not, ◌||◌, ◌==◌, List, [], ◌∷◌, map, reverse}
 use Rattle.hcl_scan.specs.declared.mode.Mode.{Mode as Reading}
 use Rattle.hcl_scan.specs.declared.mode.Mode.TheVariants.{Expression as InExpression, Sequence as InSequence, Braces as InBraces, Quoted as InQuoted, Heredoc as InHeredoc}

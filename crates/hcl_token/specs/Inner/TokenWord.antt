@@ -1,5 +1,5 @@
--- A token in one word of 64 bits: the number of its kind in the lowest 8 bits, its start in the next
--- 24, its stop in the others.
+-- A token in one word of 64 bits: the number of its kind in the lowest 8 bits, its start in the
+-- next 24, its stop in the others.
 use Rattle.std.specs.Prelude.{ℕ, ◌+◌, ◌*◌}
 use Rattle.hcl_token.specs.declared.kind.Kind.{Kind}
 use Rattle.hcl_token.specs.declared.kind.Kind.TheVariants.{Mark, LineEnd, LineComment, InlineComment, Identifier, Number, DotIndex, Plus, Minus, Star, Slash, Percent, And, Or, Bang, DoubleEqual, NotEqual, Less, Greater, LessEqual, GreaterEqual, Question, Colon, DoubleColon, Equal, FatArrow, OpenBracket, CloseBracket, OpenParen, CloseParen, Comma, Dot, Ellipsis, QuoteLit, OpenBrace, CloseBrace, QuoteOpen, HereOpen, SeqClose, QuoteClose, InterpOpen, DirectiveOpen, HereClose, HereLit}

@@ -29,13 +29,13 @@ impl Desk {
 
     /// Does a command.
     ///
-    /// `text T` begins a session over T, and `fill N T` over T and as many `x` as make N bytes; `hand
-    /// T` puts T in the place of its text by hand; `journal J` reads J beside its text. `fmt`, `fix`
-    /// (by all rules), `fix-none`, `fix-RULE+RULE..` (by these alone), `revert` and `take-N` are done
-    /// on it. `check`, `lint`, `run COMMAND ..`, `through COMMAND R W` and `stream COMMAND R J K W`
-    /// leave it: they are done over its text, and its journal; the reads of numbers R and J fail, and
-    /// the writers take K and W bytes.
-    /// The commands of `run` are written as a field is.
+    /// `text T` begins a session over T, and `fill N T` over T and as many `x` as make N bytes;
+    /// `hand T` puts T in the place of its text by hand; `journal J` reads J beside its text.
+    /// `fmt`, `fix` (by all rules), `fix-none`, `fix-RULE+RULE..` (by these alone), `revert` and
+    /// `take-N` are done on it. `check`, `lint`, `run COMMAND ..`, `through COMMAND R W` and
+    /// `stream COMMAND R J K W` leave it: they are done over its text, and its journal; the reads
+    /// of numbers R and J fail, and the writers take K and W bytes. The commands of `run` are
+    /// written as a field is.
     pub fn do_row(&mut self, row: &str) -> Outcome {
         let (word, rest) = row.split_once(' ').unwrap_or((row, ""));
         match word {

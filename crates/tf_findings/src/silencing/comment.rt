@@ -100,7 +100,8 @@ fn after_separator(t: &[u8], n: usize) -> &[u8]
     &t[n + 1..]
 }
 
-/// Returns the rules of the list after `tflint-ignore:`, up to the reason after `#`, if there is one.
+/// Returns the rules of the list after `tflint-ignore:`, up to the reason after `#`, if there is
+/// one.
 fn list_rules(t: &[u8]) -> Option<RuleSet>
     ensures { (rule : Rule) → option_has result rule ≡ list_names rule t.now }
 {

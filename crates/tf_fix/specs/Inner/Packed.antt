@@ -1,4 +1,4 @@
--- For proofs: the place that a number stands for.
+-- For proofs: the place that a number represents.
 use Rattle.std.specs.Prelude.{ℕ, ◌==◌, ◌/◌, ◌%◌, if◌then◌else◌}
 use Rattle.tf_fix.specs.declared.boundary.Boundary.{Boundary}
 use Rattle.tf_fix.specs.declared.boundary.Boundary.TheVariants.{Gap as BeforeGap, Token as BeforeToken}

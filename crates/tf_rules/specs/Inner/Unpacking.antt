@@ -1,4 +1,4 @@
--- What a finding holds of its fix and of its message, and what that stands for.
+-- What a finding stores of its fix and of its message, and what that represents.
 use Rattle.std.specs.Prelude.{◌≡◌, ℕ, Bool, true, false, [], ◌∷◌, Option, Some, None, if◌then◌else◌, ⊤}
 use Rattle.std.specs.Option.{option_map}
 use Rattle.tf_rules.specs.declared.fix.Fix.{Fix}
@@ -39,7 +39,7 @@ abbrev pub AreCanonicalRanges : PackedFixKind → PackedRange → PackedRange �
 AreCanonicalRanges (outline.Tokens before b c) one two = IsCanonicalRange b one × IsCanonicalRange c two
 AreCanonicalRanges _ one two = IsCanonicalRange None one × IsCanonicalRange None two
 
--- each fix is held in one form alone: what stands for nothing is 0
+-- each fix is stored in one form alone: what is not there is 0
 abbrev pub IsCanonical : PackedFix → Type 0
 IsCanonical m = AreCanonicalRanges m.outline m.one m.two
 

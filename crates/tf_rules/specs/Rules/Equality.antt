@@ -36,10 +36,10 @@ is_empty_list_kind _ = false
 abbrev pub is_empty_list : Expr → Bool
 is_empty_list e = is_empty_list_kind (out-ExprKind e.kind)
 
--- A comparison of the empty list with the operand that ends before token `past`, with the
--- operator between tokens `from` and `to`. It can be written as a length if the list's brackets have
--- nothing between them, no comment or line end is next to the operator, and the operand does not
--- end with a heredoc.
+-- A comparison of the empty list with the operand that ends before token `past`, with the operator
+-- between tokens `from` and `to`. It can be written as a length if the list's brackets have nothing
+-- between them, no comment or line end is next to the operator, and the operand does not end with a
+-- heredoc.
 abbrev pub is_comparison_fixable : List Pair → Expr → ℕ → ℕ → ℕ → Bool
 is_comparison_fixable pairs empty past from to =
     (empty.past == empty.first + 2)
@@ -53,9 +53,9 @@ is_equal _ = false
 abbrev pub length_fix : ℕ → ℕ → Bool → Fix
 length_fix from to zero = keep_one Length (kept from to (if zero then IsZero else IsPositive))
 
--- The comparison at an operator with these expressions beside it, in a chain that begins at token
+-- The comparison at an operator with these expressions next to it, in a chain that begins at token
 -- first. What is compared on the left is all of the chain before the operator; at the first
--- operator that is the expression beside it.
+-- operator that is the expression next to it.
 abbrev pub operation_findings : List Pair → ℕ → Bool → Expr → Operation → List Finding
 operation_findings pairs first is_first left link =
     if is_equality link.operator

@@ -271,7 +271,7 @@ removed_within [] j o a = elim a [ ]
 removed_within (y ∷ ys) zero o a = omega arith
 removed_within (y ∷ ys) (suc j) o a = let l = removed_within ys j o a in omega (arith, l)
 
--- so many edits of the second list meet none of the first
+-- the first n edits of the second list meet none of the first
 abbrev pub NoneMeets : EditList → EditList → ℕ → Type 0
 NoneMeets a b n = (j : ℕ) → j < n → (i : ℕ) → Meet a b i j → ⊥
 

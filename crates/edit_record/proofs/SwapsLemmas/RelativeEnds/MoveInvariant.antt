@@ -24,8 +24,8 @@ pub sum_removed : (vs : List EditEntry) (v : EditEntry) → removed_len (vs ++ v
 sum_removed [] v = omega arith
 sum_removed (w ∷ vs) v = let i = sum_removed vs v in omega (arith, i)
 
--- Between two steps: so many bytes have come and gone by the edits of the second list that are
--- done, and each edit of the first list that is done ends before bound, less what has gone.
+-- Between two steps: the edits of the second list that are done added `come` bytes and removed
+-- `gone`, and each edit of the first list that is done ends before bound, less what was removed.
 pub record Going (la lb ab rb : ℕ) (a b : List EditEntry) (s : State) (xs ys : List EditEntry) (es : List EndOffset) (come gone bound : ℕ) : Type 0 where
   pub under : Under la lb ab rb a b s xs ys
   pub ends : es ≡ ends_at 0 0 s.vs ++ ends_at (added_len s.vs) (removed_len s.vs) (later s.old s.other xs)

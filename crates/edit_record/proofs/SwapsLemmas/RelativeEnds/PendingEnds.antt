@@ -61,7 +61,7 @@ pub later_len : (old other : ℕ) (xs : List EditEntry) → length (later old ot
 later_len old other [] = refl
 later_len old other (x ∷ xs) = let i = later_len old other xs in omega (arith, i)
 
--- so many bytes come, and so many go, before those that are still to come
+-- p bytes are added and q are removed before those that are still to come
 shift_from : (n from old other old' other' a r p q : ℕ) (xs : List EditEntry) → AreDisjoint n from xs → old ≤ old' → old' ≤ from → other' + q ≡ other + (old' - old) + p → q ≤ old' - old → r + q ≤ other + (from - old) + a
     → map (shifted (record { old = p; new = p }) q) (ends_at a r (later old other xs)) ≡ ends_at a r (later old' other' xs)
 shift_from n from old other old' other' a r p q [] h le l e m k = refl

@@ -35,7 +35,7 @@ pub the_items_listed : (Z X : Type 0) (xs : List X)
     → listed _ (children (the_former this Z) X xs) ≡ the_items Z X xs
 the_items_listed Z X xs = list-listed X xs
 
--- what an `Items` has beside its list
+-- what an `Items` has besides its list
 abbrev fields : Type 0 → Former {0}
 fields Z = via (vec.the_former this Z) (λ X. Inside X Z) (λ X a. a.vec) (λ X v. record { vec = v })
     (λ X a. refl) (λ X v. refl)

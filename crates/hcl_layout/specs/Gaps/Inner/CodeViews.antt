@@ -88,8 +88,8 @@ AreLines pairs at frozen [] = at ≡ length pairs
 AreLines pairs at frozen (line ∷ lines) =
     IsLine pairs at frozen line × AreLines pairs line.past line.next_frozen lines
 
--- the token that line i begins at, where the first line begins at this one, and whether it begins in
--- a heredoc
+-- the token that line i begins at, where the first line begins at this one, and whether it begins
+-- in a heredoc
 abbrev pub line_start : ℕ → List LineSpan → ℕ → ℕ
 line_start at (line ∷ lines) (suc i) = line_start line.past lines i
 line_start at lines i = at

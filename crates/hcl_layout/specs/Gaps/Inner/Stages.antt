@@ -191,7 +191,7 @@ all_gap_lens surplus before (line ∷ lines) =
 abbrev pub resolved_gap : ℕ → List ℕ → List ℕ
 resolved_gap n old = if n == KEEP_GAP then old else spaces n
 
--- how many spaces it stands for; none where the gap stays
+-- how many spaces it represents; none where the gap stays
 abbrev pub space_count : ℕ → ℕ
 space_count n = if n == KEEP_GAP then 0 else n
 
@@ -199,12 +199,12 @@ space_count n = if n == KEEP_GAP then 0 else n
 abbrev pub resolved_len : ℕ → Item → ℕ
 resolved_len n item = if n == KEEP_GAP then item.stop - item.gap_at else n + (item.stop - item.start)
 
--- tokens with the gaps that these numbers stand for
+-- tokens with the gaps that these numbers represent
 abbrev pub with_gaps : List ℕ → List Pair → List Pair
 with_gaps (n ∷ ns) (p ∷ ps) = record p { gap = resolved_gap n p.gap } ∷ with_gaps ns ps
 with_gaps ns ps = []
 
--- the gaps before tokens from one number up to another are those that their numbers stand for
+-- the gaps before tokens from one number up to another are those that their numbers represent
 abbrev pub AreUnchanged : List Pair → List ℕ → ℕ → ℕ → Type 0
 AreUnchanged pairs gaps from to =
     (k : ℕ) (g : List ℕ) → from ≤ k → k < to → Some g ≡ gap_of pairs k

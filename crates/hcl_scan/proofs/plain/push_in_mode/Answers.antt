@@ -8,9 +8,11 @@ loop-bytes-smaller c =
     let next = c.next_plain_token-is_free.ensures in
     let gap = rw c.requires.mode at next.gap in
     let found = sym (rw c.requires.mode at next.token) ∙ c.in-Some.is in
-    let step = rw c.as_bytes-bytes.ensures.value at c.in-Ok.ensures.state in
+    let onward = rw c.in-Added.is at c.put_plain.ensures.onward in
+    let added = rw c.in-Added.is at c.put_plain.ensures.state in
+    let step = rw c.as_bytes-bytes.ensures.value at added in
     let state = step c.loop-bytes.at (modes_of openings) (places_of openings) c.requires.mode gap found c.loop-bytes.invariant.state in
-    omega (arith, state.within, gap, c.in-Ok.ensures.onward)
+    omega (arith, state.within, gap, onward)
 
 pub loop-bytes-preserved : goal.loop-bytes-preserved
 loop-bytes-preserved c =
@@ -18,9 +20,11 @@ loop-bytes-preserved c =
     let next = c.next_plain_token-is_free.ensures in
     let gap = rw c.requires.mode at next.gap in
     let found = sym (rw c.requires.mode at next.token) ∙ c.in-Some.is in
-    let step = rw c.as_bytes-bytes.ensures.value at c.in-Ok.ensures.state in
+    let onward = rw c.in-Added.is at c.put_plain.ensures.onward in
+    let added = rw c.in-Added.is at c.put_plain.ensures.state in
+    let step = rw c.as_bytes-bytes.ensures.value at added in
     record {
       state = step c.loop-bytes.at (modes_of openings) (places_of openings) c.requires.mode gap found c.loop-bytes.invariant.state;
-      onward = omega (arith, gap, c.in-Ok.ensures.onward, c.loop-bytes.invariant.onward);
-      room = c.loop-bytes.invariant.room ∙ ap (λ n. n - 2) (sym c.in-Ok.ensures.capacity);
+      onward = omega (arith, gap, onward, c.loop-bytes.invariant.onward);
+      room = c.loop-bytes.invariant.room ∙ ap (λ n. n - 2) (sym c.put_plain.ensures.capacity);
     }

@@ -15,4 +15,4 @@ loop-at-preserved c =
     let len = c.len_at-len.result in
     let on = run_length-on quote_unit false text at len (sym c.len_at-len.ensures.value) (omega arith) c.len_at-len.ensures.within in
     let same = quote_run_any (slice_index text (at + len - 1) == 10) (drop (at + len) text) in
-    (omega (arith, c.loop-at.invariant.0, on, same, c.short_ordinary_end-at.ensures.run), c.short_ordinary_end-at.ensures.within)
+    (omega (arith, c.loop-at.invariant.0, on, same, c.skip_ordinary_after-at.ensures.run), c.skip_ordinary_after-at.ensures.within.1)

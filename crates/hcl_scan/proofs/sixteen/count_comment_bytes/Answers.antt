@@ -1,6 +1,6 @@
-use Rattle.std.proofs.Common.{not, slice_index, ap}
-use Rattle.hcl_scan.proofs.FlagLemmas.{comment_flags}
+use Rattle.std.proofs.Common.{slice_index}
+use Rattle.hcl_scan.proofs.FlagLemmas.{comment_unlisted}
 use Rattle.hcl_scan.proofs.sixteen.count_comment_bytes.Goals as goal
 
 pub returns-clause-ordinary : goal.returns-clause-ordinary
-returns-clause-ordinary c = λ k from to. comment_flags (slice_index c.args.text.now k) (ap not (c.count_flagged.ensures.flagged k from to))
+returns-clause-ordinary c = λ k from to. comment_unlisted (slice_index c.args.text.now k) (c.count_unlisted.ensures.unlisted k from to)

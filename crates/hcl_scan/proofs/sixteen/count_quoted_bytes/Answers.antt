@@ -1,6 +1,6 @@
-use Rattle.std.proofs.Common.{not, slice_index, ap}
-use Rattle.hcl_scan.proofs.FlagLemmas.{quoted_flags}
+use Rattle.std.proofs.Common.{slice_index}
+use Rattle.hcl_scan.proofs.FlagLemmas.{quoted_unlisted}
 use Rattle.hcl_scan.proofs.sixteen.count_quoted_bytes.Goals as goal
 
 pub returns-clause-ordinary : goal.returns-clause-ordinary
-returns-clause-ordinary c = λ k from to. quoted_flags (slice_index c.args.text.now k) (ap not (c.count_flagged.ensures.flagged k from to))
+returns-clause-ordinary c = λ k from to. quoted_unlisted (slice_index c.args.text.now k) (c.count_unlisted.ensures.unlisted k from to)

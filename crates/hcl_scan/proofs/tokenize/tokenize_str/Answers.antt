@@ -39,16 +39,16 @@ returns-then-is_done-clause-tokenization c =
     let places = places_of c.scan.openings.items in
     let plain = c.push_plain_tokens-list in
     let text = c.args.text.now in
-    let state = subst (λ (m : List Mode). IsTokenizedTo text plain.result.0.items plain.result.1 m places) (ap modes_of none) plain.ensures.state in
+    let state = subst (λ (m : List Mode). IsTokenizedTo text plain.result.tokens.items plain.result.at m places) (ap modes_of none) plain.ensures.state in
     let mode : mode_of (modes_of c.scan.openings.items) ≡ Expression = ap (λ x. mode_of (modes_of x)) none in
     let start = rw mode at plain.ensures.gap in
-    finished text plain.result.0.items plain.result.1 plain.result.2.start places c.requires c.utf8.text state start (rw same at done.0)
+    finished text plain.result.tokens.items plain.result.at plain.result.next.start places c.requires c.utf8.text state start (rw same at done.0)
 
 pub returns-in-None-clause-fault : goal.returns-in-None-clause-fault
 returns-in-None-clause-fault c =
     let text = c.args.text.now in
     let plain = c.push_plain_tokens-list in
-    let start = plain.result.2.start in
+    let start = plain.result.next.start in
     let same = c.as_bytes-bytes.ensures.value in
     let modes = modes_of c.scan.openings.items in
     let places = places_of c.scan.openings.items in
@@ -58,26 +58,26 @@ returns-in-None-clause-fault c =
     let fault = rw (same, mode, opened) at c.fault_at.ensures in
     let unfinished = λ (e : modes ≡ []) (z : start ≡ length text).
     iff_false c.is_done.ensures c.if-is_done.false (z ∙ ap length (sym same), c.deref.ensures.value ∙ none_open c.scan.openings.items e) in
-    inr (subst (EndsInFault text) (sym fault) (stopped text plain.result.0.items plain.result.1 start modes places plain.ensures.state plain.ensures.gap none unfinished))
+    inr (subst (EndsInFault text) (sym fault) (stopped text plain.result.tokens.items plain.result.at start modes places plain.ensures.state plain.ensures.gap none unfinished))
 
 -- the token leaves the openings
 pub scan-preserved : goal.scan-preserved
 scan-preserved c =
     let text = c.args.text.now in
     let plain = c.push_plain_tokens-list in
-    let at = plain.result.1 in
-    let start = plain.result.2.start in
+    let at = plain.result.at in
+    let start = plain.result.next.start in
     let kind = c.in-Some.kind in
     let stop = start + c.in-Some.len in
     let modes = modes_of c.scan.openings.items in
     let places = places_of c.scan.openings.items in
     let found = sym plain.ensures.token ∙ c.in-Some.is in
-    let more = one_more text plain.result.0.items at modes places start kind c.in-Some.len plain.ensures.state plain.ensures.gap found in
+    let more = one_more text plain.result.tokens.items at modes places start kind c.in-Some.len plain.ensures.state plain.ensures.gap found in
     let item : Span = record { start = start; stop = stop; kind = kind } in
     let pushed = c.in_ok-tokens-in-Some.ensures in
     let shifted = c.can_change_openings.ensures.modes (slice_range text start stop) modes c.if-can_change_openings.false in
     let placed = c.can_change_openings.ensures.places start modes places c.if-can_change_openings.false in
-    let tokens = plain.result.0.items ++ item ∷ [] in
+    let tokens = plain.result.tokens.items ++ item ∷ [] in
     let next = subst₂ (λ (m : List Mode) (o : List ℕ). IsTokenizedTo text tokens stop m o) shifted placed more.1 in
     record {
       tokenization = subst (λ (xs : List Span). IsTokenizedTo text xs stop modes places) (sym pushed) next;
@@ -88,21 +88,21 @@ pub scan-preserved-else-text_len-gt0 : goal.scan-preserved-else-text_len-gt0
 scan-preserved-else-text_len-gt0 c =
     let text = c.args.text.now in
     let plain = c.push_plain_tokens-list in
-    let at = plain.result.1 in
-    let start = plain.result.2.start in
+    let at = plain.result.at in
+    let start = plain.result.next.start in
     let kind = c.in-Some.kind in
     let stop = start + c.in-Some.len in
     let same = c.as_bytes-bytes.ensures.value in
     let modes = modes_of c.scan.openings.items in
     let places = places_of c.scan.openings.items in
     let found = sym plain.ensures.token ∙ c.in-Some.is in
-    let more = one_more text plain.result.0.items at modes places start kind c.in-Some.len plain.ensures.state plain.ensures.gap found in
+    let more = one_more text plain.result.tokens.items at modes places start kind c.in-Some.len plain.ensures.state plain.ensures.gap found in
     let item : Span = record { start = start; stop = stop; kind = kind } in
     let pushed = c.in_ok-tokens-in-Some.ensures in
     let spelling = rw same at c.slice-spelling.ensures in
     let shifted = c.in_ok-update_openings-in-Some.ensures.modes ∙ ap (λ (s : List ℕ). modes_after kind s modes) spelling in
     let placed = c.in_ok-update_openings-in-Some.ensures.places in
-    let tokens = plain.result.0.items ++ item ∷ [] in
+    let tokens = plain.result.tokens.items ++ item ∷ [] in
     let next = subst₂ (λ (m : List Mode) (o : List ℕ). IsTokenizedTo text tokens stop m o) (sym shifted) (sym placed) more.1 in
     record {
       tokenization = subst (λ (xs : List Span). IsTokenizedTo text xs stop (modes_of c.update_openings.new.openings.items) (places_of c.update_openings.new.openings.items)) (sym pushed) next;
@@ -114,20 +114,20 @@ pub scan-preserved-then-text_len-gt0 : goal.scan-preserved-then-text_len-gt0
 scan-preserved-then-text_len-gt0 c =
     let text = c.args.text.now in
     let plain = c.push_plain_tokens-list in
-    let start = plain.result.2.start in
+    let start = plain.result.next.start in
     let kind = c.in-Some.kind in
     let stop = start + c.in-Some.len in
-    let text_len = plain.result.3 in
+    let text_len = plain.result.text_len in
     let same = c.as_bytes-bytes.ensures.value in
     let modes = modes_of c.scan.openings.items in
     let places = places_of c.scan.openings.items in
     let found = sym plain.ensures.token ∙ c.in-Some.is in
-    let more = one_more text plain.result.0.items plain.result.1 modes places start kind c.in-Some.len plain.ensures.state plain.ensures.gap found in
+    let more = one_more text plain.result.tokens.items plain.result.at modes places start kind c.in-Some.len plain.ensures.state plain.ensures.gap found in
     let spelling = rw same at c.slice-spelling.ensures in
     let updated = c.in_ok-update_openings-in-Some.ensures in
     let shifted = updated.modes ∙ ap (λ (s : List ℕ). modes_after kind s modes) spelling in
     let openings = c.update_openings.new.openings.items in
-    let tokens = plain.result.0.items ++ token_at start stop kind ∷ [] in
+    let tokens = plain.result.tokens.items ++ token_at start stop kind ∷ [] in
     let opened = subst₂ (λ (m : List Mode) (o : List ℕ). IsTokenizedTo text tokens stop m o) (sym shifted) (sym updated.places) more.1 in
     let after = subst (λ (x : LexedToken). IsTextAfter text start x text_len) c.in-Some.is (plain.ensures.text c.if-text_len-gt0.true) in
     let quoted = shifted ∙ ap (λ (k : Kind). modes_after k (slice_range text start stop) modes) after.0 in

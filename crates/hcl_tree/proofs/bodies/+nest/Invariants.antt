@@ -2,7 +2,8 @@ use Rattle.std.proofs.Common.{◌≡◌, ◌+◌, ◌-◌, ◌*◌}
 use Rattle.hcl_tree.specs.BodyRules as spec
 use Rattle.hcl_tree.proofs.bodies.+nest.Given as goal
 
--- A block has 8 places of its own: each function calls those below it, and what stands in a block that was opened has the next 8.
+-- A block has 8 places of its own: each function calls those below it, and what is in a block that
+-- was opened has the next 8.
 
 abbrev pub decreases-members : goal.decreases-members
 decreases-members l = 8 * l.reader.now.depth + 5

@@ -1,4 +1,4 @@
--- The name of the program, and the arguments so far.
+-- The name of the program, and the arguments up to here.
 use Rattle.std.proofs.Common.{◌≡◌, ◌∷◌, take, map, codes}
 use Rattle.std.specs.Prelude.{string_bytes}
 use Rattle.tf_cli.specs.Arguments.{normalized}

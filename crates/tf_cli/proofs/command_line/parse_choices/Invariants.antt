@@ -1,4 +1,4 @@
--- The choices so far are those of the names so far.
+-- The choices up to here are those of the names up to here.
 use Rattle.std.proofs.Common.{take, map}
 use Rattle.tf_cli.specs.Choices.{AreNames}
 use Rattle.tf_cli.proofs.command_line.parse_choices.Given as goal

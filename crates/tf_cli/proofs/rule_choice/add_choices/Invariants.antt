@@ -4,7 +4,7 @@ use Rattle.tf_rules.specs.RuleSets.{has_rule}
 use Rattle.tf_cli.specs.Choices.{is_chosen}
 use Rattle.tf_cli.proofs.rule_choice.add_choices.Given as goal
 
--- the rules of the set, and those that the choices so far name
+-- the rules of the set, and those that the choices up to here name
 abbrev pub invariant-loop-choice : goal.invariant-loop-choice
 invariant-loop-choice l =
     (rule : Rule)

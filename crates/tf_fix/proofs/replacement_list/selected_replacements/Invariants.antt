@@ -7,7 +7,7 @@ use Rattle.tf_rules.specs.Findings.{AreValidFindings}
 use Rattle.tf_fix.specs.Selection.{selected_from, selected}
 use Rattle.tf_fix.proofs.replacement_list.selected_replacements.Given as goal
 
--- what is replaced so far, with what is replaced for the rule's findings that are left, is all
+-- what is replaced up to here, with what is replaced for the rule's findings that are left, is all
 abbrev pub invariant-loop-one : goal.invariant-loop-one
 invariant-loop-one l =
     (replacements l.scanned.pairs l.all.items ++ flat_map (finding_replacements l.scanned.pairs) (selected_from l.past (filter (is_found_by l.fn.rule) (drop l.one-index l.findings))) ≡ step_replacements l.scanned.pairs (filter (is_found_by l.fn.rule) l.findings))

@@ -6,7 +6,7 @@ use Rattle.tf_fix.specs.Inner.Views.{boundary_index, prev_view, replacements}
 use Rattle.tf_fix.proofs.ComparisonLemmas.{IsTold}
 use Rattle.tf_fix.proofs.splice.replacement_edits.Given as goal
 
--- the edits so far, with those of the replacements that are left, are all
+-- the edits up to here, with those of the replacements that are left, are all
 abbrev pub invariant-loop-left : goal.invariant-loop-left
 invariant-loop-left l =
     IsTold l.scanned.pairs l.scanned.last (changed_entries 0 (replaced_pieces (parts l.scanned) (replacements l.scanned.pairs l.all))) l.edits.items (prev_view l.prev) (boundary_index l.at) l.left

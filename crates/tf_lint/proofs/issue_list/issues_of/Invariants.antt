@@ -1,4 +1,4 @@
--- What is told of the findings so far.
+-- The reports of the findings up to here.
 use Rattle.std.proofs.Common.{◌≡◌, take, map}
 use Rattle.tf_lint.specs.Issues.{reports}
 use Rattle.tf_lint.specs.Reports.{report_of}

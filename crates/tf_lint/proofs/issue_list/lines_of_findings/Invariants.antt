@@ -1,4 +1,4 @@
--- The lines of the findings so far.
+-- The lines of the findings up to here.
 use Rattle.std.proofs.Common.{◌≡◌, take, map}
 use Rattle.std.specs.Prelude.{string_bytes}
 use Rattle.hcl_token.specs.Place.{place_of}

@@ -1,4 +1,4 @@
--- The lines of the issues so far.
+-- The lines of the issues up to here.
 use Rattle.std.proofs.Common.{◌≡◌, take}
 use Rattle.std.specs.Prelude.{string_bytes}
 use Rattle.tf_lint.specs.Issues.{reports}

@@ -1,4 +1,4 @@
--- What the parser answers stands there.
+-- What the parser returns is derived there.
 use Rattle.std.proofs.Common.{◌≡◌, true, Some, Ok, rules}
 use Rattle.hcl_grammar.specs.Pure.BodyParser.{deeper_members, member_of}
 use Rattle.hcl_grammar.specs.declared.bounds.TheConstants.{MAX_NESTING}

@@ -1,4 +1,4 @@
--- The text is laid out, or is not.
+-- The text is formatted, or is not.
 use Rattle.tf_program.proofs.Checking.{checked}
 use Rattle.tf_program.proofs.files.check_input.Goals as goal
 

@@ -1,4 +1,4 @@
--- The lines of the records so far.
+-- The lines of the records up to here.
 use Rattle.std.proofs.Common.{◌≡◌, take}
 use Rattle.std.specs.Prelude.{string_bytes}
 use Rattle.tf_program.specs.Lines.{lines_of}

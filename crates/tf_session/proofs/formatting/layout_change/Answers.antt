@@ -1,4 +1,4 @@
--- The edits of the layout stand in the text, and make it.
+-- The edits of the layout apply to the text, and make it.
 use Rattle.std.proofs.Common.{◌≡◌, ◌∙◌, length, rules, ap, inl, sym}
 use Rattle.std.proofs.lemmas.List.{nil_from_length}
 use Rattle.edit_record.specs.Lists.Pieces.{Transforms}

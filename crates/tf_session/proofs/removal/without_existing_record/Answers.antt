@@ -1,4 +1,4 @@
--- The record is the one of this number, and the slice behind it are the records behind it.
+-- The record is the one of this number, and the slice after it has the records after it.
 use Rattle.std.proofs.Common.{arith, subst, Err}
 use Rattle.edit_record.specs.Lists.Pieces.{EditList}
 use Rattle.edit_record.specs.Lists.ChangeResults.{IsChangeCallResult}

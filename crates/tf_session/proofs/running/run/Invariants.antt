@@ -1,4 +1,5 @@
--- The commands so far are a run, and the session stands for its stack, if none is a take, and for its history.
+-- The commands up to here are a run, and the session represents its stack, if none is a take, and
+-- its history.
 use Rattle.std.proofs.Common.{◌≡◌, take}
 use Rattle.tf_session.specs.Session.{text_of, records_of}
 use Rattle.tf_session.specs.Layers.{History, initial_history, top_text, records_in, IsHistory, HistoryRun}

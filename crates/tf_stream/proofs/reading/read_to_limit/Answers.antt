@@ -1,4 +1,4 @@
--- What was read last goes behind what was taken before it.
+-- What was read last follows what was taken before it.
 use Rattle.std.proofs.Common.{◌++◌, ◌<◌, take, arith, length-append}
 use Rattle.std.proofs.lemmas.List.{length-take}
 use Rattle.std.proofs.KnownBytes.{Consumes-trans}

@@ -1,4 +1,4 @@
--- What was taken so far, and that no read has failed yet.
+-- What was taken up to here, and that no read has failed yet.
 use Rattle.std.proofs.Common.{◌-◌, ◌≡◌, ◌≤◌, false, vec_len}
 use Rattle.std.specs.Io.KnownBytes.{Consumes}
 use Rattle.tf_stream.specs.Told.{inner_of, has_failed}

@@ -1,4 +1,4 @@
--- What was sent so far, and that no write has failed yet.
+-- What was sent up to here, and that no write has failed yet.
 use Rattle.std.proofs.Common.{length, ◌-◌, ◌≡◌, ◌≤◌, false, take}
 use Rattle.std.specs.Io.KnownBytes.{Appends}
 use Rattle.tf_stream.specs.Told.{inner_of, has_failed}

@@ -2,7 +2,8 @@ use Rattle.std.proofs.Common.{◌≡◌, ◌+◌, ◌-◌, ◌*◌, [], length}
 use Rattle.hcl_expr.specs.ReaderRules as spec
 use Rattle.hcl_expr.proofs.reader.Reader.+nest.Given as goal
 
--- A construct has 128 places of its own: each function calls those below it, and what stands in a construct that was opened has the next 128.
+-- A construct has 128 places of its own: each function calls those below it, and what is in a
+-- construct that was opened has the next 128.
 
 abbrev pub decreases-boxed_expr : goal.decreases-boxed_expr
 decreases-boxed_expr l = 128 * l.self.now.depth + 63
