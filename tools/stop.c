@@ -41,7 +41,7 @@ enum {
     SYSCALL_OPENAT = 257,
     SYSCALL_STATX = 332,
     FOR_WRITING = 03,
-    TO_WRITE_BEHIND = 01 | 0100 | 02000,
+    TO_APPEND = 01 | 0100 | 02000,
     HERE = -100,
     ENDED = 137
 };
@@ -74,7 +74,7 @@ static void tell(char letter)
 {
     const char *name = getenv("STOP_LOG");
     if (name)
-        syscall(SYSCALL_WRITE, syscall(SYSCALL_OPEN, name, TO_WRITE_BEHIND, 0600), &letter, 1L);
+        syscall(SYSCALL_WRITE, syscall(SYSCALL_OPEN, name, TO_APPEND, 0600), &letter, 1L);
 }
 
 /* Counts a call of this kind. Returns whether it is met. */

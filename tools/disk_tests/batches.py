@@ -125,18 +125,18 @@ def fill(program, sizes, spare, wanted):
     return check
 
 
-def room_for_one_at_a_time(program):
+def space_for_one_at_a_time(program):
     """There is space for the new files of one, not of two: what is refused is tried again alone."""
     return fill(program, (64, 64, 64), 80, ["a.tf", "b.tf", "c.tf"])
 
 
-def room_for_the_second(program):
+def space_for_the_second(program):
     """There is space for the new files of the second alone."""
     return fill(program, (128, 32, 128), 64, ["b.tf"])
 
 
 JOBS = [
     *[(lose_power_of_many, kind) for kind in ("btrfs", "ext4", "xfs")],
-    (room_for_one_at_a_time,),
-    (room_for_the_second,),
+    (space_for_one_at_a_time,),
+    (space_for_the_second,),
 ]

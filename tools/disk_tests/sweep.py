@@ -75,7 +75,7 @@ class Trial:
         else:
             self.judge_at_once(ran.returncode)
         program.recover(scene.folder)
-        state = name_of(scene.state(), self.old, self.new)
+        state = "old" if self.is_empty_left() else name_of(scene.state(), self.old, self.new)
         is_covered = state != "mixed" or not self.is_over()
         self.check.see(state if is_covered else "mixed in place")
         if is_covered:
@@ -122,7 +122,14 @@ class Trial:
         to_be = self.scene.state_to_be()
         is_waiting = to_be == self.new or (self.scene.left == "journal" and to_be == self.old)
         is_put = state == self.new and self.way == "done:EIO" and self.call.startswith("rename")
-        return state == self.old or is_waiting or is_put or self.is_over()
+        is_old = state == self.old or self.is_empty_left()
+        return is_old or is_waiting or is_put or self.is_over()
+
+    def is_empty_left(self):
+        """Whether a journal was created, though the call failed, and was left empty, which means
+        what no journal means. It may be another command's."""
+        is_created = self.way == "done:EIO" and self.call.startswith("openat")
+        return is_created and self.old[1] is None and self.scene.state() == (self.old[0], b"")
 
     def judge_readers(self):
         """Judges who may read the new files of a program that was killed."""

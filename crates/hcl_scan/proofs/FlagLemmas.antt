@@ -1,4 +1,4 @@
--- Two tables of 16 numbers, looked up for 16 bytes at once.
+-- Tables of 16 numbers, one or two, looked up for 16 bytes at once.
 use Rattle.std.proofs.Common.{◌≡◌, ℕ, zero, suc, ◌+◌, ◌-◌, ◌/◌, ◌^◌, ◌<◌, ◌≤◌, ◌==◌, Bool, true, false, not, List, length, get_or, slice_index, replicate, bit_and, drop, refl, sym, ap, ap₂, ◌∙◌, inl, inr, arith, w8, Fits}
 use Rattle.std.proofs.lemmas.Bool.{cases_lt, eqb-true, not-true, not-false}
 use Rattle.std.proofs.lemmas.Bool.Decides.{nat_tests}

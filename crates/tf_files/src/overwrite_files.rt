@@ -116,7 +116,9 @@ fn write_both<F: Write + OpenFile>(
 }
 
 /// Creates an empty journal with the owner, group and mode of the text's file, as far as the system
-/// lets it: a journal of one's own next to another's file serves as well.
+/// lets it: a journal of one's own next to another's file serves as well. Where the call fails, an
+/// empty journal that is there all the same may be another command's and stays: it means what no
+/// journal means.
 fn create_journal<R: Files>(
     rt: &R,
     paths: &FilePaths,

@@ -80,8 +80,8 @@ const LONG: usize = 1_024;
 
 /// Returns whether something in the block that begins with this token seems not to be quiet, of
 /// what is not most often: a legacy index, a quote after which one interpolation may be all of the
-/// quoted text, and in `locals` a name that is not in snake_case. It does not where an error is met
-/// before, which the parser finds sooner.
+/// quoted text, and in `locals` a name that is not in snake_case. Returns false at two operands in
+/// a row, an error that the parser finds sooner.
 pub fn is_loud_block(scanned: &Scanned<'_>, from: usize) -> bool {
     let names = is_spelled(token_text(scanned, from), b"locals");
     let mut depth = 0usize;

@@ -34,7 +34,7 @@ use Rattle.tf_reuse.proofs.Window.{Here, Same}
 use Rattle.tf_reuse.specs.MembersKeep.{SameTokens}
 use Rattle.tf_rules.specs.declared.rule_set.RuleSet.{RuleSet}
 
--- all nodes in each of two lists, and that in the second is found what is found in the first, its
+-- all nodes in each of two lists: what is found in the second is what is found in the first, its
 -- numbers moved
 pub record SameFound (rules : RuleSet) (old new : List Pair) (from to : ℕ) (ns ns' : List Node) : Type 0 where
   pub nodes : List Node

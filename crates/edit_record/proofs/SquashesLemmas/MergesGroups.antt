@@ -76,8 +76,8 @@ outside n m k f = elim (eqb n 0) as (λ b. eqb n 0 ≡ b → (b && leb m k) ≡ 
   | false ↦ λ e f. let z = eqb-false n 0 e in inl (omega arith)
 ] refl f
 
--- an edit of the other list d bytes after a place joins those that end there, with this number of
--- bytes left
+-- an edit of the other list d bytes after a place joins those that end there, with `left` bytes
+-- left
 joins_is : (some : Bool) (from place d end left other : ℕ) → from ≡ place + d → place + left ≡ end + other → min other left ≡ 0 → (some && leb from end) ≡ (some && (eqb other 0 && leb d left))
 joins_is false from place d end left other at is one = refl
 joins_is true from place d end left other at is one =

@@ -1,5 +1,5 @@
--- The bits that two tables of 16 numbers have in common at a byte: one by its low four bits, one by
--- its high four bits.
+-- Bytes looked up in tables of 16 numbers. First the bits that two tables have in common at a byte:
+-- one by its low four bits, one by its high four bits.
 use Rattle.std.specs.Prelude.{ℕ, ◌/◌, List, slice_index, bit_and}
 use Rattle.std.specs.Int.Bits.{bit_xor}
 
