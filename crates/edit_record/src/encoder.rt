@@ -16,7 +16,7 @@ use std::alloc::{AllocError, Global};
 /// A part of a record's text. What does not fit into memory that is reserved is written part by
 /// part.
 #[derive(Clone, Copy)]
-enum Part<'a> {
+enum RecordPart<'a> {
     Bytes(&'a [u8]),
     /// A number in decimal, and the byte that ends it.
     Number(usize, u8),
@@ -33,18 +33,18 @@ fn mark_bytes(word: Word) -> &'static [u8; 12]
 }
 
 /// Returns the parts of an edit.
-fn edit_parts(edit: &Edit) -> [Part<'_>; 6]
+fn edit_parts(edit: &Edit) -> [RecordPart<'_>; 6]
     ensures { flat_map part_text result ≡ edit_text edit.now }
 {
     let removed = edit.removed();
     let added = edit.added();
     [
-        Part::Number(edit.at(), b' '),
-        Part::Number(removed.len(), b' '),
-        Part::Number(added.len(), b'\n'),
-        Part::Bytes(removed),
-        Part::Bytes(added),
-        Part::Bytes(b"\n"),
+        RecordPart::Number(edit.at(), b' '),
+        RecordPart::Number(removed.len(), b' '),
+        RecordPart::Number(added.len(), b'\n'),
+        RecordPart::Bytes(removed),
+        RecordPart::Bytes(added),
+        RecordPart::Bytes(b"\n"),
     ]
 }
 
@@ -108,7 +108,7 @@ pub fn encoded_len(journal: &Journal) -> usize
     text.len().saturating_add(records_len(others))
 }
 
-fn write_parts(out: &mut Vec<u8>, parts: &[Part]) -> Result<(), AllocError>
+fn write_parts(out: &mut Vec<u8>, parts: &[RecordPart]) -> Result<(), AllocError>
     ensures { OnOk result (out.new.items ≡ out.old.items ++ flat_map part_text parts.now) }
 {
     for part in parts {
@@ -117,12 +117,12 @@ fn write_parts(out: &mut Vec<u8>, parts: &[Part]) -> Result<(), AllocError>
     Ok(())
 }
 
-fn write_part(out: &mut Vec<u8>, part: Part) -> Result<(), AllocError>
+fn write_part(out: &mut Vec<u8>, part: RecordPart) -> Result<(), AllocError>
     ensures { OnOk result (out.new.items ≡ out.old.items ++ part_text part.entry) }
 {
     match part {
-        Part::Bytes(bytes) => out.extend_from_slice(bytes),
-        Part::Number(number, stop) => {
+        RecordPart::Bytes(bytes) => out.extend_from_slice(bytes),
+        RecordPart::Number(number, stop) => {
             out.extend_from_slice(Buffer::new().format(number).as_bytes())?;
             out.push(stop)?;
             Ok(())
@@ -180,7 +180,10 @@ fn write_heads(out: &mut Vec<u8>, rec: &Record) -> Result<(), AllocError>
     out.extend_from_slice(mark_bytes(rec.word()))?;
     let spare = out.capacity() - out.len();
     if spare < MOST_BYTES || old_len >= FAR || count >= FAR {
-        let numbers = [Part::Number(old_len, b' '), Part::Number(count, b'\n')];
+        let numbers = [
+            RecordPart::Number(old_len, b' '),
+            RecordPart::Number(count, b'\n'),
+        ];
         return write_parts(out, &numbers);
     }
     push_list_head(out, old_len, count);

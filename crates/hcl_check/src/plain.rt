@@ -15,7 +15,7 @@ ghost use Rattle.hcl_check.specs.Passes.{under};
 ghost use Rattle.hcl_check.specs.Rules as spec;
 ghost use Rattle.hcl_check.specs.Rules.{IsRead, IsTried};
 
-use crate::looks::Next;
+use crate::next_token::Next;
 use crate::opens::enter;
 use hcl_expr::{Reader, same_kind};
 use hcl_token::Kind;

@@ -34,31 +34,23 @@ fn to_u32_pair(first: usize, past: usize) -> Result<(u32, u32), AllocError>
 /// Returns an expression.
 #[inline(always)]
 #[tactic(auto, unfolding(crate::specs::Nodes::expr))]
-pub fn expr(first: usize, past: usize, form: ExprKind) -> Result<Expr, TokenFault>
-    ensures node { Reads (Ok (nodes.expr first past form, past)) result past }
+pub fn expr(first: usize, past: usize, kind: ExprKind) -> Result<Expr, TokenFault>
+    ensures node { Reads (Ok (nodes.expr first past kind, past)) result past }
     ensures err { IfErr result (λ _. (2 ^ 32 ≤ first) ⊎ (2 ^ 32 ≤ past)) }
 {
     let (first, past) = to_u32_pair(first, past)?;
-    Ok(Expr {
-        first,
-        past,
-        kind: form,
-    })
+    Ok(Expr { first, past, kind })
 }
 
 /// Returns a term.
 #[inline(always)]
 #[tactic(auto, unfolding(crate::specs::Nodes::term))]
-pub fn term(first: usize, past: usize, shape: Primary) -> Result<Term, TokenFault>
-    ensures node { Reads (Ok (nodes.term first past shape, past)) result past }
+pub fn term(first: usize, past: usize, kind: Primary) -> Result<Term, TokenFault>
+    ensures node { Reads (Ok (nodes.term first past kind, past)) result past }
     ensures err { IfErr result (λ _. (2 ^ 32 ≤ first) ⊎ (2 ^ 32 ≤ past)) }
 {
     let (first, past) = to_u32_pair(first, past)?;
-    Ok(Term {
-        first,
-        past,
-        kind: shape,
-    })
+    Ok(Term { first, past, kind })
 }
 
 /// Returns an operator with its second operand.

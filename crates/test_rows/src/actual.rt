@@ -33,7 +33,7 @@ impl Answer {
         self.is_right && row.says(self.text())
     }
 
-    pub fn told(&self) -> &str {
+    pub fn as_text(&self) -> &str {
         from_utf8(self.text()).unwrap_or("bytes that are not UTF-8")
     }
 

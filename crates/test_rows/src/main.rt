@@ -60,7 +60,7 @@ fn try_row(rt: &HostRuntime, subject: &str, number: usize, line: &str) -> Result
     let mut out = Answer::new(rt.alloc());
     run_row(subject, &row, &mut out);
     if !out.is_of(&row) {
-        let found = out.told();
+        let found = out.as_text();
         println!(rt; "{subject}.rows:{number}: {line}\n  answered: {found}")?;
     }
     Ok(())

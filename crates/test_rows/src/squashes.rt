@@ -16,7 +16,7 @@ pub fn answer(row: &Row, out: &mut Answer) {
     }
 }
 
-fn told(answer: Result<Edits, Unmet>, out: &mut Answer) {
+fn put_result(answer: Result<Edits, Unmet>, out: &mut Answer) {
     match answer {
         Ok(list) => spell(&list, out),
         Err(fault) => out.refuse(&fault),
@@ -26,7 +26,7 @@ fn told(answer: Result<Edits, Unmet>, out: &mut Answer) {
 fn squashed(row: &Row, out: &mut Answer) {
     let first = list_of(row.word(1), out);
     let second = list_of(row.word(2), out);
-    told(squash(out.alloc, &first, &second), out);
+    put_result(squash(out.alloc, &first, &second), out);
 }
 
 /// Three lists in both groupings.
@@ -37,9 +37,9 @@ fn three(row: &Row, out: &mut Answer) {
     squash_is_unique(&a, &b);
     squash_is_associative(&a, &b, &c);
     squash_all_is_unique();
-    told(from_left(out.alloc, &a, &b, &c), out);
+    put_result(from_left(out.alloc, &a, &b, &c), out);
     let mut right = Answer::new(out.alloc);
-    told(from_right(out.alloc, &a, &b, &c), &mut right);
+    put_result(from_right(out.alloc, &a, &b, &c), &mut right);
     out.hold(right.text() == out.text(), "the groupings differ");
 }
 
@@ -57,7 +57,7 @@ fn from_right(alloc: Global, a: &Edits, b: &Edits, c: &Edits) -> Result<Edits, U
 fn journal(row: &Row, out: &mut Answer) {
     let first = list_of(row.word(1), out);
     let journal = journal_of(row.word(2), out);
-    told(all(out.alloc, first, &journal), out);
+    put_result(all(out.alloc, first, &journal), out);
 }
 
 fn all(alloc: Global, first: Edits, journal: &Journal) -> Result<Edits, Unmet> {

@@ -105,7 +105,7 @@ fn token(scanned: &Scanned<'_>, i: usize, out: &mut Answer) {
     let clusters = scanned.clusters(i);
     let _ = write!(
         out,
-        "{kind:?} {gap_at} {start} {stop}, {clusters} clusters behind "
+        "{kind:?} {gap_at} {start} {stop}, {clusters} clusters after "
     );
     gap(scanned.gap(i), out);
 }

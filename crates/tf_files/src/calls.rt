@@ -12,7 +12,7 @@ use std::fs::{self, OpenFile, OpenOptions};
 use std::io::{self, ErrorKind};
 use std::path::Path;
 use std::rt::Files;
-use tf_saving::{Call, Part, Reply};
+use tf_saving::{Reply, SavedFile, Syscall};
 use tf_session::RunFault;
 
 /// What is known of a part's new file.
@@ -100,22 +100,22 @@ pub fn make<R: Files>(
     rt: &R,
     alloc: Global,
     file: &mut PartFile<'_, R::File>,
-    call: Call,
+    call: Syscall,
 ) -> Reply {
     match call {
-        Call::Open(_) => open(rt, file.given),
-        Call::FindNew(_) => find_new(rt, file),
-        Call::CreateNew(_) => create_new(rt, file),
-        Call::CopyAttributes(part) => copy_attributes(rt, part, file),
-        Call::Write(part) => write(rt, part, file),
-        Call::Sync(_) => sync(file),
-        Call::SyncDirectory(_) => sync_directory(rt, file.own),
-        Call::CompareNew(_) => compare_new(rt, file),
-        Call::Compare => compare(rt, file),
-        Call::CanAdopt => adopt(rt, alloc, file),
-        Call::Rename(Part::Text) => rename(rt, file),
-        Call::Rename(Part::Journal) => rename_journal(rt, file),
-        Call::Remove(_) => remove(rt, file),
+        Syscall::Open(_) => open(rt, file.given),
+        Syscall::FindNew(_) => find_new(rt, file),
+        Syscall::CreateNew(_) => create_new(rt, file),
+        Syscall::CopyAttributes(part) => copy_attributes(rt, part, file),
+        Syscall::Write(part) => write(rt, part, file),
+        Syscall::Sync(_) => sync(file),
+        Syscall::SyncDirectory(_) => sync_directory(rt, file.own),
+        Syscall::CompareNew(_) => compare_new(rt, file),
+        Syscall::Compare => compare(rt, file),
+        Syscall::CanAdopt => adopt(rt, alloc, file),
+        Syscall::Rename(SavedFile::Text) => rename(rt, file),
+        Syscall::Rename(SavedFile::Journal) => rename_journal(rt, file),
+        Syscall::Remove(_) => remove(rt, file),
     }
 }
 
@@ -138,7 +138,7 @@ fn open<R: Files>(rt: &R, name: &str) -> Reply {
     }
 }
 
-fn write<R: Files>(rt: &R, part: Part, file: &mut PartFile<'_, R::File>) -> Reply {
+fn write<R: Files>(rt: &R, part: SavedFile, file: &mut PartFile<'_, R::File>) -> Reply {
     let NewFile::Created(created) = &mut file.new_file else {
         return Reply::Failed;
     };

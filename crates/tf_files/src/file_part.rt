@@ -1,10 +1,10 @@
 //! One part of what is saved: the text of a file, or its journal.
 
 use std::io::Write;
-use tf_saving as saving;
+use tf_saving::SavedFile;
 use tf_session::{Part, RunFault, Told, put_journal, put_text};
 
-/// The fault where a part could not be written whole.
+/// Returns the error of a part that was not written whole.
 pub fn write_fault(part: Part, sent: usize) -> RunFault {
     RunFault::Write { part, sent }
 }
@@ -19,9 +19,9 @@ pub fn write_part<W: Write>(part: Part, bytes: &[u8], writer: &mut W) -> Result<
 }
 
 /// Returns the part as errors name it.
-pub fn session_part(part: saving::Part) -> Part {
-    match part {
-        saving::Part::Text => Part::Text,
-        saving::Part::Journal => Part::Journal,
+pub fn session_part(file: SavedFile) -> Part {
+    match file {
+        SavedFile::Text => Part::Text,
+        SavedFile::Journal => Part::Journal,
     }
 }

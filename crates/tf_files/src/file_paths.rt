@@ -1,4 +1,4 @@
-//! Where a file, its journal, and what is to take their places lie.
+//! The names of a file, of its journal, and of the new files that are to replace them.
 
 use crate::adoption::can_adopt;
 use std::alloc::{AllocError, Global};
@@ -7,32 +7,32 @@ use std::io::{self, ErrorKind};
 use std::rt::Files;
 use tf_session::RunFault;
 
-/// What the name of a journal has behind that of its file.
+/// The suffix that the name of a journal adds to that of its file.
 const JOURNAL: &str = ".tfundo";
 
-/// What the name of a new text has behind that of the file whose place it is to take.
+/// The suffix that the name of a new text adds to that of the file that it is to replace.
 const NEW_TEXT: &str = ".tfnew";
 
-/// The same for a new journal.
+/// The suffix that the name of a new journal adds to that of the journal that it is to replace.
 const NEW_JOURNAL: &str = ".new";
 
-/// The names of a file, of its journal, and of what is to take their places. Where a name is a
-/// link, what is new lies beside what the link leads to, so that the link stays.
+/// The names of a file, of its journal, and of the new files that are to replace them. If a name is
+/// a link, the new file is next to the file that the link leads to, so that the link stays.
 #[derive(Drop)]
 pub struct FilePaths {
-    /// The file as it was named. It is read, and written over, by this name: what `/dev/stdin`
-    /// leads to has a name that cannot be opened.
+    /// The name of the file as it was given. The file is read and overwritten by this name: what
+    /// `/dev/stdin` leads to has a name that cannot be opened.
     pub text: String,
-    /// What that name leads to.
+    /// The name of the file that `text` leads to.
     pub real_text: String,
     pub new_text: String,
-    /// What the name beside the file leads to.
+    /// The name of the file that `text` with the suffix leads to.
     pub journal: String,
     pub new_journal: String,
 }
 
 impl FilePaths {
-    /// The places for a file of this name.
+    /// Returns the names for a file of this name.
     pub fn of<R: Files>(rt: &R, alloc: Global, name: &str) -> Result<FilePaths, RunFault> {
         let text = String::from_str(alloc, name)?;
         let real_text = String::from_str(alloc, name)?;
@@ -50,11 +50,11 @@ impl FilePaths {
         })
     }
 
-    /// Returns the name of the journal that belongs to the text: the new one where a command was
-    /// interrupted once it had replaced the text.
+    /// Returns the name of the journal that belongs to the text: the new one if a command was
+    /// interrupted after it had replaced the text.
     ///
     /// # Errors
-    /// `Read` where the system does not say what is there.
+    /// `Read` if the system does not report whether a file exists.
     pub fn current_journal<R: Files>(&self, rt: &R, alloc: Global) -> Result<&str, RunFault> {
         let is_new = is_found(rt, &self.new_journal)?
             && !is_found(rt, &self.new_text)?
@@ -75,7 +75,7 @@ fn is_found<R: Files>(rt: &R, name: &str) -> Result<bool, RunFault> {
     }
 }
 
-/// Whether there is nothing of this name. Where the system does not tell, there is something.
+/// Returns true only if the system reports that no file has this name.
 pub fn is_absent<R: Files>(rt: &R, name: &str) -> bool {
     match fs::symlink_metadata(rt, name) {
         Ok(_) => false,
@@ -83,8 +83,8 @@ pub fn is_absent<R: Files>(rt: &R, name: &str) -> bool {
     }
 }
 
-/// Whether a name that met this error is that of nothing; nothing has a name too long for the
-/// system.
+/// Returns whether a call that failed with this error shows that no file has its name; none has a
+/// name that is too long for the system.
 pub fn is_not_found(error: &io::Error) -> bool {
     matches!(
         error.kind(),
@@ -92,7 +92,8 @@ pub fn is_not_found(error: &io::Error) -> bool {
     )
 }
 
-/// What a name leads to; the name itself where the system does not tell.
+/// Returns the name of the file that a name leads to; the name itself if the system does not report
+/// it.
 fn resolve<R: Files>(rt: &R, alloc: Global, name: String) -> Result<String, RunFault> {
     match rt.canonicalize(alloc, name.as_str()) {
         Ok(path) => Ok(path.into_string()),

@@ -12,7 +12,7 @@ use std::fs::{self, Metadata, OpenFile, OpenOptions, Permissions};
 use std::io::{self, ErrorKind, Seek, Write};
 use std::os::unix::fs::{MetadataExt, OpenOptionsExt, PermissionsExt};
 use std::rt::Files;
-use tf_saving::{Part, Reply};
+use tf_saving::{Reply, SavedFile};
 
 /// The mode of a new file until it gets that of the old one, so that nobody else can open it.
 pub const PRIVATE: u32 = 0o600;
@@ -43,8 +43,8 @@ pub fn create_new<R: Files>(rt: &R, file: &mut PartFile<'_, R::File>) -> Reply {
 }
 
 /// Returns the reply where the new file's name is taken, though a recovery has just removed what
-/// had it: it could not remove it, or another program has created it since. A removal that does not
-/// fit what is there tells which, and removes nothing.
+/// had it: it could not remove it, or another program has created it since. A removal by the call
+/// for another kind of file shows which, and removes nothing.
 fn reply_if_taken<R: Files>(rt: &R, name: &str) -> Reply {
     let removed = match fs::symlink_metadata(rt, name) {
         Ok(found) if found.is_dir() => fs::remove_file(rt, name),
@@ -77,14 +77,14 @@ fn is_ruled_out(error: &io::Error) -> bool {
 /// Gives the new file the owner, group and mode of the old one; a first journal those of the text's
 /// file. Where the old one is not the file that was read, it may have an owner or a mode that no
 /// new file is to have here, such as root's.
-pub fn copy_attributes<R: Files>(rt: &R, part: Part, file: &PartFile<'_, R::File>) -> Reply {
+pub fn copy_attributes<R: Files>(rt: &R, part: SavedFile, file: &PartFile<'_, R::File>) -> Reply {
     let (Some(read), NewFile::Created(created)) = (file.read, &file.new_file) else {
         return Reply::Failed;
     };
     match (part, read.journal) {
-        (Part::Text, _) => make_like(rt, file.own, read.text, created),
-        (Part::Journal, Some(journal)) => make_like(rt, file.own, journal, created),
-        (Part::Journal, None) => make_first_journal(rt, file.paths, read.text, created),
+        (SavedFile::Text, _) => make_like(rt, file.own, read.text, created),
+        (SavedFile::Journal, Some(journal)) => make_like(rt, file.own, journal, created),
+        (SavedFile::Journal, None) => make_first_journal(rt, file.paths, read.text, created),
     }
 }
 

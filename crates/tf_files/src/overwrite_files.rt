@@ -39,7 +39,7 @@ pub fn overwrite<R: Files>(
     }
 }
 
-/// Writes both over the old ones.
+/// Overwrites the journal and the text. After an error it puts the old bytes of both back.
 fn overwrite_both<R: Files>(
     rt: &R,
     alloc: Global,
@@ -60,8 +60,8 @@ fn overwrite_both<R: Files>(
     put
 }
 
-/// Writes the text over the old one, and the journal into a file that is created first, and removed
-/// after an error.
+/// Creates the journal, writes it, and overwrites the text. After an error it puts the old bytes of
+/// the text back and removes the journal.
 fn create_and_overwrite<R: Files>(
     rt: &R,
     alloc: Global,
@@ -100,8 +100,8 @@ fn overwrite_text<R: Files>(
     put
 }
 
-/// Until both are written no byte is cut off. So a disk that is full is met before anything is
-/// lost, or after bytes that can be put back with no more space.
+/// Writes both, and truncates neither before both are written. So if the disk is full, no old byte
+/// is lost yet, or the old bytes can be put back without more space.
 fn write_both<F: Write + OpenFile>(
     journal: &mut F,
     text: &mut F,

@@ -9,7 +9,7 @@ use std::alloc::Global;
 use std::fs::OpenFile;
 use std::io::{Read, Seek, Write};
 use std::rt::Files;
-use tf_saving::{Call, End, Part, Reply, Step};
+use tf_saving::{End, Reply, SavedFile, Step, Syscall};
 use tf_session::RunFault;
 
 /// The bytes that a file and its journal are to have.
@@ -121,9 +121,12 @@ impl<'a, F: Drop> Save<'a, F> {
             End::InPlace => Ok(false),
             End::Unknown if self.journal.is_out_of_memory => Err(RunFault::Memory),
             End::Unknown => Err(RunFault::Read),
-            End::Error(Part::Text) => Err(write_fault(session_part(Part::Text), self.text.sent)),
-            End::Error(Part::Journal) | End::Late => Err(write_fault(
-                session_part(Part::Journal),
+            End::Error(SavedFile::Text) => Err(write_fault(
+                session_part(SavedFile::Text),
+                self.text.sent,
+            )),
+            End::Error(SavedFile::Journal) | End::Late => Err(write_fault(
+                session_part(SavedFile::Journal),
                 self.journal.sent,
             )),
         }
@@ -138,7 +141,7 @@ impl<'a, F: Read + Write + Seek + OpenFile + Drop> Save<'a, F> {
         let mut step = self.step;
         loop {
             match step.call() {
-                Ok(Call::Sync(_) | Call::SyncDirectory(_)) | Err(_) => break,
+                Ok(Syscall::Sync(_) | Syscall::SyncDirectory(_)) | Err(_) => break,
                 Ok(call) => step = step.after(self.reply_to(rt, alloc, call)),
             }
         }
@@ -149,7 +152,7 @@ impl<'a, F: Read + Write + Seek + OpenFile + Drop> Save<'a, F> {
     /// row.
     fn wait<R: Files<File = F>>(&mut self, rt: &R, alloc: Global, before: &[Save<'a, F>]) {
         let reply = match self.step.call() {
-            Ok(Call::SyncDirectory(part)) => self.sync_directory(rt, part, before),
+            Ok(Syscall::SyncDirectory(part)) => self.sync_directory(rt, part, before),
             Ok(call) => self.reply_to(rt, alloc, call),
             Err(_) => return,
         };
@@ -161,12 +164,12 @@ impl<'a, F: Read + Write + Seek + OpenFile + Drop> Save<'a, F> {
     fn sync_directory<R: Files<File = F>>(
         &mut self,
         rt: &R,
-        part: Part,
+        part: SavedFile,
         before: &[Save<'a, F>],
     ) -> Reply {
         let name = match part {
-            Part::Text => self.text.own,
-            Part::Journal => self.journal.own,
+            SavedFile::Text => self.text.own,
+            SavedFile::Journal => self.journal.own,
         };
         let directory = match open_directory(rt, name) {
             Ok(directory) => directory,
@@ -182,10 +185,10 @@ impl<'a, F: Read + Write + Seek + OpenFile + Drop> Save<'a, F> {
     }
 
     /// Makes one call for the part that it is about.
-    fn reply_to<R: Files<File = F>>(&mut self, rt: &R, alloc: Global, call: Call) -> Reply {
+    fn reply_to<R: Files<File = F>>(&mut self, rt: &R, alloc: Global, call: Syscall) -> Reply {
         match part_of(call) {
-            Part::Text => make(rt, alloc, &mut self.text, call),
-            Part::Journal => make(rt, alloc, &mut self.journal, call),
+            SavedFile::Text => make(rt, alloc, &mut self.text, call),
+            SavedFile::Journal => make(rt, alloc, &mut self.journal, call),
         }
     }
 
@@ -236,19 +239,19 @@ fn synced_before<F: Drop>(before: &[Save<'_, F>], id: Option<FileId>) -> Option<
 }
 
 /// Returns the part that a call is about.
-fn part_of(call: Call) -> Part {
+fn part_of(call: Syscall) -> SavedFile {
     match call {
-        Call::Compare => Part::Text,
-        Call::CanAdopt => Part::Journal,
-        Call::Open(part)
-        | Call::FindNew(part)
-        | Call::CreateNew(part)
-        | Call::CopyAttributes(part)
-        | Call::Write(part)
-        | Call::Sync(part)
-        | Call::SyncDirectory(part)
-        | Call::CompareNew(part)
-        | Call::Rename(part)
-        | Call::Remove(part) => part,
+        Syscall::Compare => SavedFile::Text,
+        Syscall::CanAdopt => SavedFile::Journal,
+        Syscall::Open(part)
+        | Syscall::FindNew(part)
+        | Syscall::CreateNew(part)
+        | Syscall::CopyAttributes(part)
+        | Syscall::Write(part)
+        | Syscall::Sync(part)
+        | Syscall::SyncDirectory(part)
+        | Syscall::CompareNew(part)
+        | Syscall::Rename(part)
+        | Syscall::Remove(part) => part,
     }
 }

@@ -1,4 +1,4 @@
-//! Tells whether a file or its journal has changed.
+//! Whether a file or its journal has changed.
 ghost use Rattle.std.specs.Prelude.{◌≡◌, is_some};
 ghost use Rattle.tf_files.specs.Snapshots.{snapshots_of, snapshots_of_text};
 

@@ -26,8 +26,8 @@ use Rattle.tf_fix.specs.Inner.Nonempty.{IsFixableWithin, HasValidFix}
 use Rattle.tf_fix.specs.FindingReplacements.{spelling_at, pairs_parts, IsOfRule, AreOfRule}
 use Rattle.tf_rules.specs.Fixes.{is_comment_fix}
 use Rattle.tf_rules.specs.Table.{is_comment_rule}
-use Rattle.tf_fix.specs.Parts.{Part, parts_of, text_of_parts}
-use Rattle.tf_fix.specs.Parts.Part.{Gap, Token}
+use Rattle.tf_fix.specs.Parts.{TextPart, parts_of, text_of_parts}
+use Rattle.tf_fix.specs.Parts.TextPart.{Gap, Token}
 use Rattle.tf_fix.specs.SettledSpaces.{Prev, prev_after, joins_prev}
 use Rattle.tf_fix.specs.Selection.{selected}
 use Rattle.tf_fix.proofs.PairLemmas.{parts_append, pairs_settled}
@@ -213,17 +213,17 @@ hash_alone (Some (LineComment, s)) text = refl
 hash_alone (Some (k, s)) text = refl
 
 -- a line comment joins with nothing
-other_comment : (s t : List ℕ) (xs : List Part) → Apart (Some (LineComment, s)) xs → Apart (Some (LineComment, t)) xs
+other_comment : (s t : List ℕ) (xs : List TextPart) → Apart (Some (LineComment, s)) xs → Apart (Some (LineComment, t)) xs
 other_comment s t [] a = tt
 other_comment s t (Gap [] ∷ xs) a = other_comment s t xs a
 other_comment s t (Gap (b ∷ g) ∷ xs) a = a
 other_comment s t (Token k z ∷ xs) a = (refl, a.1)
 
-token_after : (prev : Prev) (gap : List ℕ) (k : Kind) (s : List ℕ) (xs : List Part) → Apart prev (Gap gap ∷ Token k s ∷ xs) → Apart (Some (k, s)) xs
+token_after : (prev : Prev) (gap : List ℕ) (k : Kind) (s : List ℕ) (xs : List TextPart) → Apart prev (Gap gap ∷ Token k s ∷ xs) → Apart (Some (k, s)) xs
 token_after prev [] k s xs a = a.1
 token_after prev (b ∷ gap) k s xs a = a.1
 
-hash_apart : (prev : Prev) (gap text : List ℕ) (k : Kind) (xs : List Part) → k ≡ LineComment → Apart (Some (LineComment, codes "#" ++ text)) xs
+hash_apart : (prev : Prev) (gap text : List ℕ) (k : Kind) (xs : List TextPart) → k ≡ LineComment → Apart (Some (LineComment, codes "#" ++ text)) xs
     → Apart prev (Gap gap ∷ Token k (codes "#" ++ text) ∷ xs)
 hash_apart prev [] text k xs is a = rw is (hash_alone prev text, a)
 hash_apart prev (b ∷ gap) text k xs is a = rw is (refl, a)

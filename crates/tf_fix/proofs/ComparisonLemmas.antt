@@ -3,7 +3,7 @@ use Rattle.std.proofs.Common.{◌≡◌, ℕ, ◌+◌, ◌-◌, ◌*◌, ◌≤�
 use Rattle.std.proofs.lemmas.List.{take_all}
 use Rattle.edit_record.specs.Lists.Pieces.{EditEntry, changed_entries}
 use Rattle.hcl_token.specs.Tokens.{Pair}
-use Rattle.tf_fix.specs.Parts.{Part, parts_of, text_of_parts}
+use Rattle.tf_fix.specs.Parts.{TextPart, parts_of, text_of_parts}
 use Rattle.tf_fix.specs.SettledSpaces.{Prev, prev_after}
 use Rattle.tf_fix.specs.Replacements.{Replacement, AreInOrder, added, stays_until, pieces_from}
 use Rattle.tf_fix.specs.Inner.Views.{boundary_index, next_index, replacement_parts, replacements, HaveBytes}
@@ -22,7 +22,7 @@ pub split_first : {X : Type 0} (xs : List X) (d : X) → 1 ≤ length xs → xs 
 split_first [] d some = absurd (omega (arith, some))
 split_first (x ∷ xs) d some = ap (λ t. x ∷ t) (sym (take_all (length (x ∷ xs) - 1) xs (omega arith)))
 
-pub first_change : (xs : List Part) (prev : Prev) (at : ℕ) (r : Replacement) (rs : List Replacement) → at ≤ r.from → r.from ≤ r.to
+pub first_change : (xs : List TextPart) (prev : Prev) (at : ℕ) (r : Replacement) (rs : List Replacement) → at ≤ r.from → r.from ≤ r.to
     → changed_entries (length (text_of_parts (take at xs))) (pieces_from prev at xs (r ∷ rs))
     ≡ record {
       at = length (text_of_parts (take r.from xs));

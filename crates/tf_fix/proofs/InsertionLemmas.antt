@@ -6,19 +6,19 @@ use Rattle.tf_rules.specs.declared.fix.Insertion.{Insertion}
 use Rattle.tf_rules.specs.declared.fix.Insertion.TheVariants.{Nothing}
 use Rattle.tf_fix.specs.Inner.Views.{replacement_parts, skip_of, tail_of}
 use Rattle.tf_fix.specs.FindingReplacements.{inserted, pairs_parts, inserted_parts, empty_gap}
-use Rattle.tf_fix.specs.Parts.{Part, text_of_parts}
-use Rattle.tf_fix.specs.Parts.Part.{Token}
+use Rattle.tf_fix.specs.Parts.{TextPart, text_of_parts}
+use Rattle.tf_fix.specs.Parts.TextPart.{Token}
 use Rattle.tf_fix.specs.Replacements.{added, space_before}
 use Rattle.tf_fix.specs.SettledSpaces.{Prev, prev_after, settled}
 use Rattle.tf_fix.specs.declared.boundary.Boundary.{Boundary}
 use Rattle.tf_fix.specs.declared.boundary.Boundary.TheVariants.{Gap as BeforeGap, Token as BeforeToken}
 use Rattle.tf_fix.proofs.SettledLemmas.{written-append, settled-append, after-append}
 
-tail_settled : (prev : Prev) (xs : List Part) (to : Boundary) → text_of_parts (settled prev (xs ++ tail_of to)) ≡ text_of_parts (settled prev xs)
+tail_settled : (prev : Prev) (xs : List TextPart) (to : Boundary) → text_of_parts (settled prev (xs ++ tail_of to)) ≡ text_of_parts (settled prev xs)
 tail_settled prev xs (BeforeGap i) = ap (λ t. text_of_parts (settled prev t)) (append-nil xs)
 tail_settled prev xs (BeforeToken i) = ap text_of_parts (settled-append prev xs empty_gap) ∙ written-append (settled prev xs) empty_gap ∙ append-nil (text_of_parts (settled prev xs))
 
-tail_after : (prev : Prev) (xs : List Part) (to : Boundary) → prev_after prev (xs ++ tail_of to) ≡ prev_after prev xs
+tail_after : (prev : Prev) (xs : List TextPart) (to : Boundary) → prev_after prev (xs ++ tail_of to) ≡ prev_after prev xs
 tail_after prev xs (BeforeGap i) = ap (prev_after prev) (append-nil xs)
 tail_after prev xs (BeforeToken i) = after-append prev xs empty_gap
 
@@ -50,7 +50,7 @@ pub insertion_after : (pairs : List Pair) (prev : Prev) (from to : Boundary) (fi
 insertion_after pairs prev from to first w = insert_after prev from to (inserted pairs first w) (bare_is pairs first w)
 
 -- so the same is added
-pub insertion_added : (pairs : List Pair) (prev : Prev) (from to : Boundary) (first : ℕ) (w : Insertion) (stay : List Part)
+pub insertion_added : (pairs : List Pair) (prev : Prev) (from to : Boundary) (first : ℕ) (w : Insertion) (stay : List TextPart)
     → added prev (replacement_parts pairs from to first w) stay ≡ added prev (pairs_parts (inserted pairs first w)) stay
 insertion_added pairs prev from to first w stay =
     ap (λ t. t ++ space_before (prev_after prev (replacement_parts pairs from to first w)) stay) (insertion_settled pairs prev from to first w)

@@ -26,8 +26,8 @@ use Rattle.tf_rules.specs.declared.fix.KeptTokens.{KeptTokens}
 use Rattle.tf_fix.specs.Inner.Nonempty.{AreNonempty, HasValidFix}
 use Rattle.tf_fix.specs.Inner.Views.{HasByte}
 use Rattle.tf_fix.specs.FindingReplacements.{spelling_at, inserted, inserted_parts, empty_gap, replacements_from, fix_replacements, finding_replacements}
-use Rattle.tf_fix.specs.Parts.{Part, parts_of, text_of_parts}
-use Rattle.tf_fix.specs.Parts.Part.{Gap, Token}
+use Rattle.tf_fix.specs.Parts.{TextPart, parts_of, text_of_parts}
+use Rattle.tf_fix.specs.Parts.TextPart.{Gap, Token}
 use Rattle.tf_fix.specs.Replacements.{Replacement, stays_until, space_before, pieces_from}
 use Rattle.tf_fix.specs.SettledSpaces.{Prev, prev_after, joins_prev, settled, space}
 use Rattle.tf_fix.proofs.PartLemmas.{known, gap_front, token_front, range_first}
@@ -226,7 +226,7 @@ token_goes pairs last i to are lt past =
     let size = ap (λ t. length (text_of_parts t)) first ∙ length-append p.spelling _ in
     omega (arith, some, size)
 
-two_go : (gap : List ℕ) (kind : Kind) (spelling : List ℕ) (k : ℕ) (rest : List Part) → 2 ≤ k → 0 < length spelling → 0 < length (text_of_parts (take k (Gap gap ∷ Token kind spelling ∷ rest)))
+two_go : (gap : List ℕ) (kind : Kind) (spelling : List ℕ) (k : ℕ) (rest : List TextPart) → 2 ≤ k → 0 < length spelling → 0 < length (text_of_parts (take k (Gap gap ∷ Token kind spelling ∷ rest)))
 two_go gap kind spelling zero rest le some = absurd (omega (arith, le))
 two_go gap kind spelling (suc zero) rest le some = absurd (omega (arith, le))
 two_go gap kind spelling (suc (suc k)) rest le some =
@@ -242,11 +242,11 @@ gap_goes pairs last i to are lt past =
 
 -- ---- each replacement takes something away or brings something
 
-abbrev pub AreReal : List Part → List Replacement → Type 0
+abbrev pub AreReal : List TextPart → List Replacement → Type 0
 AreReal xs [] = Unit {0}
 AreReal xs (r ∷ rs) = (0 < length (text_of_parts (slice_range xs r.from r.to)) + length (text_of_parts r.inserted_parts)) × AreReal xs rs
 
-both_real : (xs : List Part) (rs ss : List Replacement) → AreReal xs rs → AreReal xs ss → AreReal xs (rs ++ ss)
+both_real : (xs : List TextPart) (rs ss : List Replacement) → AreReal xs rs → AreReal xs ss → AreReal xs (rs ++ ss)
 both_real xs [] ss a b = b
 both_real xs (r ∷ rs) ss a b = (a.0, both_real xs rs ss a.1 b)
 
@@ -262,13 +262,13 @@ goes pairs last at n place (suc zero) to are e le lt within past =
 goes pairs last at n place (suc (suc skip)) to are e le lt within past = absurd (omega (arith, le))
 
 -- what comes where something is written
-brings : (pairs : List Pair) (first : ℕ) (w : Insertion) (skip : ℕ) (tail : List Part) (n : ℕ) → skip ≤ 1 → (w ≡ Nothing → ⊥) → 0 < n + length (text_of_parts (inserted_parts skip (inserted pairs first w) tail))
+brings : (pairs : List Pair) (first : ℕ) (w : Insertion) (skip : ℕ) (tail : List TextPart) (n : ℕ) → skip ≤ 1 → (w ≡ Nothing → ⊥) → 0 < n + length (text_of_parts (inserted_parts skip (inserted pairs first w) tail))
 brings pairs first Nothing skip tail n le some = absurd (some refl)
 brings pairs first w zero tail n le some = omega arith
 brings pairs first w (suc zero) tail n le some = omega arith
 brings pairs first w (suc (suc skip)) tail n le some = absurd (omega (arith, le))
 
-real_one : (pairs : List Pair) (last : List ℕ) (first at n place skip to : ℕ) (w : Insertion) (tail : List Part) → AreNonempty pairs → place ≡ 2 * at + skip → skip ≤ 1
+real_one : (pairs : List Pair) (last : List ℕ) (first at n place skip to : ℕ) (w : Insertion) (tail : List TextPart) → AreNonempty pairs → place ≡ 2 * at + skip → skip ≤ 1
     → ChangesSomething w at n → n ≤ length pairs → 2 * n ≤ to
     → 0 < length (text_of_parts (slice_range (parts_of pairs last) place to)) + length (text_of_parts (inserted_parts skip (inserted pairs first w) tail))
 real_one pairs last first at n place skip to Nothing tail are e le some within past = omega (arith, goes pairs last at n place skip to are e le some within past)
@@ -305,12 +305,12 @@ selected_real pairs last at (f ∷ fs) are behind =
 
 -- ---- so each changed piece is an edit
 
-longer_if : (met : Bool) (k : Kind) (s : List ℕ) (rest : List Part) (n : ℕ) → n ≤ length (text_of_parts rest)
+longer_if : (met : Bool) (k : Kind) (s : List ℕ) (rest : List TextPart) (n : ℕ) → n ≤ length (text_of_parts rest)
     → length s + n ≤ length (text_of_parts (if met then Gap space ∷ Token k s ∷ rest else Token k s ∷ rest))
 longer_if true k s rest n le = omega (arith, le, length-append s (text_of_parts rest))
 longer_if false k s rest n le = omega (arith, le, length-append s (text_of_parts rest))
 
-settled_longer : (prev : Prev) (xs : List Part) → length (text_of_parts xs) ≤ length (text_of_parts (settled prev xs))
+settled_longer : (prev : Prev) (xs : List TextPart) → length (text_of_parts xs) ≤ length (text_of_parts (settled prev xs))
 settled_longer prev [] = omega arith
 settled_longer prev (Gap [] ∷ xs) = settled_longer prev xs
 settled_longer prev (Gap (b ∷ g) ∷ xs) =
@@ -319,7 +319,7 @@ settled_longer prev (Token k s ∷ xs) =
     let more = longer_if (joins_prev prev k s) k s (settled (Some (k, s)) xs) (length (text_of_parts xs)) (settled_longer (Some (k, s)) xs) in
     omega (arith, more, length-append s (text_of_parts xs))
 
-pub real_changes : (prev : Prev) (at : ℕ) (xs : List Part) (rs : List Replacement) → AreReal xs rs → ChangesAreNonempty (pieces_from prev at xs rs)
+pub real_changes : (prev : Prev) (at : ℕ) (xs : List TextPart) (rs : List Replacement) → AreReal xs rs → ChangesAreNonempty (pieces_from prev at xs rs)
 real_changes prev at xs [] are = tt
 real_changes prev at xs (r ∷ rs) are =
     let there = prev_after prev (slice_range xs at r.from) in

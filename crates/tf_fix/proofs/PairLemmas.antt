@@ -23,8 +23,8 @@ use Rattle.tf_rules.specs.declared.rule.Rule.TheVariants.{CommentSyntax}
 use Rattle.tf_fix.specs.FindingReplacements.{inserted, pairs_parts, inserted_parts, empty_gap, replacements_from, fix_replacements, finding_replacements, step_replacements, IsOfRule, AreOfRule}
 use Rattle.tf_rules.specs.Fixes.{is_comment_fix}
 use Rattle.tf_rules.specs.Table.{is_comment_rule}
-use Rattle.tf_fix.specs.Parts.{Part, parts_of, parts, text_of_parts}
-use Rattle.tf_fix.specs.Parts.Part.{Gap, Token}
+use Rattle.tf_fix.specs.Parts.{TextPart, parts_of, parts, text_of_parts}
+use Rattle.tf_fix.specs.Parts.TextPart.{Gap, Token}
 use Rattle.tf_fix.specs.Replacements.{Replacement, replaced_from, replaced_text}
 use Rattle.tf_fix.specs.SettledSpaces.{Prev, joins_prev, settled, space}
 use Rattle.tf_fix.specs.Selection.{selected}
@@ -47,7 +47,7 @@ body_take (suc k) (p ∷ ps) last le =
     ap (λ n. take n (parts_of (p ∷ ps) last)) two ∙ ap (λ t. Gap p.gap ∷ Token p.kind p.spelling ∷ t) (body_take k ps last (omega (arith, le)))
 
 -- three runs of pairs
-three : (ps qs ss : List Pair) (more : List Part) → pairs_parts (ps ++ (qs ++ ss)) ++ more ≡ pairs_parts ps ++ (pairs_parts qs ++ (pairs_parts ss ++ more))
+three : (ps qs ss : List Pair) (more : List TextPart) → pairs_parts (ps ++ (qs ++ ss)) ++ more ≡ pairs_parts ps ++ (pairs_parts qs ++ (pairs_parts ss ++ more))
 three ps qs ss more =
     ap (λ t. t ++ more) (body_append ps (qs ++ ss) ∙ ap (λ t. pairs_parts ps ++ t) (body_append qs ss))
     ∙ append_assoc (pairs_parts ps) (pairs_parts qs ++ pairs_parts ss) more ∙ ap (λ t. pairs_parts ps ++ t) (append_assoc (pairs_parts qs) (pairs_parts ss) more)
@@ -101,7 +101,7 @@ from_place pairs last first a place skip w (Some k ∷ kept) past rs =
     (sym (range_none xs place place (omega arith)))
 
 -- a range that is kept, and what follows it
-kept_one : (pairs : List Pair) (last gap : List ℕ) (first past : ℕ) (k : KeptTokens) (kept : List (Option KeptTokens)) (rs : List Replacement) (behind : List Part) → k.from < k.to → k.to ≤ length pairs
+kept_one : (pairs : List Pair) (last gap : List ℕ) (first past : ℕ) (k : KeptTokens) (kept : List (Option KeptTokens)) (rs : List Replacement) (behind : List TextPart) → k.from < k.to → k.to ≤ length pairs
     → replaced_from (2 * k.to) (parts_of pairs last) (replacements_from pairs first (2 * k.to) 0 k.after kept past ++ rs) ≡ behind
     → Gap gap ∷ replaced_from (2 * k.from + 1) (parts_of pairs last) (replacements_from pairs first (2 * k.to) 0 k.after kept past ++ rs) ≡ pairs_parts (with_gap gap (slice_range pairs k.from k.to)) ++ behind
 kept_one pairs last gap first past k kept rs behind some within rest =
@@ -149,12 +149,12 @@ written_is : (pairs : List Pair) (first : ℕ) (w : Insertion) → Written pairs
 written_is pairs first Nothing = not_written refl
 written_is pairs first w = is_written _ _ refl
 
-front_end : (pairs : List Pair) (gap : List ℕ) (first past : ℕ) (w : Insertion) (more : List Part) → Written pairs first w → ChangesEnd first w first past
+front_end : (pairs : List Pair) (gap : List ℕ) (first past : ℕ) (w : Insertion) (more : List TextPart) → Written pairs first w → ChangesEnd first w first past
     → Gap gap ∷ (inserted_parts 1 (inserted pairs first w) [] ++ more) ≡ pairs_parts (with_gap gap (inserted pairs first w)) ++ more
 front_end pairs gap first past w more (not_written is) end = let both = subst (λ (x : Insertion). ChangesEnd first x first past) is end in absurd (omega (arith, both.0))
 front_end pairs gap first past w more (is_written p ps is) end = rw is (ap (λ t. t ++ more) (ap (λ t. Gap gap ∷ Token p.kind p.spelling ∷ t) (append-nil (pairs_parts ps))))
 
-front_kept : (pairs : List Pair) (gap : List ℕ) (first a b : ℕ) (w : Insertion) (rest : List Pair) (behind more : List Part) → Written pairs first w → a < b → b ≤ length pairs
+front_kept : (pairs : List Pair) (gap : List ℕ) (first a b : ℕ) (w : Insertion) (rest : List Pair) (behind more : List TextPart) → Written pairs first w → a < b → b ≤ length pairs
     → ((g : List ℕ) → Gap g ∷ behind ≡ pairs_parts (with_gap g (slice_range pairs a b)) ++ (pairs_parts rest ++ more))
     → Gap gap ∷ (inserted_parts 1 (inserted pairs first w) empty_gap ++ behind) ≡ pairs_parts (with_gap gap (inserted pairs first w ++ (with_gap [] (slice_range pairs a b) ++ rest))) ++ more
 front_kept pairs gap first a b w rest behind more (not_written is) lt within here =
@@ -216,7 +216,7 @@ all_fixed rule pairs last at (f ∷ fs) other of are =
 abbrev given : Bool → Kind → List ℕ → Pair
 given met k s = if met then record { gap = space; kind = k; spelling = s } else record { gap = []; kind = k; spelling = s }
 
-settle_if : (met : Bool) (k : Kind) (s rest : List ℕ) (more : List Part) → text_of_parts (settled (Some (k, s)) more) ≡ rest
+settle_if : (met : Bool) (k : Kind) (s rest : List ℕ) (more : List TextPart) → text_of_parts (settled (Some (k, s)) more) ≡ rest
     → text_of_parts (if met then Gap space ∷ Token k s ∷ settled (Some (k, s)) more else Token k s ∷ settled (Some (k, s)) more)
     ≡ (given met k s).gap ++ (s ++ rest)
 settle_if true k s rest more e = ap (λ t. space ++ (s ++ t)) e
@@ -236,7 +236,7 @@ same_if false p rest = refl
 same_spelling : (prev : Prev) (p : Pair) (rest : List ℕ) → (settled_pair prev p).gap ++ (p.spelling ++ rest) ≡ (settled_pair prev p).gap ++ ((settled_pair prev p).spelling ++ rest)
 same_spelling prev p rest = same_if (is_empty p.gap && joins_prev prev p.kind p.spelling) p rest
 
-settle_one : (prev : Prev) (gap : List ℕ) (k : Kind) (s rest : List ℕ) (more : List Part) → text_of_parts (settled (Some (k, s)) more) ≡ rest
+settle_one : (prev : Prev) (gap : List ℕ) (k : Kind) (s rest : List ℕ) (more : List TextPart) → text_of_parts (settled (Some (k, s)) more) ≡ rest
     → text_of_parts (settled prev (Gap gap ∷ Token k s ∷ more)) ≡ (settled_pair prev (record { gap = gap; kind = k; spelling = s })).gap ++ (s ++ rest)
 settle_one prev [] k s rest more e = settle_if (joins_prev prev k s) k s rest more e
 settle_one prev (b ∷ gap) k s rest more e = ap (λ t. (b ∷ gap) ++ (s ++ t)) e

@@ -6,8 +6,8 @@ use Rattle.std.proofs.lemmas.Option.{slice_get_cases}
 use Rattle.std.proofs.Math.Seq.{take-append_seam, drop-append_seam}
 use Rattle.hcl_token.specs.declared.kind.Kind.{Kind}
 use Rattle.hcl_token.specs.Tokens.{Pair, whole_text}
-use Rattle.tf_fix.specs.Parts.{Part, parts_of, text_of_parts}
-use Rattle.tf_fix.specs.Parts.Part.{Gap, Token}
+use Rattle.tf_fix.specs.Parts.{TextPart, parts_of, text_of_parts}
+use Rattle.tf_fix.specs.Parts.TextPart.{Gap, Token}
 use Rattle.tf_fix.specs.SettledSpaces.{Prev, prev_after, joins_prev, is_glued}
 use Rattle.tf_fix.specs.Replacements.{Replacement, stays_until}
 use Rattle.tf_fix.specs.Inner.Views.{next_index}
@@ -115,13 +115,13 @@ range_seam a b c n m front end =
     ap (λ k. take (m - n) (drop k (a ++ (b ++ c)))) front ∙ ap (λ t. take (m - n) t) (drop-append_seam a (b ++ c))
     ∙ ap (λ k. take k (b ++ c)) whole ∙ take-append_seam b c
 
-pub length_written : (xs : List Part) (from to : ℕ) → from ≤ to
+pub length_written : (xs : List TextPart) (from to : ℕ) → from ≤ to
     → length (text_of_parts (take to xs)) ≡ length (text_of_parts (take from xs)) + length (text_of_parts (slice_range xs from to))
 length_written xs from to le =
     ap (λ t. length (text_of_parts t)) (take_range xs from to le) ∙ ap length (written-append (take from xs) (slice_range xs from to))
     ∙ length-append (text_of_parts (take from xs)) (text_of_parts (slice_range xs from to))
 
-pub text_range : (xs : List Part) (from to : ℕ) → from ≤ to
+pub text_range : (xs : List TextPart) (from to : ℕ) → from ≤ to
     → slice_range (text_of_parts xs) (length (text_of_parts (take from xs))) (length (text_of_parts (take to xs))) ≡ text_of_parts (slice_range xs from to)
 text_range xs from to le =
     let a = take from xs in
@@ -132,29 +132,29 @@ text_range xs from to le =
     ap (λ t. slice_range t (length (text_of_parts a)) (length (text_of_parts (take to xs)))) whole
     ∙ range_seam (text_of_parts a) (text_of_parts b) (text_of_parts c) _ _ refl (length_written xs from to le)
 
-pub text_within : (xs : List Part) (to : ℕ) → length (text_of_parts (take to xs)) ≤ length (text_of_parts xs)
+pub text_within : (xs : List TextPart) (to : ℕ) → length (text_of_parts (take to xs)) ≤ length (text_of_parts xs)
 text_within xs to =
     let whole = ap (λ t. length (text_of_parts t)) (sym (take-append-drop to xs)) ∙ ap length (written-append (take to xs) (drop to xs)) ∙ length-append (text_of_parts (take to xs)) (text_of_parts (drop to xs)) in
     omega (arith, whole)
 
 -- ---- the token that the next one after a slice may join
 
-pub after_token : (prev : Prev) (xs : List Part) (kind : Kind) (spelling : List ℕ) → prev_after prev (xs ++ Token kind spelling ∷ []) ≡ Some (kind, spelling)
+pub after_token : (prev : Prev) (xs : List TextPart) (kind : Kind) (spelling : List ℕ) → prev_after prev (xs ++ Token kind spelling ∷ []) ≡ Some (kind, spelling)
 after_token prev xs kind spelling = after-append prev xs (Token kind spelling ∷ [])
 
-pub after_empty : (prev : Prev) (xs : List Part) (gap : List ℕ) → gap ≡ [] → prev_after prev (xs ++ Gap gap ∷ []) ≡ prev_after prev xs
+pub after_empty : (prev : Prev) (xs : List TextPart) (gap : List ℕ) → gap ≡ [] → prev_after prev (xs ++ Gap gap ∷ []) ≡ prev_after prev xs
 after_empty prev xs gap e = rw e (after-append prev xs (Gap [] ∷ []))
 
 blank_after : (prev : Prev) (gap : List ℕ) → (gap ≡ [] → ⊥) → prev_after prev (Gap gap ∷ []) ≡ None
 blank_after prev [] some = absurd (some refl)
 blank_after prev (b ∷ gap) some = refl
 
-pub after_blank : (prev : Prev) (xs : List Part) (gap : List ℕ) → (gap ≡ [] → ⊥) → prev_after prev (xs ++ Gap gap ∷ []) ≡ None
+pub after_blank : (prev : Prev) (xs : List TextPart) (gap : List ℕ) → (gap ≡ [] → ⊥) → prev_after prev (xs ++ Gap gap ∷ []) ≡ None
 after_blank prev xs gap some = after-append prev xs (Gap gap ∷ []) ∙ blank_after (prev_after prev xs) gap some
 
 -- ---- whether the neighbour joins with the front of a slice
 
-glued_none : (prev : Prev) (k : ℕ) (gap : List ℕ) (rest : List Part) → k ≤ 1 → is_glued prev (take k (Gap gap ∷ rest)) ≡ false
+glued_none : (prev : Prev) (k : ℕ) (gap : List ℕ) (rest : List TextPart) → k ≤ 1 → is_glued prev (take k (Gap gap ∷ rest)) ≡ false
 glued_none prev zero gap rest le = refl
 glued_none prev (suc zero) [] rest le = refl
 glued_none prev (suc zero) (b ∷ gap) rest le = refl
@@ -164,18 +164,18 @@ pub glued_gap : (prev : Prev) (k : ℕ) (ps : List Pair) (last : List ℕ) → k
 glued_gap prev k [] last le = glued_none prev k last [] le
 glued_gap prev k (p ∷ ps) last le = glued_none prev k p.gap _ le
 
-pub glued_empty : (prev : Prev) (gap : List ℕ) (kind : Kind) (spelling : List ℕ) (k : ℕ) (rest : List Part) → 2 ≤ k → gap ≡ []
+pub glued_empty : (prev : Prev) (gap : List ℕ) (kind : Kind) (spelling : List ℕ) (k : ℕ) (rest : List TextPart) → 2 ≤ k → gap ≡ []
     → is_glued prev (take k (Gap gap ∷ Token kind spelling ∷ rest)) ≡ joins_prev prev kind spelling
 glued_empty prev gap kind spelling zero rest le e = absurd (omega (arith, le))
 glued_empty prev gap kind spelling (suc zero) rest le e = absurd (omega (arith, le))
 glued_empty prev gap kind spelling (suc (suc k)) rest le e = rw e refl
 
-pub glued_blank : (prev : Prev) (gap : List ℕ) (k : ℕ) (rest : List Part) → (gap ≡ [] → ⊥) → is_glued prev (take k (Gap gap ∷ rest)) ≡ false
+pub glued_blank : (prev : Prev) (gap : List ℕ) (k : ℕ) (rest : List TextPart) → (gap ≡ [] → ⊥) → is_glued prev (take k (Gap gap ∷ rest)) ≡ false
 glued_blank prev gap zero rest some = refl
 glued_blank prev [] (suc k) rest some = absurd (some refl)
 glued_blank prev (b ∷ gap) (suc k) rest some = refl
 
-pub glued_token : (prev : Prev) (kind : Kind) (spelling : List ℕ) (k : ℕ) (rest : List Part) → 1 ≤ k
+pub glued_token : (prev : Prev) (kind : Kind) (spelling : List ℕ) (k : ℕ) (rest : List TextPart) → 1 ≤ k
     → is_glued prev (take k (Token kind spelling ∷ rest)) ≡ joins_prev prev kind spelling
 glued_token prev kind spelling zero rest le = absurd (omega (arith, le))
 glued_token prev kind spelling (suc k) rest le = refl

@@ -7,7 +7,7 @@ use Rattle.hcl_token.specs.declared.kind.Kind.{Kind}
 use Rattle.hcl_token.specs.TokenizedText.{item_of, item_after, kind_of, spelling_of, gap_of}
 use Rattle.hcl_token.specs.Tokens.{Pair}
 use Rattle.tf_fix.specs.Parts.{parts_of, text_of_parts}
-use Rattle.tf_fix.specs.Parts.Part.{Gap, Token}
+use Rattle.tf_fix.specs.Parts.TextPart.{Gap, Token}
 use Rattle.tf_fix.specs.SettledSpaces.{Prev, prev_after, joins_prev, is_glued}
 use Rattle.tf_fix.specs.Inner.Views.{prev_at}
 use Rattle.tf_fix.proofs.PartLemmas.{known, range_last, gap_front, token_front, parts_drop, start_text, stop_text, after_token, after_empty, after_blank, glued_gap, glued_empty, glued_blank, glued_token}

@@ -6,28 +6,28 @@ use Rattle.edit_record.specs.Lists.Pieces.{old_text, new_text}
 use Rattle.hcl_token.specs.declared.kind.Kind.{Kind}
 use Rattle.hcl_token.specs.Tokens.{Pair, whole_text}
 use Rattle.hcl_scan.specs.Follows.{IsApart, AreApart}
-use Rattle.tf_fix.specs.Parts.{Part, parts_of, text_of_parts}
-use Rattle.tf_fix.specs.Parts.Part.{Gap, Token}
+use Rattle.tf_fix.specs.Parts.{TextPart, parts_of, text_of_parts}
+use Rattle.tf_fix.specs.Parts.TextPart.{Gap, Token}
 use Rattle.tf_fix.specs.SettledSpaces.{Prev, prev_after, joins_prev, settled, is_glued, space}
 use Rattle.tf_fix.specs.Replacements.{Replacement, AreInOrder, replaced_from, replaced_text, stays_until, space_before, pieces_from, replaced_pieces}
 
-pub written-append : (xs ys : List Part) → text_of_parts (xs ++ ys) ≡ text_of_parts xs ++ text_of_parts ys
+pub written-append : (xs ys : List TextPart) → text_of_parts (xs ++ ys) ≡ text_of_parts xs ++ text_of_parts ys
 written-append [] ys = refl
 written-append (Gap b ∷ xs) ys = ap (λ t. b ++ t) (written-append xs ys) ∙ sym (append_assoc b (text_of_parts xs) (text_of_parts ys))
 written-append (Token k s ∷ xs) ys = ap (λ t. s ++ t) (written-append xs ys) ∙ sym (append_assoc s (text_of_parts xs) (text_of_parts ys))
 
-pub after-append : (prev : Prev) (xs ys : List Part) → prev_after prev (xs ++ ys) ≡ prev_after (prev_after prev xs) ys
+pub after-append : (prev : Prev) (xs ys : List TextPart) → prev_after prev (xs ++ ys) ≡ prev_after (prev_after prev xs) ys
 after-append prev [] ys = refl
 after-append prev (Gap [] ∷ xs) ys = after-append prev xs ys
 after-append prev (Gap (b ∷ g) ∷ xs) ys = after-append None xs ys
 after-append prev (Token k s ∷ xs) ys = after-append (Some (k, s)) xs ys
 
-settled_if : (met : Bool) (k : Kind) (s : List ℕ) (all front back : List Part) → all ≡ front ++ back
+settled_if : (met : Bool) (k : Kind) (s : List ℕ) (all front back : List TextPart) → all ≡ front ++ back
     → (if met then Gap space ∷ Token k s ∷ all else Token k s ∷ all) ≡ (if met then Gap space ∷ Token k s ∷ front else Token k s ∷ front) ++ back
 settled_if true k s all front back e = ap (λ t. Gap space ∷ Token k s ∷ t) e
 settled_if false k s all front back e = ap (λ t. Token k s ∷ t) e
 
-pub settled-append : (prev : Prev) (xs ys : List Part) → settled prev (xs ++ ys) ≡ settled prev xs ++ settled (prev_after prev xs) ys
+pub settled-append : (prev : Prev) (xs ys : List TextPart) → settled prev (xs ++ ys) ≡ settled prev xs ++ settled (prev_after prev xs) ys
 settled-append prev [] ys = refl
 settled-append prev (Gap [] ∷ xs) ys = ap (λ t. Gap [] ∷ t) (settled-append prev xs ys)
 settled-append prev (Gap (b ∷ g) ∷ xs) ys = ap (λ t. Gap (b ∷ g) ∷ t) (settled-append None xs ys)
@@ -36,53 +36,53 @@ settled-append prev (Token k s ∷ xs) ys = settled_if (joins_prev prev k s) k s
 -- ---- where nothing joins
 
 -- no two tokens that join have nothing between them
-abbrev pub Apart : Prev → List Part → Type 0
+abbrev pub Apart : Prev → List TextPart → Type 0
 Apart prev [] = Unit {0}
 Apart prev (Gap [] ∷ parts) = Apart prev parts
 Apart prev (Gap (b ∷ bytes) ∷ parts) = Apart None parts
 Apart prev (Token kind spelling ∷ parts) = (joins_prev prev kind spelling ≡ false) × Apart (Some (kind, spelling)) parts
 
-pub apart_alone : (prev : Prev) (xs : List Part) → Apart prev xs → Apart None xs
+pub apart_alone : (prev : Prev) (xs : List TextPart) → Apart prev xs → Apart None xs
 apart_alone prev [] a = tt
 apart_alone prev (Gap [] ∷ xs) a = apart_alone prev xs a
 apart_alone prev (Gap (b ∷ g) ∷ xs) a = a
 apart_alone prev (Token k s ∷ xs) a = (refl, a.1)
 
-pub apart_parts : (prev : Prev) (xs ys : List Part) → Apart prev (xs ++ ys) → Apart prev xs × Apart (prev_after prev xs) ys
+pub apart_parts : (prev : Prev) (xs ys : List TextPart) → Apart prev (xs ++ ys) → Apart prev xs × Apart (prev_after prev xs) ys
 apart_parts prev [] ys a = (tt, a)
 apart_parts prev (Gap [] ∷ xs) ys a = apart_parts prev xs ys a
 apart_parts prev (Gap (b ∷ g) ∷ xs) ys a = apart_parts None xs ys a
 apart_parts prev (Token k s ∷ xs) ys a = let both = apart_parts (Some (k, s)) xs ys a.1 in ((a.0, both.0), both.1)
 
-pub apart_join : (prev : Prev) (xs ys : List Part) → Apart prev xs → Apart (prev_after prev xs) ys → Apart prev (xs ++ ys)
+pub apart_join : (prev : Prev) (xs ys : List TextPart) → Apart prev xs → Apart (prev_after prev xs) ys → Apart prev (xs ++ ys)
 apart_join prev [] ys a b = b
 apart_join prev (Gap [] ∷ xs) ys a b = apart_join prev xs ys a b
 apart_join prev (Gap (c ∷ g) ∷ xs) ys a b = apart_join None xs ys a b
 apart_join prev (Token k s ∷ xs) ys a b = (a.0, apart_join (Some (k, s)) xs ys a.1 b)
 
-pub apart_take : (n : ℕ) (xs : List Part) → Apart None xs → Apart None (take n xs)
+pub apart_take : (n : ℕ) (xs : List TextPart) → Apart None xs → Apart None (take n xs)
 apart_take n xs a = (apart_parts None (take n xs) (drop n xs) (subst (Apart None) (sym (take-append-drop n xs)) a)).0
 
-pub apart_drop : (n : ℕ) (xs : List Part) → Apart None xs → Apart None (drop n xs)
+pub apart_drop : (n : ℕ) (xs : List TextPart) → Apart None xs → Apart None (drop n xs)
 apart_drop n xs a =
     apart_alone (prev_after None (take n xs)) (drop n xs) (apart_parts None (take n xs) (drop n xs) (subst (Apart None) (sym (take-append-drop n xs)) a)).1
 
-pub apart_range : (from to : ℕ) (xs : List Part) → Apart None xs → Apart None (slice_range xs from to)
+pub apart_range : (from to : ℕ) (xs : List TextPart) → Apart None xs → Apart None (slice_range xs from to)
 apart_range from to xs a = apart_take (to - from) (drop from xs) (apart_drop from xs a)
 
-pub stays_same : (prev : Prev) (xs : List Part) → Apart prev xs → settled prev xs ≡ xs
+pub stays_same : (prev : Prev) (xs : List TextPart) → Apart prev xs → settled prev xs ≡ xs
 stays_same prev [] a = refl
 stays_same prev (Gap [] ∷ xs) a = ap (λ t. Gap [] ∷ t) (stays_same prev xs a)
 stays_same prev (Gap (b ∷ g) ∷ xs) a = ap (λ t. Gap (b ∷ g) ∷ t) (stays_same None xs a)
 stays_same prev (Token k s ∷ xs) a = rw a.0 (ap (λ t. Token k s ∷ t) (stays_same (Some (k, s)) xs a.1))
 
-stretch_if : (met : Bool) (k : Kind) (s : List ℕ) (rest same : List Part) → rest ≡ same
+stretch_if : (met : Bool) (k : Kind) (s : List ℕ) (rest same : List TextPart) → rest ≡ same
     → text_of_parts (if met then Gap space ∷ Token k s ∷ rest else Token k s ∷ rest) ≡ (if met then space else []) ++ (s ++ text_of_parts same)
 stretch_if true k s rest same e = ap (λ t. space ++ (s ++ text_of_parts t)) e
 stretch_if false k s rest same e = ap (λ t. s ++ text_of_parts t) e
 
 -- what stays, after any neighbor: a space more at most, right at its start
-pub stretch_settled : (prev : Prev) (xs : List Part) → Apart None xs → text_of_parts (settled prev xs) ≡ space_before prev xs ++ text_of_parts xs
+pub stretch_settled : (prev : Prev) (xs : List TextPart) → Apart None xs → text_of_parts (settled prev xs) ≡ space_before prev xs ++ text_of_parts xs
 stretch_settled prev [] a = refl
 stretch_settled prev (Gap [] ∷ xs) a = stretch_settled prev xs a
 stretch_settled prev (Gap (b ∷ g) ∷ xs) a = ap (λ t. (b ∷ g) ++ text_of_parts t) (stays_same None xs a)
@@ -90,7 +90,7 @@ stretch_settled prev (Token k s ∷ xs) a = stretch_if (joins_prev prev k s) k s
 
 -- ---- the pieces are the text before and after
 
-pub pieces_old : (prev : Prev) (at : ℕ) (xs : List Part) (rs : List Replacement) → AreInOrder at rs (length xs)
+pub pieces_old : (prev : Prev) (at : ℕ) (xs : List TextPart) (rs : List Replacement) → AreInOrder at rs (length xs)
     → old_text (pieces_from prev at xs rs) ≡ text_of_parts (drop at xs)
 pieces_old prev at xs [] o = append-nil (text_of_parts (drop at xs))
 pieces_old prev at xs (r ∷ rs) o =
@@ -103,7 +103,7 @@ pieces_old prev at xs (r ∷ rs) o =
     ∙ ap (λ t. text_of_parts stay ++ t) (sym (ap text_of_parts inner ∙ written-append gone (drop r.to xs)))
     ∙ sym (ap text_of_parts outer ∙ written-append stay (drop r.from xs))
 
-pub pieces_new : (prev : Prev) (at : ℕ) (xs : List Part) (rs : List Replacement) → Apart None xs
+pub pieces_new : (prev : Prev) (at : ℕ) (xs : List TextPart) (rs : List Replacement) → Apart None xs
     → space_before prev (stays_until at xs rs) ++ new_text (pieces_from prev at xs rs) ≡ text_of_parts (settled prev (replaced_from at xs rs))
 pieces_new prev at xs [] a =
     ap (λ t. space_before prev (drop at xs) ++ t) (append-nil (text_of_parts (drop at xs))) ∙ sym (stretch_settled prev (drop at xs) (apart_drop at xs a))
@@ -127,13 +127,13 @@ pieces_new prev at xs (r ∷ rs) a =
     ∙ ap (λ t. t ++ text_of_parts (settled there (r.inserted_parts ++ more))) (sym kept)
     ∙ sym first
 
-no_neighbour : (xs : List Part) → is_glued None xs ≡ false
+no_neighbour : (xs : List TextPart) → is_glued None xs ≡ false
 no_neighbour [] = refl
 no_neighbour (Gap [] ∷ xs) = no_neighbour xs
 no_neighbour (Gap (b ∷ g) ∷ xs) = refl
 no_neighbour (Token k s ∷ xs) = refl
 
-pub replaced_is : (xs : List Part) (rs : List Replacement) → Apart None xs → new_text (replaced_pieces xs rs) ≡ replaced_text xs rs
+pub replaced_is : (xs : List TextPart) (rs : List Replacement) → Apart None xs → new_text (replaced_pieces xs rs) ≡ replaced_text xs rs
 replaced_is xs rs a =
     let none : space_before None (stays_until 0 xs rs) ≡ [] = rw (no_neighbour (stays_until 0 xs rs)) refl in
     ap (λ t. t ++ new_text (replaced_pieces xs rs)) (sym none) ∙ pieces_new None 0 xs rs a
@@ -144,7 +144,7 @@ pub parts_written : (pairs : List Pair) (last : List ℕ) → text_of_parts (par
 parts_written [] last = append-nil last
 parts_written (p ∷ ps) last = ap (λ t. p.gap ++ (p.spelling ++ t)) (parts_written ps last)
 
-apart_pair : (prev : Prev) (gap : List ℕ) (k : Kind) (s : List ℕ) (parts : List Part) → (gap ≡ [] → joins_prev prev k s ≡ false)
+apart_pair : (prev : Prev) (gap : List ℕ) (k : Kind) (s : List ℕ) (parts : List TextPart) → (gap ≡ [] → joins_prev prev k s ≡ false)
     → Apart (Some (k, s)) parts → Apart prev (Gap gap ∷ Token k s ∷ parts)
 apart_pair prev [] k s parts apart rest = (apart refl, rest)
 apart_pair prev (b ∷ gap) k s parts apart rest = (refl, rest)

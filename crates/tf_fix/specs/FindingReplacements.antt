@@ -15,8 +15,8 @@ use Rattle.tf_rules.specs.declared.rule.Rule.{Rule}
 use Rattle.tf_rules.specs.declared.rule.Rule.TheVariants.{CommentSyntax}
 use Rattle.tf_rules.specs.Fixes.{is_comment_fix}
 use Rattle.tf_fix.specs.Comments.{IsSlashComment}
-use Rattle.tf_fix.specs.Parts.{Part, at_gap, at_token}
-use Rattle.tf_fix.specs.Parts.Part.{Gap, Token}
+use Rattle.tf_fix.specs.Parts.{TextPart, at_gap, at_token}
+use Rattle.tf_fix.specs.Parts.TextPart.{Gap, Token}
 use Rattle.tf_fix.specs.SettledSpaces.{space}
 use Rattle.tf_fix.specs.Replacements.{Replacement}
 use Rattle.tf_fix.specs.Selection.{selected}
@@ -50,19 +50,20 @@ inserted pairs first Opening = pair [] OpenBracket (codes "[") ∷ []
 inserted pairs first Closing = pair [] CloseBracket (codes "]") ∷ []
 
 -- the parts of pairs alone
-abbrev pub pairs_parts : List Pair → List Part
+abbrev pub pairs_parts : List Pair → List TextPart
 pairs_parts [] = []
 pairs_parts (p ∷ ps) = Gap p.gap ∷ Token p.kind p.spelling ∷ pairs_parts ps
 
 -- What is inserted at a place: after the gap of the first token no further gap precedes what is
 -- inserted, and there is none before a kept token that follows directly.
-abbrev pub inserted_parts : ℕ → List Pair → List Part → List Part
+abbrev pub inserted_parts : ℕ → List Pair → List TextPart → List TextPart
 inserted_parts skip ps tail = drop skip (pairs_parts ps ++ tail)
 
-abbrev pub empty_gap : List Part
+abbrev pub empty_gap : List TextPart
 empty_gap = Gap [] ∷ []
 
--- what is replaced from a place on, where this is written first, and then so much is kept
+-- The replacements from a place on: `written` is inserted there, and then the ranges of `kept`
+-- stay, each with what is inserted after it.
 abbrev pub replacements_from : List Pair → ℕ → ℕ → ℕ → Insertion → List (Option KeptTokens) → ℕ → List Replacement
 replacements_from pairs first place skip written [] past =
     record { from = place; to = at_gap past; inserted_parts = inserted_parts skip (inserted pairs first written) [] } ∷ []

@@ -2,14 +2,14 @@
 use Rattle.std.specs.Prelude.{ℕ, ◌≤◌, List, [], ◌∷◌, ◌++◌, drop, slice_range, None, if◌then◌else◌}
 use Rattle.edit_record.specs.Lists.Pieces.{Piece}
 use Rattle.edit_record.specs.Lists.Pieces.Piece.{Kept, Changed}
-use Rattle.tf_fix.specs.Parts.{Part, text_of_parts}
+use Rattle.tf_fix.specs.Parts.{TextPart, text_of_parts}
 use Rattle.tf_fix.specs.SettledSpaces.{Prev, prev_after, settled, is_glued, space}
 
 -- The parts from one place to another are replaced by others.
 pub record Replacement : Type 0 where
   pub from : ℕ
   pub to : ℕ
-  pub inserted_parts : List Part
+  pub inserted_parts : List TextPart
 
 -- each begins where the one before ends, or later, and all are within `end` parts
 abbrev pub AreInOrder : ℕ → List Replacement → ℕ → Type 0
@@ -17,32 +17,32 @@ AreInOrder at [] end = at ≤ end
 AreInOrder at (r ∷ rs) end = (at ≤ r.from) × (r.from ≤ r.to) × AreInOrder r.to rs end
 
 -- the parts from a place on, after the replacements
-abbrev pub replaced_from : ℕ → List Part → List Replacement → List Part
+abbrev pub replaced_from : ℕ → List TextPart → List Replacement → List TextPart
 replaced_from at parts [] = drop at parts
 replaced_from at parts (r ∷ rs) =
     slice_range parts at r.from ++ (r.inserted_parts ++ replaced_from r.to parts rs)
 
 -- the text after the replacements: each two tokens that join have a space between them then
-abbrev pub replaced_text : List Part → List Replacement → List ℕ
+abbrev pub replaced_text : List TextPart → List Replacement → List ℕ
 replaced_text parts rs = text_of_parts (settled None (replaced_from 0 parts rs))
 
 -- the parts that stay from a place on, up to the next replacement
-abbrev pub stays_until : ℕ → List Part → List Replacement → List Part
+abbrev pub stays_until : ℕ → List TextPart → List Replacement → List TextPart
 stays_until at parts [] = drop at parts
 stays_until at parts (r ∷ rs) = slice_range parts at r.from
 
 -- one space where the neighbour joins with what stays
-abbrev pub space_before : Prev → List Part → List ℕ
+abbrev pub space_before : Prev → List TextPart → List ℕ
 space_before prev parts = if is_glued prev parts then space else []
 
 -- what a replacement adds: the inserted parts, settled, and a space if the last token joins with
 -- what is kept after them
-abbrev pub added : Prev → List Part → List Part → List ℕ
+abbrev pub added : Prev → List TextPart → List TextPart → List ℕ
 added prev come stay = text_of_parts (settled prev come) ++ space_before (prev_after prev come) stay
 
 -- The text in pieces: kept, or replaced by what is added. The neighbor is the token before place
 -- at.
-abbrev pub pieces_from : Prev → ℕ → List Part → List Replacement → List Piece
+abbrev pub pieces_from : Prev → ℕ → List TextPart → List Replacement → List Piece
 pieces_from prev at parts [] = Kept (text_of_parts (drop at parts)) ∷ []
 pieces_from prev at parts (r ∷ rs) =
     Kept (text_of_parts (slice_range parts at r.from))
@@ -50,5 +50,5 @@ pieces_from prev at parts (r ∷ rs) =
     (added (prev_after prev (slice_range parts at r.from)) r.inserted_parts (stays_until r.to parts rs))
     ∷ pieces_from (prev_after (prev_after prev (slice_range parts at r.from)) r.inserted_parts) r.to parts rs
 
-abbrev pub replaced_pieces : List Part → List Replacement → List Piece
+abbrev pub replaced_pieces : List TextPart → List Replacement → List Piece
 replaced_pieces parts rs = pieces_from None 0 parts rs

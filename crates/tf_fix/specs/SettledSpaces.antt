@@ -2,8 +2,8 @@
 use Rattle.std.specs.Prelude.{ℕ, Bool, false, List, [], ◌∷◌, Option, Some, None, if◌then◌else◌}
 use Rattle.hcl_token.specs.declared.kind.Kind.{Kind}
 use Rattle.hcl_token.specs.Joins.{joins_with}
-use Rattle.tf_fix.specs.Parts.{Part}
-use Rattle.tf_fix.specs.Parts.Part.{Gap, Token}
+use Rattle.tf_fix.specs.Parts.{TextPart}
+use Rattle.tf_fix.specs.Parts.TextPart.{Gap, Token}
 
 -- The token directly before, with nothing between; none at the start of a text and after
 -- whitespace.
@@ -11,7 +11,7 @@ abbrev pub Prev : Type 0
 Prev = Option (Kind × List ℕ)
 
 -- the neighbor after these parts, if this one is before them
-abbrev pub prev_after : Prev → List Part → Prev
+abbrev pub prev_after : Prev → List TextPart → Prev
 prev_after prev [] = prev
 prev_after prev (Gap [] ∷ parts) = prev_after prev parts
 prev_after prev (Gap (b ∷ bytes) ∷ parts) = prev_after None parts
@@ -27,7 +27,7 @@ abbrev pub space : List ℕ
 space = 32 ∷ []
 
 -- one space more between each two tokens that join and have nothing between them
-abbrev pub settled : Prev → List Part → List Part
+abbrev pub settled : Prev → List TextPart → List TextPart
 settled prev [] = []
 settled prev (Gap [] ∷ parts) = Gap [] ∷ settled prev parts
 settled prev (Gap (b ∷ bytes) ∷ parts) = Gap (b ∷ bytes) ∷ settled None parts
@@ -37,7 +37,7 @@ settled prev (Token kind spelling ∷ parts) =
     else Token kind spelling ∷ settled (Some (kind, spelling)) parts
 
 -- a neighbor joins with the first token of the parts, with nothing between
-abbrev pub is_glued : Prev → List Part → Bool
+abbrev pub is_glued : Prev → List TextPart → Bool
 is_glued prev [] = false
 is_glued prev (Gap [] ∷ parts) = is_glued prev parts
 is_glued prev (Gap (b ∷ bytes) ∷ parts) = false

@@ -73,8 +73,8 @@ pub fn fix_step_of_findings(
     requires valid { AreValidFindings (length scanned.now.pairs) found.now }
     requires rule_in_set { has_rule rules rule ≡ true }
     ensures step { (p : Parsed) → AreFindingsOf rules p scanned.now found.now
-        → IfOk result (λ mended. IsFixStep rule p mended.count mended.edits) }
-    ensures few { IfOk result (λ mended. mended.count ≤ MAX_TEXT) }
+        → IfOk result (λ step. IsFixStep rule p step.count step.edits) }
+    ensures few { IfOk result (λ step. step.count ≤ MAX_TEXT) }
     ensures fault { (p : Parsed) → AreFindingsOf rules p scanned.now found.now
         → IfErr result (λ fault. (fault ≡ Memory) ⊎ ((fault ≡ TooLong) × IsTooLong rule p)) }
 {

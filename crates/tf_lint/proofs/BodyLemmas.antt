@@ -60,7 +60,7 @@ module _ {rules : RuleSet} {pairs : List Pair} where
   each_more (z ∷ xs) x seen is zero y e = seen zero y e
   each_more (z ∷ xs) x seen is (suc i) y e = each_more xs x (λ i. seen (suc i)) is i y e
 
-  pub none_linted : (g : BodyFindings) → g.members.items ≡ [] → g.nodes.items ≡ [] → g.blocks.items ≡ [] → AreBodyFindings rules pairs [] g
+  pub none_linted : (g : BodyFindings) → g.members.items ≡ [] → g.node_findings.items ≡ [] → g.block_findings.items ≡ [] → AreBodyFindings rules pairs [] g
   none_linted g ms ns bs = record {
     each = rw ms (λ i x e. absurd (cc));
     at_nodes = rw ns (record { nodes = []; preorder = no_nodes; are = refl });
@@ -68,25 +68,25 @@ module _ {rules : RuleSet} {pairs : List Pair} where
   }
 
   one_more : {ms : List Member} {x : LintedMember} (g h : BodyFindings) → AreBodyFindings rules pairs ms g → (is : IsLintedMember rules pairs x) → AreLintedMembers rules pairs h.members.items
-      → h.nodes.items ≡ g.nodes.items ++ x.nodes.items → h.blocks.items ≡ g.blocks.items ++ x.blocks.items → AreBodyFindings rules pairs (ms ++ is.member ∷ []) h
+      → h.node_findings.items ≡ g.node_findings.items ++ x.node_findings.items → h.block_findings.items ≡ g.block_findings.items ++ x.block_findings.items → AreBodyFindings rules pairs (ms ++ is.member ∷ []) h
   one_more {ms} {x} g h seen is each nodes blocks = record {
     each = each;
     at_nodes = rw (map-append member ms (is.member ∷ []), nodes) (both_trees seen.at_nodes is.at_nodes);
     at_blocks = blocks
-        ∙ (ap (λ l. l ++ x.blocks.items) seen.at_blocks ∙ (ap (λ l. valid_findings (length pairs) (top_level_findings rules pairs ms) ++ l) is.at_block
+        ∙ (ap (λ l. l ++ x.block_findings.items) seen.at_blocks ∙ (ap (λ l. valid_findings (length pairs) (top_level_findings rules pairs ms) ++ l) is.at_block
         ∙ (sym (filter-append (is_valid (length pairs)) (top_level_findings rules pairs ms) (top_level_member_findings rules pairs is.member))
         ∙ ap (valid_findings (length pairs)) (one_more_block rules pairs ms is.member))));
   }
 
   -- one more member, which is kept
   pub one_more_kept : {ms : List Member} {x : LintedMember} (g h : BodyFindings) → AreBodyFindings rules pairs ms g → (is : IsLintedMember rules pairs x) → h.members.items ≡ g.members.items ++ x ∷ []
-      → h.nodes.items ≡ g.nodes.items ++ x.nodes.items → h.blocks.items ≡ g.blocks.items ++ x.blocks.items → AreBodyFindings rules pairs (ms ++ is.member ∷ []) h
+      → h.node_findings.items ≡ g.node_findings.items ++ x.node_findings.items → h.block_findings.items ≡ g.block_findings.items ++ x.block_findings.items → AreBodyFindings rules pairs (ms ++ is.member ∷ []) h
   one_more_kept {x = x} g h seen is members nodes blocks =
       one_more g h seen is (rw members (each_more g.members.items x seen.each is)) nodes blocks
 
   -- and one which is given up
   pub one_more_taken : {ms : List Member} {x : LintedMember} (g h : BodyFindings) → AreBodyFindings rules pairs ms g → (is : IsLintedMember rules pairs x) → h.members.items ≡ g.members.items
-      → h.nodes.items ≡ g.nodes.items ++ x.nodes.items → h.blocks.items ≡ g.blocks.items ++ x.blocks.items → AreBodyFindings rules pairs (ms ++ is.member ∷ []) h
+      → h.node_findings.items ≡ g.node_findings.items ++ x.node_findings.items → h.block_findings.items ≡ g.block_findings.items ++ x.block_findings.items → AreBodyFindings rules pairs (ms ++ is.member ∷ []) h
   one_more_taken g h seen is members nodes blocks = one_more g h seen is (rw members seen.each) nodes blocks
 
 -- the member that comes next, as the parser answers it

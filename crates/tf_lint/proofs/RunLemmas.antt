@@ -15,7 +15,7 @@ use Rattle.tf_lint.specs.declared.fault.FixFault.{FixFault}
 use Rattle.tf_lint.specs.declared.fault.FixFault.TheVariants.{FixBroken, Memory}
 use Rattle.tf_fix.specs.declared.parsed.Parsed.{Parsed}
 use Rattle.tf_lint.specs.declared.step.NewText.{NewText}
-use Rattle.tf_lint.specs.declared.step.Step.{Step}
+use Rattle.tf_lint.specs.declared.step.StepResult.{StepResult}
 use Rattle.tf_lint.specs.declared.steps.FirstChange.{FirstChange}
 use Rattle.tf_lint.specs.declared.steps.FirstChange.TheVariants.{NoChange, Changed}
 use Rattle.tf_fix.specs.ParsedTexts.{IsParseOf}
@@ -64,7 +64,7 @@ skipped_pass rules rule order p count (Changed fixed change by rest) not_in (n, 
   λ unread. rw not_in (gone unread),
 )
 
-pub stayed_pass : (rules : RuleSet) (rule : Rule) (order : List Rule) (p : Parsed) (count : ℕ) (passed : FirstChange) (step : Step) → has_step rules rule ≡ true → IsParseOf p.scanned.text p
+pub stayed_pass : (rules : RuleSet) (rule : Rule) (order : List Rule) (p : Parsed) (count : ℕ) (passed : FirstChange) (step : StepResult) → has_step rules rule ≡ true → IsParseOf p.scanned.text p
     → IsStep rule p step → step.change ≡ None → IsFirstChange rules order p (count + step.count) passed → IsFirstChange rules (rule ∷ order) p count passed
 stayed_pass rules rule order p count (NoChange fixed) step chosen reads s none (n, number, runs) =
     let stays : step_text_of p s.found ≡ p.scanned.text = subst (IsChange rule p s.found) none s.change in
@@ -97,10 +97,10 @@ GoesOn rules order rest by p n change =
     × ((next : Parsed) (fault : FixFault) → IsParseOf change.text.items next → RunFixable rules rest next (Err fault) → RunFixable rules order p (Err fault))
     × (DoesNotParse change.text.items → RunFixable rules order p (Err (FixBroken by)))
 
-pub changed_transforms : (rule : Rule) (p : Parsed) (step : Step) (change : NewText) → IsStep rule p step → step.change ≡ Some change → Transforms change.edits p.scanned.text change.text.items
+pub changed_transforms : (rule : Rule) (p : Parsed) (step : StepResult) (change : NewText) → IsStep rule p step → step.change ≡ Some change → Transforms change.edits p.scanned.text change.text.items
 changed_transforms rule p step change s some = let c : IsChange rule p s.found (Some change) = subst (IsChange rule p s.found) some s.change in c.3
 
-pub changed_pass : (rules : RuleSet) (rule : Rule) (order : List Rule) (p : Parsed) (step : Step) (change : NewText) → has_step rules rule ≡ true → IsStep rule p step → step.change ≡ Some change
+pub changed_pass : (rules : RuleSet) (rule : Rule) (order : List Rule) (p : Parsed) (step : StepResult) (change : NewText) → has_step rules rule ≡ true → IsStep rule p step → step.change ≡ Some change
     → GoesOn rules (rule ∷ order) order rule p step.count change
 changed_pass rules rule order p step change chosen s some =
     let c : IsChange rule p s.found (Some change) = subst (IsChange rule p s.found) some s.change in

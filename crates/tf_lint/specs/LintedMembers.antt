@@ -17,8 +17,9 @@ use Rattle.tf_rules.specs.TopLevelFindings.{top_level_member_findings}
 pub record IsLintedMember (rules : RuleSet) (pairs : List Pair) (x : LintedMember) : Type 0 where
   pub member : Member
   pub is_member : IsOneMember (tokens_of pairs) MAX_NESTING member x.from x.past
-  pub at_nodes : AreTreeFindings rules pairs (node.member member ∷ []) x.nodes.items
-  pub at_block : x.blocks.items ≡ valid_findings (length pairs) (top_level_member_findings rules pairs member)
+  pub at_nodes : AreTreeFindings rules pairs (node.member member ∷ []) x.node_findings.items
+  pub at_block : x.block_findings.items
+      ≡ valid_findings (length pairs) (top_level_member_findings rules pairs member)
 
 -- each of these is
 abbrev pub AreLintedMembers : RuleSet → List Pair → List LintedMember → Type 0

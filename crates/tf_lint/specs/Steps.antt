@@ -26,8 +26,8 @@ IsRemainingCount rules p count = (found : List Finding) × RulesFind rules p fou
 
 -- the text parses, and this is what the rules of the set report of it
 abbrev pub IsReport : RuleSet → List ℕ → List Report → Type 0
-IsReport rules text told =
-    (p : Parsed) × IsParseOf text p × AreReports rules p.scanned.pairs p.tree.body.members told
+IsReport rules text reported =
+    (p : Parsed) × IsParseOf text p × AreReports rules p.scanned.pairs p.tree.body.members reported
 
 -- ---- several steps
 

@@ -26,9 +26,9 @@ pub struct BodyFindings {
     /// Its members, each with what was found in it, as far as they are kept.
     pub members: Vec<LintedMember>,
     /// What was found at the nodes of its members.
-    pub nodes: Vec<Finding>,
+    pub node_findings: Vec<Finding>,
     /// What was found at those of them that are blocks.
-    pub blocks: Vec<Finding>,
+    pub block_findings: Vec<Finding>,
 }
 
 /// Appends findings; if there are none yet, without a copy.
@@ -46,12 +46,12 @@ pub fn append_findings(found: &mut Vec<Finding>, more: Vec<Finding>) -> Result<(
 fn keep_member(body: &mut BodyFindings, x: LintedMember) -> Result<(), AllocError>
     ensures members { OnOk result (body.new.members.items ≡ body.old.members.items ++ x ∷ []) }
     ensures nodes { OnOk result
-        (body.new.nodes.items ≡ body.old.nodes.items ++ x.nodes.items) }
+        (body.new.node_findings.items ≡ body.old.node_findings.items ++ x.node_findings.items) }
     ensures blocks { OnOk result
-        (body.new.blocks.items ≡ body.old.blocks.items ++ x.blocks.items) }
+        (body.new.block_findings.items ≡ body.old.block_findings.items ++ x.block_findings.items) }
 {
-    body.nodes.extend_from_slice(&x.nodes)?;
-    body.blocks.extend_from_slice(&x.blocks)?;
+    body.node_findings.extend_from_slice(&x.node_findings)?;
+    body.block_findings.extend_from_slice(&x.block_findings)?;
     body.members.push(x)?;
     Ok(())
 }
@@ -60,12 +60,12 @@ fn keep_member(body: &mut BodyFindings, x: LintedMember) -> Result<(), AllocErro
 fn merge_member(body: &mut BodyFindings, x: LintedMember) -> Result<(), AllocError>
     ensures members { OnOk result (body.new.members.items ≡ body.old.members.items) }
     ensures nodes { OnOk result
-        (body.new.nodes.items ≡ body.old.nodes.items ++ x.nodes.items) }
+        (body.new.node_findings.items ≡ body.old.node_findings.items ++ x.node_findings.items) }
     ensures blocks { OnOk result
-        (body.new.blocks.items ≡ body.old.blocks.items ++ x.blocks.items) }
+        (body.new.block_findings.items ≡ body.old.block_findings.items ++ x.block_findings.items) }
 {
-    append_findings(&mut body.nodes, x.nodes)?;
-    append_findings(&mut body.blocks, x.blocks)
+    append_findings(&mut body.node_findings, x.node_findings)?;
+    append_findings(&mut body.block_findings, x.block_findings)
 }
 
 /// In a member that is kept no more is found than this.
@@ -74,7 +74,7 @@ const MAX_KEPT_FINDINGS: usize = 4096;
 /// Whether a member is worth keeping. Where very much is found in one, a fix changes it in nearly
 /// each step, so that it is read again; and a second list of that would be most of the memory.
 fn is_worth_keeping(x: &LintedMember) -> bool {
-    x.nodes.len() <= MAX_KEPT_FINDINGS && x.blocks.len() <= MAX_KEPT_FINDINGS
+    x.node_findings.len() <= MAX_KEPT_FINDINGS && x.block_findings.len() <= MAX_KEPT_FINDINGS
 }
 
 /// Adds a member that may be kept.
@@ -117,8 +117,8 @@ pub fn lint_body(
     let reader = Reader::new(alloc, scanned);
     let mut found = BodyFindings {
         members: Vec::new(alloc),
-        nodes: Vec::new(alloc),
-        blocks: Vec::new(alloc),
+        node_findings: Vec::new(alloc),
+        block_findings: Vec::new(alloc),
     };
     for _turn in 0..scanned.len() {
         if reader.eat_newline(at) {

@@ -35,9 +35,9 @@ pub struct LintedMember {
     /// One more than the number of its last token.
     pub past: usize,
     /// What is found at its nodes.
-    pub nodes: Vec<Finding>,
+    pub node_findings: Vec<Finding>,
     /// What is found at it, if it is a block.
-    pub blocks: Vec<Finding>,
+    pub block_findings: Vec<Finding>,
 }
 
 /// The least capacity of a vector that has grown by `push`.
@@ -68,22 +68,22 @@ fn lint_member(
     ensures place { IfOk result (λ linted. (linted.from ≡ from) × (linted.past ≡ past)) }
     ensures at_nodes { IfOk result
         (λ linted. AreTreeFindings rules scanned.now.pairs
-        (node.member x.now ∷ []) linted.nodes.items) }
+        (node.member x.now ∷ []) linted.node_findings.items) }
     ensures at_block { IfOk result
-        (λ linted. linted.blocks.items
+        (λ linted. linted.block_findings.items
         ≡ valid_findings (length scanned.now.pairs) (top_level_member_findings rules scanned.now.pairs x.now)) }
 {
-    let mut nodes = Vec::new(alloc);
-    tf_findings::add_node_findings(scanned, rules, x, &mut nodes)?;
-    let mut blocks = Vec::new(alloc);
-    tf_rules::add_top_level_member_findings(scanned, rules, x, &mut blocks)?;
-    let nodes = shrink(alloc, nodes)?;
-    let blocks = shrink(alloc, blocks)?;
+    let mut node_findings = Vec::new(alloc);
+    tf_findings::add_node_findings(scanned, rules, x, &mut node_findings)?;
+    let mut block_findings = Vec::new(alloc);
+    tf_rules::add_top_level_member_findings(scanned, rules, x, &mut block_findings)?;
+    let node_findings = shrink(alloc, node_findings)?;
+    let block_findings = shrink(alloc, block_findings)?;
     Ok(LintedMember {
         from,
         past,
-        nodes,
-        blocks,
+        node_findings,
+        block_findings,
     })
 }
 
@@ -91,14 +91,14 @@ fn lint_member(
 fn quiet_member(alloc: Global, from: usize, past: usize) -> LintedMember
     ensures from { result.from ≡ from }
     ensures past { result.past ≡ past }
-    ensures nodes { result.nodes.items ≡ [] }
-    ensures blocks { result.blocks.items ≡ [] }
+    ensures nodes { result.node_findings.items ≡ [] }
+    ensures blocks { result.block_findings.items ≡ [] }
 {
     LintedMember {
         from,
         past,
-        nodes: Vec::new(alloc),
-        blocks: Vec::new(alloc),
+        node_findings: Vec::new(alloc),
+        block_findings: Vec::new(alloc),
     }
 }
 
@@ -176,13 +176,13 @@ fn reuse_member(
     if !is_unchanged(alloc, old, scanned, old_member, at) {
         return Ok(None);
     }
-    let nodes = renumber_findings(alloc, &old_member.nodes, old_member.from, at)?;
-    let blocks = renumber_findings(alloc, &old_member.blocks, old_member.from, at)?;
+    let node_findings = renumber_findings(alloc, &old_member.node_findings, old_member.from, at)?;
+    let block_findings = renumber_findings(alloc, &old_member.block_findings, old_member.from, at)?;
     Ok(Some(LintedMember {
         from: at,
         past: at + (old_member.past - old_member.from),
-        nodes,
-        blocks,
+        node_findings,
+        block_findings,
     }))
 }
 

@@ -37,8 +37,8 @@ impl Remaining {
     pub fn lines(self, alloc: Global, name: &str, text: &[u8]) -> Result<String, AllocError>
         requires { (rules : RuleSet) × IsRemaining rules text.now self }
         ensures lines { (rules : RuleSet) → IsRemaining rules text.now self
-            → IfOk result (λ lines. (told : List Report) × IsReport rules text.now told
-            × (string_bytes lines ≡ lines_of name.now told)) }
+            → IfOk result (λ lines. (reported : List Report) × IsReport rules text.now reported
+            × (string_bytes lines ≡ lines_of name.now reported)) }
         ensures allocates { IfErr result (λ _. 0 < remaining_count self) }
     {
         let scanned = Scanned::attach(text, self.tokens);

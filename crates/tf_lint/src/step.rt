@@ -28,7 +28,7 @@ pub struct NewText {
 
 /// The result of the step of a rule over a text.
 #[derive(Drop)]
-pub struct Step {
+pub struct StepResult {
     /// How many findings it fixed.
     pub count: usize,
     /// None if the text is unchanged.
@@ -40,8 +40,8 @@ fn step_edits(alloc: Global, linted: &LintedText<'_>, rule: Rule) -> Result<Step
     requires linted { (p : Parsed) × IsLintOf p linted.now }
     requires rule_in_set { has_rule linted.now.rules rule ≡ true }
     ensures step { (p : Parsed) → IsLintOf p linted.now
-        → IfOk result (λ mended. IsFixStep rule p mended.count mended.edits) }
-    ensures count_within_limit { IfOk result (λ mended. mended.count ≤ MAX_TEXT) }
+        → IfOk result (λ step. IsFixStep rule p step.count step.edits) }
+    ensures count_within_limit { IfOk result (λ step. step.count ≤ MAX_TEXT) }
     ensures fault { (p : Parsed) → IsLintOf p linted.now
         → IfErr result (λ fault. (fault ≡ FixFault.Memory)
         ⊎ ((fault ≡ FixFault.TooLong) × CannotStep rule p fault)) }
@@ -59,7 +59,11 @@ fn is_without_edits(edits: &Edits) -> bool
 }
 
 /// Makes the step of a rule over a text that was linted with a set that has it.
-pub fn apply_step(alloc: Global, linted: &LintedText<'_>, rule: Rule) -> Result<Step, FixFault>
+pub fn apply_step(
+    alloc: Global,
+    linted: &LintedText<'_>,
+    rule: Rule,
+) -> Result<StepResult, FixFault>
     requires linted { (p : Parsed) × IsLintOf p linted.now }
     requires rule_in_set { has_rule linted.now.rules rule ≡ true }
     ensures step { (p : Parsed) → IsLintOf p linted.now → IfOk result (λ step. IsStep rule p step) }
@@ -69,19 +73,19 @@ pub fn apply_step(alloc: Global, linted: &LintedText<'_>, rule: Rule) -> Result<
     let StepEdits { count, edits } = step_edits(alloc, linted, rule)?;
     if is_without_edits(&edits) {
         // the text is neither copied nor compared
-        return Ok(Step {
+        return Ok(StepResult {
             count,
             change: None,
         });
     }
     let text = apply_step_edits(alloc, linted.scanned.text(), &edits)?;
     if text.as_slice() == linted.scanned.text() {
-        return Ok(Step {
+        return Ok(StepResult {
             count,
             change: None,
         });
     }
-    Ok(Step {
+    Ok(StepResult {
         count,
         change: Some(NewText { text, edits }),
     })

@@ -19,7 +19,7 @@ use crate::fault::FixFault;
 use crate::linted_text::{LintedText, PreviousText};
 use crate::relint::{into_previous, lint_text, relint_step, replaced_ranges};
 use crate::remaining::Remaining;
-use crate::step::{NewText, Step, apply_step};
+use crate::step::{NewText, StepResult, apply_step};
 use edit_record::lists::Edits;
 use edit_record::lists::laws::transformed_lengths_match;
 use edit_record::squashes::laws::{composable_lists_squash, edits_are_valid};
@@ -138,7 +138,7 @@ fn find_first_change<'o>(
         if !has_step(linted.rules, *rule) {
             return find_first_change(alloc, linted, rest, count);
         }
-        let Step {
+        let StepResult {
             count: taken,
             change,
         } = apply_step(alloc, linted, *rule)?;

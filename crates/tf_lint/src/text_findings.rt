@@ -75,8 +75,9 @@ fn finish_findings(
         × AreNodeAndBlockFindings rules scanned.now.pairs members found.items }
     ensures are { (members : List Member)
         → AreNodeAndBlockFindings rules scanned.now.pairs members found.items
-        → IfOk result (λ told. AreFindings rules scanned.now.pairs members told.items) }
-    ensures valid { IfOk result (λ told. AreValidFindings (length scanned.now.pairs) told.items) }
+        → IfOk result (λ findings. AreFindings rules scanned.now.pairs members findings.items) }
+    ensures valid { IfOk result
+        (λ findings. AreValidFindings (length scanned.now.pairs) findings.items) }
     ensures fault { IfErr result (λ fault. fault ≡ Memory) }
 {
     match complete_findings(alloc, scanned, rules, found) {
@@ -100,8 +101,8 @@ fn finish_body(
     ensures fault { IfErr result (λ fault. fault ≡ Memory) }
 {
     let members = read.members;
-    let mut found = read.nodes;
-    match append_findings(&mut found, read.blocks) {
+    let mut found = read.node_findings;
+    match append_findings(&mut found, read.block_findings) {
         Ok(()) => {
             let found = finish_findings(alloc, scanned, rules, found)?;
             Ok(TextFindings { members, found })

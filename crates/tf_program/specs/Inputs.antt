@@ -1,4 +1,4 @@
--- What the work on one input took of it, what it wrote, and what it has met.
+-- What the work on one input reads, what it writes, and its outcome.
 use Rattle.std.specs.Prelude.{◌≡◌, ◌<◌, ◌⊎◌, ℕ, true, false, List, []}
 use Rattle.edit_record.specs.Lists.Journal.{JournalEntry}
 use Rattle.tf_rules.specs.declared.rule_set.RuleSet.{RuleSet}
@@ -25,47 +25,49 @@ IsOutcomeOf FileOutcome.NotFormatted count = ⊥
 
 -- ---- fmt, with --check and without; lint
 
--- From the source came a whole text, and what a fmt makes of it went to the target.
+-- The reader returned the whole text; the writer received the text that a fmt makes of it.
 abbrev pub Formats : FileOutcome → Source → Target → Type 0
 Formats file_outcome source target =
     (file_outcome ≡ FileOutcome.Nothing) × (d : Done) × (new : List ℕ) × (records : List JournalEntry)
     × streaming.StepsStream Fmt d new records source target
 
--- From the source came a whole text that a fmt does not refuse, and it is formatted, or is not.
+-- The reader returned a whole text that a fmt does not refuse; the outcome says whether it is
+-- formatted.
 abbrev pub Checks : FileOutcome → Source → Type 0
 Checks FileOutcome.Nothing source = streaming.ChecksStream true source
 Checks FileOutcome.Issue source = ⊥
 Checks FileOutcome.NotFormatted source = streaming.ChecksStream false source
 
--- From the source came a whole text, and to the target went the lines of its issues.
+-- The reader returned the whole text; the writer received the lines of its issues.
 abbrev pub Lints : List ℕ → RuleSet → FileOutcome → Source → Target → Type 0
 Lints name rules file_outcome source target =
     (count : ℕ) × IsOutcomeOf file_outcome count × lines.LintsStream name rules count source target
 
 -- ---- fix
 
--- A fix made the text u and the records ks of t and js; these are the lines of what the rules
--- report of u, in a file of this name.
+-- The fix of text t with records js makes text u and records ks; `left` is the lines of what the
+-- rules report of u, in a file of this name.
 abbrev pub FixesText : List ℕ → RuleSet → List ℕ → List JournalEntry → Done → List ℕ → List ℕ
     → List JournalEntry → Type 0
 FixesText name rules t js d left u ks =
     DoesStep (Fix rules) t js d u ks
-    × (told : List Report) × IsReport rules u told × (left ≡ lines_of name told)
+    × (reported : List Report) × IsReport rules u reported × (left ≡ lines_of name reported)
 
--- The fix refused them; or it was done, and there was no memory for those lines.
+-- The fix refuses text and records; or it succeeds, and memory runs out for those lines.
 abbrev pub NotFixed : RuleSet → List ℕ → List JournalEntry → RunFault → Type 0
 NotFixed rules t js fault =
     ((refusal : Fault) × (fault ≡ run_fault_of refusal) × RefusesStep (Fix rules) t js refusal)
     ⊎ ((fault ≡ RunFault.Memory)
     × (d : Done) × (u : List ℕ) × (ks : List JournalEntry) × DoesStep (Fix rules) t js d u ks)
 
--- Not all of the text went out, and nothing of the lines; or all of it did, and not all of them.
+-- The write of the text failed, and the writer of the lines received nothing; or the text was
+-- written, and the write of the lines failed.
 abbrev pub WriteBothFault : RunFault → Target → List ℕ → Target → List ℕ → Type 0
 WriteBothFault fault target text left_out left =
     (IsWriteFault Part.Text fault target text × Untouched left_out)
     ⊎ (WritesBytes target text × IsWriteFault Part.Text fault left_out left)
 
--- From the source came a whole text; what a fix makes of it went to the one target, and to the
+-- The reader returned the whole text; one writer received the text that a fix makes of it, the
 -- other the lines of the issues that are left.
 abbrev pub Fixes : List ℕ → RuleSet → FileOutcome → Source → Target → Target → Type 0
 Fixes name rules file_outcome source target left_out =
@@ -74,7 +76,7 @@ Fixes name rules file_outcome source target left_out =
     × FixesText name rules text [] d left new records
     × WritesBytes target new × WritesBytes left_out left × IsOutcomeOf file_outcome d.left
 
--- No whole text came, or it was not fixed, and nothing was put; or not all that was made of it.
+-- The text was not read whole, or not fixed, and nothing was written; or a write failed.
 abbrev pub FixInputFault : List ℕ → RuleSet → RunFault → Source → Target → Target → Type 0
 FixInputFault name rules fault source target left_out =
     (IsReadStreamFault fault source × Untouched target × Untouched left_out)

@@ -30,17 +30,18 @@ abbrev pub is_comment_fix : Option Fix → Bool
 is_comment_fix (Some CommentMarker) = true
 is_comment_fix _ = false
 
--- tokens go from number at up to number to, or something is written there
+-- the tokens from number at up to number to are removed, or something is inserted there
 abbrev pub changes_something : Insertion → ℕ → ℕ → Bool
 changes_something Nothing at to = nat_lt at to
 changes_something _ at to = nat_le at to
 
--- the same at the end of the finding, of which something is kept or written
+-- At the end of the finding, the tokens from number at up to number `past` are removed, and some
+-- before them are kept; or something is inserted.
 abbrev pub changes_end : ℕ → Insertion → ℕ → ℕ → Bool
 changes_end first Nothing at past = nat_lt first at && nat_lt at past
 changes_end first _ at past = nat_le at past
 
--- what is kept is in order after number at, where this is written
+-- the kept ranges are in order after number at, where `written` is inserted
 abbrev pub are_in_order : ℕ → ℕ → ℕ → Insertion → List (Option KeptTokens) → Bool
 are_in_order first past at written [] = changes_end first written at past
 are_in_order first past at written (None ∷ kept) = are_in_order first past at written kept

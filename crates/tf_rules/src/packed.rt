@@ -36,7 +36,7 @@ const EMPTY_RANGE: PackedRange = PackedRange { from: 0, to: 0 };
 /// A fix, or none.
 #[derive(Clone, Copy)]
 pub struct PackedFix {
-    outline: PackedFixKind,
+    kind: PackedFixKind,
     one: PackedRange,
     two: PackedRange,
 }
@@ -92,11 +92,11 @@ fn unpack_kept(range: PackedRange, after: Option<Insertion>) -> Option<KeptToken
 }
 
 /// What a fix does that keeps no tokens.
-fn without_tokens(outline: PackedFixKind) -> PackedFix
-    ensures { result ≡ record { outline = outline; one = EMPTY_RANGE; two = EMPTY_RANGE } }
+fn without_tokens(kind: PackedFixKind) -> PackedFix
+    ensures { result ≡ record { kind = kind; one = EMPTY_RANGE; two = EMPTY_RANGE } }
 {
     PackedFix {
-        outline,
+        kind,
         one: EMPTY_RANGE,
         two: EMPTY_RANGE,
     }
@@ -107,13 +107,13 @@ fn pack_tokens(before: Insertion, kept: [Option<KeptTokens>; 2]) -> Result<Packe
         (λ packed_fix. (unpack_fix packed_fix ≡ Some (Tokens before kept)) × IsCanonical packed_fix) }
     ensures err { IfErr result (λ _. fits_fix (Some (Tokens before kept)) ≡ false) }
 {
-    let (one, behind_one) = pack_kept(kept[0])?;
-    let (two, behind_two) = pack_kept(kept[1])?;
+    let (one, after_one) = pack_kept(kept[0])?;
+    let (two, after_two) = pack_kept(kept[1])?;
     Ok(PackedFix {
-        outline: PackedFixKind::Tokens {
+        kind: PackedFixKind::Tokens {
             before,
-            one: behind_one,
-            two: behind_two,
+            one: after_one,
+            two: after_two,
         },
         one,
         two,
@@ -138,7 +138,7 @@ impl PackedFix {
     pub fn is_fix(&self) -> bool
         ensures { result ≡ is_fixable (unpack_fix self.now) }
     {
-        match self.outline {
+        match self.kind {
             PackedFixKind::Nothing => false,
             _ => true,
         }
@@ -148,7 +148,7 @@ impl PackedFix {
     pub fn fix(&self) -> Option<Fix>
         ensures { result ≡ unpack_fix self.now }
     {
-        match self.outline {
+        match self.kind {
             PackedFixKind::Nothing => None,
             PackedFixKind::CommentMarker => Some(Fix::CommentMarker),
             PackedFixKind::Tokens { before, one, two } => Some(Fix::Tokens {

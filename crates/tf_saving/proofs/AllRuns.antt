@@ -7,7 +7,7 @@ use Rattle.tf_saving.specs.Stable.{Each, InAll, Owns, HasNoNew, HasNew, OwnsWith
 use Rattle.tf_saving.proofs.Holds.{HoldsForOne, HoldsWhileRenaming, HoldsWhileSaving, HoldsForNew, HoldsInRecovery}
 use Rattle.tf_saving.specs.Laws.{InitialIsStable, NothingIsLost, SuccessIsDurable, ErrorsChangeNothing, LateRecoversToNew, RecoveryEnds, UnfailingSaveSucceeds, IsGoingInPlace, FailureIsNotInPlace}
 use Rattle.tf_saving.specs.Steps.{choose, finish, call_of, step_after}
-use Rattle.tf_saving.specs.declared.call.Call.{Call}
+use Rattle.tf_saving.specs.declared.call.Syscall.{Syscall}
 use Rattle.tf_saving.specs.declared.call.Reply.{Reply}
 use Rattle.tf_saving.specs.declared.call.Reply.TheVariants.{Done, NotFound, CannotReplace, Failed}
 use Rattle.tf_saving.specs.declared.step.End.{End}
@@ -279,7 +279,7 @@ not_in_place_after (RemoveText end) r h = not_in_place_finish end h
 not_in_place_after (Ended end) r h = h
 not_in_place_after step r h = absurd h
 
-not_in_place_stepped : (s : Contents) (m : State) (fate : Fate) (call : Result Call End) → IsNotInPlace m.step → IsNotInPlace (stepped_by call s m fate).step
+not_in_place_stepped : (s : Contents) (m : State) (fate : Fate) (call : Result Syscall End) → IsNotInPlace m.step → IsNotInPlace (stepped_by call s m fate).step
 not_in_place_stepped s m fate (Err end) h = h
 not_in_place_stepped s m fate (Ok call) h = not_in_place_after m.step (reply call m.disk fate) h
 
@@ -292,7 +292,7 @@ not_in_place_run s [] m h = h
 not_in_place_run s (fate ∷ fates) m h = not_in_place_run s fates (stepped s m fate) (not_in_place_next s m fate h)
 
 -- after this step's call failed, if it makes one
-abbrev IsNotInPlaceOnFailure : Result Call End → Step → Type 0
+abbrev IsNotInPlaceOnFailure : Result Syscall End → Step → Type 0
 IsNotInPlaceOnFailure (Ok call) step = IsNotInPlace (step_after step Failed)
 IsNotInPlaceOnFailure (Err end) step = IsNotInPlace step
 
@@ -356,7 +356,7 @@ not_in_place_on_failure (RemoveText end) u = text_removal_fails end u
 not_in_place_on_failure CompareInPlace u = absurd (u tt)
 not_in_place_on_failure (Ended end) u = other_end end u
 
-first_fails : (s : Contents) (m : State) (fate : Fate) (call : Result Call End) → ((c : Call) → reply c m.disk fate ≡ Failed)
+first_fails : (s : Contents) (m : State) (fate : Fate) (call : Result Syscall End) → ((c : Syscall) → reply c m.disk fate ≡ Failed)
     → IsNotInPlaceOnFailure call m.step → IsNotInPlace (stepped_by call s m fate).step
 first_fails s m fate (Err end) r h = h
 first_fails s m fate (Ok call) r h = subst (λ (x : Reply). IsNotInPlace (step_after m.step x)) (sym (r call)) h

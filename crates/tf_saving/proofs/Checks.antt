@@ -5,18 +5,18 @@ use Rattle.tf_saving.specs.Disk.{File, Names, Directory, Checks, Disk, Contents,
 use Rattle.tf_saving.specs.Runs.{Fate, Succeeds, Fails, IsRuledOut, FailsOnceDone, AnotherSyncs, Pair, State, disk_after, stepped, stepped_by}
 use Rattle.tf_saving.specs.Stable.{HasNew, HoldsJournal, MayHaveStray}
 use Rattle.tf_saving.specs.Steps.{choose, call_of}
-use Rattle.tf_saving.specs.declared.call.Part.{Part}
-use Rattle.tf_saving.specs.declared.call.Part.TheVariants.{Text, Journal}
-use Rattle.tf_saving.specs.declared.call.Call.{Call}
-use Rattle.tf_saving.specs.declared.call.Call.TheVariants.{Open, FindNew, CreateNew, CopyAttributes, Write, Sync, SyncDirectory, CompareNew, Compare, CanAdopt, Rename, Remove}
+use Rattle.tf_saving.specs.declared.call.SavedFile.{SavedFile}
+use Rattle.tf_saving.specs.declared.call.SavedFile.TheVariants.{Text, Journal}
+use Rattle.tf_saving.specs.declared.call.Syscall.{Syscall}
+use Rattle.tf_saving.specs.declared.call.Syscall.TheVariants.{Open, FindNew, CreateNew, CopyAttributes, Write, Sync, SyncDirectory, CompareNew, Compare, CanAdopt, Rename, Remove}
 use Rattle.tf_saving.specs.declared.step.End.{End}
 use Rattle.tf_saving.specs.declared.step.Step.{Step}
 
-with_checks : (part : Part) (f : Directory) (d : Disk) → (with_directory part f d).checks ≡ d.checks
+with_checks : (part : SavedFile) (f : Directory) (d : Disk) → (with_directory part f d).checks ≡ d.checks
 with_checks Text f d = refl
 with_checks Journal f d = refl
 
-pub done_checks : (call : Call) (s : Contents) (d : Disk) → (when_done call s d).checks ≡ d.checks
+pub done_checks : (call : Syscall) (s : Contents) (d : Disk) → (when_done call s d).checks ≡ d.checks
 done_checks (Open part) s d = refl
 done_checks (FindNew part) s d = refl
 done_checks (CreateNew part) s d = with_checks part _ d
@@ -30,18 +30,18 @@ done_checks CanAdopt s d = refl
 done_checks (Rename part) s d = with_checks part _ d
 done_checks (Remove part) s d = with_checks part _ d
 
-failed_checks : (call : Call) (d : Disk) → (when_failed call d).checks ≡ d.checks
+failed_checks : (call : Syscall) (d : Disk) → (when_failed call d).checks ≡ d.checks
 failed_checks (Write part) d = with_checks part _ d
 failed_checks call d = refl
 
-pub fate_checks : (call : Call) (s : Contents) (d : Disk) (fate : Fate) → (disk_after call s d fate).checks ≡ d.checks
+pub fate_checks : (call : Syscall) (s : Contents) (d : Disk) (fate : Fate) → (disk_after call s d fate).checks ≡ d.checks
 fate_checks call s d Succeeds = done_checks call s d
 fate_checks call s d Fails = failed_checks call d
 fate_checks call s d IsRuledOut = failed_checks call d
 fate_checks call s d FailsOnceDone = done_checks call s d
 fate_checks call s d (AnotherSyncs part) = refl
 
-stepped_checks_by : (s : Contents) (m : State) (fate : Fate) (call : Result Call End) → (stepped_by call s m fate).disk.checks ≡ m.disk.checks
+stepped_checks_by : (s : Contents) (m : State) (fate : Fate) (call : Result Syscall End) → (stepped_by call s m fate).disk.checks ≡ m.disk.checks
 stepped_checks_by s m fate (Err end) = refl
 stepped_checks_by s m fate (Ok call) = fate_checks call s m.disk fate
 

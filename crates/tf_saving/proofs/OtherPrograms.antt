@@ -7,10 +7,10 @@ use Rattle.tf_saving.specs.Stable.{InAll, Owns, HasNew, OwnsWithNew, IsUnrenamed
 use Rattle.tf_saving.proofs.Holds.{HoldsForOne, HasNewFiles, ChangesNothing, HoldsWhileSaving}
 use Rattle.tf_saving.specs.OtherPrograms.{CreatesNewFiles, PreparesRename, PrecedesRename, IsError, IsInPlace, IsUnchanged, ChangedTextIsKept, ForeignFileIsNotRenamed, with_text, edited, EditIsKept}
 use Rattle.tf_saving.specs.Steps.{choose, choose_or_in_place, finish, call_of, step_after}
-use Rattle.tf_saving.specs.declared.call.Part.{Part}
-use Rattle.tf_saving.specs.declared.call.Part.TheVariants.{Text, Journal}
-use Rattle.tf_saving.specs.declared.call.Call.{Call}
-use Rattle.tf_saving.specs.declared.call.Call.TheVariants.{Open, FindNew, CreateNew, CopyAttributes, Write, Sync, SyncDirectory, CompareNew, Compare, CanAdopt, Rename, Remove}
+use Rattle.tf_saving.specs.declared.call.SavedFile.{SavedFile}
+use Rattle.tf_saving.specs.declared.call.SavedFile.TheVariants.{Text, Journal}
+use Rattle.tf_saving.specs.declared.call.Syscall.{Syscall}
+use Rattle.tf_saving.specs.declared.call.Syscall.TheVariants.{Open, FindNew, CreateNew, CopyAttributes, Write, Sync, SyncDirectory, CompareNew, Compare, CanAdopt, Rename, Remove}
 use Rattle.tf_saving.specs.declared.call.Reply.{Reply}
 use Rattle.tf_saving.specs.declared.call.Reply.TheVariants.{Done, NotFound, CannotReplace, Failed}
 use Rattle.tf_saving.specs.declared.step.End.{End}
@@ -25,7 +25,7 @@ use Rattle.tf_saving.proofs.AllRuns.{one_recovers, recovers_restored, saving_run
 
 -- --- No call but a rename changes a part's own file ---
 
-abbrev IsNoRename : Result Call End → Type 0
+abbrev IsNoRename : Result Syscall End → Type 0
 IsNoRename (Ok (Rename part)) = ⊥
 IsNoRename _ = Unit {0}
 
@@ -45,7 +45,7 @@ synced_own : (new : Option File) (f : Directory) → (new_synced new f).current.
 synced_own None f = refl
 synced_own (Some file) f = refl
 
-done_unchanged : (call : Call) (s : Contents) (d : Disk) → IsNoRename (Ok call) → IsUnchanged d (when_done call s d)
+done_unchanged : (call : Syscall) (s : Contents) (d : Disk) → IsNoRename (Ok call) → IsUnchanged d (when_done call s d)
 done_unchanged (Open part) s d n = (refl, refl)
 done_unchanged (FindNew part) s d n = (refl, refl)
 done_unchanged (CreateNew Text) s d n = (made_own d.text.current.new d.text, refl)
@@ -64,12 +64,12 @@ done_unchanged (Remove Text) s d n = (refl, refl)
 done_unchanged (Remove Journal) s d n = (refl, refl)
 done_unchanged (Rename part) s d n = absurd n
 
-failed_unchanged : (call : Call) (d : Disk) → IsUnchanged d (when_failed call d)
+failed_unchanged : (call : Syscall) (d : Disk) → IsUnchanged d (when_failed call d)
 failed_unchanged (Write Text) d = (torn_own d.text.current.new d.text, refl)
 failed_unchanged (Write Journal) d = (refl, torn_own d.journal.current.new d.journal)
 failed_unchanged call d = (refl, refl)
 
-fate_unchanged : (call : Call) (s : Contents) (d : Disk) (fate : Fate) → IsNoRename (Ok call) → IsUnchanged d (disk_after call s d fate)
+fate_unchanged : (call : Syscall) (s : Contents) (d : Disk) (fate : Fate) → IsNoRename (Ok call) → IsUnchanged d (disk_after call s d fate)
 fate_unchanged call s d Succeeds n = done_unchanged call s d n
 fate_unchanged call s d Fails n = failed_unchanged call d
 fate_unchanged call s d IsRuledOut n = failed_unchanged call d
@@ -79,7 +79,7 @@ fate_unchanged call s d (AnotherSyncs part) n = (refl, refl)
 -- --- A run that renames nothing ---
 
 -- it holds of the step after this one's call
-abbrev HoldsAfter : (Step → Type 0) → Step → Disk → Fate → Result Call End → Type 0
+abbrev HoldsAfter : (Step → Type 0) → Step → Disk → Fate → Result Syscall End → Type 0
 HoldsAfter IsOn step d fate (Ok call) = IsOn (step_after step (reply call d fate))
 HoldsAfter IsOn step d fate (Err end) = IsOn step
 
@@ -88,7 +88,7 @@ record RenamesNothing (checks : Checks) (IsOn : Step → Type 0) : Type 0 where
   nothing : (step : Step) → IsOn step → IsNoRename (call_of step)
   goes : (step : Step) (d : Disk) (fate : Fate) → d.checks ≡ checks → IsOn step → HoldsAfter IsOn step d fate (call_of step)
 
-unchanged_stepped : (checks : Checks) (IsOn : Step → Type 0) (s : Contents) (m : State) (fate : Fate) (call : Result Call End) → IsNoRename call → m.disk.checks ≡ checks → HoldsAfter IsOn m.step m.disk fate call
+unchanged_stepped : (checks : Checks) (IsOn : Step → Type 0) (s : Contents) (m : State) (fate : Fate) (call : Result Syscall End) → IsNoRename call → m.disk.checks ≡ checks → HoldsAfter IsOn m.step m.disk fate call
     → let n = stepped_by call s m fate in IsUnchanged m.disk n.disk × (n.disk.checks ≡ checks) × IsOn n.step
 unchanged_stepped checks IsOn s m fate (Err end) n e h = ((refl, refl), e, h)
 unchanged_stepped checks IsOn s m fate (Ok call) n e h = (fate_unchanged call s m.disk fate n, fate_checks call s m.disk fate ∙ e, h)
@@ -123,7 +123,7 @@ on_changed : (IsOn : Step → Type 0) (same : Bool) (x y z : Step) → same ≡ 
 on_changed IsOn true x y z e l = absurd cc
 on_changed IsOn false x y z e l = l
 
-on_restored : (IsOn : Step → Type 0) (end : End) → ChangesNothing end → IsOn CompareInPlace → ((part : Part) → IsOn (Ended (Error part))) → IsOn (finish end)
+on_restored : (IsOn : Step → Type 0) (end : End) → ChangesNothing end → IsOn CompareInPlace → ((part : SavedFile) → IsOn (Ended (Error part))) → IsOn (finish end)
 on_restored IsOn Success u h k = absurd u
 on_restored IsOn InPlace u h k = h
 on_restored IsOn (Error part) u h k = k part
@@ -229,7 +229,7 @@ changed_text_is_kept m s h c fates =
 
 -- --- A new file is not the one that was created ---
 
-abbrev IsKeeping : Part → Step → Type 0
+abbrev IsKeeping : SavedFile → Step → Type 0
 IsKeeping part (RemoveJournal end) = ChangesNothing end
 IsKeeping part (SyncRemoval end) = ChangesNothing end
 IsKeeping part (RemoveText end) = ChangesNothing end
@@ -239,7 +239,7 @@ IsKeeping part (Ended (Error other)) = Unit {0}
 IsKeeping Text CompareNewText = Unit {0}
 IsKeeping part step = CreatesNewFiles step
 
-creates_keeps : (part : Part) (step : Step) → CreatesNewFiles step → IsKeeping part step
+creates_keeps : (part : SavedFile) (step : Step) → CreatesNewFiles step → IsKeeping part step
 creates_keeps part CreateText h = tt
 creates_keeps part CopyTextAttributes h = tt
 creates_keeps part SyncTextName h = tt
@@ -253,7 +253,7 @@ creates_keeps part SyncJournalName h = tt
 creates_keeps part CompareNewJournal h = tt
 creates_keeps part step h = absurd h
 
-keeping_puts_nothing : (part : Part) (step : Step) → IsKeeping part step → IsNoRename (call_of step)
+keeping_puts_nothing : (part : SavedFile) (step : Step) → IsKeeping part step → IsNoRename (call_of step)
 keeping_puts_nothing part CreateText h = tt
 keeping_puts_nothing part CopyTextAttributes h = tt
 keeping_puts_nothing part SyncTextName h = tt
@@ -273,7 +273,7 @@ keeping_puts_nothing part (Ended end) h = tt
 keeping_puts_nothing Text CompareNewText h = tt
 keeping_puts_nothing part step h = absurd h
 
-keeping_goes : (checks : Checks) (part : Part) → checks.is_ours part ≡ false → (step : Step) (d : Disk) (fate : Fate) → d.checks ≡ checks → IsKeeping part step → HoldsAfter (IsKeeping part) step d fate (call_of step)
+keeping_goes : (checks : Checks) (part : SavedFile) → checks.is_ours part ≡ false → (step : Step) (d : Disk) (fate : Fate) → d.checks ≡ checks → IsKeeping part step → HoldsAfter (IsKeeping part) step d fate (call_of step)
 keeping_goes checks part c CreateText d fate e h = on_unless (IsKeeping part) (reply (CreateNew Text) d fate) CopyTextAttributes CompareInPlace (RemoveJournal (Error Text)) tt tt tt
 keeping_goes checks part c CopyTextAttributes d fate e h = on_unless (IsKeeping part) (reply (CopyAttributes Text) d fate) WriteText (RemoveText InPlace) (RemoveText (Error Text)) tt tt tt
 keeping_goes checks part c SyncTextName d fate e h = on_unless (IsKeeping part) (reply (SyncDirectory Text) d fate) CreateJournal (RemoveText InPlace) (RemoveText (Error Text)) tt tt tt
@@ -302,10 +302,10 @@ keeping_goes checks part c CompareInPlace d fate e h = on_chosen (IsKeeping part
 keeping_goes checks part c (Ended end) d fate e h = h
 keeping_goes checks part c step d fate e h = absurd h
 
-keeping_puts : (checks : Checks) (part : Part) → checks.is_ours part ≡ false → RenamesNothing checks (IsKeeping part)
+keeping_puts : (checks : Checks) (part : SavedFile) → checks.is_ours part ≡ false → RenamesNothing checks (IsKeeping part)
 keeping_puts checks part c = record { nothing = keeping_puts_nothing part; goes = keeping_goes checks part c }
 
-keeping_ends : (part : Part) (end : End) → IsKeeping part (Ended end) → IsError end ⊎ IsInPlace end
+keeping_ends : (part : SavedFile) (end : End) → IsKeeping part (Ended end) → IsError end ⊎ IsInPlace end
 keeping_ends part (Error other) h = inl tt
 keeping_ends part InPlace h = inr tt
 keeping_ends part end h = absurd h

@@ -5,7 +5,7 @@ use Rattle.tf_saving.specs.Steps.{choose, finish}
 use Rattle.tf_saving.specs.Runs.{Fate, Succeeds, Fails, IsRuledOut, FailsOnceDone, AnotherSyncs, Pair, found, stepped}
 use Rattle.tf_saving.specs.Stable.{Each, InAll, Owns, HasNoNew, HasNew, IsUnrenamed, HoldsJournal, MayHaveStray, IsRenamed, HasOnlyStray, RecoversTo, IsStable}
 use Rattle.tf_saving.proofs.Holds.{HoldsForOne}
-use Rattle.tf_saving.specs.declared.call.Part.TheVariants.{Text, Journal}
+use Rattle.tf_saving.specs.declared.call.SavedFile.TheVariants.{Text, Journal}
 use Rattle.tf_saving.specs.declared.step.End.{End}
 use Rattle.tf_saving.specs.declared.step.End.TheVariants.{Success, InPlace, Error, Unknown, Late}
 use Rattle.tf_saving.specs.declared.step.Step.{Step}

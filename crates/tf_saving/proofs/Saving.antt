@@ -6,8 +6,8 @@ use Rattle.tf_saving.specs.Steps.{choose, choose_or_in_place, finish}
 use Rattle.tf_saving.specs.Runs.{Fate, Succeeds, Fails, IsRuledOut, FailsOnceDone, AnotherSyncs, Pair, as_files, stepped}
 use Rattle.tf_saving.specs.Stable.{InAll, Owns, HasNoNew, HasNew, OwnsWithNew, OwnsAlone, IsUnrenamed, HoldsJournal, IsRenamed, RecoversTo, IsStable, IsRenaming, IsOldOrNew}
 use Rattle.tf_saving.proofs.Holds.{HoldsWhileRenaming, HasNewFiles, HasNewText, IsReady, ChangesNothing, HoldsWhileSaving, HoldsForNew, HoldsInRecovery}
-use Rattle.tf_saving.specs.declared.call.Part.{Part}
-use Rattle.tf_saving.specs.declared.call.Part.TheVariants.{Text, Journal}
+use Rattle.tf_saving.specs.declared.call.SavedFile.{SavedFile}
+use Rattle.tf_saving.specs.declared.call.SavedFile.TheVariants.{Text, Journal}
 use Rattle.tf_saving.specs.declared.step.End.{End}
 use Rattle.tf_saving.specs.declared.step.End.TheVariants.{Success, InPlace, Error, Unknown, Late}
 use Rattle.tf_saving.specs.declared.step.Step.{Step}
@@ -242,7 +242,7 @@ ready_unrenamed : (p : Pair) (s : Contents) (d : Disk) → IsReady p s d → IsU
 ready_unrenamed p s d h = (new_unrenamed p (Durable s.text) (Durable s.journal) d h.0, tt)
 
 -- a comparison changes nothing
-compared_new : (p : Pair) (s : Contents) (next : Step) (part : Part) (same : Bool) (d : Disk) → IsReady p s d → HoldsWhileSaving p s next d
+compared_new : (p : Pair) (s : Contents) (next : Step) (part : SavedFile) (same : Bool) (d : Disk) → IsReady p s d → HoldsWhileSaving p s next d
     → HoldsWhileSaving p s (choose (if_same same) next (RemoveJournal (Error part)) (RemoveJournal (Error part))) d
 compared_new p s next part true d ready h = h
 compared_new p s next part false d ready h = ready_unrenamed p s d ready

@@ -7,9 +7,9 @@ use Rattle.tf_saving.proofs.Holds.{HoldsForOne}
 use Rattle.tf_saving.specs.Laws.{StrayIsNotAdopted, UnadoptableIsNotAdopted}
 use Rattle.tf_saving.specs.OtherPrograms.{IsUnchanged}
 use Rattle.tf_saving.specs.Steps.{choose, finish}
-use Rattle.tf_saving.specs.declared.call.Part.{Part}
-use Rattle.tf_saving.specs.declared.call.Part.TheVariants.{Text, Journal}
-use Rattle.tf_saving.specs.declared.call.Call.TheVariants.{SyncDirectory}
+use Rattle.tf_saving.specs.declared.call.SavedFile.{SavedFile}
+use Rattle.tf_saving.specs.declared.call.SavedFile.TheVariants.{Text, Journal}
+use Rattle.tf_saving.specs.declared.call.Syscall.TheVariants.{SyncDirectory}
 use Rattle.tf_saving.specs.declared.step.End.{End}
 use Rattle.tf_saving.specs.declared.step.End.TheVariants.{Success, InPlace, Error, Unknown, Late}
 use Rattle.tf_saving.specs.declared.step.Step.{Step}
@@ -66,11 +66,11 @@ same_adopts_nothing d true = tt
 same_adopts_nothing d false = tt
 
 -- a sync of a directory changes neither file
-synced_unchanged : (part : Part) (s : Contents) (d : Disk) → IsUnchanged d (when_done (SyncDirectory part) s d)
+synced_unchanged : (part : SavedFile) (s : Contents) (d : Disk) → IsUnchanged d (when_done (SyncDirectory part) s d)
 synced_unchanged Text s d = (refl, refl)
 synced_unchanged Journal s d = (refl, refl)
 
-synced_adopts_nothing : (s : Contents) (part : Part) (step : Step) (d : Disk) → AdoptsNothing d step
+synced_adopts_nothing : (s : Contents) (part : SavedFile) (step : Step) (d : Disk) → AdoptsNothing d step
     → let n = when_done (SyncDirectory part) s d in IsUnchanged d n × AdoptsNothing n step
 synced_adopts_nothing s Text FindNewJournal d h = ((refl, refl), h)
 synced_adopts_nothing s Text (FindNewText has_journal) d h = ((refl, refl), h)

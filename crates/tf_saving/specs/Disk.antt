@@ -2,10 +2,10 @@
 -- a crash or a power loss leaves. A new file has a name of its own next to the file that it
 -- replaces.
 use Rattle.std.specs.Prelude.{ℕ, List, [], ◌∷◌, ◌++◌, map, Option, Some, None, Bool, true, false}
-use Rattle.tf_saving.specs.declared.call.Part.{Part}
-use Rattle.tf_saving.specs.declared.call.Part.TheVariants.{Text, Journal}
-use Rattle.tf_saving.specs.declared.call.Call.{Call}
-use Rattle.tf_saving.specs.declared.call.Call.TheVariants.{Open, FindNew, CreateNew, CopyAttributes, Write, Sync, SyncDirectory, CompareNew, Compare, CanAdopt, Rename, Remove}
+use Rattle.tf_saving.specs.declared.call.SavedFile.{SavedFile}
+use Rattle.tf_saving.specs.declared.call.SavedFile.TheVariants.{Text, Journal}
+use Rattle.tf_saving.specs.declared.call.Syscall.{Syscall}
+use Rattle.tf_saving.specs.declared.call.Syscall.TheVariants.{Open, FindNew, CreateNew, CopyAttributes, Write, Sync, SyncDirectory, CompareNew, Compare, CanAdopt, Rename, Remove}
 use Rattle.tf_saving.specs.declared.call.Reply.{Reply}
 use Rattle.tf_saving.specs.declared.call.Reply.TheVariants.{Done, NotFound, CannotReplace, Failed}
 
@@ -42,7 +42,7 @@ pub record Checks : Type 0 where
   -- text and journal are still the files that the command read
   pub is_unchanged : Bool
   -- the part's new file is still the one that the command created
-  pub is_ours : Part → Bool
+  pub is_ours : SavedFile → Bool
   -- with this text and this journal, that new journal may be adopted
   pub can_adopt : Option File → Option File → Option File → Bool
 
@@ -136,20 +136,20 @@ pub record Contents : Type 0 where
   pub text : List ℕ
   pub journal : List ℕ
 
-abbrev pub bytes_of : Part → Contents → List ℕ
+abbrev pub bytes_of : SavedFile → Contents → List ℕ
 bytes_of Text s = s.text
 bytes_of Journal s = s.journal
 
-abbrev pub directory_of : Part → Disk → Directory
+abbrev pub directory_of : SavedFile → Disk → Directory
 directory_of Text d = d.text
 directory_of Journal d = d.journal
 
-abbrev pub with_directory : Part → Directory → Disk → Disk
+abbrev pub with_directory : SavedFile → Directory → Disk → Disk
 with_directory Text f d = record { text = f; journal = d.journal; checks = d.checks }
 with_directory Journal f d = record { text = d.text; journal = f; checks = d.checks }
 
 -- the disk after a call was done
-abbrev pub when_done : Call → Contents → Disk → Disk
+abbrev pub when_done : Syscall → Contents → Disk → Disk
 when_done (Open part) s d = d
 when_done (FindNew part) s d = d
 when_done (CopyAttributes part) s d = d
@@ -165,7 +165,7 @@ when_done (Rename part) s d = with_directory part (renamed (directory_of part d)
 when_done (Remove part) s d = with_directory part (new_removed (directory_of part d)) d
 
 -- the disk after a call failed
-abbrev pub when_failed : Call → Disk → Disk
+abbrev pub when_failed : Syscall → Disk → Disk
 when_failed (Write part) d = with_directory part (new_torn (directory_of part d).current.new (directory_of part d)) d
 when_failed _ d = d
 
@@ -186,7 +186,7 @@ if_adoptable true = Done
 if_adoptable false = NotFound
 
 -- the reply to a call that does not fail
-abbrev pub reply_when_done : Call → Disk → Reply
+abbrev pub reply_when_done : Syscall → Disk → Reply
 reply_when_done (Open part) d = if_found (directory_of part d).current.own
 reply_when_done (FindNew part) d = if_found (directory_of part d).current.new
 reply_when_done (CreateNew part) d = if_not_found (directory_of part d).current.new

@@ -4,7 +4,7 @@ use Rattle.tf_saving.specs.Adoption.{IsAdoptable, IsUnadoptable}
 use Rattle.tf_saving.specs.Disk.{File, Checks, Disk, Contents}
 use Rattle.tf_saving.specs.Runs.{Fate, Succeeds, Fails, FailsOnceDone, State, Event, Pair, as_files, HasNoNewFiles, saving, recovering, all_durable, run, after_events}
 use Rattle.tf_saving.specs.Stable.{IsStable}
-use Rattle.tf_saving.specs.declared.call.Part.{Part}
+use Rattle.tf_saving.specs.declared.call.SavedFile.{SavedFile}
 use Rattle.tf_saving.specs.declared.step.End.TheVariants.{Success, InPlace, Error, Late}
 use Rattle.tf_saving.specs.declared.step.Step.{Step}
 use Rattle.tf_saving.specs.declared.step.Step.TheVariants.{CheckRename, RemoveJournal, SyncRemoval, RemoveText, CompareInPlace, Ended}
@@ -61,7 +61,7 @@ abbrev pub ErrorsChangeNothing : Type 0
 ErrorsChangeNothing =
     (old : Pair) (d : Disk) → IsStable old d → (s : Contents) → IsAdoptable d.checks (as_files s) → (fates : List Fate)
     → let m = run s fates (saving d) in
-    ((part : Part) → m.step ≡ Ended (Error part) → IsStable old m.disk) × (m.step ≡ Ended InPlace → IsStable old m.disk)
+    ((part : SavedFile) → m.step ≡ Ended (Error part) → IsStable old m.disk) × (m.step ≡ Ended InPlace → IsStable old m.disk)
 
 -- A save that ends late has replaced the text: unless the power fails, the next recovery finds both
 -- new.

@@ -4,7 +4,7 @@ use Rattle.tf_saving.specs.Adoption.{IsAdoptable}
 use Rattle.tf_saving.specs.Disk.{File, Names, Disk, Contents}
 use Rattle.tf_saving.specs.Runs.{Fate, State, Event, Pair, as_files, saving, recovering, run, after_events}
 use Rattle.tf_saving.specs.Stable.{IsStable}
-use Rattle.tf_saving.specs.declared.call.Part.{Part}
+use Rattle.tf_saving.specs.declared.call.SavedFile.{SavedFile}
 use Rattle.tf_saving.specs.declared.step.End.{End}
 use Rattle.tf_saving.specs.declared.step.End.TheVariants.{Success, InPlace, Error}
 use Rattle.tf_saving.specs.declared.step.Step.{Step}
@@ -61,7 +61,7 @@ ChangedTextIsKept =
 -- as they are at each call, and the save ends in an error or is to be written in place.
 abbrev pub ForeignFileIsNotRenamed : Type 0
 ForeignFileIsNotRenamed =
-    (m : State) (s : Contents) → CreatesNewFiles m.step → (part : Part) → m.disk.checks.is_ours part ≡ false → (fates : List Fate)
+    (m : State) (s : Contents) → CreatesNewFiles m.step → (part : SavedFile) → m.disk.checks.is_ours part ≡ false → (fates : List Fate)
     → let n = run s fates m in IsUnchanged m.disk n.disk × ((end : End) → n.step ≡ Ended end → IsError end ⊎ IsInPlace end)
 
 -- with this file as the text

@@ -2,9 +2,9 @@
 use Rattle.std.specs.Prelude.{◌≡◌, ℕ, zero, suc, List, [], ◌∷◌, Option, Some, None, Result, Ok, Err}
 use Rattle.tf_saving.specs.Disk.{File, Durable, Names, Directory, Disk, Contents, when_done, when_failed, reply_when_done}
 use Rattle.tf_saving.specs.Steps.{call_of, step_after}
-use Rattle.tf_saving.specs.declared.call.Part.{Part}
-use Rattle.tf_saving.specs.declared.call.Call.{Call}
-use Rattle.tf_saving.specs.declared.call.Call.TheVariants.{SyncDirectory}
+use Rattle.tf_saving.specs.declared.call.SavedFile.{SavedFile}
+use Rattle.tf_saving.specs.declared.call.Syscall.{Syscall}
+use Rattle.tf_saving.specs.declared.call.Syscall.TheVariants.{SyncDirectory}
 use Rattle.tf_saving.specs.declared.call.Reply.{Reply}
 use Rattle.tf_saving.specs.declared.call.Reply.TheVariants.{CannotReplace, Failed}
 use Rattle.tf_saving.specs.declared.step.End.{End}
@@ -21,16 +21,16 @@ pub data Fate : Type 0 where
   -- it is done, and reported as failed
   FailsOnceDone : Fate
   -- it is still to come: another command's save syncs the directory of this part first
-  AnotherSyncs : (part : Part) → Fate
+  AnotherSyncs : (part : SavedFile) → Fate
 
-abbrev pub reply : Call → Disk → Fate → Reply
+abbrev pub reply : Syscall → Disk → Fate → Reply
 reply call d Succeeds = reply_when_done call d
 reply call d Fails = Failed
 reply call d IsRuledOut = CannotReplace
 reply call d FailsOnceDone = Failed
 reply call d (AnotherSyncs part) = Failed
 
-abbrev pub disk_after : Call → Contents → Disk → Fate → Disk
+abbrev pub disk_after : Syscall → Contents → Disk → Fate → Disk
 disk_after call s d Succeeds = when_done call s d
 disk_after call s d Fails = when_failed call d
 disk_after call s d IsRuledOut = when_failed call d
@@ -42,7 +42,7 @@ pub record State : Type 0 where
   pub step : Step
   pub disk : Disk
 
-abbrev pub stepped_by : Result Call End → Contents → State → Fate → State
+abbrev pub stepped_by : Result Syscall End → Contents → State → Fate → State
 stepped_by (Err end) s m fate = m
 stepped_by (Ok call) s m fate =
     record {

@@ -1,8 +1,8 @@
 -- The machine's table: which call a step makes, and which step follows its reply.
 use Rattle.std.specs.Prelude.{ℕ, true, false, Result, Ok, Err}
-use Rattle.tf_saving.specs.declared.call.Part.TheVariants.{Text, Journal}
-use Rattle.tf_saving.specs.declared.call.Call.{Call}
-use Rattle.tf_saving.specs.declared.call.Call.TheVariants.{Open, FindNew, CreateNew, CopyAttributes, Write, Sync, SyncDirectory, CompareNew, Compare, CanAdopt, Rename, Remove}
+use Rattle.tf_saving.specs.declared.call.SavedFile.TheVariants.{Text, Journal}
+use Rattle.tf_saving.specs.declared.call.Syscall.{Syscall}
+use Rattle.tf_saving.specs.declared.call.Syscall.TheVariants.{Open, FindNew, CreateNew, CopyAttributes, Write, Sync, SyncDirectory, CompareNew, Compare, CanAdopt, Rename, Remove}
 use Rattle.tf_saving.specs.declared.call.Reply.{Reply}
 use Rattle.tf_saving.specs.declared.call.Reply.TheVariants.{Done, NotFound, CannotReplace, Failed}
 use Rattle.tf_saving.specs.declared.step.End.{End}
@@ -32,7 +32,7 @@ finish Unknown = Ended Unknown
 finish Late = Ended Late
 
 -- the call to make, or the end
-abbrev pub call_of : Step → Result Call End
+abbrev pub call_of : Step → Result Syscall End
 call_of FindNewJournal = Ok (FindNew Journal)
 call_of (FindNewText has_journal) = Ok (FindNew Text)
 call_of ReadNewJournal = Ok CanAdopt

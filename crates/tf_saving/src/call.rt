@@ -6,34 +6,34 @@ use crate::step::Step;
 
 /// One of the two files that are saved together.
 #[derive(Clone, Copy)]
-pub enum Part {
+pub enum SavedFile {
     Text,
     Journal,
 }
 
 /// A system call. A part's *new file* is the one next to it that is to replace it.
 #[derive(Clone, Copy)]
-pub enum Call {
+pub enum Syscall {
     /// Opens the part for writing, and changes nothing.
-    Open(Part),
+    Open(SavedFile),
     /// Looks whether the part's new file exists; one that this command created, whether it is not
     /// the part yet.
-    FindNew(Part),
+    FindNew(SavedFile),
     /// Creates the part's new file, empty. It fails if the file exists.
-    CreateNew(Part),
+    CreateNew(SavedFile),
     /// Gives the new file the owner, group and mode that it is to have.
-    CopyAttributes(Part),
+    CopyAttributes(SavedFile),
     /// Writes all bytes to the new file.
-    Write(Part),
+    Write(SavedFile),
     /// Waits until the bytes of the new file are durable (`fsync`).
-    Sync(Part),
+    Sync(SavedFile),
     /// Waits until the names in the part's directory are durable (`fsync` of the directory). The
     /// reply for a directory that can't be opened for that is `CannotReplace`; for a file system
     /// that has no such call, `Done`.
-    SyncDirectory(Part),
+    SyncDirectory(SavedFile),
     /// Compares the file under the new file's name with the one that this command created: device
     /// and inode. Any reply but `Done` means that it is another, or that the system doesn't say.
-    CompareNew(Part),
+    CompareNew(SavedFile),
     /// Compares text and journal with the files that this command read: device, inode, size and
     /// time of modification, from before the first read, the text last. Any reply but `Done` means
     /// that one has changed, or that the system doesn't say.
@@ -43,9 +43,9 @@ pub enum Call {
     /// reverted in the text and the new journal's can't.
     CanAdopt,
     /// Renames the new file to the part's name.
-    Rename(Part),
+    Rename(SavedFile),
     /// Removes the new file.
-    Remove(Part),
+    Remove(SavedFile),
 }
 
 /// The system's reply to a call.

@@ -8,7 +8,7 @@ mod call;
 mod laws;
 mod step;
 
-pub use call::{Call, Part, Reply};
+pub use call::{Reply, SavedFile, Syscall};
 pub use laws::{
     a_recovery_ends, a_stray_is_not_adopted, a_success_is_durable, an_edit_is_kept,
     an_error_changes_nothing, nothing_is_lost,

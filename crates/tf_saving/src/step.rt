@@ -2,7 +2,7 @@
 ghost use Rattle.std.specs.Prelude.{◌≡◌, ◌<◌, IfOk};
 ghost use Rattle.tf_saving.specs.Steps.{finish, call_of, step_after, calls_left};
 
-use crate::call::{Call, Part, Reply};
+use crate::call::{Reply, SavedFile, Syscall};
 
 /// How a save or a recovery ends.
 #[derive(Clone, Copy)]
@@ -13,7 +13,7 @@ pub enum End {
     /// unchanged, and the text is still the one that was read.
     InPlace,
     /// A call failed for this part. Both files are unchanged.
-    Error(Part),
+    Error(SavedFile),
     /// A call failed that shows in which state the files are, so nothing more was changed. The next
     /// recovery finds both old or both new.
     Unknown,
@@ -82,35 +82,37 @@ impl Step {
     pub const SAVE: Step = Step::OpenJournal;
 
     /// Returns the call to make, or the end.
-    pub fn call(self) -> Result<Call, End>
+    pub fn call(self) -> Result<Syscall, End>
         ensures call { result ≡ call_of self }
         ensures more { IfOk result (λ call. 0 < calls_left self) }
     {
         match self {
-            Step::FindNewJournal => Ok(Call::FindNew(Part::Journal)),
-            Step::FindNewText { .. } | Step::CheckRename(_) => Ok(Call::FindNew(Part::Text)),
-            Step::ReadNewJournal => Ok(Call::CanAdopt),
-            Step::OpenJournal => Ok(Call::Open(Part::Journal)),
-            Step::OpenText => Ok(Call::Open(Part::Text)),
-            Step::CreateText => Ok(Call::CreateNew(Part::Text)),
-            Step::CopyTextAttributes => Ok(Call::CopyAttributes(Part::Text)),
-            Step::WriteText => Ok(Call::Write(Part::Text)),
-            Step::SyncText => Ok(Call::Sync(Part::Text)),
-            Step::CreateJournal => Ok(Call::CreateNew(Part::Journal)),
-            Step::CopyJournalAttributes => Ok(Call::CopyAttributes(Part::Journal)),
-            Step::WriteJournal => Ok(Call::Write(Part::Journal)),
-            Step::SyncJournal => Ok(Call::Sync(Part::Journal)),
+            Step::FindNewJournal => Ok(Syscall::FindNew(SavedFile::Journal)),
+            Step::FindNewText { .. } | Step::CheckRename(_) => Ok(Syscall::FindNew(
+                SavedFile::Text,
+            )),
+            Step::ReadNewJournal => Ok(Syscall::CanAdopt),
+            Step::OpenJournal => Ok(Syscall::Open(SavedFile::Journal)),
+            Step::OpenText => Ok(Syscall::Open(SavedFile::Text)),
+            Step::CreateText => Ok(Syscall::CreateNew(SavedFile::Text)),
+            Step::CopyTextAttributes => Ok(Syscall::CopyAttributes(SavedFile::Text)),
+            Step::WriteText => Ok(Syscall::Write(SavedFile::Text)),
+            Step::SyncText => Ok(Syscall::Sync(SavedFile::Text)),
+            Step::CreateJournal => Ok(Syscall::CreateNew(SavedFile::Journal)),
+            Step::CopyJournalAttributes => Ok(Syscall::CopyAttributes(SavedFile::Journal)),
+            Step::WriteJournal => Ok(Syscall::Write(SavedFile::Journal)),
+            Step::SyncJournal => Ok(Syscall::Sync(SavedFile::Journal)),
             Step::SyncEarlierRename | Step::SyncJournalName | Step::SyncRemoval(_) => {
-                Ok(Call::SyncDirectory(Part::Journal))
+                Ok(Syscall::SyncDirectory(SavedFile::Journal))
             }
-            Step::SyncTextName | Step::SyncRename => Ok(Call::SyncDirectory(Part::Text)),
-            Step::CompareNewJournal => Ok(Call::CompareNew(Part::Journal)),
-            Step::CompareNewText => Ok(Call::CompareNew(Part::Text)),
-            Step::CompareText | Step::CompareInPlace => Ok(Call::Compare),
-            Step::RenameText => Ok(Call::Rename(Part::Text)),
-            Step::RenameJournal => Ok(Call::Rename(Part::Journal)),
-            Step::RemoveJournal(_) | Step::RemoveStray => Ok(Call::Remove(Part::Journal)),
-            Step::RemoveText(_) => Ok(Call::Remove(Part::Text)),
+            Step::SyncTextName | Step::SyncRename => Ok(Syscall::SyncDirectory(SavedFile::Text)),
+            Step::CompareNewJournal => Ok(Syscall::CompareNew(SavedFile::Journal)),
+            Step::CompareNewText => Ok(Syscall::CompareNew(SavedFile::Text)),
+            Step::CompareText | Step::CompareInPlace => Ok(Syscall::Compare),
+            Step::RenameText => Ok(Syscall::Rename(SavedFile::Text)),
+            Step::RenameJournal => Ok(Syscall::Rename(SavedFile::Journal)),
+            Step::RemoveJournal(_) | Step::RemoveStray => Ok(Syscall::Remove(SavedFile::Journal)),
+            Step::RemoveText(_) => Ok(Syscall::Remove(SavedFile::Text)),
             Step::Ended(end) => Err(end),
         }
     }
@@ -120,13 +122,13 @@ impl Step {
         ensures next { result ≡ step_after self reply }
         ensures falls { 0 < calls_left self → calls_left result < calls_left self }
     {
-        let no_text = Step::Ended(End::Error(Part::Text));
-        let no_journal = Step::Ended(End::Error(Part::Journal));
-        let drop_text = Step::RemoveJournal(End::Error(Part::Text));
-        let drop_journal = Step::RemoveJournal(End::Error(Part::Journal));
+        let no_text = Step::Ended(End::Error(SavedFile::Text));
+        let no_journal = Step::Ended(End::Error(SavedFile::Journal));
+        let drop_text = Step::RemoveJournal(End::Error(SavedFile::Text));
+        let drop_journal = Step::RemoveJournal(End::Error(SavedFile::Journal));
         let in_place = Step::RemoveJournal(End::InPlace);
         let text_in_place = Step::RemoveText(End::InPlace);
-        let text_alone = Step::RemoveText(End::Error(Part::Text));
+        let text_alone = Step::RemoveText(End::Error(SavedFile::Text));
         let unknown = Step::Ended(End::Unknown);
         match self {
             // a new journal without a new text: the text may have been renamed
@@ -191,7 +193,7 @@ impl Step {
             Step::CompareText => reply.choose(Step::RenameText, drop_text, drop_text),
             Step::CompareInPlace => { reply.choose(Step::Ended(End::InPlace), no_text, no_text) }
             Step::RenameText => {
-                let check = Step::CheckRename(End::Error(Part::Text));
+                let check = Step::CheckRename(End::Error(SavedFile::Text));
                 reply.choose_or_in_place(Step::SyncRename, Step::CheckRename(End::InPlace), check)
             }
             Step::CheckRename(end) => {

@@ -48,15 +48,15 @@ pub(crate) fn partition_before(run: &[EndOffset], at: usize) -> Partition
     let mut last = EndOffset { old: 0, new: 0 };
     let mut next = None;
     'halves: loop {
-        let (before, behind) = left.split_at(left.len() / 2);
-        match behind {
+        let (before, after) = left.split_at(left.len() / 2);
+        match after {
             [] => return Partition { count, last, next },
-            [middle, behind @ ..] => {
+            [middle, after @ ..] => {
                 let end = last.plus(*middle);
                 if end.new < at {
                     count += before.len() + 1;
                     last = end;
-                    left = behind;
+                    left = after;
                 } else {
                     next = Some(end.new);
                     left = before;
@@ -76,10 +76,10 @@ pub(crate) fn end_of(run: &[EndOffset], number: usize) -> EndOffset
     let mut i = number;
     let mut last = EndOffset { old: 0, new: 0 };
     'halves: loop {
-        let (before, behind) = left.split_at(left.len() / 2);
-        match behind {
+        let (before, after) = left.split_at(left.len() / 2);
+        match after {
             [] => return last,
-            [middle, behind @ ..] => {
+            [middle, after @ ..] => {
                 let end = last.plus(*middle);
                 if i == before.len() {
                     return end;
@@ -87,7 +87,7 @@ pub(crate) fn end_of(run: &[EndOffset], number: usize) -> EndOffset
                 if before.len() < i {
                     i -= before.len() + 1;
                     last = end;
-                    left = behind;
+                    left = after;
                 } else {
                     left = before;
                 }

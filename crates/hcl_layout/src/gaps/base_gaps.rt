@@ -46,7 +46,7 @@ fn fill_frozen_line(
     first: usize,
     at: usize,
 ) -> Result<LineSpan, AllocError>
-    requires begun { first ≤ at }
+    requires not_before_first { first ≤ at }
     requires within { at < length scanned.now.pairs }
     requires within_limit { length scanned.now.pairs ≤ MAX_TEXT }
     requires small { length surplus.old.items ≤ at }
@@ -76,7 +76,7 @@ fn fill_spaced_line(
     first: usize,
     at: usize,
 ) -> Result<LineSpan, AllocError>
-    requires begun { first ≤ at }
+    requires not_before_first { first ≤ at }
     requires within { at < length scanned.now.pairs }
     requires within_limit { length scanned.now.pairs ≤ MAX_TEXT }
     requires small { length surplus.old.items ≤ at }
@@ -106,7 +106,7 @@ fn fill_line_gaps(
     at: usize,
     frozen: bool,
 ) -> Result<LineSpan, AllocError>
-    requires begun { first ≤ at }
+    requires not_before_first { first ≤ at }
     requires within { at < length scanned.now.pairs }
     requires within_limit { length scanned.now.pairs ≤ MAX_TEXT }
     requires small { length surplus.old.items ≤ at }

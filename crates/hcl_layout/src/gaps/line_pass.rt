@@ -78,7 +78,7 @@ pub(crate) fn fill_line(
     at: usize,
 ) -> PassedLine
     requires same { length gaps.old.items ≡ length scanned.now.pairs }
-    requires begun { first ≤ at }
+    requires not_before_first { first ≤ at }
     requires within { at < length scanned.now.pairs }
     requires within_limit { length scanned.now.pairs ≤ MAX_TEXT }
     ensures line { IsLine scanned.now.pairs at false result.line }

@@ -75,12 +75,12 @@ impl Reading {
                 let said = format!(in self.alloc; "{changed} {} {}", done.fixed, done.left);
                 self.kept(said, String::new(self.alloc))
             }
-            Err(fault) => self.told(fault),
+            Err(fault) => self.message_of(fault),
         }
     }
 
-    pub fn told(&mut self, fault: RunFault) -> String {
-        let told = fault.to_string(self.alloc);
-        self.kept(told, String::new(self.alloc))
+    pub fn message_of(&mut self, fault: RunFault) -> String {
+        let message = fault.to_string(self.alloc);
+        self.kept(message, String::new(self.alloc))
     }
 }

@@ -150,7 +150,7 @@ impl Desk {
                 self.session = session;
                 String::new(self.row.alloc)
             }
-            Err(fault) => self.row.told(fault),
+            Err(fault) => self.row.message_of(fault),
         };
         self.lies(reply)
     }
@@ -163,7 +163,7 @@ impl Desk {
                 let said = format!(in alloc; "{answer}");
                 self.row.kept(said, String::new(alloc))
             }
-            Err(fault) => self.row.told(fault),
+            Err(fault) => self.row.message_of(fault),
         };
         self.lies(reply)
     }
@@ -178,7 +178,7 @@ impl Desk {
                 let said = format!(in alloc; "{count} issues");
                 self.row.kept(said, String::new(alloc))
             }
-            Err(fault) => self.row.told(fault),
+            Err(fault) => self.row.message_of(fault),
         };
         Outcome {
             reply,

@@ -13,7 +13,7 @@ pub fn step(session: &mut Session, command: Command, report: &mut Report) -> Don
     match session.step(report.alloc, command) {
         Ok(done) => {
             let differs = session.text() != text.as_slice();
-            report.hold(done.changed == differs, "the answer tells another change");
+            report.hold(done.changed == differs, "the answer reports another change");
             let records = count.saturating_add(usize::from(differs));
             let is_longer = session.journal().records().len() == records;
             report.hold(is_longer, "the journal has another length");

@@ -59,7 +59,7 @@ fn is_right(fault: Fault, number: usize, count: usize) -> bool {
 /// those before it in their places.
 fn is_taken(session: &Session, copy: &Session, number: usize, done: Done, report: &mut Report) {
     let differs = copy.text() != session.text();
-    report.hold(done.changed == differs, "the answer tells another change");
+    report.hold(done.changed == differs, "the answer reports another change");
     let counts = done.fixed > 0 || done.left > 0;
     report.hold(!counts, "a command taken out counts issues");
     let (records, left) = (session.journal().records(), copy.journal().records());

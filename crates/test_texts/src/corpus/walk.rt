@@ -253,9 +253,9 @@ fn see_elem(scanned: &Scanned<'_>, elem: &Elem, seen: &mut Seen) {
     let past = elem.value.past as usize;
     let following = past.saturating_add(1);
     let is_comma = is_there(scanned, Kind::Comma, past, following);
-    seen.form_if(is_comma, "elements behind a comma");
+    seen.form_if(is_comma, "elements after a comma");
     let is_end = is_there(scanned, Kind::LineEnd, past, following);
-    seen.form_if(is_end, "elements behind a line end");
+    seen.form_if(is_end, "elements after a line end");
 }
 
 /// Whether a token of this kind is among these of the text.

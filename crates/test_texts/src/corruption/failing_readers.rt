@@ -52,7 +52,7 @@ pub fn hold_endless(report: &mut Report) {
 fn is_reported(fault: Option<RunFault>, reader: &Drops<'_>, wanted: RunFault, report: &mut Report) {
     report.hold(
         fault == Some(wanted),
-        "a call tells another fault of a reader",
+        "a call reports another fault of a reader",
     );
     let taken = if wanted == RunFault::Endless {
         TAKEN

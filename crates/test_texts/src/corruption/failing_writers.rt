@@ -77,7 +77,7 @@ fn lines(text: &[u8], way: Full, report: &mut Report) {
         let mut out = failing.writer(report.alloc);
         let fault = lint(text, &mut out, report.alloc);
         let is_reported = failing.is_reported(Part::Text, &right, fault, &out.received);
-        report.hold(is_reported, "lines are told otherwise");
+        report.hold(is_reported, "lines are reported otherwise");
     }
 }
 
@@ -95,7 +95,7 @@ fn puts(bytes: &[u8], part: Part, way: Full, report: &mut Report) {
             Part::Text => put_text(bytes, &mut Told::new(&mut out)),
         };
         let is_reported = failing.is_reported(part, bytes, answer.err(), &out.received);
-        report.hold(is_reported, "bytes are told otherwise");
+        report.hold(is_reported, "bytes are reported otherwise");
     }
 }
 
@@ -118,7 +118,7 @@ fn journals(state: &State, command: Command, right: &State, way: Full, report: &
             fault,
             &outcome.written.journal,
         );
-        report.hold(is_reported, "a journal is told otherwise");
+        report.hold(is_reported, "a journal is reported otherwise");
         let wanted = if fault.is_none() {
             right.text.as_slice()
         } else {
@@ -146,7 +146,7 @@ fn texts(state: &State, command: Command, right: &State, way: Full, report: &mut
             outcome.answer.err(),
             &outcome.written.text,
         );
-        report.hold(is_reported, "a text is told otherwise");
+        report.hold(is_reported, "a text is reported otherwise");
         let is_whole = outcome.written.journal.as_slice() == right.journal.as_slice();
         report.hold(is_whole, "the journal before a text is not whole");
     }

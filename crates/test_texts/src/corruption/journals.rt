@@ -41,7 +41,7 @@ fn try_one(state: &State, ends: &[usize], number: usize, report: &mut Report) {
         }
         Err(RunFault::BadJournal(fault)) => {
             let is_reported = is_reported(fault, prefix, &journal);
-            report.hold(is_reported, "another fault of a journal is told");
+            report.hold(is_reported, "another fault of a journal is reported");
             is_refused(state, &journal, fault, report);
         }
         Err(_) => report.hold(false, "a damaged journal is refused otherwise"),
@@ -133,7 +133,7 @@ fn same_outside(state: &State, command: Command, report: &mut Report) {
         Err(fault) => outcome.refuses(
             RunFault::from(fault),
             report,
-            "a stream tells another fault",
+            "a stream reports another fault",
         ),
     }
 }

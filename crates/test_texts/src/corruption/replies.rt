@@ -35,7 +35,10 @@ fn serve(session: &mut Session, command: Command, refusal: Option<Fault>, report
             is_done(session, &before, command, done, report);
         }
         Err(fault) => {
-            report.hold(is_refused(command, refusal, fault), "another fault is told");
+            report.hold(
+                is_refused(command, refusal, fault),
+                "another fault is reported",
+            );
             before.hold(session, report, "a refused command changes something");
         }
     }
@@ -54,7 +57,7 @@ fn is_refused(command: Command, refusal: Option<Fault>, fault: Fault) -> bool {
 fn is_done(session: &Session, before: &State, command: Command, done: Done, report: &mut Report) {
     let after = State::of(session, report);
     let differs = after.text.as_slice() != before.text.as_slice();
-    report.hold(done.changed == differs, "the answer tells another change");
+    report.hold(done.changed == differs, "the answer reports another change");
     let is_longer = after.journal.len() > before.journal.len();
     let is_prefix = after.journal.starts_with(&before.journal);
     report.hold(

@@ -50,5 +50,5 @@ fn is_shorter(session: &Session, before: &State, changed: bool, report: &mut Rep
     let is_shorter = is_prefix && after.journal.len() < before.journal.len();
     report.hold(is_shorter, "a revert leaves another journal");
     let differs = after.text.as_slice() != before.text.as_slice();
-    report.hold(changed == differs, "a revert tells another change");
+    report.hold(changed == differs, "a revert reports another change");
 }

@@ -57,7 +57,7 @@ fn lints(text: &[u8], refused: Option<RunFault>, report: &mut Report) {
         }
         Err(fault) => {
             let is_so = refused == Some(fault) && received.is_empty();
-            report.hold(is_so, "a lint tells another fault");
+            report.hold(is_so, "a lint reports another fault");
         }
     }
 }
@@ -80,7 +80,7 @@ fn is_consistent(text: &[u8], refused: Option<RunFault>, layout: &[u8], report: 
         }
         Err(fault) => {
             let is_so = refused == Some(fault) && received.is_empty();
-            report.hold(is_so, "a fmt tells another fault");
+            report.hold(is_so, "a fmt reports another fault");
         }
     }
 }

@@ -2,7 +2,7 @@
 use Rattle.std.specs.Prelude.{ℕ, ◌+◌, ◌*◌, ◌<◌, ◌≤◌, List, [], ◌∷◌, length, map, Some, None, ⊤}
 use Rattle.hcl_token.specs.Tokens.{Pair}
 use Rattle.tf_fix.specs.FindingReplacements.{spelling_at, inserted, inserted_parts, empty_gap}
-use Rattle.tf_fix.specs.Parts.{Part}
+use Rattle.tf_fix.specs.Parts.{TextPart}
 use Rattle.tf_fix.specs.SettledSpaces.{Prev}
 use Rattle.tf_fix.specs.Replacements.{Replacement}
 use Rattle.tf_fix.specs.declared.boundary.Boundary.{Boundary}
@@ -30,11 +30,11 @@ skip_of (BeforeGap i) = 0
 skip_of (BeforeToken i) = 1
 
 -- what comes last, before the token at this place
-abbrev pub tail_of : Boundary → List Part
+abbrev pub tail_of : Boundary → List TextPart
 tail_of (BeforeGap i) = []
 tail_of (BeforeToken i) = empty_gap
 
-abbrev pub replacement_parts : List Pair → Boundary → Boundary → ℕ → Insertion → List Part
+abbrev pub replacement_parts : List Pair → Boundary → Boundary → ℕ → Insertion → List TextPart
 replacement_parts pairs from to first written = inserted_parts (skip_of from) (inserted pairs first written) (tail_of to)
 
 -- the token of this number is there, and has a byte

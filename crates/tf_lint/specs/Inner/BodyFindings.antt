@@ -15,8 +15,9 @@ use Rattle.tf_rules.specs.TopLevelFindings.{top_level_findings}
 pub record AreBodyFindings (rules : RuleSet) (pairs : List Pair) (ms : List Member)
     (g : BodyFindings) : Type 0 where
   pub each : AreLintedMembers rules pairs g.members.items
-  pub at_nodes : AreTreeFindings rules pairs (map member ms) g.nodes.items
-  pub at_blocks : g.blocks.items ≡ valid_findings (length pairs) (top_level_findings rules pairs ms)
+  pub at_nodes : AreTreeFindings rules pairs (map member ms) g.node_findings.items
+  pub at_blocks : g.block_findings.items
+      ≡ valid_findings (length pairs) (top_level_findings rules pairs ms)
 
 -- the parser reads members up to this place, and this is found in them
 abbrev pub IsBodyRead : RuleSet → List Pair → Outcome (List Member) → ℕ → BodyFindings → Type 0

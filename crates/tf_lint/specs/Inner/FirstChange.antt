@@ -10,7 +10,7 @@ use Rattle.tf_lint.specs.declared.fault.FixFault.{FixFault}
 use Rattle.tf_lint.specs.declared.fault.FixFault.TheVariants.{FixBroken, Memory}
 use Rattle.tf_fix.specs.declared.parsed.Parsed.{Parsed}
 use Rattle.tf_lint.specs.declared.step.NewText.{NewText}
-use Rattle.tf_lint.specs.declared.step.Step.{Step}
+use Rattle.tf_lint.specs.declared.step.StepResult.{StepResult}
 use Rattle.tf_lint.specs.declared.steps.EditedText.{EditedText}
 use Rattle.tf_lint.specs.declared.steps.FirstChange.{FirstChange}
 use Rattle.tf_lint.specs.declared.steps.FirstChange.TheVariants.{NoChange, Changed}
@@ -44,7 +44,7 @@ IsChange rule p found (Some change) =
     × (change.edits ≡ step_edits_of rule p found)
     × Transforms change.edits p.scanned.text change.text.items
 
-pub record IsStep (rule : Rule) (p : Parsed) (step : Step) : Type 0 where
+pub record IsStep (rule : Rule) (p : Parsed) (step : StepResult) : Type 0 where
   pub found : List Finding
   pub findings_are : RulesFind (only rule) p found
   pub count : step.count ≡ step_count_of found

@@ -8,7 +8,7 @@ use Rattle.tf_rules.specs.declared.fix.Insertion.{Insertion}
 use Rattle.tf_rules.specs.declared.fix.KeptTokens.{KeptTokens}
 use Rattle.tf_rules.specs.declared.packed.PackedFix.{PackedFix}
 use Rattle.tf_rules.specs.declared.packed.PackedFixKind.{PackedFixKind}
-use Rattle.tf_rules.specs.declared.packed.PackedFixKind.TheVariants as outline
+use Rattle.tf_rules.specs.declared.packed.PackedFixKind.TheVariants as kind
 use Rattle.tf_rules.specs.declared.packed.PackedRange.{PackedRange}
 use Rattle.tf_rules.specs.Inner.Unpacking.{unpack_kept, unpack_kind, unpack_fix, unpack_name, IsCanonicalRange, AreCanonicalRanges, IsCanonical, IsCanonicalName}
 
@@ -21,14 +21,14 @@ pack_range None = record { from = 0; to = 0 }
 pack_range (Some k) = record { from = k.from; to = k.to }
 
 abbrev pub make_packed_fix : PackedFixKind → PackedRange → PackedRange → PackedFix
-make_packed_fix outline one two = record { outline = outline; one = one; two = two }
+make_packed_fix kind one two = record { kind = kind; one = one; two = two }
 
 abbrev pub pack_fix : Option Fix → PackedFix
-pack_fix (Some CommentMarker) = make_packed_fix outline.CommentMarker (pack_range None) (pack_range None)
+pack_fix (Some CommentMarker) = make_packed_fix kind.CommentMarker (pack_range None) (pack_range None)
 pack_fix (Some (Tokens before (one ∷ two ∷ []))) =
-    make_packed_fix (outline.Tokens before (pack_after one) (pack_after two)) (pack_range one)
+    make_packed_fix (kind.Tokens before (pack_after one) (pack_after two)) (pack_range one)
     (pack_range two)
-pack_fix _ = make_packed_fix outline.Nothing (pack_range None) (pack_range None)
+pack_fix _ = make_packed_fix kind.Nothing (pack_range None) (pack_range None)
 
 abbrev pub is_named : Option ℕ → Bool
 is_named None = false
@@ -53,17 +53,17 @@ same_packed_fix o a b c d e f = rw (e, f) refl
 
 kind_round_trip : (o : PackedFixKind) (one two : PackedRange) → AreCanonicalRanges o one two
     → pack_fix (unpack_kind o one two) ≡ make_packed_fix o one two
-kind_round_trip outline.Nothing one two is =
+kind_round_trip kind.Nothing one two is =
     same_packed_fix _ _ _ _ _ (range_round_trip one None is.0) (range_round_trip two None is.1)
-kind_round_trip outline.CommentMarker one two is =
+kind_round_trip kind.CommentMarker one two is =
     same_packed_fix _ _ _ _ _ (range_round_trip one None is.0) (range_round_trip two None is.1)
-kind_round_trip (outline.Tokens before b c) one two is =
+kind_round_trip (kind.Tokens before b c) one two is =
     rw (after_round_trip one b, after_round_trip two c)
     (same_packed_fix _ _ _ _ _ (range_round_trip one b is.0) (range_round_trip two c is.1))
 
 -- a fix gives back what is held of it
 pub fix_round_trip : (m : PackedFix) → IsCanonical m → pack_fix (unpack_fix m) ≡ m
-fix_round_trip m is = kind_round_trip m.outline m.one m.two is
+fix_round_trip m is = kind_round_trip m.kind m.one m.two is
 
 -- and so does a name
 pub name_round_trip : (has_name : Bool) (n : ℕ) → IsCanonicalName has_name n

@@ -7,7 +7,7 @@ use Rattle.tf_rules.specs.declared.fix.Insertion.{Insertion}
 use Rattle.tf_rules.specs.declared.fix.KeptTokens.{KeptTokens}
 use Rattle.tf_rules.specs.declared.packed.PackedFix.{PackedFix}
 use Rattle.tf_rules.specs.declared.packed.PackedFixKind.{PackedFixKind}
-use Rattle.tf_rules.specs.declared.packed.PackedFixKind.TheVariants as outline
+use Rattle.tf_rules.specs.declared.packed.PackedFixKind.TheVariants as kind
 use Rattle.tf_rules.specs.declared.packed.PackedRange.{PackedRange}
 
 -- the tokens that are kept, and what is written after them
@@ -16,14 +16,14 @@ unpack_kept s after = record { from = s.from; to = s.to; after = after }
 
 -- a fix by what it does and the tokens that it keeps
 abbrev pub unpack_kind : PackedFixKind → PackedRange → PackedRange → Option Fix
-unpack_kind outline.Nothing one two = None
-unpack_kind outline.CommentMarker one two = Some CommentMarker
-unpack_kind (outline.Tokens before b c) one two =
+unpack_kind kind.Nothing one two = None
+unpack_kind kind.CommentMarker one two = Some CommentMarker
+unpack_kind (kind.Tokens before b c) one two =
     Some (Tokens before (option_map (unpack_kept one) b ∷ option_map (unpack_kept two) c ∷ []))
 
 -- the same by all that is held of it
 abbrev pub unpack_fix : PackedFix → Option Fix
-unpack_fix m = unpack_kind m.outline m.one m.two
+unpack_fix m = unpack_kind m.kind m.one m.two
 
 -- the token that a message names
 abbrev pub unpack_name : Bool → ℕ → Option ℕ
@@ -36,12 +36,12 @@ IsCanonicalRange (Some after) s = ⊤
 
 -- so it is with both stretches of a fix
 abbrev pub AreCanonicalRanges : PackedFixKind → PackedRange → PackedRange → Type 0
-AreCanonicalRanges (outline.Tokens before b c) one two = IsCanonicalRange b one × IsCanonicalRange c two
+AreCanonicalRanges (kind.Tokens before b c) one two = IsCanonicalRange b one × IsCanonicalRange c two
 AreCanonicalRanges _ one two = IsCanonicalRange None one × IsCanonicalRange None two
 
 -- each fix is stored in one form alone: what is not there is 0
 abbrev pub IsCanonical : PackedFix → Type 0
-IsCanonical m = AreCanonicalRanges m.outline m.one m.two
+IsCanonical m = AreCanonicalRanges m.kind m.one m.two
 
 -- the number of a token that is named is 0 where none is
 abbrev pub IsCanonicalName : Bool → ℕ → Type 0

@@ -154,6 +154,6 @@ pub fn edits_of(rt: &impl Host, old_len: usize, rows: &[Row]) -> Edits {
 }
 
 /// A list that takes no memory while it is written to.
-pub fn roomy(rt: &impl Host) -> Vec<u8> {
+pub fn preallocated(rt: &impl Host) -> Vec<u8> {
     given(rt, Vec::with_capacity(rt.alloc(), CAPACITY))
 }

@@ -2,7 +2,7 @@
 
 use super::equality::{are_same_records, are_same_sessions};
 use super::fixtures::{
-    JOURNAL, LAST, MIGRATED, OLD_JOURNAL, bytes_of, continued_journal, journal_of, roomy,
+    JOURNAL, LAST, MIGRATED, OLD_JOURNAL, bytes_of, continued_journal, journal_of, preallocated,
     session_of,
 };
 use super::{answered, begin, gave};
@@ -91,8 +91,8 @@ fn load_version_1(rt: HostRuntime) {
 #[test]
 fn save(rt: HostRuntime) {
     let session = session_of(&rt, LAST, JOURNAL);
-    let mut journal = Told::new(roomy(&rt));
-    let mut text = Told::new(roomy(&rt));
+    let mut journal = Told::new(preallocated(&rt));
+    let mut text = Told::new(preallocated(&rt));
     begin(&rt);
     let answer = tf_session::save(rt.alloc(), &session, &mut journal, &mut text);
     let (journal, text) = (journal.into_inner(), text.into_inner());

@@ -1,7 +1,9 @@
 //! Calls that take no memory, and return the right answer where every allocation fails.
 
 use super::begin;
-use super::fixtures::{FIRST, JOURNAL, LAST, LINE, TEXT, bytes_of, edits_of, journal_of, roomy};
+use super::fixtures::{
+    FIRST, JOURNAL, LAST, LINE, TEXT, bytes_of, edits_of, journal_of, preallocated,
+};
 use crate::tests::{Host, given};
 use edit_record::{Edit, Edits, Journal, Record, Word};
 use hcl_scan::{Item, Kind, MAX_TEXT, Place, ScanFault, Scanned, scan};
@@ -180,8 +182,8 @@ fn no_memory_session(rt: HostRuntime) {
 
 #[test]
 fn no_memory_put(rt: HostRuntime) {
-    let mut text = Told::new(roomy(&rt));
-    let mut journal = Told::new(roomy(&rt));
+    let mut text = Told::new(preallocated(&rt));
+    let mut journal = Told::new(preallocated(&rt));
     begin(&rt);
     given(&rt, put_text(LAST, &mut text));
     given(&rt, put_journal(JOURNAL, &mut journal));

@@ -3,7 +3,7 @@
 ghost use Rattle.std.specs.Prelude.{◌≡◌, false};
 ghost use Rattle.tf_stream.specs.Told.{has_failed};
 
-use super::fixtures::{JOURNAL, LAST, TEXT, changed, fix_all, roomy, session_of};
+use super::fixtures::{JOURNAL, LAST, TEXT, changed, fix_all, preallocated, session_of};
 use super::{answered, begin, gave};
 use crate::tests::{Host, given};
 use tf_session::{Command, Done, Remaining, RuleSet, RunFault, Told};
@@ -20,7 +20,7 @@ fn take_text(rt: HostRuntime) {
 #[test]
 fn step_stream(rt: HostRuntime) {
     let (right, _) = changed(&rt, TEXT, b"", Command::Fmt);
-    let mut out = Told::new(roomy(&rt));
+    let mut out = Told::new(preallocated(&rt));
     begin(&rt);
     let answer = tf_session::step_text_stream(
         rt.alloc(),
@@ -37,7 +37,7 @@ fn step_stream(rt: HostRuntime) {
 #[test]
 fn format_stream(rt: HostRuntime) {
     let (right, _) = changed(&rt, TEXT, b"", Command::Fmt);
-    let mut out = Told::new(roomy(&rt));
+    let mut out = Told::new(preallocated(&rt));
     begin(&rt);
     let answer = tf_session::format_text_stream(rt.alloc(), &mut Told::new(TEXT), &mut out);
     let out = out.into_inner();
@@ -49,7 +49,7 @@ fn format_stream(rt: HostRuntime) {
 #[test]
 fn fix_to_writer(rt: HostRuntime) {
     let (right, right_done) = changed(&rt, TEXT, b"", fix_all());
-    let mut out = Told::new(roomy(&rt));
+    let mut out = Told::new(preallocated(&rt));
     begin(&rt);
     let answer = fixed(&rt, &mut out);
     let out = out.into_inner();
@@ -80,7 +80,7 @@ fn remaining_lines_to_writer(rt: HostRuntime) {
     let right = given(&rt, left.lines(rt.alloc(), "main.tf", session.text()));
     let mut session = session_of(&rt, TEXT, b"");
     let (_, left) = given(&rt, session.fix(rt.alloc(), RuleSet::all()));
-    let mut out = Told::new(roomy(&rt));
+    let mut out = Told::new(preallocated(&rt));
     begin(&rt);
     let answer = match left.lines(rt.alloc(), "main.tf", session.text()) {
         Ok(lines) => tf_session::put_text(lines.as_bytes(), &mut out),
@@ -100,8 +100,8 @@ fn check_stream(rt: HostRuntime) {
 
 #[test]
 fn lint_stream(rt: HostRuntime) {
-    let out = roomy(&rt);
-    let (answer, right) = linted(&rt, roomy(&rt));
+    let out = preallocated(&rt);
+    let (answer, right) = linted(&rt, preallocated(&rt));
     let count = given(&rt, answer);
     begin(&rt);
     let (answer, out) = linted(&rt, out);
@@ -126,8 +126,8 @@ fn linted(rt: &impl Host, out: Vec<u8>) -> (Result<usize, RunFault>, Vec<u8>) {
 fn through(rt: &impl Host, text: &[u8], journal: &[u8], command: Command) {
     let (right, right_done) = changed(rt, text, journal, command);
     let right_journal = given(rt, tf_session::journal_text(rt.alloc(), &right));
-    let mut journal_out = roomy(rt);
-    let mut out = roomy(rt);
+    let mut journal_out = preallocated(rt);
+    let mut out = preallocated(rt);
     begin(rt);
     let answer = streamed(rt, text, journal, command, &mut journal_out, &mut out);
     let is_unwritten = journal_out.is_empty() && out.is_empty();

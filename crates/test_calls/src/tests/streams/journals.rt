@@ -9,7 +9,7 @@ use std::alloc::Global;
 use tf_session::{Journal, Part, RunFault, Session, Told, load, revert_stream, save};
 
 #[test]
-fn a_journal_that_does_not_end_is_told(rt: HostRuntime) {
+fn a_journal_that_does_not_end_is_reported(rt: HostRuntime) {
     let mut journal = Told::new(Hashes::new(1 << 40, 65_536));
     let answer = load(
         rt.alloc(),

@@ -10,18 +10,18 @@ use tf_stream::Told;
 fn reads_are_forwarded_once(rt: HostRuntime) {
     let mut reader = Hashes::new(20, 8);
     reader.fails_at = 4;
-    let mut told = Told::new(reader);
+    let mut reader = Told::new(reader);
     let mut buf = [0u8; 8];
-    assert!(rt; given(&rt, told.read(&mut buf)) == 8);
+    assert!(rt; given(&rt, reader.read(&mut buf)) == 8);
     assert_eq!(rt; buf, [b'#'; 8]);
-    assert!(rt; given(&rt, told.read(&mut buf[..7])) == 7);
-    assert!(rt; given(&rt, told.read(&mut buf[..0])) == 0);
-    assert!(rt; !told.failed());
-    assert!(rt; told.read(&mut buf).is_err());
-    assert!(rt; told.failed());
-    assert!(rt; given(&rt, told.read(&mut buf)) == 5);
-    assert!(rt; told.failed());
-    let reader = told.into_inner();
+    assert!(rt; given(&rt, reader.read(&mut buf[..7])) == 7);
+    assert!(rt; given(&rt, reader.read(&mut buf[..0])) == 0);
+    assert!(rt; !reader.failed());
+    assert!(rt; reader.read(&mut buf).is_err());
+    assert!(rt; reader.failed());
+    assert!(rt; given(&rt, reader.read(&mut buf)) == 5);
+    assert!(rt; reader.failed());
+    let reader = reader.into_inner();
     assert_eq!(rt; reader.reads, 5);
     assert_eq!(rt; reader.left, 0);
 }
@@ -31,18 +31,18 @@ fn writes_and_flushes_are_forwarded_once(rt: HostRuntime) {
     let mut writer = Narrow::new(Vec::new(rt.alloc()), 8, 8);
     writer.write_fails_at = 4;
     writer.flush_fails_at = 2;
-    let mut told = Told::new(writer);
-    assert!(rt; given(&rt, told.write(b"abcdefg")) == 7);
-    assert!(rt; given(&rt, told.write(b"")) == 0);
-    assert!(rt; given(&rt, told.write(b"hi")) == 1);
-    given(&rt, told.flush());
-    assert!(rt; !told.failed());
-    assert!(rt; told.write(b"i").is_err());
-    assert!(rt; told.failed());
-    assert!(rt; told.flush().is_err());
-    given(&rt, told.flush());
-    assert!(rt; told.failed());
-    let writer = told.into_inner();
+    let mut writer = Told::new(writer);
+    assert!(rt; given(&rt, writer.write(b"abcdefg")) == 7);
+    assert!(rt; given(&rt, writer.write(b"")) == 0);
+    assert!(rt; given(&rt, writer.write(b"hi")) == 1);
+    given(&rt, writer.flush());
+    assert!(rt; !writer.failed());
+    assert!(rt; writer.write(b"i").is_err());
+    assert!(rt; writer.failed());
+    assert!(rt; writer.flush().is_err());
+    given(&rt, writer.flush());
+    assert!(rt; writer.failed());
+    let writer = writer.into_inner();
     assert_eq!(rt; writer.writes, 4);
     assert_eq!(rt; writer.flushes, 3);
     assert!(rt; writer.written.as_slice() == b"abcdefgh".as_slice());
@@ -50,9 +50,9 @@ fn writes_and_flushes_are_forwarded_once(rt: HostRuntime) {
 
 #[test]
 fn a_write_that_takes_nothing_has_failed(rt: HostRuntime) {
-    let mut told = Told::new(Narrow::new(Vec::new(rt.alloc()), 0, 2));
-    assert!(rt; given(&rt, told.write(b"")) == 0);
-    assert!(rt; !told.failed());
-    assert!(rt; given(&rt, told.write(b"d")) == 0);
-    assert!(rt; told.failed());
+    let mut writer = Told::new(Narrow::new(Vec::new(rt.alloc()), 0, 2));
+    assert!(rt; given(&rt, writer.write(b"")) == 0);
+    assert!(rt; !writer.failed());
+    assert!(rt; given(&rt, writer.write(b"d")) == 0);
+    assert!(rt; writer.failed());
 }

@@ -11,6 +11,6 @@ returns c = λ rules is.
     let new = c.args.scanned.now.pairs in
     let whole = c.if-not-is_unchanged.ensures.whole refl in
     let m = c.unchanged_members_keep_findings.ensures rules old new MAX_NESTING s.from c.args.at (s.past - s.from) is.member (c.if-not-is_unchanged.ensures.same refl) (rw whole is.is_member) (rw whole (c.if-not-is_unchanged.ensures.more refl)) in
-    let nodes = c.in_ok-nodes.ensures ∙ ap (map (renumber_finding s.from c.args.at)) c.deref.ensures.value in
-    let blocks = c.in_ok-blocks.ensures ∙ ap (map (renumber_finding s.from c.args.at)) (c.deref-2.ensures.value ∙ is.at_block) in
-    (refl, record { member = m.0; is_member = m.1; at_nodes = rw nodes (m.2 s.nodes.items is.at_nodes); at_block = blocks ∙ sym m.3 })
+    let nodes = c.in_ok-node_findings.ensures ∙ ap (map (renumber_finding s.from c.args.at)) c.deref.ensures.value in
+    let blocks = c.in_ok-block_findings.ensures ∙ ap (map (renumber_finding s.from c.args.at)) (c.deref-2.ensures.value ∙ is.at_block) in
+    (refl, record { member = m.0; is_member = m.1; at_nodes = rw nodes (m.2 s.node_findings.items is.at_nodes); at_block = blocks ∙ sym m.3 })

@@ -7,13 +7,13 @@ use Rattle.tf_fix.specs.ParsedTexts.{IsParseOf}
 use Rattle.tf_fix.specs.declared.parsed.Parsed.{Parsed}
 use Rattle.tf_lint.specs.declared.fault.FixFault.{FixFault}
 use Rattle.tf_lint.specs.declared.fault.FixFault.TheVariants.{Memory}
-use Rattle.tf_lint.specs.declared.step.Step.{Step}
+use Rattle.tf_lint.specs.declared.step.StepResult.{StepResult}
 use Rattle.tf_lint.specs.Inner.FirstChange.{has_step, IsChange, IsStep, RunFixable, IsFirstChange}
 use Rattle.tf_lint.proofs.RunLemmas.{split_first, no_rules, skipped_pass, stayed_pass, changed_pass, changed_transforms, GoesOn, if_ok, if_err}
 use Rattle.tf_lint.proofs.steps.+find_first_change.Goals as goal
 
 -- a step that changes nothing, before those that can't be done
-stayed_fault : (rules : RuleSet) (rule : Rule) (order : List Rule) (p : Parsed) (step : Step) (fault : FixFault) → has_step rules rule ≡ true → IsParseOf p.scanned.text p
+stayed_fault : (rules : RuleSet) (rule : Rule) (order : List Rule) (p : Parsed) (step : StepResult) (fault : FixFault) → has_step rules rule ≡ true → IsParseOf p.scanned.text p
     → IsStep rule p step → step.change ≡ None → (fault ≡ Memory) ⊎ RunFixable rules order p (Err fault) → (fault ≡ Memory) ⊎ RunFixable rules (rule ∷ order) p (Err fault)
 stayed_fault rules rule order p step fault chosen reads s none (inl memory) = inl memory
 stayed_fault rules rule order p step fault chosen reads s none (inr runs) =

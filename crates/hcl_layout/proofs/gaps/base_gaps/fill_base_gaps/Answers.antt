@@ -15,7 +15,7 @@ loop-at-preserved c =
       left = c.in_ok-line.ensures.gaps ∙ old.left;
       lines = subst (λ (lines : List LineSpan). LinesTo ps c.args.first false lines line.past line.next_frozen) (sym c.in_ok-push.ensures.items)
           (lines_push ps c.args.first false c.loop-at.lines.items c.loop-at.at c.loop-at.frozen line old.lines c.in_ok-line.ensures.line);
-      begun = omega (arith, split.more, old.begun);
+      not_before_first = omega (arith, split.more, old.not_before_first);
       within = split.within;
       same = c.in_ok-line.ensures.same ∙ old.same;
       small = c.in_ok-line.ensures.small;

@@ -9,7 +9,7 @@ invariant-loop-at l = record {
   left : gaps_left l.scanned.pairs l.first l.at l.frozen (take l.at l.gaps.items) l.surplus.items
       ≡ take l.first l.fn.gaps.items ++ all_gap_lens [] [] (lines_from 0 (drop l.first l.scanned.pairs));
   lines : LinesTo l.scanned.pairs l.first false l.lines.items l.at l.frozen;
-  begun : l.first ≤ l.at;
+  not_before_first : l.first ≤ l.at;
   within : l.at ≤ length l.scanned.pairs;
   same : length l.gaps.items ≡ length l.scanned.pairs;
   small : length l.surplus.items ≤ l.at;

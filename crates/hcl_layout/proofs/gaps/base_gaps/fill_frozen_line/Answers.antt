@@ -14,5 +14,5 @@ returns-clause-gaps c =
     split.more split.within c.fill_kept.ensures.filled in
     set_turn ps c.args.first c.args.at true line.past line.next_frozen c.count_brackets-opened.result.0 c.count_brackets-opened.result.1 (length s1)
     (reverse c.args.surplus.now.items) s1 (reverse c.push_opened.new.surplus.items) (take c.args.at c.args.gaps.now.items) (take line.past c.fill_kept.new.gaps.items)
-    c.requires.begun split c.count_brackets-opened.ensures.opened c.count_brackets-opened.ensures.closed c.close_earlier.ensures.open
+    c.requires.not_before_first split c.count_brackets-opened.ensures.opened c.count_brackets-opened.ensures.closed c.close_earlier.ensures.open
     refl gaps c.in_ok-push_opened.ensures.open

@@ -20,5 +20,5 @@ returns-clause-gaps c =
     (take-set-lt line.past filled c.args.at c.indent_len.result split.more) in
     set_turn ps c.args.first c.args.at false line.past line.next_frozen c.fill_line-passed.result.opened c.fill_line-passed.result.closed c.len.result
     (reverse c.args.surplus.now.items) (reverse c.close_earlier.new.surplus.items) (reverse c.push_opened.new.surplus.items) old new
-    c.requires.begun split c.fill_line-passed.ensures.opened c.fill_line-passed.ensures.closed c.close_earlier.ensures.open
+    c.requires.not_before_first split c.fill_line-passed.ensures.opened c.fill_line-passed.ensures.closed c.close_earlier.ensures.open
     (omega (arith, c.len.ensures, length-reverse c.close_earlier.new.surplus.items)) gaps c.in_ok-push_opened.ensures.open

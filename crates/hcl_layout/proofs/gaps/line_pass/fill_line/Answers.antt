@@ -85,7 +85,7 @@ loop-i-preserved c =
       a = c.kind-b.ensures ∙ ap (kind_of ps) (omega arith);
       spaced = λ to later within.
           next_space ps c.args.first i to (i + 1 - 1) c.gap_len.result (take i c.loop-i.gaps.items) (take (i + 1) (slice_set c.loop-i.gaps.items i c.gap_len.result))
-          (omega (arith, c.loop-i.auto.i, c.requires.begun)) (omega (arith, later)) within (omega arith) c.gap_len.ensures.value
+          (omega (arith, c.loop-i.auto.i, c.requires.not_before_first)) (omega (arith, later)) within (omega arith) c.gap_len.ensures.value
           (take_more_set c.loop-i.gaps.items i c.gap_len.result inside_gaps)
           ∙ old.spaced to (omega (arith, later)) within;
       same = length-set c.loop-i.gaps.items i c.gap_len.result ∙ old.same;

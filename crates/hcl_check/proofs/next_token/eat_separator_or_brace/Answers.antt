@@ -3,8 +3,8 @@ use Rattle.hcl_token.specs.declared.kind.Kind.TheVariants as k
 use Rattle.hcl_expr.specs.ReaderRules as tokens
 use Rattle.hcl_expr.specs.ReaderRules.{outside_brackets}
 use Rattle.hcl_check.proofs.Separators.{brace_next, comma_next, line_next}
-use Rattle.hcl_check.proofs.looks.eat_separator_or_brace.Goals as goal
-use Rattle.hcl_check.proofs.looks.eat_separator_or_brace.Goals.{in-Comma-1, in-LineEnd-1}
+use Rattle.hcl_check.proofs.next_token.eat_separator_or_brace.Goals as goal
+use Rattle.hcl_check.proofs.next_token.eat_separator_or_brace.Goals.{in-Comma-1, in-LineEnd-1}
 
 pub returns-in-Some-CloseBrace : goal.returns-in-Some-CloseBrace
 returns-in-Some-CloseBrace c =

@@ -1,6 +1,6 @@
 use Rattle.std.proofs.Common.{length}
 use Rattle.hcl_check.proofs.Separators.{in_line}
-use Rattle.hcl_check.proofs.looks.skip_newlines.Goals as goal
+use Rattle.hcl_check.proofs.next_token.skip_newlines.Goals as goal
 
 pub returns-then-is_in_line : goal.returns-then-is_in_line
 returns-then-is_in_line c =
