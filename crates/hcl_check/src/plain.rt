@@ -25,9 +25,13 @@ use hcl_token::Kind;
 pub enum Unread {
     /// All of it.
     All,
-    /// All of it, but a term and tails of it were read: how many tails may follow at most, and
-    /// where what was read ends.
-    Term(usize, usize),
+    /// All of it, but a term and tails of it were read.
+    Term {
+        /// How many tails may follow at most.
+        turns: usize,
+        /// Where what was read ends.
+        end: usize,
+    },
     /// Nothing.
     Nothing,
 }
@@ -169,7 +173,7 @@ pub fn eat_plain_expr(reader: &Reader<'_, '_>, next: Next, at: &mut usize) -> Un
             match eat_term(reader, first, kind, &mut end) {
                 Some(turns) => {
                     if !ends_expr(reader, end) {
-                        return Unread::Term(turns, end);
+                        return Unread::Term { turns, end };
                     }
                     *at = end;
                     Unread::Nothing
@@ -207,7 +211,7 @@ pub fn eat_plain_enclosed(
                     *at = end;
                     Unread::Nothing
                 }
-                Unread::Term(turns, after) => Unread::Term(turns, after),
+                Unread::Term { turns, end: after } => Unread::Term { turns, end: after },
                 Unread::All => Unread::All,
             }
         }
@@ -233,7 +237,7 @@ pub fn eat_plain_attr(reader: &Reader<'_, '_>, at: &mut usize) -> Unread
             *at = end;
             Unread::Nothing
         }
-        Unread::Term(turns, after) => Unread::Term(turns, after),
+        Unread::Term { turns, end: after } => Unread::Term { turns, end: after },
         Unread::All => Unread::All,
     }
 }
